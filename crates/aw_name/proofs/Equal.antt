@@ -1,0 +1,68 @@
+use Rattle.std.proofs.Common.{◌≡◌, ℕ, ◌==◌, Bool, true, false, ◌&&◌, Decides, refl, ap, ◌∙◌, List, [], ◌∷◌, MatchOption, Contains, position, slice_get, Some}
+use Rattle.aw_name.specs.contracts.node.SlotPartialEq.TheImpl as slot
+use Rattle.aw_name.specs.contracts.node.NodePartialEq.TheImpl as node
+use Rattle.aw_name.specs.contracts.node.RefPartialEq.TheImpl as reference
+use Rattle.std.specs.Cmp.Lexicographic.{pointwise, pointwise_decides}
+use Rattle.std.proofs.lemmas.Bool.Decides.{Decides-eqb, Decides-and, Decides-like, Decides-at}
+use Rattle.aw_name.specs.declared.node.Step.{Step}
+use Rattle.aw_name.specs.declared.node.Node.{Node}
+use Rattle.aw_name.specs.declared.node.Slot.{Slot}
+use Rattle.aw_name.specs.declared.node.Slot.TheVariants.{Result, Part}
+use Rattle.aw_name.specs.declared.node.Ref.{Ref}
+
+abbrev pub step_eq : Step → Step → Bool
+step_eq a b = (a.rule == b.rule) && (a.child == b.child)
+
+pub step_Decides : (a b : Step) → Decides (step_eq a b) (a ≡ b)
+step_Decides a b =
+    Decides-like _ (λ p. λ i. record { rule = p.0 i; child = p.1 i }) (λ e. (ap (λ (s : Step). s.rule) e, ap (λ (s : Step). s.child) e))
+    (Decides-and _ _ (Decides-eqb a.rule b.rule) (Decides-eqb a.child b.child))
+
+abbrev pub node_eq : Node → Node → Bool
+node_eq a b = (a.start == b.start) && ((a.case == b.case) && pointwise step_eq a.steps b.steps)
+
+pub node_Decides : (a b : Node) → Decides (node_eq a b) (a ≡ b)
+node_Decides a b =
+    Decides-like _ (λ p. λ i. record { start = p.0 i; case = p.1.0 i; steps = p.1.1 i })
+    (λ e. (ap (λ (s : Node). s.start) e, (ap (λ (s : Node). s.case) e, ap (λ (s : Node). s.steps) e)))
+    (Decides-and _ _ (Decides-eqb a.start b.start) (Decides-and _ _ (Decides-eqb a.case b.case) (pointwise_decides step_Decides a.steps b.steps)))
+
+abbrev pub slot_eq : Slot → Slot → Bool
+slot_eq (Result i) (Result j) = i == j
+slot_eq (Result i) (Part k) = false
+slot_eq (Part k) (Result j) = false
+slot_eq (Part k) (Part l) = k == l
+
+abbrev number_of : Slot → ℕ
+number_of (Result i) = i
+number_of (Part k) = k
+
+pub slot_Decides : (a b : Slot) → Decides (slot_eq a b) (a ≡ b)
+slot_Decides (Result i) (Result j) = Decides-like _ (ap Result) (ap number_of) (Decides-eqb i j)
+slot_Decides (Result i) (Part k) = (λ e. cc, λ e. cc)
+slot_Decides (Part k) (Result j) = (λ e. cc, λ e. cc)
+slot_Decides (Part k) (Part l) = Decides-like _ (ap Part) (ap number_of) (Decides-eqb k l)
+
+abbrev pub ref_eq : Ref → Ref → Bool
+ref_eq a b = node_eq a.node b.node && slot_eq a.slot b.slot
+
+pub ref_Decides : (a b : Ref) → Decides (ref_eq a b) (a ≡ b)
+ref_Decides a b =
+    Decides-like _ (λ p. λ i. record { node = p.0 i; slot = p.1 i }) (λ e. (ap (λ (s : Ref). s.node) e, ap (λ (s : Ref). s.slot) e))
+    (Decides-and _ _ (node_Decides a.node b.node) (slot_Decides a.slot b.slot))
+
+-- the derived tests are these
+pub slot_same : (a b : Slot) → (slot.ghosts).eq a b ≡ slot_eq a b
+slot_same (Result i) (Result j) = refl
+slot_same (Result i) (Part k) = refl
+slot_same (Part k) (Result j) = refl
+slot_same (Part k) (Part l) = refl
+
+pub node_same : (a b : Node) → (node.ghosts).eq a b ≡ node_eq a b
+node_same a b = refl
+
+pub ref_same : (a b : Ref) → (reference.ghosts).eq a b ≡ ref_eq a b
+ref_same a b = ap (λ t. node_eq a.node b.node && t) (slot_same a.slot b.slot)
+
+pub ref_exact : (a b : Ref) (r : Bool) → r ≡ (reference.ghosts).eq a b → Decides r (a ≡ b)
+ref_exact a b r e = Decides-at r _ (e ∙ ref_same a b) (ref_Decides a b)
