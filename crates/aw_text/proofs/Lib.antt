@@ -1,0 +1,6 @@
+pub mod Checks
+pub mod Cuts
+pub mod NodeNames
+pub mod Numbers
+pub mod Quotes
+pub mod TextEnds

@@ -1,0 +1,188 @@
+-- A text between quotes, byte by byte.
+use Rattle.std.proofs.Common.{◌≡◌, ℕ, ◌+◌, ◌≤◌, ◌<◌, refl, sym, ◌∙◌, ap, Bool, true, false, cond, List, [], ◌∷◌, ◌++◌, length, arith, Option, Some, None, option_map, option_and_then, nat_le, ◌==◌, suc, subst, inl, inr, ◌&&◌, ◌||◌, not, IfSome, IfOk, Result, Ok, Err, flat_map, append_assoc, append-nil, length-append}
+use Rattle.std.proofs.lemmas.Bool.Decides.{nat_tests, eqb_tells}
+use Rattle.std.specs.List.{list_all}
+use Rattle.aw_text.specs.Spelling.{with_front, content_before_quote, text_behind_quote, whole, unquoted, quoted, spelled, escaped, stands_for_itself, is_content, is_content_byte}
+use Rattle.aw_text.proofs.Checks.{both_true, long_is_false, short_is_true}
+
+-- what follows the closing quote, where k bytes of the content stand before
+abbrev pub end_after : ℕ → Option (List ℕ × List ℕ) → Option (List ℕ)
+end_after k None = None
+end_after k (Some text) = cond (nat_le (k + length text.0) 1024) (Some text.1) None
+
+limited : (text : List ℕ × List ℕ) (t : Bool) → cond t (Some text.1) None ≡ option_map {T = List ℕ × List ℕ} (λ x. x.1) (cond t (Some text) None)
+limited text true = refl
+limited text false = refl
+
+pub end_at_start : (o : Option (List ℕ × List ℕ)) → end_after 0 o ≡ option_map (λ x. x.1) (option_and_then (λ text. cond (nat_le (length text.0) 1024) (Some text) None) o)
+end_at_start None = refl
+end_at_start (Some text) = ap (λ n. cond (nat_le n 1024) (Some text.1) None) (omega arith) ∙ limited text (nat_le (length text.0) 1024)
+
+pub end_one_more : (k b : ℕ) (o : Option (List ℕ × List ℕ)) → end_after k (option_map (with_front b) o) ≡ end_after (k + 1) o
+end_one_more k b None = refl
+end_one_more k b (Some text) = ap (λ n. cond (nat_le n 1024) (Some text.1) None) (omega arith)
+
+pub end_too_long : (k : ℕ) (o : Option (List ℕ × List ℕ)) → 1024 < k → end_after k o ≡ None
+end_too_long k None h = refl
+end_too_long k (Some text) h = grind (arith, nat_tests)
+
+pub end_here : (k : ℕ) (rest : List ℕ) → k ≤ 1024 → end_after k (Some ([], rest)) ≡ Some rest
+end_here k rest h = grind (arith, nat_tests)
+
+-- The same where the content is kept.
+abbrev pub whole_after : List ℕ → Option (List ℕ × List ℕ) → Option (List ℕ)
+whole_after front None = None
+whole_after front (Some text) = cond (nat_le (length front + length text.0) 1024) (whole (front ++ text.0, text.1)) None
+
+whole_limited : (text : List ℕ × List ℕ) (t : Bool) → cond t (whole text) None ≡ option_and_then whole (cond t (Some text) None)
+whole_limited text true = refl
+whole_limited text false = refl
+
+pub whole_at_start : (o : Option (List ℕ × List ℕ)) → whole_after [] o ≡ option_and_then whole (option_and_then (λ text. cond (nat_le (length text.0) 1024) (Some text) None) o)
+whole_at_start None = refl
+whole_at_start (Some text) = ap (λ n. cond (nat_le n 1024) (whole text) None) (omega arith) ∙ whole_limited text (nat_le (length text.0) 1024)
+
+pub whole_one_more : (front : List ℕ) (b : ℕ) (o : Option (List ℕ × List ℕ)) → whole_after front (option_map (with_front b) o) ≡ whole_after (front ++ b ∷ []) o
+whole_one_more front b None = refl
+whole_one_more front b (Some text) =
+    let same : length front + suc (length text.0) ≡ length (front ++ b ∷ []) + length text.0 = omega (arith, length-append front (b ∷ [])) in
+    λ i. cond (nat_le (same i) 1024) (whole (sym (append_assoc front (b ∷ []) text.0) i, text.1)) None
+
+pub whole_too_long : (front : List ℕ) (o : Option (List ℕ × List ℕ)) → 1024 < length front → whole_after front o ≡ None
+whole_too_long front None h = refl
+whole_too_long front (Some text) h = ap (λ t. cond t (whole (front ++ text.0, text.1)) None) (long_is_false (length front) (length text.0) h)
+
+pub whole_here : (front rest : List ℕ) → length front ≤ 1024 → whole_after front (Some ([], rest)) ≡ whole (front, rest)
+whole_here front rest h =
+    ap (λ t. cond t (whole (front ++ [], rest)) None) (short_is_true (length front) h) ∙ ap (λ xs. whole (xs, rest)) (append-nil front)
+
+-- What is printed is read again.
+pub plain_piece : (b : ℕ) (rest : List ℕ) → (b == 34) ≡ false → (b == 92) ≡ false → stands_for_itself b ≡ true
+    → content_before_quote (b ∷ rest) ≡ option_map (with_front b) (content_before_quote rest)
+plain_piece b [] e f h = simp e
+plain_piece b (c ∷ bs) e f h =
+    let itself = option_map (with_front b) (content_before_quote (c ∷ bs)) in
+    let pair = option_and_then (λ x. option_map (with_front x) (content_before_quote bs)) (escaped c) in
+    ap (λ t. cond t (Some ([], c ∷ bs)) (cond (b == 92) pair (cond (stands_for_itself b) itself None))) e
+    ∙ ap (λ t. cond t pair (cond (stands_for_itself b) itself None)) f
+    ∙ ap (λ t. cond t itself None) h
+
+stands : (b : ℕ) → is_content_byte b ≡ true → (b == 34) ≡ false → (b == 92) ≡ false → (b == 10) ≡ false → stands_for_itself b ≡ true
+stands b h e f g = simp (e, f) (simp g at h)
+
+piece_again : (b : ℕ) (rest : List ℕ) → is_content_byte b ≡ true → content_before_quote (spelled b ++ rest) ≡ option_map (with_front b) (content_before_quote rest)
+piece_again b rest h =
+    let P : ℕ → Type 0 = λ x. content_before_quote (spelled x ++ rest) ≡ option_map (with_front x) (content_before_quote rest) in
+    elim (eqb_tells b 34) [
+      | inl p ↦ subst P (sym p.1) refl
+      | inr p ↦ elim (eqb_tells b 92) [
+        | inl q ↦ subst P (sym q.1) refl
+        | inr q ↦ elim (eqb_tells b 10) [
+          | inl r ↦ subst P (sym r.1) refl
+          | inr r ↦ simp (p.0, q.0, r.0) (plain_piece b rest p.0 q.0 (stands b h p.0 q.0 r.0))
+        ]
+      ]
+    ]
+
+close_here : (rest : List ℕ) → content_before_quote (34 ∷ rest) ≡ Some ([], rest)
+close_here [] = refl
+close_here (b ∷ bs) = refl
+
+content_again : (c rest : List ℕ) → list_all is_content_byte c ≡ true → content_before_quote (flat_map spelled c ++ 34 ∷ rest) ≡ Some (c, rest)
+content_again [] rest h = close_here rest
+content_again (b ∷ bs) rest h =
+    let parts = both_true (is_content_byte b) (list_all is_content_byte bs) h in
+    ap content_before_quote (append_assoc (spelled b) (flat_map spelled bs) (34 ∷ rest))
+    ∙ piece_again b (flat_map spelled bs ++ 34 ∷ rest) parts.0
+    ∙ ap (option_map (with_front b)) (content_again bs rest parts.1)
+
+pub text_again : (c rest : List ℕ) → is_content c ≡ true → text_behind_quote (flat_map spelled c ++ 34 ∷ rest) ≡ Some (c, rest)
+text_again c rest h =
+    let parts = both_true (nat_le (length c) 1024) (list_all is_content_byte c) h in
+    ap (option_and_then (λ text. cond (nat_le (length text.0) 1024) (Some text) None)) (content_again c rest parts.1)
+    ∙ ap (λ t. cond t (Some (c, rest)) None) parts.0
+
+pub unquoted_quoted : (c : List ℕ) → is_content c ≡ true → unquoted (quoted c) ≡ Some c
+unquoted_quoted c h = ap (option_and_then whole) (text_again c [] h)
+
+-- What is read is a content.
+abbrev AllContent : Option (List ℕ × List ℕ) → Type 0
+AllContent o = IfSome o (λ text. list_all is_content_byte text.0 ≡ true)
+
+escaped_is_content : (c : ℕ) → IfSome (escaped c) (λ e. is_content_byte e ≡ true)
+escaped_is_content c =
+    elim (c == 34) as (λ t. IfSome (cond t (Some 34) (cond (c == 92) (Some 92) (cond (c == 110) (Some 10) None))) (λ e. is_content_byte e ≡ true)) [
+      | true ↦ refl
+      | false ↦ elim (c == 92) as (λ t. IfSome (cond t (Some 92) (cond (c == 110) (Some 10) None)) (λ e. is_content_byte e ≡ true)) [
+        | true ↦ refl
+        | false ↦ elim (c == 110) as (λ t. IfSome (cond t (Some 10) None) (λ e. is_content_byte e ≡ true)) [ true ↦ refl | false ↦ tt ]
+      ]
+    ]
+
+both_parts : (u v x y w : Bool) → (x && (u && (v && w))) ≡ true → (y || (x && w)) ≡ true
+both_parts true true true true true h = refl
+both_parts true true true false true h = refl
+both_parts u v false y w h = absurd cc
+both_parts false v true y w h = absurd cc
+both_parts true false true y w h = absurd cc
+both_parts true true true y false h = absurd cc
+
+itself_is_content : (b : ℕ) → stands_for_itself b ≡ true → is_content_byte b ≡ true
+itself_is_content b h = both_parts (not (b == 34)) (not (b == 92)) (nat_le 32 b) (b == 10) (not (b == 127)) h
+
+front_is_content : (b : ℕ) (o : Option (List ℕ × List ℕ)) → is_content_byte b ≡ true → AllContent o → AllContent (option_map (with_front b) o)
+front_is_content b None h k = tt
+front_is_content b (Some text) h k = ap (λ t. t && list_all is_content_byte text.0) h ∙ k
+
+pair_is_content : (e : Option ℕ) (o : Option (List ℕ × List ℕ)) → IfSome e (λ x. is_content_byte x ≡ true) → AllContent o
+    → AllContent (option_and_then (λ x. option_map (with_front x) o) e)
+pair_is_content None o h k = tt
+pair_is_content (Some x) o h k = front_is_content x o h k
+
+if_is_content : (b : ℕ) (t : Bool) (o : Option (List ℕ × List ℕ)) → (t ≡ true → is_content_byte b ≡ true) → AllContent o → AllContent (cond t (option_map (with_front b) o) None)
+if_is_content b true o h k = front_is_content b o (h refl) k
+if_is_content b false o h k = tt
+
+content_bytes : (bs : List ℕ) → AllContent (content_before_quote bs)
+content_bytes [] = tt
+content_bytes (b ∷ []) = elim (b == 34) as (λ t. AllContent (cond t (Some ([], [])) None)) [ true ↦ refl | false ↦ tt ]
+content_bytes (b ∷ c ∷ bs) =
+    let itself = cond (stands_for_itself b) (option_map (with_front b) (content_before_quote (c ∷ bs))) None in
+    let pair = option_and_then (λ x. option_map (with_front x) (content_before_quote bs)) (escaped c) in
+    elim (b == 34) as (λ t. AllContent (cond t (Some ([], c ∷ bs)) (cond (b == 92) pair itself))) [
+      | true ↦ refl
+      | false ↦ elim (b == 92) as (λ t. AllContent (cond t pair itself)) [
+        | true ↦ pair_is_content (escaped c) (content_before_quote bs) (escaped_is_content c) (content_bytes bs)
+        | false ↦ if_is_content b (stands_for_itself b) (content_before_quote (c ∷ bs)) (itself_is_content b) (content_bytes (c ∷ bs))
+      ]
+    ]
+
+limit_is_content : (text : List ℕ × List ℕ) (t : Bool) → nat_le (length text.0) 1024 ≡ t → list_all is_content_byte text.0 ≡ true
+    → IfSome (cond t (Some text) None) (λ x. is_content x.0 ≡ true)
+limit_is_content text true e h = ap (λ u. u && list_all is_content_byte text.0) e ∙ h
+limit_is_content text false e h = tt
+
+limited_is_content : (o : Option (List ℕ × List ℕ)) → AllContent o
+    → IfSome (option_and_then (λ text. cond (nat_le (length text.0) 1024) (Some text) None) o) (λ x. is_content x.0 ≡ true)
+limited_is_content None h = tt
+limited_is_content (Some text) h = limit_is_content text (nat_le (length text.0) 1024) refl h
+
+pub text_is_content : (bs : List ℕ) → IfSome (text_behind_quote bs) (λ text. is_content text.0 ≡ true)
+text_is_content bs = limited_is_content (content_before_quote bs) (content_bytes bs)
+
+whole_is_content : (o : Option (List ℕ × List ℕ)) → IfSome o (λ text. is_content text.0 ≡ true) → IfSome (option_and_then whole o) (λ c. is_content c ≡ true)
+whole_is_content None h = tt
+whole_is_content (Some text) h = elim (length text.1 == 0) as (λ t. IfSome (cond t (Some text.0) None) (λ c. is_content c ≡ true)) [ true ↦ h | false ↦ tt ]
+
+pub unquoted_is_content : (bs : List ℕ) → IfSome (unquoted bs) (λ c. is_content c ≡ true)
+unquoted_is_content [] = tt
+unquoted_is_content (b ∷ bs) =
+    elim (b == 34) as (λ t. IfSome (cond t (option_and_then whole (text_behind_quote bs)) None) (λ c. is_content c ≡ true)) [
+      | true ↦ whole_is_content (text_behind_quote bs) (text_is_content bs)
+      | false ↦ tt
+    ]
+
+pub read_is_content : {E : Type 0} (r : Result (Option (List ℕ)) E) (bs : List ℕ) → IfOk r (λ content. content ≡ option_and_then whole (text_behind_quote bs))
+    → IfOk r (λ content. IfSome content (λ c. is_content c ≡ true))
+read_is_content (Ok content) bs e = subst (λ o. IfSome o (λ c. is_content c ≡ true)) (sym e) (whole_is_content (text_behind_quote bs) (text_is_content bs))
+read_is_content (Err x) bs e = tt

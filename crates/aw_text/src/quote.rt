@@ -1,0 +1,147 @@
+//! Texts between quotes.
+ghost use Rattle.std.specs.Prelude.{◌≡◌, ◌++◌, ◌<◌, length, ℕ, List, Some, IsTrue, OnOk, OnErr, IfOk, IfSome, option_map, option_and_then, option_copied};
+ghost use Rattle.aw_text.specs.Spelling.{spelled, quoted, escaped, stands_for_itself, with_front, content_before_quote, text_behind_quote, unquoted, whole, is_content};
+ghost use Rattle.aw_text.specs.Pieces.{text_from, IsShorter, IsNoLonger};
+
+use crate::name::MOST_OF_CONTENT;
+use aw_list::Text;
+use std::alloc::{AllocError, Global};
+
+/// What stands at the front of the bytes behind an opening quote.
+enum Piece<'a> {
+    /// The closing quote, and the bytes behind it.
+    Close(&'a [u8]),
+    /// A byte of the content, and the bytes behind its spelling.
+    Byte(u8, &'a [u8]),
+    Broken,
+}
+
+fn escaped(code: u8) -> Option<u8>
+    ensures { result ≡ escaped code }
+{
+    match code {
+        b'"' => Some(b'"'),
+        b'\\' => Some(b'\\'),
+        b'n' => Some(b'\n'),
+        _ => None,
+    }
+}
+
+fn stands_for_itself(byte: u8) -> bool
+    ensures { result ≡ stands_for_itself byte }
+{
+    byte >= b' ' && byte != b'"' && byte != b'\\' && byte != 127
+}
+
+fn escaped_piece<'a>(code: u8, rest: &'a [u8]) -> Piece<'a>
+    ensures no_longer { IsNoLonger result (length rest.entry.now) }
+    ensures value { text_from result ≡ option_and_then (λ e. option_map (with_front e) (content_before_quote rest.entry.now)) (escaped code) }
+{
+    match escaped(code) {
+        Some(byte) => Piece::Byte(byte, rest),
+        None => Piece::Broken,
+    }
+}
+
+fn first_piece(bytes: &[u8]) -> Piece<'_>
+    ensures value { content_before_quote bytes.now ≡ text_from result }
+    ensures shorter { IsShorter result (length bytes.now) }
+{
+    match bytes {
+        [b'"', rest @ ..] => Piece::Close(rest),
+        [b'\\', code, rest @ ..] => escaped_piece(*code, rest),
+        [byte, rest @ ..] if stands_for_itself(*byte) => Piece::Byte(*byte, rest),
+        _ => Piece::Broken,
+    }
+}
+
+fn content_if_last(content: Text, behind: &[u8]) -> Option<Text>
+    ensures { result ≡ whole (content, behind.now) }
+{
+    if behind.is_empty() {
+        Some(content)
+    } else {
+        None
+    }
+}
+
+/// Behind an opening quote: the bytes behind the closing one; `None` where no text stands there.
+pub fn text_end(bytes: &[u8]) -> Option<&[u8]>
+    ensures value { option_copied result ≡ option_map (λ text. text.1) (text_behind_quote bytes.now) }
+    ensures shorter { IfSome result (λ rest. length rest.now < length bytes.now) }
+{
+    let mut rest = bytes;
+    for _count in 0..=MOST_OF_CONTENT {
+        match first_piece(rest) {
+            Piece::Close(behind) => return Some(behind),
+            Piece::Byte(_, behind) => rest = behind,
+            Piece::Broken => return None,
+        }
+    }
+    None
+}
+
+fn read_whole(alloc: Global, bytes: &[u8]) -> Result<Option<Text>, AllocError>
+    ensures { IfOk result (λ content. content ≡ option_and_then whole (text_behind_quote bytes.now)) }
+{
+    let mut content = Text::new(alloc);
+    let mut rest = bytes;
+    for _count in 0..=MOST_OF_CONTENT {
+        match first_piece(rest) {
+            Piece::Close(behind) => return Ok(content_if_last(content, behind)),
+            Piece::Byte(byte, behind) => {
+                content.push(byte)?;
+                rest = behind;
+            }
+            Piece::Broken => return Ok(None),
+        }
+    }
+    Ok(None)
+}
+
+/// The content of a text in quotes; `None` where the bytes are not one text.
+pub fn content_value(alloc: Global, b: &[u8]) -> Result<Option<Text>, AllocError>
+    ensures value { IfOk result (λ content. content ≡ unquoted b.now) }
+    ensures content { IfOk result (λ content. IfSome content (λ c. IsTrue (is_content c))) }
+{
+    match b {
+        [b'"', rest @ ..] => read_whole(alloc, rest),
+        _ => Ok(None),
+    }
+}
+
+fn push_spelled(text: &mut Text, byte: u8) -> Result<(), AllocError>
+    ensures ok { OnOk result (text.new ≡ text.old ++ spelled byte) }
+{
+    match byte {
+        b'"' => text.push_bytes(b"\\\""),
+        b'\\' => text.push_bytes(b"\\\\"),
+        b'\n' => text.push_bytes(b"\\n"),
+        _ => text.push_bytes(&[byte]),
+    }
+}
+
+fn quoted_text(alloc: Global, content: &[u8]) -> Result<Text, AllocError>
+    ensures { IfOk result (λ text. text ≡ quoted content.now) }
+{
+    let mut text = Text::from_bytes(alloc, b"\"")?;
+    for byte in content {
+        push_spelled(&mut text, *byte)?;
+    }
+    text.push_bytes(b"\"")?;
+    Ok(text)
+}
+
+/// Adds the text with this content, in quotes. An error changes nothing.
+pub fn push_quoted(text: &mut Text, content: &[u8]) -> Result<(), AllocError>
+    ensures ok { OnOk result (text.new ≡ text.old ++ quoted content.now) }
+    ensures err { OnErr result (text.new ≡ text.old) }
+{
+    let quoted = quoted_text(text.allocator(), content)?;
+    text.push_bytes(quoted.as_slice())
+}
+
+/// A content that is printed in quotes is read again.
+pub fn quoted_is_read()
+    ensures { (content : List ℕ) → IsTrue (is_content content) → unquoted (quoted content) ≡ Some content }
+{}
