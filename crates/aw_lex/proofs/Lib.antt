@@ -1,0 +1,4 @@
+pub mod Fronts
+pub mod LineCuts
+pub mod Slices
+pub mod TokenSteps

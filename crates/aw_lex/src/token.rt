@@ -1,0 +1,74 @@
+//! The tokens of a line.
+ghost use Rattle.std.specs.Prelude.{◌≡◌, length, IfOk};
+ghost use Rattle.aw_lex.specs.Tokens.{tokens_of, Lexed, AreSlices};
+
+use crate::front::{Front, front_of};
+use aw_list::Items;
+use std::alloc::{AllocFailed, Global};
+
+#[derive(Clone, Copy, Debug, PartialEq, Eq)]
+pub enum TokenKind {
+    Name,
+    Number,
+    /// The name of a node.
+    Node,
+    /// A text in quotes.
+    Text,
+    /// One of `( ) < > { } , : = ;`.
+    Mark(u8),
+}
+
+/// A token, which is the slice of its line from `start` up to `end`.
+#[derive(Clone, Copy, Debug, PartialEq, Eq)]
+pub struct Token {
+    pub kind: TokenKind,
+    pub start: usize,
+    pub end: usize,
+}
+
+pub type Tokens = Items<Token>;
+
+/// Why a line has no tokens.
+#[derive(Clone, Copy, Debug, PartialEq, Eq)]
+pub enum LexFault {
+    /// The place of the first byte of the first item that is no token.
+    Bad { at: usize },
+    NoMemory,
+}
+
+impl<T: Drop> From<AllocFailed<T>> for LexFault {
+    ghost use Rattle.std.specs.Prelude.{◌≡◌};
+    ghost use Rattle.aw_lex.specs.declared.token.LexFault.TheVariants.{NoMemory};
+
+    ghost from_gives = { λ _ e. e ≡ NoMemory };
+
+    fn from(_failed: AllocFailed<T>) -> LexFault {
+        LexFault::NoMemory
+    }
+}
+
+/// The tokens of a line, in order. A line that holds anything else is `Bad` at the first such item.
+pub fn tokens(alloc: Global, line: &[u8]) -> Result<Tokens, LexFault>
+    ensures exact { Lexed result (tokens_of line.now) }
+    ensures slices { IfOk result (λ found. AreSlices line.now 0 found) }
+{
+    let mut found = Tokens::new(alloc);
+    let mut at = 0;
+    while at < line.len() {
+        let (_, rest) = line.split_at(at);
+        match front_of(rest) {
+            Front::Blank => at += 1,
+            Front::Token(kind, len) => {
+                let end = at + len;
+                found.push(Token {
+                    kind,
+                    start: at,
+                    end,
+                })?;
+                at = end;
+            }
+            Front::Bad => return Err(LexFault::Bad { at }),
+        }
+    }
+    Ok(found)
+}
