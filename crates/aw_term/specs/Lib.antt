@@ -1,0 +1,11 @@
+pub mod Trees
+pub mod Names
+pub mod Rules
+pub mod Matching
+pub mod Configs
+pub mod Choices
+pub mod Artifacts
+pub mod WellFormed
+pub mod Views
+pub mod Runs
+pub mod Worked

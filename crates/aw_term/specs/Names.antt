@@ -1,0 +1,42 @@
+-- Names of nodes and references: whether two are one, which comes first, and what stands below a node.
+use Rattle.std.specs.Prelude.{◌≡◌, ℕ, zero, suc, Bool, true, false, ◌&&◌, ◌||◌, List, [], ◌∷◌, ◌++◌, nat_eq, nat_lt}
+pub use Rattle.aw_name.specs.declared.node.Step.{Step}
+pub use Rattle.aw_name.specs.declared.node.Node.{Node}
+pub use Rattle.aw_name.specs.declared.node.Slot.{Slot}
+pub use Rattle.aw_name.specs.declared.node.Slot.TheVariants.{Result, Part}
+pub use Rattle.aw_name.specs.declared.node.Ref.{Ref}
+
+abbrev pub steps_eq : List Step → List Step → Bool
+steps_eq [] [] = true
+steps_eq (a ∷ xs) (b ∷ ys) = nat_eq a.rule b.rule && (nat_eq a.child b.child && steps_eq xs ys)
+steps_eq _ _ = false
+
+-- whether two nodes are one
+abbrev pub node_eq : Node → Node → Bool
+node_eq a b = nat_eq a.start b.start && (nat_eq a.case b.case && steps_eq a.steps b.steps)
+
+abbrev pub steps_lt : List Step → List Step → Bool
+steps_lt [] [] = false
+steps_lt [] (b ∷ ys) = true
+steps_lt (a ∷ xs) [] = false
+steps_lt (a ∷ xs) (b ∷ ys) = nat_lt a.rule b.rule || (nat_eq a.rule b.rule && (nat_lt a.child b.child || (nat_eq a.child b.child && steps_lt xs ys)))
+
+-- whether a node comes before another: by start sort, case, and steps, a proper prefix first
+abbrev pub node_lt : Node → Node → Bool
+node_lt a b = nat_lt a.start b.start || (nat_eq a.start b.start && (nat_lt a.case b.case || (nat_eq a.case b.case && steps_lt a.steps b.steps)))
+
+-- the node that a case begins with
+abbrev pub root : ℕ → ℕ → Node
+root s k = record { start = s; case = k; steps = [] }
+
+-- child k, from 1, of rule r at this node
+abbrev pub below : Node → ℕ → ℕ → Node
+below n r k = record n { steps = n.steps ++ record { rule = r; child = k } ∷ [] }
+
+-- result j, from 1, of a node
+abbrev pub result : Node → ℕ → Ref
+result n j = record { node = n; slot = Result j }
+
+-- part k, from 1, of a node
+abbrev pub part : Node → ℕ → Ref
+part n k = record { node = n; slot = Part k }
