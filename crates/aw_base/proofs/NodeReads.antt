@@ -1,0 +1,115 @@
+-- Which node a text names, by the parts of the text.
+use Rattle.std.proofs.Common.{◌≡◌, ℕ, suc, ◌+◌, ◌≤◌, ◌<◌, refl, sym, ap, ◌∙◌, Bool, true, false, cond, not, ◌==◌, List, [], ◌∷◌, ◌++◌, map, length, Option, Some, None, is_some, option_map, option_and_then, slice_get, count_by, arith, nat_lt, IsSomeAnd}
+use Rattle.std.proofs.lemmas.Bool.Decides.{nat_tests}
+use Rattle.std.proofs.lemmas.List.Splits.{length-slice_split}
+use Rattle.aw_text.specs.Spelling.{parts, parts_behind, steps_of, step_of, name_from, start_of, parts_of_name}
+use Rattle.aw_term.specs.Names.{Step, Node}
+use Rattle.aw_term.specs.Rules.{Grammar}
+use Rattle.aw_term.specs.Artifacts.{Words}
+use Rattle.aw_base.specs.NodeNames.{NodeRead, Named, NoNodeName, TooLong, NotDeclared, NoFit, number_named, steps_named, is_start, with_start, with_steps, with_parts, first_misfit}
+use Rattle.aw_base.specs.NodeReading.{start_named, steps_behind, read_from}
+
+abbrev Parts : Type 0
+Parts = List ℕ × ℕ × List (List ℕ × ℕ)
+
+-- the steps, where this is the rule of the first
+pub first_step : (w : Words) (rule : List ℕ) (child : ℕ) (trail : Option (List (List ℕ × ℕ))) (found : Option ℕ) → number_named w.rules rule ≡ found
+    → option_and_then (steps_named w) (option_map (λ more. (rule, child) ∷ more) trail)
+    ≡ option_and_then (λ (r : ℕ). let step : Step = record { rule = r; child = child } in option_map (λ more. step ∷ more) (option_and_then (steps_named w) trail)) found
+first_step w rule child None None e = refl
+first_step w rule child None (Some r) e = refl
+first_step w rule child (Some trail) found e =
+    ap (λ o. option_and_then (λ (r : ℕ). let step : Step = record { rule = r; child = child } in option_map (λ more. step ∷ more) (steps_named w trail)) o) e
+
+start_case : (g : Grammar) (case s : ℕ) (steps : Option (List Step)) (b : Bool) → cond b (with_steps g s case steps) NotDeclared ≡ read_from g case (cond b (Some s) None) steps
+start_case g case s steps true = refl
+start_case g case s steps false = refl
+
+start_read : (w : Words) (g : Grammar) (case : ℕ) (trail : List (List ℕ × ℕ)) (number : Option ℕ)
+    → with_start w g case trail number ≡ read_from g case (option_and_then (λ s. cond (is_start (slice_get g.sorts s)) (Some s) None) number) (steps_named w trail)
+start_read w g case trail None = refl
+start_read w g case trail (Some s) = start_case g case s (steps_named w trail) (is_start (slice_get g.sorts s))
+
+short : (n : ℕ) → n ≤ 250 → nat_lt 250 n ≡ false
+short n h = grind (arith, nat_tests)
+
+pub parts_read : (w : Words) (g : Grammar) (start : List ℕ) (case : ℕ) (trail : Option (List (List ℕ × ℕ)))
+    → IsSomeAnd (option_map (λ (t : List (List ℕ × ℕ)). let parts : Parts = (start, case, t) in parts) trail) (λ parts. length parts.2 ≤ 250)
+    → with_parts w g (option_map (λ (t : List (List ℕ × ℕ)). let parts : Parts = (start, case, t) in parts) trail)
+    ≡ read_from g case (start_named w g start) (option_and_then (steps_named w) trail)
+parts_read w g start case None h = absurd h
+parts_read w g start case (Some trail) h =
+    ap (λ b. cond b TooLong (with_start w g case trail (number_named w.sorts start))) (short (length trail) h)
+    ∙ start_read w g case trail (number_named w.sorts start)
+
+-- as many steps as parts
+length_steps : (ps : List (List ℕ)) (trail : List (List ℕ × ℕ)) → steps_of ps ≡ Some trail → length trail ≡ length ps
+length_steps [] [] e = refl
+length_steps [] (s ∷ trail) e = cc
+length_steps (p ∷ ps) trail e = with_step (step_of p) (steps_of ps) trail e (length_steps ps)
+  where
+    with_step : (step : Option (List ℕ × ℕ)) (more : Option (List (List ℕ × ℕ))) (trail : List (List ℕ × ℕ))
+        → option_and_then (λ s. option_map (λ ss. s ∷ ss) more) step ≡ Some trail
+        → ((t : List (List ℕ × ℕ)) → more ≡ Some t → length t ≡ length ps) → length trail ≡ length (p ∷ ps)
+    with_step None more trail e deeper = cc
+    with_step (Some s) None trail e deeper = cc
+    with_step (Some s) (Some t) [] e deeper = cc
+    with_step (Some s) (Some t) (u ∷ us) e deeper =
+        let same : t ≡ us = cc in
+        let tail = deeper t refl in omega (arith, tail, ap length same)
+
+length_named : (w : Words) (trail : List (List ℕ × ℕ)) (steps : List Step) → steps_named w trail ≡ Some steps → length steps ≡ length trail
+length_named w [] [] e = refl
+length_named w [] (s ∷ steps) e = cc
+length_named w (p ∷ ps) steps e = with_rule (number_named w.rules p.0) (steps_named w ps) steps e (length_named w ps)
+  where
+    with_rule : (rule : Option ℕ) (more : Option (List Step)) (steps : List Step)
+        → option_and_then (λ (r : ℕ). let step : Step = record { rule = r; child = p.1 } in option_map (λ ss. step ∷ ss) more) rule ≡ Some steps
+        → ((t : List Step) → more ≡ Some t → length t ≡ length ps) → length steps ≡ length (p ∷ ps)
+    with_rule None more steps e deeper = cc
+    with_rule (Some r) None steps e deeper = cc
+    with_rule (Some r) (Some t) [] e deeper = cc
+    with_rule (Some r) (Some t) (u ∷ us) e deeper =
+        let same : t ≡ us = cc in
+        let tail = deeper t refl in omega (arith, tail, ap length same)
+
+pub few_steps : (w : Words) (start : List ℕ) (case : ℕ) (trail : Option (List (List ℕ × ℕ))) (steps : List Step)
+    → IsSomeAnd (option_map (λ (t : List (List ℕ × ℕ)). let parts : Parts = (start, case, t) in parts) trail) (λ parts. length parts.2 ≤ 250)
+    → option_and_then (steps_named w) trail ≡ Some steps → length steps ≤ 250
+few_steps w start case None steps h e = absurd h
+few_steps w start case (Some trail) steps h e = omega (arith, h, length_named w trail steps e)
+
+-- a name has as many steps as slashes
+from_slashes : (ps : List (List ℕ)) (found : Parts) → name_from ps ≡ Some found → length found.2 + 1 ≡ length ps
+from_slashes [] found e = cc
+from_slashes (p ∷ ps) found e = with_first (start_of p) (steps_of ps) found e (length_steps ps)
+  where
+    with_first : (first : Option (List ℕ × ℕ)) (more : Option (List (List ℕ × ℕ))) (found : Parts)
+        → option_and_then (λ (start : List ℕ × ℕ). option_map (λ (t : List (List ℕ × ℕ)). let parts : Parts = (start.0, start.1, t) in parts) more) first ≡ Some found
+        → ((t : List (List ℕ × ℕ)) → more ≡ Some t → length t ≡ length ps) → length found.2 + 1 ≡ length (p ∷ ps)
+    with_first None more found e deeper = cc
+    with_first (Some s) None found e deeper = cc
+    with_first (Some s) (Some t) found e deeper =
+        let same : t ≡ found.2 = cc in
+        let tail = deeper t refl in omega (arith, tail, ap length same)
+
+pub slashes_are_steps : (text : List ℕ) (found : Parts) → parts_of_name text ≡ Some found → length found.2 ≡ count_by (λ b. b == 47) text
+slashes_are_steps text found e = omega (arith, from_slashes (parts text) found e, length-slice_split (λ b. b == 47) text)
+
+-- what parse_node's tests say
+pub no_name : (w : Words) (g : Grammar) (found : Option Parts) → is_some found ≡ false → with_parts w g found ≡ NoNodeName
+no_name w g None e = refl
+no_name w g (Some p) e = cc
+
+above : (n : ℕ) → 250 < n → nat_lt 250 n ≡ true
+above n h = grind (arith, nat_tests)
+
+pub long_name : (w : Words) (g : Grammar) (text : List ℕ) (found : Option Parts) → parts_of_name text ≡ found → is_some found ≡ true → 250 < count_by (λ b. b == 47) text → with_parts w g found ≡ TooLong
+long_name w g text None f e h = cc
+long_name w g text (Some p) f e h =
+    let many : 250 < length p.2 = omega (arith, slashes_are_steps text p f, h) in
+    ap (λ b. cond b TooLong (with_start w g p.1 p.2 (number_named w.sorts p.0))) (above (length p.2) many)
+
+pub short_name : (text : List ℕ) (found : Option Parts) → parts_of_name text ≡ found → is_some found ≡ true → count_by (λ b. b == 47) text ≤ 250 → IsSomeAnd found (λ parts. length parts.2 ≤ 250)
+short_name text None f e h = cc
+short_name text (Some p) f e h = omega (arith, slashes_are_steps text p f, h)

@@ -1,0 +1,23 @@
+use Rattle.std.proofs.Common.{◌≡◌, ◌∙◌, sym, ap, subst, option_copied, is_some, true}
+use Rattle.aw_text.specs.Spelling.{steps_of, parts_behind}
+use Rattle.aw_term.specs.Names.{Node}
+use Rattle.aw_term.specs.Rules.{sort_of}
+use Rattle.aw_base.specs.GrammarOf.{grammar_of, words_of}
+use Rattle.aw_base.specs.NodeNames.{first_misfit}
+use Rattle.aw_base.proofs.NodeReads.{few_steps}
+use Rattle.aw_base.proofs.ValidNodes.{node_valid}
+use Rattle.aw_base.proofs.read_node.node_of.Goals as goal
+
+pub from_vec-requires : goal.from_vec-requires
+from_vec-requires c =
+    let name = c.args.name.now in
+    few_steps (words_of c.args.g.now) name.start.now name.case (steps_of (parts_behind (option_copied name.steps))) c.in-Some-2.steps.items c.requires
+    (sym (rw c.in-Some-2.is at c.in_ok-steps.ensures))
+
+pub returns-in-None-clause-valid : goal.returns-in-None-clause-valid
+returns-in-None-clause-valid c =
+    let g = grammar_of c.args.g.now in
+    let s = c.in-Some.start in
+    let steps = c.from_vec.result in
+    node_valid (words_of c.args.g.now) g c.args.name.now.start.now s c.args.name.now.case steps c.in-Some.ensures
+    (c.in-None.ensures ∙ ap (first_misfit g 0 s) (c.deref.ensures.value ∙ sym c.from_vec.ensures))

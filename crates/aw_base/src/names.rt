@@ -1,0 +1,89 @@
+//! Which names of nodes and references are valid, and where a node is worked on. Nothing here takes memory.
+ghost use Rattle.std.specs.Prelude.{◌≡◌, List, map, option_map};
+ghost use Rattle.aw_term.specs.Rules.{child_at, sort_of_step, sort_after, sort_of, home_of};
+ghost use Rattle.aw_base.specs.GrammarView.{child_of};
+ghost use Rattle.aw_base.specs.declared.rule.Sort.{Sort};
+ghost use Rattle.aw_base.specs.GrammarOf.{grammar_of};
+ghost use Rattle.aw_base.specs.ChoiceFits.{slot_ok, ref_ok};
+
+use crate::grammar::Grammar;
+use crate::rule::Children;
+use aw_name::{Node, Ref, Slot, Step};
+
+/// The most parts of a node that a reference may speak of.
+pub const MOST_PARTS: u16 = 512;
+
+/// The sort of the child with a number, from 1.
+fn sort_of_child(children: &Children, number: u8) -> Option<u16>
+    ensures { (sorts : List Sort) → result ≡ option_map (λ c. c.sort) (child_at (map (child_of sorts) children.now) number) }
+{
+    let at = number.checked_sub(1)?;
+    let child = children.get(usize::from(at))?;
+    Some(child.sort)
+}
+
+/// The sort of the child that a step from a sort names; `None` where the step does not fit.
+pub(crate) fn sort_of_step(g: &Grammar, sort: u16, step: &Step) -> Option<u16>
+    ensures { result ≡ sort_of_step (grammar_of g.now) sort step.now }
+{
+    let rule = g.rule(step.rule)?;
+    if rule.sort == sort {
+        sort_of_child(&rule.children, step.child)
+    } else {
+        None
+    }
+}
+
+/// The sort after some steps; `None` where one does not fit.
+fn sort_after(g: &Grammar, start: u16, steps: &[Step]) -> Option<u16>
+    ensures { result ≡ sort_after (grammar_of g.now) start steps.now }
+{
+    let mut sort = start;
+    for step in steps {
+        sort = sort_of_step(g, sort, step)?;
+    }
+    Some(sort)
+}
+
+/// The sort of a node; `None` exactly where its name is not valid.
+pub fn sort_of(g: &Grammar, n: &Node) -> Option<u16>
+    ensures { result ≡ sort_of (grammar_of g.now) n.now }
+{
+    let start = g.sort(n.start)?;
+    if start.start {
+        sort_after(g, n.start, n.steps.as_slice())
+    } else {
+        None
+    }
+}
+
+/// The role at which a node is worked on; `None` exactly where its name is not valid.
+pub fn home_of(g: &Grammar, n: &Node) -> Option<u16>
+    ensures { result ≡ home_of (grammar_of g.now) n.now }
+{
+    let sort = sort_of(g, n)?;
+    let sort = g.sort(sort)?;
+    Some(sort.role)
+}
+
+fn slot_ok(g: &Grammar, sort: u16, slot: Slot) -> bool
+    ensures { result ≡ slot_ok (grammar_of g.now) (Some sort) slot }
+{
+    match slot {
+        Slot::Result(number) => match g.sort(sort) {
+            Some(sort) => number >= 1 && number <= u16::from(sort.gives),
+            None => false,
+        },
+        Slot::Part(number) => number >= 1 && number <= MOST_PARTS,
+    }
+}
+
+/// Whether a reference is valid: its node is, and it speaks of a result of the node's sort or of one of the first 512 parts.
+pub fn ref_ok(g: &Grammar, r: &Ref) -> bool
+    ensures { result ≡ ref_ok (grammar_of g.now) r.now }
+{
+    match sort_of(g, &r.node) {
+        Some(sort) => slot_ok(g, sort, r.slot),
+        None => false,
+    }
+}

@@ -1,0 +1,147 @@
+//! Reading the name of a node, as `visit#1/admit.1`.
+ghost use Rattle.std.specs.Prelude.{◌≡◌, is_some, true, ◌≤◌, ◌<◌, ◌==◌, Some, count_by, length, nat_lt, IfOk, IfSome, IsSomeAnd, option_map, option_and_then, option_copied};
+ghost use Rattle.aw_term.specs.Rules.{sort_of};
+ghost use Rattle.aw_text.specs.NodeParts.{begins};
+ghost use Rattle.aw_text.specs.Spelling.{parts_of_name};
+ghost use Rattle.aw_base.specs.GrammarOf.{grammar_of, words_of};
+ghost use Rattle.aw_base.specs.NodeNames.{first_misfit, node_read, with_parts};
+ghost use Rattle.aw_base.specs.NodeReading.{Reads, leads_on, start_named, steps_behind};
+ghost use Rattle.aw_base.specs.declared.read_node.NameFault.TheVariants.{NoMemory};
+
+use crate::grammar::Grammar;
+use crate::names::sort_of_step;
+use aw_name::{Node, Step, Trail};
+use aw_text::{NodeStart, is_node_name, next_step, node_start};
+use std::alloc::{AllocError, AllocFailed, Global};
+
+/// Why a text names no node; the first that holds is told.
+#[derive(Clone, Copy, Debug, PartialEq, Eq)]
+pub enum NameFault {
+    /// The text is no node name.
+    Form,
+    /// The name has more than 250 steps.
+    Long,
+    /// A name in it is not declared, or the sort is no start sort.
+    Unknown,
+    /// A step, counted from 0, does not fit: the rule is of another sort, or has no such child.
+    Step { at: usize },
+    NoMemory,
+}
+
+impl From<AllocError> for NameFault {
+    ghost from_gives = { λ _ e. e ≡ NoMemory };
+
+    fn from(_: AllocError) -> NameFault {
+        NameFault::NoMemory
+    }
+}
+
+/// A step with its rule looked up, and the bytes behind the next slash.
+#[derive(Clone, Copy)]
+struct NamedStep<'a> {
+    step: Step,
+    more: Option<&'a [u8]>,
+}
+
+fn named_step<'a>(g: &Grammar, steps: &'a [u8]) -> Option<NamedStep<'a>>
+    ensures value { steps_behind (words_of g.now) (Some steps.entry.now) ≡ option_and_then (leads_on (words_of g.now)) result }
+    ensures shorter { IfSome result (λ s. IfSome s.more (λ more. length more.now < length steps.entry.now)) }
+{
+    let part = next_step(steps)?;
+    let rule = g.rule_named(part.rule)?;
+    Some(NamedStep {
+        step: Step {
+            rule,
+            child: part.child,
+        },
+        more: part.more,
+    })
+}
+
+fn named_steps(
+    alloc: Global,
+    g: &Grammar,
+    steps: Option<&[u8]>,
+) -> Result<Option<Vec<Step>>, AllocError>
+    ensures { IfOk result (λ found. option_map (λ v. v.items) found ≡ steps_behind (words_of g.now) (option_copied steps.entry)) }
+{
+    let mut found = Vec::new(alloc);
+    let mut rest = steps;
+    while let Some(bytes) = rest {
+        match named_step(g, bytes) {
+            Some(part) => {
+                found.push(part.step)?;
+                rest = part.more;
+            }
+            None => return Ok(None),
+        }
+    }
+    Ok(Some(found))
+}
+
+fn start_named(g: &Grammar, name: &[u8]) -> Option<u16>
+    ensures { result ≡ start_named (words_of g.now) (grammar_of g.now) name.now }
+{
+    let number = g.sort_named(name)?;
+    let sort = g.sort(number)?;
+    if sort.start { Some(number) } else { None }
+}
+
+/// The first step, counted from 0, that does not fit behind a sort.
+fn first_misfit(g: &Grammar, start: u16, steps: &[Step]) -> Option<usize>
+    ensures { result ≡ first_misfit (grammar_of g.now) 0 start steps.now }
+{
+    let mut sort = start;
+    for (at, step) in steps.iter().enumerate() {
+        match sort_of_step(g, sort, step) {
+            Some(next) => sort = next,
+            None => return Some(at),
+        }
+    }
+    None
+}
+
+/// How many slashes stand in the bytes: as many as a node name has steps.
+fn slash_count(text: &[u8]) -> usize
+    ensures { result ≡ count_by (λ b. b == 47) text.now }
+{
+    text.iter().filter(|byte| **byte == b'/').count()
+}
+
+fn node_of(alloc: Global, g: &Grammar, name: &NodeStart<'_>) -> Result<Node, NameFault>
+    requires { IsSomeAnd (begins name.now) (λ parts. length parts.2 ≤ 250) }
+    ensures valid { IfOk result (λ n. is_some (sort_of (grammar_of g.now) n) ≡ true) }
+    ensures read { Reads (with_parts (words_of g.now) (grammar_of g.now) (begins name.now)) result }
+{
+    let Some(start) = start_named(g, name.start) else {
+        return Err(NameFault::Unknown);
+    };
+    let Some(steps) = named_steps(alloc, g, name.steps)? else {
+        return Err(NameFault::Unknown);
+    };
+    match first_misfit(g, start, &steps) {
+        Some(at) => Err(NameFault::Step { at }),
+        None => Ok(Node {
+            start,
+            case: name.case,
+            steps: Trail::from_vec(steps),
+        }),
+    }
+}
+
+/// The node that a text names, which is then valid.
+pub fn parse_node(alloc: Global, g: &Grammar, text: &[u8]) -> Result<Node, NameFault>
+    ensures valid { IfOk result (λ n. is_some (sort_of (grammar_of g.now) n) ≡ true) }
+    ensures read { Reads (node_read (words_of g.now) (grammar_of g.now) text.now) result }
+{
+    if !is_node_name(text) {
+        return Err(NameFault::Form);
+    }
+    if slash_count(text) > Trail::MOST {
+        return Err(NameFault::Long);
+    }
+    match node_start(text) {
+        Some(name) => node_of(alloc, g, &name),
+        None => Err(NameFault::Form),
+    }
+}

@@ -1,0 +1,253 @@
+//! Texts of names, references, answers and items of a worklist. A number that is not declared prints as an empty name.
+ghost use Rattle.std.specs.Prelude.{◌≡◌, ◌++◌, [], codes, decimal, flat_map, OnOk, OnErr, IfOk};
+ghost use Rattle.aw_term.specs.Rules.{get};
+ghost use Rattle.aw_term.specs.Artifacts.{step_text, steps_text, node_text, slot_text, ref_text, place_text, answer_text, standing_text, item_text};
+ghost use Rattle.aw_base.specs.GrammarOf.{words_of};
+ghost use Rattle.aw_base.specs.ChoiceView.{path_of, place_of, answer_of, refusal_of, item_of};
+
+use crate::choice::{Answer, Item, Path, Place, Standing};
+use crate::grammar::Grammar;
+use aw_list::Text;
+use aw_name::{Node, Ref, Slot, Step};
+use aw_text::push_number;
+use std::alloc::{AllocError, Global};
+
+/// The name of a role.
+pub fn role_name(g: &Grammar, role: u16) -> &[u8]
+    ensures { result.now ≡ get [] (words_of g.now).roles role }
+{
+    match g.role(role) {
+        Some(name) => name.as_slice(),
+        None => &[],
+    }
+}
+
+/// The name of a constructor.
+pub fn con_name(g: &Grammar, con: u16) -> &[u8]
+    ensures { result.now ≡ get [] (words_of g.now).cons con }
+{
+    match g.con(con) {
+        Some(con) => con.name.as_slice(),
+        None => &[],
+    }
+}
+
+/// The name of a sort.
+pub fn sort_name(g: &Grammar, sort: u16) -> &[u8]
+    ensures { result.now ≡ get [] (words_of g.now).sorts sort }
+{
+    match g.sort(sort) {
+        Some(sort) => sort.name.as_slice(),
+        None => &[],
+    }
+}
+
+/// The name of a rule.
+pub fn rule_name(g: &Grammar, rule: u16) -> &[u8]
+    ensures { result.now ≡ get [] (words_of g.now).rules rule }
+{
+    match g.rule(rule) {
+        Some(rule) => rule.name.as_slice(),
+        None => &[],
+    }
+}
+
+fn add_step(text: &mut Text, g: &Grammar, step: &Step) -> Result<(), AllocError>
+    ensures { OnOk result (text.new ≡ text.old ++ step_text (words_of g.now) step.now) }
+{
+    text.push_bytes(b"/")?;
+    text.push_bytes(rule_name(g, step.rule))?;
+    text.push_bytes(b".")?;
+    push_number(text, u64::from(step.child))
+}
+
+fn add_steps(text: &mut Text, g: &Grammar, steps: &[Step]) -> Result<(), AllocError>
+    ensures { OnOk result (text.new ≡ text.old ++ steps_text (words_of g.now) steps.now) }
+{
+    for step in steps {
+        add_step(text, g, step)?;
+    }
+    Ok(())
+}
+
+fn add_node(text: &mut Text, g: &Grammar, n: &Node) -> Result<(), AllocError>
+    ensures { OnOk result (text.new ≡ text.old ++ node_text (words_of g.now) n.now) }
+{
+    text.push_bytes(sort_name(g, n.start))?;
+    text.push_bytes(b"#")?;
+    push_number(text, n.case)?;
+    add_steps(text, g, n.steps.as_slice())
+}
+
+fn add_slot(text: &mut Text, slot: Slot) -> Result<(), AllocError>
+    ensures { OnOk result (text.new ≡ text.old ++ slot_text slot) }
+{
+    match slot {
+        Slot::Result(number) => {
+            text.push_bytes(b":r")?;
+            push_number(text, u64::from(number))
+        }
+        Slot::Part(number) => {
+            text.push_bytes(b":p")?;
+            push_number(text, u64::from(number))
+        }
+    }
+}
+
+fn add_ref(text: &mut Text, g: &Grammar, r: &Ref) -> Result<(), AllocError>
+    ensures { OnOk result (text.new ≡ text.old ++ ref_text (words_of g.now) r.now) }
+{
+    add_node(text, g, &r.node)?;
+    add_slot(text, r.slot)
+}
+
+fn add_path(text: &mut Text, steps: &[u8]) -> Result<(), AllocError>
+    ensures { OnOk result (text.new ≡ text.old ++ flat_map (λ k. codes "." ++ decimal k) steps.now) }
+{
+    for step in steps {
+        text.push_bytes(b".")?;
+        push_number(text, u64::from(*step))?;
+    }
+    Ok(())
+}
+
+fn add_place(text: &mut Text, place: &Place) -> Result<(), AllocError>
+    ensures { OnOk result (text.new ≡ text.old ++ place_text (place_of place.now)) }
+{
+    push_number(text, u64::from(place.attribute))?;
+    add_path(text, path_steps(&place.path))
+}
+
+/// The steps of a path.
+pub fn path_steps(path: &Path) -> &[u8]
+    ensures { result.now ≡ path_of path.now }
+{
+    let (steps, _) = path.steps.split_at(usize::from(path.len));
+    steps
+}
+
+fn add_refusal(text: &mut Text, word: &[u8], g: &Grammar, r: &Ref) -> Result<(), AllocError>
+    ensures { OnOk result (text.new ≡ text.old ++ (word.now ++ ref_text (words_of g.now) r.now)) }
+{
+    text.push_bytes(word)?;
+    add_ref(text, g, r)
+}
+
+fn add_mismatch(text: &mut Text, place: &Place) -> Result<(), AllocError>
+    ensures { OnOk result (text.new ≡ text.old ++ (codes "mismatch " ++ place_text (place_of place.now))) }
+{
+    text.push_bytes(b"mismatch ")?;
+    add_place(text, place)
+}
+
+fn add_answer(text: &mut Text, g: &Grammar, a: &Answer) -> Result<(), AllocError>
+    ensures { OnOk result (text.new ≡ text.old ++ answer_text (words_of g.now) (answer_of a.now)) }
+{
+    match a {
+        Answer::Known => text.push_bytes(b"known"),
+        Answer::NotHere => text.push_bytes(b"unknown"),
+        Answer::Developed => text.push_bytes(b"developed"),
+        Answer::NotItsRule => text.push_bytes(b"wrong rule"),
+        Answer::Arguments => text.push_bytes(b"arguments"),
+        Answer::Waits(r) => add_refusal(text, b"waits ", g, r),
+        Answer::Differs(place) => add_mismatch(text, place),
+        Answer::Circle(r) => add_refusal(text, b"circle ", g, r),
+        Answer::TooDeep => text.push_bytes(b"deep"),
+        Answer::Taken => text.push_bytes(b"taken"),
+    }
+}
+
+fn add_standing(text: &mut Text, g: &Grammar, state: &Standing) -> Result<(), AllocError>
+    ensures { OnOk result (text.new ≡ text.old ++ standing_text (words_of g.now) (refusal_of state.now)) }
+{
+    match state {
+        Standing::Ready => text.push_bytes(b"ready"),
+        Standing::Waits(r) => add_refusal(text, b"waits ", g, r),
+        Standing::Differs(place) => add_mismatch(text, place),
+        Standing::Circle(r) => add_refusal(text, b"circle ", g, r),
+        Standing::TooDeep => text.push_bytes(b"deep"),
+    }
+}
+
+fn add_item(text: &mut Text, g: &Grammar, i: &Item) -> Result<(), AllocError>
+    ensures { OnOk result (text.new ≡ text.old ++ item_text (words_of g.now) (item_of i.now)) }
+{
+    text.push_bytes(b"item ")?;
+    add_node(text, g, &i.node)?;
+    text.push_bytes(b" ")?;
+    text.push_bytes(rule_name(g, i.rule))?;
+    text.push_bytes(b" ")?;
+    add_standing(text, g, &i.state)
+}
+
+/// The name of a node, as `visit#1/admit.1`.
+pub fn node_text(alloc: Global, g: &Grammar, n: &Node) -> Result<Text, AllocError>
+    ensures { IfOk result (λ text. text ≡ node_text (words_of g.now) n.now) }
+{
+    let mut text = Text::new(alloc);
+    add_node(&mut text, g, n)?;
+    Ok(text)
+}
+
+/// Adds the text that `node_text` makes. An error changes nothing.
+pub fn push_node(text: &mut Text, g: &Grammar, n: &Node) -> Result<(), AllocError>
+    ensures ok { OnOk result (text.new ≡ text.old ++ node_text (words_of g.now) n.now) }
+    ensures err { OnErr result (text.new ≡ text.old) }
+{
+    let added = node_text(text.allocator(), g, n)?;
+    text.push_bytes(added.as_slice())
+}
+
+/// The name of a reference, as `visit#1:r1` or `visit#1:p2`.
+pub fn ref_text(alloc: Global, g: &Grammar, r: &Ref) -> Result<Text, AllocError>
+    ensures { IfOk result (λ text. text ≡ ref_text (words_of g.now) r.now) }
+{
+    let mut text = Text::new(alloc);
+    add_ref(&mut text, g, r)?;
+    Ok(text)
+}
+
+/// Adds the text that `ref_text` makes. An error changes nothing.
+pub fn push_ref(text: &mut Text, g: &Grammar, r: &Ref) -> Result<(), AllocError>
+    ensures ok { OnOk result (text.new ≡ text.old ++ ref_text (words_of g.now) r.now) }
+    ensures err { OnErr result (text.new ≡ text.old) }
+{
+    let added = ref_text(text.allocator(), g, r)?;
+    text.push_bytes(added.as_slice())
+}
+
+/// The text of an answer, as `waits visit#1:r1`.
+pub fn answer_text(alloc: Global, g: &Grammar, a: &Answer) -> Result<Text, AllocError>
+    ensures { IfOk result (λ text. text ≡ answer_text (words_of g.now) (answer_of a.now)) }
+{
+    let mut text = Text::new(alloc);
+    add_answer(&mut text, g, a)?;
+    Ok(text)
+}
+
+/// Adds the text that `answer_text` makes. An error changes nothing.
+pub fn push_answer(text: &mut Text, g: &Grammar, a: &Answer) -> Result<(), AllocError>
+    ensures ok { OnOk result (text.new ≡ text.old ++ answer_text (words_of g.now) (answer_of a.now)) }
+    ensures err { OnErr result (text.new ≡ text.old) }
+{
+    let added = answer_text(text.allocator(), g, a)?;
+    text.push_bytes(added.as_slice())
+}
+
+/// The line of an item, without its end, as `item visit#1 admit ready`.
+pub fn item_text(alloc: Global, g: &Grammar, i: &Item) -> Result<Text, AllocError>
+    ensures { IfOk result (λ text. text ≡ item_text (words_of g.now) (item_of i.now)) }
+{
+    let mut text = Text::new(alloc);
+    add_item(&mut text, g, i)?;
+    Ok(text)
+}
+
+/// Adds the text that `item_text` makes. An error changes nothing.
+pub fn push_item(text: &mut Text, g: &Grammar, i: &Item) -> Result<(), AllocError>
+    ensures ok { OnOk result (text.new ≡ text.old ++ item_text (words_of g.now) (item_of i.now)) }
+    ensures err { OnErr result (text.new ≡ text.old) }
+{
+    let added = item_text(text.allocator(), g, i)?;
+    text.push_bytes(added.as_slice())
+}

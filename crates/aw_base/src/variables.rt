@@ -1,0 +1,34 @@
+//! The variables of a rule by name.
+ghost use Rattle.std.specs.Prelude.{◌≡◌, ◌≤◌, length, true, false, IfOk, MatchOption};
+ghost use Rattle.aw_index.specs.Places.{number_of, has_double};
+
+use aw_index::NameIndex;
+use aw_list::Text;
+use std::alloc::{AllocError, Global};
+
+/// The variables of a rule, at most 64, in the order in which they enter.
+#[derive(Debug, Drop)]
+pub(crate) struct Variables {
+    pub(crate) names: NameIndex,
+    ghost few: { length names ≤ 64 },
+}
+
+impl Variables {
+    /// The number of a variable.
+    pub(crate) fn number(&self, name: &[u8]) -> u8
+        ensures { result ≡ number_of name.now self.now.names }
+    {
+        self.names.number(name) as u8
+    }
+
+    /// The variables of these names, or `None` where a name stands twice.
+    pub(crate) fn of_names(alloc: Global, names: &[Text]) -> Result<Option<Variables>, AllocError>
+        requires { length names.now ≤ 64 }
+        ensures { IfOk result (λ found. MatchOption found (has_double names.now ≡ true) (λ v. (has_double names.now ≡ false) × (v.names ≡ names.now))) }
+    {
+        let Some(names) = NameIndex::of_names(alloc, names)? else {
+            return Ok(None);
+        };
+        Ok(Some(Variables { names }))
+    }
+}
