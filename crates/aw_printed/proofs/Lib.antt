@@ -1,0 +1,6 @@
+pub mod LookUps
+pub mod NodeProps
+pub mod Outcomes
+pub mod Printing
+pub mod ProgramNodes
+pub mod Reading

@@ -1,0 +1,30 @@
+-- A valid node of the program, printed and read by it.
+use Rattle.std.proofs.Common.{◌≡◌, sym, ap, ◌∙◌, List, true, is_some}
+use Rattle.std.proofs.Math.Logic.{∥∥₁_elim}
+use Rattle.std.proofs.lemmas.List.{length-map}
+use Rattle.std.specs.Prelude.{ℕ}
+use Rattle.aw_term.specs.Names.{Node}
+use Rattle.aw_term.specs.Rules.{sort_of}
+use Rattle.aw_term.specs.Artifacts.{node_text}
+use Rattle.aw_base.specs.GrammarView.{rule_of}
+use Rattle.aw_base.specs.GrammarView as view
+use Rattle.aw_base.specs.GrammarOf.{grammar_of, words_of}
+use Rattle.aw_base.specs.NodeNames.{Named, node_read}
+use Rattle.aw_base.specs.declared.grammar.Grammar.{Grammar}
+use Rattle.aw_base.specs.declared.rule.Sort.{Sort}
+use Rattle.aw_base.specs.declared.rule.Rule.{Rule}
+use Rattle.aw_printed.specs.Printed.{AreNamed, IsHeld}
+use Rattle.aw_printed.proofs.NodeProps.{named_prop}
+use Rattle.aw_printed.proofs.Reading.{node_again}
+
+all_named : (g : Grammar) → AreNamed (words_of g) (grammar_of g)
+all_named g = record {
+  sorts = length-map g.sorts (λ (s : Sort). s.name) ∙ sym (length-map g.sorts view.sort_of);
+  rules = length-map g.rules (λ (r : Rule). r.name) ∙ sym (length-map g.rules (rule_of g.sorts));
+}
+
+pub read_by_grammar : (g : Grammar) (n : Node) (text : List ℕ) → IsHeld n → is_some (sort_of (grammar_of g) n) ≡ true → text ≡ node_text (words_of g) n → node_read (words_of g) (grammar_of g) text ≡ Named n
+read_by_grammar g n text held valid e =
+    ap (node_read (words_of g) (grammar_of g)) e
+    ∙ ∥∥₁_elim g.well_formed (named_prop (node_read (words_of g) (grammar_of g) (node_text (words_of g) n)) n)
+    (λ formed. node_again (words_of g) (grammar_of g) n formed (all_named g) held valid)

@@ -1,0 +1,6 @@
+//! What is printed is read again.
+#![tactic(auto)]
+
+pub mod laws;
+
+pub use laws::{printed_node_is_read, read_again};
