@@ -1,0 +1,34 @@
+-- Circles over the relation that was found, and over the dependence relation.
+use Rattle.std.proofs.Common.{◌≡◌, ℕ, zero, suc, ◌+◌, ◌<◌, ◌≤◌, List, [], ◌∷◌, map, length, Option, Some, None, slice_get, refl, sym, ap, ◌∙◌, subst, inl, inr, arith}
+use Rattle.std.specs.Prelude.{◌⊎◌, ◌↔◌}
+use Rattle.aw_term.specs.Rules as P
+use Rattle.aw_base.specs.declared.grammar.Grammar.{Grammar}
+use Rattle.aw_base.specs.GrammarView.{rule_of}
+use Rattle.aw_base.specs.GrammarOf.{grammar_of}
+use Rattle.aw_iograph.specs.declared.occ.Occ.{Occ}
+use Rattle.aw_iograph.specs.declared.io.Io.{Io}
+use Rattle.aw_iograph.specs.Graphs.{Member, Plus}
+use Rattle.aw_iograph.specs.Dependence.{IO, IsOnCircle, LeastOnCircle, HasNoCircle}
+use Rattle.aw_iograph.specs.Pairs.{Has}
+use Rattle.aw_iograph.proofs.Members.{below_or_at, member_place, length_map}
+use Rattle.aw_iograph.proofs.Relations.{plus_map}
+use Rattle.aw_accept.specs.Circular.{IsRelation, NoneBelow}
+
+-- two equal relations have the same least occurrence on a circle
+pub least_same : (rel rel' : ℕ → ℕ → ℕ → Type 0) (r : P.Rule) (found : Option Occ) → ((s i j : ℕ) → rel s i j ↔ rel' s i j) → LeastOnCircle rel r found → LeastOnCircle rel' r found
+least_same rel rel' r None same none = λ o w. none o (plus_map r rel' rel (λ s i j x. (same s i j).1 x) w)
+least_same rel rel' r (Some o) same least = (plus_map r rel rel' (λ s i j x. (same s i j).0 x) least.0, λ u w. least.1 u (plus_map r rel' rel (λ s i j x. (same s i j).1 x) w))
+
+pub none_more : (g : P.Grammar) (n : ℕ) → NoneBelow g n → ((r : P.Rule) → slice_get g.rules n ≡ Some r → LeastOnCircle (IO g) r None) → NoneBelow g (n + 1)
+none_more g n below here k lt r got = elim (below_or_at k n lt) [ inl less ↦ below k less r got | inr at ↦ here r (subst (λ m. slice_get g.rules m ≡ Some r) at got) ]
+
+pub none_all : (g : P.Grammar) (n : ℕ) → length g.rules ≤ n → NoneBelow g n → HasNoCircle g (IO g)
+none_all g n le below r m o w =
+    let (k, lt, got) = member_place g.rules r m in
+    let less : k < n = omega arith in below k less r got o w
+
+-- there is a rule with each number below their count
+pub rule_at : (rules : List P.Rule) (k : ℕ) → k < length rules → (r : P.Rule) × (slice_get rules k ≡ Some r)
+rule_at [] k lt = absurd (omega arith)
+rule_at (r ∷ rs) zero lt = (r, refl)
+rule_at (r ∷ rs) (suc k) lt = let below : k < length rs = omega arith in rule_at rs k below

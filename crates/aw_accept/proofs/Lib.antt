@@ -1,0 +1,10 @@
+pub mod Binding
+pub mod ConfigLemmas
+pub mod Contraction
+pub mod Developing
+pub mod Faults
+pub mod Fitting
+pub mod Pigeonholes
+pub mod Sources
+pub mod Spots
+pub mod UndividedRuns

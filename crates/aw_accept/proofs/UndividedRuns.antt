@@ -1,0 +1,343 @@
+-- Each configuration that choices lead to is acyclic.
+use Rattle.std.proofs.Common.{◌≡◌, ℕ, zero, suc, ◌+◌, ◌<◌, ◌≤◌, Bool, true, false, cond, List, [], ◌∷◌, ◌++◌, map, length, Option, Some, None, slice_get, replicate, refl, sym, ap, ◌∙◌, subst, inl, inr, ⊎_elim, arith}
+use Rattle.std.specs.Prelude.{◌⊎◌, ◌&&◌, nat_eq, option_and_then}
+use Rattle.aw_term.specs.Trees.{Never, Head, Tree, Leaf, Made, Trees, Nil, More, In, Ins, bind, binds, count, head_eq}
+use Rattle.aw_term.specs.Names.{Node, Ref, Slot, Result, Part, Step, steps_eq, node_eq, node_lt, below, result, root}
+use Rattle.aw_term.specs.Rules.{Term, Ground, Value, Child, Rule, Sort, Grammar, get, nth, upto, child_at}
+use Rattle.aw_term.specs.Matching.{Matched, Yes, Waits, Differs, Circle, and_then, under, match, match_parts, match_all}
+use Rattle.aw_term.specs.Configs.{State, Pending, Done, Row, Config, lift, holes, child_holes, env, nothing, fill, child_rows, insert_row, insert_rows, row_of, done_row, result_at, put, row_put, rounds, develop}
+use Rattle.aw_term.specs.WellFormed.{leaves, all_leaves, Each, Later}
+use Rattle.aw_iograph.specs.declared.occ.Occ.{Occ}
+use Rattle.aw_iograph.specs.Graphs.{Member, Plus, step, more}
+use Rattle.aw_iograph.specs.Occurrences.{inherited, given, item, pattern_entries, child_entries, entries, term_at}
+use Rattle.aw_iograph.specs.Dependence.{Edge, text, call, IO, IsClosedUnder, HasNoCircle}
+use Rattle.aw_iograph.proofs.Members.{never}
+use Rattle.aw_accept.specs.Acyclic.{Pairs, Needs, need, Stands, IsWhole, IsAcyclic, IsGivenGrammar, IsTree}
+use Rattle.std.proofs.lemmas.Bool.{eqb-true}
+use Rattle.aw_term.specs.Choices.{Choice, Start, Develop, Answer, NotItsRule, Arguments, Outcome, Refused, Starts, Takes, deep, after_guard, at_rule, at_state, at_row, not_held, outcome, gives_of, start_row, taken, undivided}
+use Rattle.aw_iograph.proofs.Relations.{io_closed}
+use Rattle.aw_accept.specs.Acyclic.{gives}
+use Rattle.aw_accept.proofs.Spots.{Spot, occ_of, moves}
+use Rattle.aw_accept.proofs.ConfigLemmas.{node_eq-true, node_eq-refl, below-child, child_row, Member-map, Member-insert_row, Member-inserted, Member-insert_rows, Member-all_inserted, Member-mapped, Member-child_rows, Member-rounds, Member-rounded, rounds-node, rounds-sort, rounds-state, rounds-results-length, done_row-cases, length-mapped, length-upto, upto-bound, upto-low}
+use Rattle.aw_accept.proofs.Developing.{Taking, Member-at, develop-acyclic, added, sigma, e, FromChild, added_cases}
+
+item_none : {A : Type 0} (i : ℕ) (t : A) → item [] i ≡ Some t → Never
+item_none zero t e = absurd cc
+item_none (suc i) t e = absurd cc
+
+some-inj : {A : Type 0} {a b : A} → Some a ≡ Some b → a ≡ b
+some-inj e = cc
+
+-- what a taken rule says
+pub record Decoded (g : Grammar) (c : Config) (n : Node) (ri : ℕ) (args : List Ground) (rule : Rule) (bs : List Value) : Type 0 where
+  pub row : Row
+  pub held : Member row c
+  pub node : row.node ≡ n
+  pub open_ : row.state ≡ Pending
+  pub rule_is : slice_get g.rules ri ≡ Some rule
+  pub sort : rule.sort ≡ row.sort
+  pub given : length args ≡ rule.params
+  pub bound : match_all 1 rule.patterns row.inherited ≡ Yes bs
+
+row_cases : (b : Bool) (n : Node) (q h : Row) (o : Option Row) → node_eq n q.node ≡ b → cond b (Some q) o ≡ Some h → ((q ≡ h) × (n ≡ q.node)) ⊎ (o ≡ Some h)
+row_cases true n q h o e f = inl (cc, node_eq-true n q.node e)
+row_cases false n q h o e f = inr f
+
+pub row_of-found : (n : Node) (c : Config) (h : Row) → row_of n c ≡ Some h → Member h c × (h.node ≡ n)
+row_of-found n [] h e = absurd cc
+row_of-found n (q ∷ qs) h e =
+    elim (row_cases (node_eq n q.node) n q h (row_of n qs) refl e) [
+      | inl x ↦ (inl (sym x.0), sym (ap (λ (h : Row). h.node) x.0) ∙ sym x.1)
+      | inr x ↦ (let (m, f) = row_of-found n qs h x in (inr m, f))
+    ]
+
+pub none_cases : (b : Bool) (q : Row) (o : Option Row) → cond b (Some q) o ≡ None → (b ≡ false) × (o ≡ None)
+none_cases true q o e = absurd cc
+none_cases false q o e = (refl, e)
+
+pub row_of-none : (n : Node) (c : Config) → row_of n c ≡ None → (p : Row) → Member p c → p.node ≡ n → Never
+row_of-none n [] e p m f = never m
+row_of-none n (q ∷ qs) e p m f =
+    let (a, b) = none_cases (node_eq n q.node) q (row_of n qs) e in
+    elim m [
+      | inl x ↦ (let z : node_eq n n ≡ false = subst (λ k. node_eq n k ≡ false) (sym (ap (λ (h : Row). h.node) x) ∙ f) a in let y = node_eq-refl n in absurd cc)
+      | inr x ↦ row_of-none n qs b p x f
+    ]
+
+cond-takes : (b : Bool) (x : Outcome Value Ref) (a : Answer Ref) (rule : Rule) (bs : List Value) → cond b x (Refused a) ≡ Takes rule bs → (b ≡ true) × (x ≡ Takes rule bs)
+cond-takes true x a rule bs e = (refl, e)
+cond-takes false x a rule bs e = absurd cc
+
+deep-takes : (b : Bool) (x : Outcome Value Ref) (a : Answer Ref) (rule : Rule) (bs : List Value) → cond b (Refused a) x ≡ Takes rule bs → x ≡ Takes rule bs
+deep-takes true x a rule bs e = absurd cc
+deep-takes false x a rule bs e = e
+
+guard-takes : (n : Node) (ru : Rule) (m : Matched Value Ref) (rule : Rule) (bs : List Value) → after_guard n ru m ≡ Takes rule bs → (ru ≡ rule) × (m ≡ Yes bs)
+guard-takes n ru (Yes xs) rule bs e = let f = deep-takes (deep n ru) (Takes ru xs) _ rule bs e in (cc, cc)
+guard-takes n ru (Waits r) rule bs e = absurd cc
+guard-takes n ru (Differs r) rule bs e = absurd cc
+guard-takes n ru (Circle r) rule bs e = absurd cc
+
+abbrev RuleFacts : Option Rule → List Ground → Row → Rule → List Value → Type 0
+RuleFacts o args q rule bs = (o ≡ Some rule) × (rule.sort ≡ q.sort) × (length args ≡ rule.params) × (match_all 1 rule.patterns q.inherited ≡ Yes bs)
+
+rule-takes : (o : Option Rule) (n : Node) (args : List Ground) (q : Row) (rule : Rule) (bs : List Value) → at_rule o n args q ≡ Takes rule bs → RuleFacts o args q rule bs
+rule-takes None n args q rule bs e = absurd cc
+rule-takes (Some ru) n args q rule bs e =
+    let (a, f) = cond-takes (nat_eq ru.sort q.sort) (cond (nat_eq (length args) ru.params) (after_guard n ru (match_all 1 ru.patterns q.inherited)) (Refused Arguments)) NotItsRule rule bs e in
+    let (b, h) = cond-takes (nat_eq (length args) ru.params) (after_guard n ru (match_all 1 ru.patterns q.inherited)) Arguments rule bs f in
+    let (p, y) = guard-takes n ru (match_all 1 ru.patterns q.inherited) rule bs h in
+    subst (λ ru'. RuleFacts (Some ru) args q ru' bs) p (refl, eqb-true _ _ a, eqb-true _ _ b, y)
+
+state-takes : (g : Grammar) (s : State) (n : Node) (ri : ℕ) (args : List Ground) (q : Row) (rule : Rule) (bs : List Value) → at_state s g n ri args q ≡ Takes rule bs → (s ≡ Pending) × RuleFacts (slice_get g.rules ri) args q rule bs
+state-takes g (Done a b) n ri args q rule bs e = absurd cc
+state-takes g Pending n ri args q rule bs e = (refl, rule-takes (slice_get g.rules ri) n args q rule bs e)
+
+pub decode_on : (g : Grammar) (c : Config) (o : Option Row) (n : Node) (ri : ℕ) (args : List Ground) (rule : Rule) (bs : List Value) → row_of n c ≡ o → at_row o g n ri args ≡ Takes rule bs → Decoded g c n ri args rule bs
+decode_on g c None n ri args rule bs f e = absurd cc
+decode_on g c (Some q) n ri args rule bs f e =
+    let (a, b) = state-takes g q.state n ri args q rule bs e in
+    let (m, p) = row_of-found n c q f in
+    record { row = q; held = m; node = p; open_ = a; rule_is = b.0; sort = b.1; given = b.2; bound = b.3 }
+
+init_of : List Step → List Step
+init_of [] = []
+init_of (s ∷ []) = []
+init_of (s ∷ t ∷ ss) = s ∷ init_of (t ∷ ss)
+
+init_of-end : (xs : List Step) (s : Step) → init_of (xs ++ s ∷ []) ≡ xs
+unfolding init_of
+init_of-end [] s = refl
+init_of-end (x ∷ []) s = refl
+init_of-end (x ∷ y ∷ xs) s = ap (λ ys. x ∷ ys) (init_of-end (y ∷ xs) s)
+
+pub below-node : (n m : Node) (r r' k k' : ℕ) → below n r k ≡ below m r' k' → n ≡ m
+below-node n m r r' k k' e =
+    let a = ap (λ (n : Node). n.start) e in
+    let b = ap (λ (n : Node). n.case) e in
+    let c = sym (init_of-end n.steps (record { rule = r; child = k })) ∙ (ap (λ (n : Node). init_of n.steps) e ∙ init_of-end m.steps (record { rule = r'; child = k' })) in
+    λ i. record { start = a i; case = b i; steps = c i }
+
+pub root-below : (s k : ℕ) (n : Node) (r i : ℕ) → root s k ≡ below n r i → Never
+root-below s k n r i e = no_end n.steps (record { rule = r; child = i }) (ap (λ (n : Node). n.steps) e)
+  where
+    no_end : (xs : List Step) (x : Step) → [] ≡ xs ++ x ∷ [] → Never
+    no_end [] x e = absurd cc
+    no_end (y ∷ xs) x e = absurd cc
+
+module _ (g : Grammar) (fit : IsGivenGrammar g) (ok : HasNoCircle g (IO g)) where
+  abbrev pub Good : Config → Type 0
+  Good c = IsTree g c × IsAcyclic (IO g) c
+
+  -- a taken rule
+  module _ (c : Config) (n : Node) (ri : ℕ) (args : List Ground) (rule : Rule) (bs : List Value) (good : Good c) (D : Decoded g c n ri args rule bs) where
+    abbrev pub q : Row
+    q = D.row
+
+    pub taking : Taking (IO g) c q ri rule bs args
+    taking = record {
+      held = D.held;
+      open_ = D.open_;
+      sort = D.sort;
+      bound = D.bound;
+      given = D.given;
+      many = good.0.many D.row D.held ∙ (ap (gives g) (sym D.sort) ∙ sym (fit.results rule (Member-at g.rules ri rule D.rule_is)));
+      closed = λ i j w. subst (λ s. IO g s i j) D.sort (io_closed g rule (Member-at g.rules ri rule D.rule_is) i j (moves rule (IO g) w));
+      no_inner = λ o w. ok rule (Member-at g.rules ri rule D.rule_is) (occ_of o) (moves rule (IO g) w);
+      whole = good.1.whole;
+      no_circle = good.1.no_circle;
+      fresh = λ p m k f. let (p', m', a, b) = good.0.parents p m D.row.node ri k f in b (ap (λ (r : Row). r.state) (good.0.apart p' D.row m' D.held a) ∙ D.open_);
+      apart = λ p m f. good.0.apart p D.row m D.held f;
+    }
+
+    abbrev pub A : Config
+    A = added (IO g) c q ri rule bs args taking
+
+    abbrev pub new : Config
+    new = develop q.node ri rule bs args c
+
+    abbrev pub M : ℕ
+    M = length rule.results
+
+    abbrev pub F : Row → Row
+    F = rounds M (row_put (sigma (IO g) c q ri rule bs args taking))
+
+    pub from_added : (y : Row) → Member y new → (z : Row) × Member z A × (y ≡ F z)
+    from_added y m = Member-rounds M (row_put (sigma (IO g) c q ri rule bs args taking)) y A m
+
+    pub F-node : (z : Row) → (F z).node ≡ z.node
+    F-node z = rounds-node M (sigma (IO g) c q ri rule bs args taking) z
+
+    abbrev Origin : Row → Type 0
+    Origin z = FromChild (IO g) c q ri rule bs args taking z ⊎ ((p : Row) × Member p c × (z ≡ done_row q.node (Done ri args) p))
+
+    origin : (z : Row) → Member z A → Origin z
+    origin z m = added_cases (IO g) c q ri rule bs args taking z m
+
+    pub done-same : (p : Row) → ((done_row q.node (Done ri args) p).node ≡ p.node) × ((done_row q.node (Done ri args) p).sort ≡ p.sort) × ((done_row q.node (Done ri args) p).results ≡ p.results)
+    done-same p = elim (done_row-cases q.node (Done ri args) p) [
+      | inl x ↦ (ap (λ (r : Row). r.node) x.1, ap (λ (r : Row). r.sort) x.1, ap (λ (r : Row). r.results) x.1)
+      | inr x ↦ (ap (λ (r : Row). r.node) x, ap (λ (r : Row). r.sort) x, ap (λ (r : Row). r.results) x)
+    ]
+
+    one_origin : (z z' : Row) → Origin z → Origin z' → z.node ≡ z'.node → z ≡ z'
+    one_origin z z' (inl (k, d, f, a)) (inl (k', d', f', a')) e =
+        let s : suc k ≡ suc k' = below-child q.node ri (suc k) (suc k') (sym (ap (λ (r : Row). r.node) a) ∙ (e ∙ ap (λ (r : Row). r.node) a')) in
+        let t : k ≡ k' = omega arith in
+        let u : d ≡ d' = some-inj (sym f ∙ (ap (slice_get rule.children) t ∙ f')) in
+        a ∙ ((λ i. child_row q.node ri (env q.node ri rule bs args) (suc (t i)) (u i)) ∙ sym a')
+    one_origin z z' (inr (p, m, a)) (inr (p', m', a')) e =
+        let s = good.0.apart p p' m m' (sym (done-same p).0 ∙ (sym (ap (λ (r : Row). r.node) a) ∙ (e ∙ (ap (λ (r : Row). r.node) a' ∙ (done-same p').0)))) in
+        a ∙ (ap (done_row q.node (Done ri args)) s ∙ sym a')
+    one_origin z z' (inl (k, d, f, a)) (inr (p, m, a')) e =
+        never (taking.fresh p m (suc k) (sym (done-same p).0 ∙ (sym (ap (λ (r : Row). r.node) a') ∙ (sym e ∙ ap (λ (r : Row). r.node) a))))
+    one_origin z z' (inr (p, m, a')) (inl (k, d, f, a)) e =
+        never (taking.fresh p m (suc k) (sym (done-same p).0 ∙ (sym (ap (λ (r : Row). r.node) a') ∙ (e ∙ ap (λ (r : Row). r.node) a))))
+
+    pub kept_row : (p : Row) → Member p c → Member (F (done_row q.node (Done ri args) p)) new
+    kept_row p m = Member-rounded M (row_put (sigma (IO g) c q ri rule bs args taking)) (done_row q.node (Done ri args) p) A
+        (Member-all_inserted _ (child_rows q.node ri (env q.node ri rule bs args) 1 rule.children) (map (done_row q.node (Done ri args)) c) (inr (Member-mapped (done_row q.node (Done ri args)) p c m)))
+
+    pub still_closed : (p : Row) → (p.state ≡ Pending → Never) → (F (done_row q.node (Done ri args) p)).state ≡ Pending → Never
+    still_closed p no_ f =
+        let h = sym (rounds-state M (sigma (IO g) c q ri rule bs args taking) (done_row q.node (Done ri args) p)) ∙ f in
+        elim (done_row-cases q.node (Done ri args) p) [
+          | inl x ↦ (let z : Done ri args ≡ Pending = sym (ap (λ (r : Row). r.state) x.1) ∙ h in absurd cc)
+          | inr x ↦ no_ (sym (ap (λ (r : Row). r.state) x) ∙ h)
+        ]
+
+    pub own_closed : (p : Row) → q.node ≡ p.node → (F (done_row q.node (Done ri args) p)).state ≡ Pending → Never
+    own_closed p e f =
+        let h = sym (rounds-state M (sigma (IO g) c q ri rule bs args taking) (done_row q.node (Done ri args) p)) ∙ f in
+        let t : node_eq q.node p.node ≡ true = subst (λ n. node_eq q.node n ≡ true) e (node_eq-refl q.node) in
+        let z : Done ri args ≡ Pending = sym (ap (λ b. (cond b (record p { state = Done ri args }) p).state) t) ∙ h in absurd cc
+
+    new_tree : IsTree g new
+    new_tree = record {
+      apart = λ y y' m m' e.
+          let (z, o, a) = from_added y m in
+          let (z', o', a') = from_added y' m' in
+          a ∙ (ap F (one_origin z z' (origin z o) (origin z' o') (sym (F-node z) ∙ (sym (ap (λ (r : Row). r.node) a) ∙ (e ∙ (ap (λ (r : Row). r.node) a' ∙ F-node z'))))) ∙ sym a');
+      parents = λ y m n' ri' k' e.
+          let (z, o, a) = from_added y m in
+          let zn = sym (F-node z) ∙ (sym (ap (λ (r : Row). r.node) a) ∙ e) in
+          elim (origin z o) [
+            | inl x ↦ (let qn = below-node q.node n' ri ri' (suc x.0) k' (sym (ap (λ (r : Row). r.node) x.3) ∙ zn) in
+                (F (done_row q.node (Done ri args) q), kept_row q taking.held, F-node _ ∙ ((done-same q).0 ∙ qn), own_closed q refl))
+            | inr x ↦ (let (p', mp, np, sp) = good.0.parents x.0 x.1 n' ri' k' (sym (done-same x.0).0 ∙ (sym (ap (λ (r : Row). r.node) x.2) ∙ zn)) in
+                (F (done_row q.node (Done ri args) p'), kept_row p' mp, F-node _ ∙ ((done-same p').0 ∙ np), still_closed p' sp))
+          ];
+      many = λ y m.
+          let (z, o, a) = from_added y m in
+          let len = ap (λ (r : Row). length r.results) a ∙ rounds-results-length M (sigma (IO g) c q ri rule bs args taking) z in
+          let so = ap (λ (r : Row). r.sort) a ∙ rounds-sort M (sigma (IO g) c q ri rule bs args taking) z in
+          elim (origin z o) [
+            | inl x ↦ len ∙ (ap (λ (r : Row). length r.results) x.3 ∙ (length-mapped (λ j. Leaf (result (below q.node ri (suc x.0)) j)) (upto 1 x.1.outs) ∙ (length-upto 1 x.1.outs
+                ∙ (fit.outs rule (Member-at g.rules ri rule D.rule_is) x.0 x.1 x.2 ∙ ap (gives g) (sym (so ∙ ap (λ (r : Row). r.sort) x.3))))))
+            | inr x ↦ len ∙ (ap (λ (r : Row). length r.results) x.2 ∙ (ap length (done-same x.0).2 ∙ (good.0.many x.0 x.1 ∙ ap (gives g) (sym (so ∙ (ap (λ (r : Row). r.sort) x.2 ∙ (done-same x.0).1))))))
+          ];
+    }
+
+    pub developed : Good (develop n ri rule bs args c)
+    developed = subst (λ n. Good (develop n ri rule bs args c)) D.node (new_tree, develop-acyclic (IO g) c D.row ri rule bs args taking)
+
+  -- a start
+  module _ (c : Config) (s k : ℕ) (good : Good c) (gone : row_of (root s k) c ≡ None) where
+    abbrev row : Row
+    row = start_row g s k
+
+    abbrev with_row : Config
+    with_row = insert_row row c
+
+    start_tree : IsTree g with_row
+    start_tree = record {
+      apart = λ y y' m m' e.
+          elim (Member-insert_row y row c m) [
+            | inl a ↦ elim (Member-insert_row y' row c m') [
+              | inl a' ↦ a ∙ sym a'
+              | inr o' ↦ never (row_of-none (root s k) c gone y' o' (sym e ∙ ap (λ (r : Row). r.node) a))
+            ]
+            | inr o ↦ elim (Member-insert_row y' row c m') [
+              | inl a' ↦ never (row_of-none (root s k) c gone y o (e ∙ ap (λ (r : Row). r.node) a'))
+              | inr o' ↦ good.0.apart y y' o o' e
+            ]
+          ];
+      parents = λ y m n' ri' k' e.
+          elim (Member-insert_row y row c m) [
+            | inl a ↦ never (root-below s k n' ri' k' (sym (ap (λ (r : Row). r.node) a) ∙ e))
+            | inr o ↦ (let (p', mp, np, sp) = good.0.parents y o n' ri' k' e in (p', Member-inserted p' row c (inr mp), np, sp))
+          ];
+      many = λ y m.
+          elim (Member-insert_row y row c m) [
+            | inl a ↦ ap (λ (r : Row). length r.results) a ∙ (length-mapped (λ j. Leaf (result (root s k) j)) (upto 1 (gives g s)) ∙ (length-upto 1 (gives g s) ∙ ap (gives g) (sym (ap (λ (r : Row). r.sort) a))))
+            | inr o ↦ good.0.many y o
+          ];
+    }
+
+    old_need : {a b : Ref} → Needs (IO g) with_row a b → Needs (IO g) c a b
+    old_need (need y i j t m p x f w) = elim (Member-insert_row y row c m) [
+      | inl a ↦ (let z : item [] i ≡ Some t = sym (ap (λ (r : Row). item r.inherited i) a) ∙ f in never (item_none i t z))
+      | inr o ↦ need y i j t o p x f w
+    ]
+
+    old_walk : {a b : Ref} → Plus (Needs (IO g) with_row) a b → Plus (Needs (IO g) c) a b
+    old_walk (step e) = step (old_need e)
+    old_walk (more e w) = more (old_need e) (old_walk w)
+
+    start_whole : IsWhole with_row
+    start_whole y m h st =
+        elim (Member-insert_row y row c m) [
+          | inl a ↦ elim (subst (Stands h) a st) [
+            | inl (t, n, w) ↦ never n
+            | inr (t, n, w) ↦
+                (let (j, o, f) = Member-map (λ j. Leaf (result (root s k) j)) t (upto 1 (gives g s)) n in
+                let lt : j < 1 + gives g s = upto-bound 1 (gives g s) j o in
+                let low : 0 < j = upto-low 1 (gives g s) j o in (
+                  row,
+                  j,
+                  Member-inserted row row c (inl refl),
+                  refl,
+                  subst (In h) f w,
+                  low,
+                  omega (arith, lt, length-mapped (λ j. Leaf (result (root s k) j)) (upto 1 (gives g s)), length-upto 1 (gives g s)),
+                ))
+          ]
+          | inr o ↦ (let (p, j, mp, sp, f, lt0, lt) = good.1.whole y o h st in (p, j, Member-inserted p row c (inr mp), sp, f, lt0, lt))
+        ]
+
+    pub started : Good (insert_row (start_row g s k) c)
+    started = (start_tree, record { whole = start_whole; no_circle = λ h w. good.1.no_circle h (old_walk w) })
+
+  pub held_none : (o : Option Row) → not_held o ≡ Starts → o ≡ None
+  held_none None e = refl
+  held_none (Some q) e = absurd cc
+
+  -- one choice
+  pub taken-good : (c : Config) (x : Choice) (o : Outcome Value Ref) (d : Config) → Good c → outcome g c x ≡ o → taken g c x o ≡ Some d → Good d
+  taken-good c x (Refused a) d good e t = absurd cc
+  taken-good c (Start s k) Starts d good e t = subst Good (some-inj t) (started c s k good (held_none (row_of (root s k) c) e))
+  taken-good c (Start s k) (Takes rule bs) d good e t = absurd cc
+  taken-good c (Develop n ri args) Starts d good e t = absurd cc
+  taken-good c (Develop n ri args) (Takes rule bs) d good e t =
+      subst Good (some-inj t) (developed c n ri args rule bs good (decode_on g c (row_of n c) n ri args rule bs refl e))
+
+  next : (c : Config) (x : Choice) (xs : List Choice) (z : Config) (o : Option Config) → taken g c x (outcome g c x) ≡ o → option_and_then (λ d. undivided g d xs) o ≡ Some z → (d : Config) × (taken g c x (outcome g c x) ≡ Some d) × (undivided g d xs ≡ Some z)
+  next c x xs z None e f = absurd cc
+  next c x xs z (Some d) e f = (d, e, f)
+
+  pub undivided-good : (c : Config) (xs : List Choice) (z : Config) → Good c → undivided g c xs ≡ Some z → Good z
+  undivided-good c [] z good e = subst Good (some-inj e) good
+  undivided-good c (x ∷ xs) z good e =
+      let (d, t, f) = next c x xs z (taken g c x (outcome g c x)) refl e in
+      undivided-good d xs z (taken-good c x (outcome g c x) d good refl t) f
+
+  pub empty_good : Good []
+  empty_good = (record { apart = λ p p' m. never m; parents = λ p m. never m; many = λ p m. never m }, record { whole = λ q m. never m; no_circle = none })
+    where
+      none : (h : Ref) → Plus (Needs (IO g) []) h h → Never
+      none h (step (need q i j t m p x f w)) = never m
+      none h (more (need q i j t m p x f w) v) = never m
+
+  -- each undivided configuration of an accepted grammar is acyclic
+  pub undivided-acyclic : (xs : List Choice) (z : Config) → undivided g [] xs ≡ Some z → IsAcyclic (IO g) z
+  undivided-acyclic xs z e = (undivided-good [] xs z empty_good e).1

@@ -1,0 +1,6 @@
+use Rattle.aw_base.specs.GrammarOf.{grammar_of}
+use Rattle.aw_accept.specs.Circular.{NoneBelow}
+use Rattle.aw_accept.proofs.check.least_fault.Given as goal
+
+abbrev pub invariant-loop-rule : goal.invariant-loop-rule
+invariant-loop-rule l = NoneBelow (grammar_of l.g) l.rule

@@ -1,0 +1,3 @@
+pub mod Acyclic
+pub mod Circular
+pub mod Refusals

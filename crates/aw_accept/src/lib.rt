@@ -1,0 +1,11 @@
+//! Grammars in which no value depends on itself: the only ones on which anything is run.
+#![tactic(auto)]
+
+pub mod accepted;
+pub mod check;
+pub mod laws;
+pub mod refused;
+
+pub use accepted::Accepted;
+pub use check::accept;
+pub use refused::{Fault, Refused};

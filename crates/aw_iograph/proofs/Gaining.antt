@@ -1,0 +1,54 @@
+-- Arcs that are added for pairs of a child's sort.
+use Rattle.std.proofs.Common.{◌≡◌, ℕ, suc, ◌+◌, ◌<◌, ◌≤◌, List, [], ◌∷◌, ◌++◌, Some, slice_get, sym, ap, ◌∙◌, subst, inl, inr, arith}
+use Rattle.std.specs.Prelude.{◌⊎◌}
+use Rattle.aw_base.specs.declared.rule.Child.{Child}
+use Rattle.aw_iograph.specs.declared.reach.Arc.{Arc}
+use Rattle.aw_iograph.specs.declared.io.Io.{Io}
+use Rattle.aw_iograph.specs.Graphs.{Member}
+use Rattle.aw_iograph.specs.Pairs.{Has}
+use Rattle.aw_iograph.specs.Arcs.{call_arc, Gains, GainsAll}
+use Rattle.aw_iograph.proofs.Members.{never, member_left, member_right, member_split, below_or_at}
+
+pub gain_one : (io : Io) (s k i l : ℕ) (old new : List Arc) (a : Arc) → Has io s i l → a ≡ call_arc k i l → new ≡ old ++ a ∷ [] → Gains io s k (λ i' l'. (i' ≡ i) × (l' ≡ l)) old new
+gain_one io s k i l old new a has arc step = record {
+  kept = λ b m. subst (λ (bs : List Arc). Member b bs) (sym step) (member_left b old (a ∷ []) m);
+  there = λ i' l' p h. subst (λ (bs : List Arc). Member (call_arc k i' l') bs) (sym step) (member_right (call_arc k i' l') old (a ∷ []) (inl (ap (λ x. call_arc k x l') p.0 ∙ ap (λ y. call_arc k i y) p.1 ∙ sym arc)));
+  only = λ b m. elim (member_split b old (a ∷ []) (subst (λ (bs : List Arc). Member b bs) step m)) [
+    | inl was ↦ inl was
+    | inr now ↦ inr (i, l, has, elim now [ inl e ↦ e ∙ arc | inr n ↦ never n ])
+  ];
+}
+
+pub gain_both : (io : Io) (s k : ℕ) (P Q R : ℕ → ℕ → Type 0) (a b c : List Arc) → Gains io s k P a b → Gains io s k Q b c → ((i l : ℕ) → R i l → P i l ⊎ Q i l) → Gains io s k R a c
+gain_both io s k P Q R a b c first then split = record {
+  kept = λ x m. then.kept x (first.kept x m);
+  there = λ i l r h. elim (split i l r) [ inl p ↦ then.kept _ (first.there i l p h) | inr q ↦ then.there i l q h ];
+  only = λ x m. elim (then.only x m) [ inl was ↦ first.only x was | inr now ↦ inr now ];
+}
+
+pub up_to_one : (i j k l : ℕ) → (k ≡ i) × (j < l + 1) → ((k ≡ i) × (j < l)) ⊎ ((k ≡ i) × (j ≡ l))
+up_to_one i j k l p = elim (below_or_at j l p.1) [ inl a ↦ inl (p.0, a) | inr b ↦ inr (p.0, b) ]
+
+-- no pair has a number beyond 8
+pub gain_row : (io : Io) (s k i n : ℕ) (old new : List Arc) → 9 ≤ n → Gains io s k (λ i' l. (i' ≡ i) × (l < n)) old new → Gains io s k (λ i' l. i' ≡ i) old new
+gain_row io s k i n old new le all = record {
+  kept = all.kept;
+  there = λ i' l e has. all.there i' l (e, omega (arith, has.result.few)) has;
+  only = all.only;
+}
+
+pub gain_child : (io : Io) (cs : List Child) (n : ℕ) (c : Child) (a b d : List Arc) → slice_get cs n ≡ Some c → GainsAll io cs n a b → Gains io c.sort (n + 1) (λ i l. i < 9) b d → GainsAll io cs (n + 1) a d
+gain_child io cs n c a b d here first then = record {
+  kept = λ x m. then.kept x (first.kept x m);
+  there = λ k i l e lt got has. elim (below_or_at k n lt) [
+    | inl less ↦ then.kept _ (first.there k i l e less got has)
+    | inr same ↦ (let what : Some e ≡ Some c = sym got ∙ ap (slice_get cs) same ∙ here in
+        let child : e ≡ c = cc in let few : i < 9 = omega (arith, has.inherited.few) in
+        let at : n + 1 ≡ suc k = omega arith in
+        subst (λ m. Member (call_arc m i l) d) at (then.there i l few (subst (λ (x : Child). Has io x.sort i l) child has)))
+  ];
+  only = λ x m. elim (then.only x m) [
+    | inl was ↦ first.only x was
+    | inr now ↦ (let (i, l, has, e) = now in let at : n + 1 ≡ suc n = omega arith in inr (n, i, l, c, here, has, e ∙ ap (λ m. call_arc m i l) at))
+  ];
+}

@@ -1,0 +1,14 @@
+pub mod Behind
+pub mod CircleLemmas
+pub mod Entering
+pub mod FewOf
+pub mod Gaining
+pub mod Marking
+pub mod Members
+pub mod Placing
+pub mod Reaching
+pub mod Relations
+pub mod RuleGraphs
+pub mod Sweeps
+pub mod TextFlows
+pub mod Widenings

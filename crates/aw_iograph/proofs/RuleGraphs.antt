@@ -1,0 +1,89 @@
+-- The arcs of a rule are its steps.
+use Rattle.std.proofs.Common.{◌≡◌, ℕ, zero, suc, ◌<◌, ◌≤◌, List, map, length, Some, slice_get, refl, sym, ap, ◌∙◌, subst, inl, inr, arith}
+use Rattle.aw_term.specs.Rules as P
+use Rattle.aw_base.specs.declared.rule.Rule.{Rule}
+use Rattle.aw_base.specs.declared.rule.Sort.{Sort}
+use Rattle.aw_base.specs.GrammarView.{rule_of, child_of}
+use Rattle.aw_iograph.specs.declared.reach.Arc.{Arc}
+use Rattle.aw_iograph.specs.declared.occ.Occ.{Occ}
+use Rattle.aw_iograph.specs.declared.io.Io.{Io}
+use Rattle.aw_iograph.specs.Graphs.{Member, Plus, step, more, Arrow, IsWithin}
+use Rattle.aw_iograph.specs.Occurrences.{inherited, given, text_flows, IsPlace, place_of}
+use Rattle.aw_iograph.specs.Dependence.{Edge, text, call}
+use Rattle.aw_iograph.specs.Pairs.{Has}
+use Rattle.aw_iograph.specs.Small.{HasFew}
+use Rattle.aw_iograph.specs.Arcs.{arc_of, call_arc, GainsAll, IsGraphOf}
+use Rattle.aw_iograph.proofs.Members.{member_map, member_unmap, got_map, got_unmap, got_within}
+use Rattle.aw_iograph.proofs.TextFlows.{flows_all, flows_only}
+use Rattle.aw_iograph.proofs.Placing.{entry_place, term_place, place_below, place_one}
+
+child_got : (r : P.Rule) (k : ℕ) (c : P.Child) → P.child_at r.children k ≡ Some c → (j : ℕ) × (k ≡ suc j) × (slice_get r.children j ≡ Some c)
+child_got r zero c e = absurd cc
+child_got r (suc j) c e = (j, refl, e)
+
+edge_places : (r : P.Rule) (io : Io) (o u : Occ) → HasFew r → Edge r (Has io) o u → IsPlace o × IsPlace u
+edge_places r io o u few (text v t e f x) = (entry_place r v o few e, term_place r t u few f)
+edge_places r io o u few (call k i l c e h) =
+    let (j, at, got) = child_got r k c e in let lt : j < length r.children = got_within r.children j c got in
+    let small : k ≤ 8 = omega (arith, few.children) in
+    (record { child = small; counted = h.inherited.counted; number = h.inherited.few }, record { child = small; counted = h.result.counted; number = h.result.few })
+
+pub graph_of : (sorts : List Sort) (r : Rule) (io : Io) (start arcs : List Arc) → HasFew (rule_of sorts r) → start ≡ map arc_of (text_flows (rule_of sorts r)) → GainsAll io r.children (length r.children) start arcs → IsGraphOf (rule_of sorts r) (Has io) arcs
+graph_of sorts r io start arcs few first gained = record { there = there; only = only; places = λ o u e. edge_places (rule_of sorts r) io o u few e }
+  where
+    there : (o u : Occ) → Edge (rule_of sorts r) (Has io) o u → Member (arc_of (record { from = o; to = u })) arcs
+    there o u (text v t e f x) =
+        gained.kept _ (subst (λ (as' : List Arc). Member (arc_of (record { from = o; to = u })) as') (sym first) (member_map arc_of (record { from = o; to = u }) (text_flows (rule_of sorts r)) (flows_all (rule_of sorts r) o u v t e f x)))
+    there o u (call k i l c e h) =
+        let (j, at, got) = child_got (rule_of sorts r) k c e in
+        let (d, here, same) = got_unmap (child_of sorts) r.children j c got in
+        subst (λ (n : ℕ). Member (call_arc n i l) arcs) (sym at) (gained.there j i l d (got_within r.children j d here) here (subst (λ (x : P.Child). Has io x.sort i l) same h))
+
+    only : (a : Arc) → Member a arcs → (o : Occ) × (u : Occ) × IsPlace o × IsPlace u × Edge (rule_of sorts r) (Has io) o u × (a ≡ arc_of (record { from = o; to = u }))
+    only a m = elim (gained.only a m) [
+      | inl was ↦ (let (f, w, e) = member_unmap arc_of a (text_flows (rule_of sorts r)) (subst (λ (as' : List Arc). Member a as') first was) in
+          let (v, t, g, h, x) = flows_only (rule_of sorts r) f w in
+          (f.from, f.to, entry_place (rule_of sorts r) v f.from few g, term_place (rule_of sorts r) t f.to few h, text v t g h x, e))
+      | inr now ↦ (let (k, i, l, c, got, h, e) = now in
+          let edge : Edge (rule_of sorts r) (Has io) (inherited (suc k) i) (given (suc k) l) = call (suc k) i l (child_of sorts c) (got_map (child_of sorts) r.children k c got) h in
+          let (p, q) = edge_places (rule_of sorts r) io (inherited (suc k) i) (given (suc k) l) few edge in
+          (inherited (suc k) i, given (suc k) l, p, q, edge, e))
+    ]
+
+pub graph_within : (r : P.Rule) (rel : ℕ → ℕ → ℕ → Type 0) (arcs : List Arc) → IsGraphOf r rel arcs → IsWithin 144 arcs
+graph_within r rel arcs g a m =
+    let (o, u, p, q, e, same) = g.only a m in
+    (subst (λ (x : Arc). x.from < 144) (sym same) (place_below o p), subst (λ (x : Arc). x.to < 144) (sym same) (place_below u q))
+
+-- a walk of the rule is one over its arcs
+pub walk_arcs : (r : P.Rule) (rel : ℕ → ℕ → ℕ → Type 0) (arcs : List Arc) → IsGraphOf r rel arcs → {o u : Occ} → Plus (Edge r rel) o u → Plus (Arrow arcs) (place_of o) (place_of u)
+walk_arcs r rel arcs g (step e) = step (g.there _ _ e)
+walk_arcs r rel arcs g (more e w) = more (g.there _ _ e) (walk_arcs r rel arcs g w)
+
+back_step : (r : P.Rule) (rel : ℕ → ℕ → ℕ → Type 0) (arcs : List Arc) → IsGraphOf r rel arcs → {a b : ℕ} → (o : Occ) → IsPlace o → a ≡ place_of o → Arrow arcs a b → (u : Occ) × IsPlace u × (b ≡ place_of u) × Edge r rel o u
+back_step r rel arcs g {a = a} {b = b} o p at m =
+    let (x, u, px, pu, e, same) = g.only (record { from = a; to = b }) m in
+    let from : a ≡ place_of x = ap (λ (y : Arc). y.from) same in
+    let one : x ≡ o = place_one x o px p (sym from ∙ at) in
+    (u, pu, ap (λ (y : Arc). y.to) same, subst (λ (y : Occ). Edge r rel y u) one e)
+
+back_walk : (r : P.Rule) (rel : ℕ → ℕ → ℕ → Type 0) (arcs : List Arc) → IsGraphOf r rel arcs → {a b : ℕ} → (o : Occ) → IsPlace o → a ≡ place_of o → Plus (Arrow arcs) a b → (u : Occ) × IsPlace u × (b ≡ place_of u) × Plus (Edge r rel) o u
+back_walk r rel arcs g o p at (step m) = let (u, q, e, s) = back_step r rel arcs g o p at m in (u, q, e, step s)
+back_walk r rel arcs g o p at (more m w) =
+    let (v, q, e, s) = back_step r rel arcs g o p at m in
+    let (u, x, f, t) = back_walk r rel arcs g v q e w in (u, x, f, more s t)
+
+-- a walk over the arcs is one of the rule
+pub arcs_walk : (r : P.Rule) (rel : ℕ → ℕ → ℕ → Type 0) (arcs : List Arc) → IsGraphOf r rel arcs → (o u : Occ) → IsPlace o → IsPlace u → Plus (Arrow arcs) (place_of o) (place_of u) → Plus (Edge r rel) o u
+arcs_walk r rel arcs g o u p q w =
+    let (v, x, e, s) = back_walk r rel arcs g o p refl w in subst (λ (y : Occ). Plus (Edge r rel) o y) (place_one v u x q (sym e)) s
+
+-- an occurrence on a circle has a place
+pub circle_place : (r : P.Rule) (rel : ℕ → ℕ → ℕ → Type 0) (arcs : List Arc) → IsGraphOf r rel arcs → {o u : Occ} → Plus (Edge r rel) o u → IsPlace o
+circle_place r rel arcs g (step e) = let (p, q) = g.places _ _ e in p
+circle_place r rel arcs g (more e w) = let (p, q) = g.places _ _ e in p
+
+-- and so has the end of a walk
+pub end_place : (r : P.Rule) (rel : ℕ → ℕ → ℕ → Type 0) (arcs : List Arc) → IsGraphOf r rel arcs → {o u : Occ} → Plus (Edge r rel) o u → IsPlace u
+end_place r rel arcs g (step e) = let (p, q) = g.places _ _ e in q
+end_place r rel arcs g (more e w) = end_place r rel arcs g w

@@ -1,0 +1,82 @@
+-- Rules that are visited in turn.
+use Rattle.std.proofs.Common.{◌≡◌, ℕ, ◌+◌, ◌<◌, ◌≤◌, Bool, true, false, List, length, Some, slice_get, sym, subst, inl, inr, arith}
+use Rattle.std.specs.Prelude.{◌⊎◌, ◌||◌}
+use Rattle.aw_term.specs.Rules as P
+use Rattle.aw_base.specs.declared.rule.Rule.{Rule}
+use Rattle.aw_base.specs.declared.rule.Sort.{Sort}
+use Rattle.aw_base.specs.declared.grammar.Grammar.{Grammar}
+use Rattle.aw_base.specs.GrammarView.{rule_of}
+use Rattle.aw_base.specs.GrammarOf.{grammar_of}
+use Rattle.aw_iograph.specs.declared.reach.Arc.{Arc}
+use Rattle.aw_iograph.specs.declared.io.Io.{Io}
+use Rattle.aw_iograph.specs.Graphs.{Plus, Arrow}
+use Rattle.aw_iograph.specs.Growth.{Grown}
+use Rattle.aw_iograph.specs.Occurrences.{inherited, given, place_of}
+use Rattle.aw_iograph.specs.Dependence.{Edge, Walk, Follows, IsKept, IsClosedUnder}
+use Rattle.aw_iograph.specs.Pairs.{Has, HasMark, IsNumber}
+use Rattle.aw_iograph.specs.Arcs.{IsGraphOf}
+use Rattle.aw_iograph.proofs.Marking.{grown_trans}
+use Rattle.aw_iograph.proofs.Members.{below_or_at, member_place, member_map, member_unmap, member_got}
+use Rattle.aw_iograph.proofs.Reaching.{either}
+use Rattle.aw_iograph.proofs.RuleGraphs.{walk_arcs, arcs_walk, circle_place, end_place}
+use Rattle.aw_iograph.proofs.Placing.{number_place}
+use Rattle.aw_iograph.proofs.Relations.{follows_walk}
+
+pub has_grown : (old new : Io) (b : Bool) → Grown old.marks.items new.marks.items b → (s i j : ℕ) → Has old s i j → Has new s i j
+has_grown old new b grown s i j has = record { inherited = has.inherited; result = has.result; marked = grown.kept _ has.marked }
+
+-- a walk of the rule gives a pair that was added
+pub visit_kept : (r s : Rule) (sorts : List Sort) (old new : Io) (arcs slice : List Arc) → r ≡ s → IsGraphOf (rule_of sorts r) (Has old) arcs → slice ≡ arcs →
+    ((i j : ℕ) → IsNumber i → IsNumber j → Plus (Arrow slice) (place_of (inherited 0 i)) (place_of (given 0 j)) → Has new r.sort i j) →
+    (i j : ℕ) → Plus (Edge (rule_of sorts s) (Has old)) (inherited 0 i) (given 0 j) → Has new s.sort i j
+visit_kept r s sorts old new arcs slice same g at there i j w =
+    let w' : Plus (Edge (rule_of sorts r) (Has old)) (inherited 0 i) (given 0 j) = subst (λ (x : Rule). Plus (Edge (rule_of sorts x) (Has old)) (inherited 0 i) (given 0 j)) (sym same) w in
+    let p = circle_place (rule_of sorts r) (Has old) arcs g w' in let q = end_place (rule_of sorts r) (Has old) arcs g w' in
+    subst (λ (x : Rule). Has new x.sort i j) same
+    (there i j (record { counted = p.counted; few = p.number }) (record { counted = q.counted; few = q.number })
+    (subst (λ (as' : List Arc). Plus (Arrow as') (place_of (inherited 0 i)) (place_of (given 0 j))) (sym at) (walk_arcs (rule_of sorts r) (Has old) arcs g w')))
+
+-- a pair that was added has a walk of the rule
+pub visit_only : (g : Grammar) (n : ℕ) (r : Rule) (old new : Io) (arcs slice : List Arc) → slice_get g.rules n ≡ Some r → IsGraphOf (rule_of g.sorts r) (Has old) arcs → slice ≡ arcs →
+    ((s i j : ℕ) → Has new s i j → Has old s i j ⊎ ((s ≡ r.sort) × Plus (Arrow slice) (place_of (inherited 0 i)) (place_of (given 0 j)))) →
+    (s i j : ℕ) → Has new s i j → Has old s i j ⊎ Walk (grammar_of g) (Has old) s i j
+visit_only g n r old new arcs slice here graph at only s i j has = elim (only s i j has) [
+  | inl was ↦ inl was
+  | inr now ↦ inr (
+    rule_of g.sorts r,
+    member_map (rule_of g.sorts) r g.rules (member_got g.rules n r here),
+    sym now.0,
+    arcs_walk (rule_of g.sorts r) (Has old) arcs graph (inherited 0 i) (given 0 j) (number_place false i has.inherited.counted has.inherited.few) (number_place true j has.result.counted has.result.few)
+        (subst (λ (as' : List Arc). Plus (Arrow as') (place_of (inherited 0 i)) (place_of (given 0 j))) at now.1),
+  )
+]
+
+-- the first rules were visited
+pub record Sweeping (g : Grammar) (start io : Io) (added : Bool) (n : ℕ) : Type 0 where
+  pub grown : Grown start.marks.items io.marks.items added
+  pub follows : (s i j : ℕ) → Has io s i j → Follows (grammar_of g) (Has start) s i j
+  pub kept : added ≡ false → (k : ℕ) → k < n → (r : Rule) → slice_get g.rules k ≡ Some r → IsKept (HasMark io.marks.items) (rule_of g.sorts r)
+
+pub sweep_step : (g : Grammar) (start io next : Io) (added one both : Bool) (n : ℕ) → both ≡ (one || added) → Sweeping g start io added n → Grown io.marks.items next.marks.items one →
+    ((r : Rule) → slice_get g.rules n ≡ Some r → (i j : ℕ) → Plus (Edge (rule_of g.sorts r) (Has io)) (inherited 0 i) (given 0 j) → Has next r.sort i j) →
+    ((s i j : ℕ) → Has next s i j → Has io s i j ⊎ Walk (grammar_of g) (Has io) s i j) → Sweeping g start next both (n + 1)
+sweep_step g start io next added one both n e so grown kept only = record {
+  grown = grown_trans start.marks.items io.marks.items next.marks.items added one both e so.grown grown;
+  follows = λ s i j has. follows_walk (grammar_of g) (Has start) (Has io) so.follows s i j (only s i j has);
+  kept = λ off k lt r got.
+      let (calm, before) = either one added both e off in
+      let same = grown.same calm in
+      elim (below_or_at k n lt) [
+        | inl less ↦ subst (λ (ms : List Bool). IsKept (HasMark ms) (rule_of g.sorts r)) (sym same) (so.kept before k less r got)
+        | inr at ↦ λ i j w. kept r (subst (λ m. slice_get g.rules m ≡ Some r) at got) i j
+            (subst (λ (ms : List Bool). Plus (Edge (rule_of g.sorts r) (HasMark ms)) (inherited 0 i) (given 0 j)) same w)
+      ];
+}
+
+-- all rules were visited
+pub swept : (g : Grammar) (marks : List Bool) (n : ℕ) → length g.rules ≤ n → ((k : ℕ) → k < n → (r : Rule) → slice_get g.rules k ≡ Some r → IsKept (HasMark marks) (rule_of g.sorts r)) → IsClosedUnder (grammar_of g) (HasMark marks)
+swept g marks n le all r m =
+    let (d, here, same) = member_unmap (rule_of g.sorts) r g.rules m in
+    let (k, lt, got) = member_place g.rules d here in
+    let below : k < n = omega arith in
+    subst (λ (x : P.Rule). IsKept (HasMark marks) x) (sym same) (all k below d got)

@@ -1,0 +1,8 @@
+use Rattle.std.proofs.Common.{◌≡◌, ◌+◌, ◌++◌, map, drop}
+use Rattle.aw_base.specs.GrammarView.{child_of}
+use Rattle.aw_iograph.specs.Occurrences.{child_flows}
+use Rattle.aw_iograph.proofs.graph.flow_children.Given as goal
+
+abbrev pub invariant-loop-k : goal.invariant-loop-k
+invariant-loop-k l =
+    l.graph ++ child_flows l.entries (l.k + 1) (map (child_of l.g.sorts) (drop l.k l.children)) ≡ l.initial.graph ++ child_flows l.entries 1 (map (child_of l.g.sorts) l.children)

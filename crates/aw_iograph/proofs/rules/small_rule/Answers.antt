@@ -1,0 +1,11 @@
+use Rattle.aw_iograph.proofs.FewOf.{few_of, small_of, declared_of}
+use Rattle.aw_iograph.proofs.rules.small_rule.Goals as goal
+
+pub returns-clause-few : goal.returns-clause-few
+returns-clause-few c = few_of c.args.g.now c.args.rule c.at.result.now c.at.ensures
+
+pub returns-clause-small : goal.returns-clause-small
+returns-clause-small c = small_of c.args.g.now.sorts c.at.result.now (few_of c.args.g.now c.args.rule c.at.result.now c.at.ensures)
+
+pub returns-clause-declared : goal.returns-clause-declared
+returns-clause-declared c = declared_of c.args.g.now c.args.rule c.at.result.now c.at.ensures

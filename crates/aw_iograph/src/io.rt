@@ -1,0 +1,74 @@
+//! The relations of a grammar's sorts: which results depend on which inherited values.
+ghost use Rattle.std.specs.Prelude.{◌≡◌, ◌≢◌, ℕ, ◌+◌, ◌*◌, ◌<◌, ◌≤◌, ◌↔◌, ◌⊎◌, length, replicate, false, IfOk, IsTrue};
+ghost use Rattle.aw_iograph.specs.Pairs.{Has, HasMark, HasSort, IsFor, IsNumber};
+ghost use Rattle.aw_iograph.specs.Growth.{Grown};
+
+use crate::reach::mark;
+use aw_base::Grammar;
+use std::alloc::{AllocError, Global};
+
+/// A set of pairs for each sort: of an inherited value and a result that depends on it, both numbered from 1.
+#[derive(Debug, Drop)]
+pub struct Io {
+    pub(crate) marks: Vec<bool>,
+}
+
+impl Io {
+    /// The relations without a pair, for the sorts of a grammar.
+    pub fn new(alloc: Global, g: &Grammar) -> Result<Io, AllocError>
+        ensures made { IfOk result (λ io. IsFor g.now io) }
+        ensures empty { IfOk result (λ io. (s i j : ℕ) → Has io s i j → ⊥) }
+    {
+        Ok(Io {
+            marks: vec![in alloc; false; g.sorts.len() * 64]?,
+        })
+    }
+
+    /// Adds a pair of a sort that the relations were made for.
+    pub fn add(&mut self, sort: u16, i: u8, j: u8)
+        requires sort { HasSort self.old sort }
+        requires inherited { IsNumber i }
+        requires result { IsNumber j }
+        ensures size { length self.new.marks.items ≡ length self.old.marks.items }
+        ensures there { Has self.new sort i j }
+        ensures kept { (s k l : ℕ) → Has self.old s k l → Has self.new s k l }
+        ensures only { (s k l : ℕ) → Has self.new s k l → Has self.old s k l ⊎ ((s ≡ sort) × (k ≡ i) × (l ≡ j)) }
+    {
+        let _ = self.insert(sort, i, j);
+    }
+
+    /// Adds a pair, and says whether it was not there before.
+    pub(crate) fn insert(&mut self, sort: u16, i: u8, j: u8) -> bool
+        requires sort { HasSort self.old sort }
+        requires inherited { IsNumber i }
+        requires result { IsNumber j }
+        ensures grown { Grown self.old.marks.items self.new.marks.items result }
+        ensures there { Has self.new sort i j }
+        ensures only { (s k l : ℕ) → Has self.new s k l → Has self.old s k l ⊎ ((s ≡ sort) × (k ≡ i) × (l ≡ j)) }
+    {
+        mark(
+            &mut self.marks,
+            usize::from(sort) * 64 + (usize::from(i) - 1) * 8 + (usize::from(j) - 1),
+        )
+    }
+
+    /// The same relations once more.
+    pub(crate) fn copy(&self, alloc: Global) -> Result<Io, AllocError>
+        ensures { IfOk result (λ io. io.marks.items ≡ self.now.marks.items) }
+    {
+        Ok(Io {
+            marks: self.marks.as_slice().to_vec(alloc)?,
+        })
+    }
+
+    /// Whether a pair is in the relation of a sort.
+    pub fn has(&self, sort: u16, i: u8, j: u8) -> bool
+        ensures { IsTrue result ↔ Has self.now sort i j }
+    {
+        if i == 0 || i > 8 || j == 0 || j > 8 {
+            return false;
+        }
+        let at = usize::from(sort) * 64 + (usize::from(i) - 1) * 8 + (usize::from(j) - 1);
+        matches!(self.marks.get(at), Some(true))
+    }
+}

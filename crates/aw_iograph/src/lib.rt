@@ -1,0 +1,17 @@
+//! How results depend on inherited values: within a rule, over the sorts of a grammar, and round in a circle.
+#![tactic(auto)]
+
+pub mod arcs;
+pub mod circles;
+pub mod graph;
+pub mod io;
+pub mod occ;
+pub mod reach;
+pub mod rules;
+pub mod settle;
+
+pub use circles::circle;
+pub use graph::{RuleGraph, rule_graph};
+pub use io::Io;
+pub use occ::{Flow, Occ};
+pub use settle::{io_from, io_of};
