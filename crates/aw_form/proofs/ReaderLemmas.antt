@@ -1,0 +1,47 @@
+-- Stacks and rows of a reader of terms, seen through their views.
+use Rattle.std.specs.Prelude.{◌≡◌, ℕ, List, [], ◌∷◌, ◌++◌, map, reverse, true, cond, nat_eq, Option, Some, None, option_map, option_and_then}
+use Rattle.std.proofs.Common.{refl, sym, ap, ◌∙◌, append_assoc}
+use Rattle.std.proofs.lemmas.List.{reverse-append, map-append}
+use Rattle.aw_base.specs.declared.raw.RawTerm.{RawTerm}
+use Rattle.aw_base.specs.declared.raw.RawTerm as raw
+use Rattle.aw_base.specs.Written.{Written, Apply, side_by_side, written_of}
+use Rattle.aw_base.proofs.WrittenLemmas.{written_apply}
+use Rattle.aw_form.specs.declared.reader.Opened.{Opened}
+use Rattle.aw_form.specs.Terms as T
+use Rattle.aw_form.specs.Reader.{opened_of}
+
+-- what was opened last is the innermost
+pub opened_last : (os : List Opened) (o : Opened) → map opened_of (reverse (os ++ o ∷ [])) ≡ opened_of o ∷ map opened_of (reverse os)
+opened_last os o = ap (map opened_of) (reverse-append os (o ∷ []))
+
+pub written_last : (ts : List RawTerm) (t : RawTerm) → map written_of (ts ++ t ∷ []) ≡ map written_of ts ++ written_of t ∷ []
+written_last ts t = map-append written_of ts (t ∷ [])
+
+-- the innermost constructor is closed
+pub closes_last : (close mark : ℕ) (all os : List Opened) (o : Opened) (terms before : List RawTerm) → all ≡ os ++ o ∷ [] → nat_eq mark 41 ≡ true → before ≡ o.before ++ raw.Apply o.name terms ∷ [] →
+    T.closed close (map opened_of (reverse all)) (map written_of terms) mark ≡ T.On (record { opened = map opened_of (reverse os); terms = map written_of before; expected = T.CommaOrEnd })
+closes_last close mark all os o terms before e h f =
+    let stack : map opened_of (reverse all) ≡ opened_of o ∷ map opened_of (reverse os) = ap (λ xs. map opened_of (reverse xs)) e ∙ opened_last os o in
+    let row : map written_of before ≡ map written_of o.before ++ Apply o.name (side_by_side (map written_of terms)) ∷ [] =
+    ap (map written_of) f ∙ written_last o.before (raw.Apply o.name terms) ∙ ap (λ t. map written_of o.before ++ t ∷ []) (written_apply o.name terms) in
+    let read : List Written → T.Read = λ ts. T.On (record { opened = map opened_of (reverse os); terms = ts; expected = T.CommaOrEnd }) in
+    ap (λ xs. T.closed close xs (map written_of terms) mark) stack
+    ∙ ap (λ b. cond b (read (map written_of o.before ++ Apply o.name (side_by_side (map written_of terms)) ∷ [])) T.Misplaced) h
+    ∙ ap read (sym row)
+
+-- names that were read before, and those that are left
+abbrev pub behind : List (List ℕ) → Option (List (List ℕ)) → Option (List (List ℕ))
+behind names rest = option_map (λ more. names ++ more) rest
+
+abbrev first_then : Option (List ℕ) → Option (List (List ℕ)) → Option (List (List ℕ))
+first_then name rest = option_and_then (λ n. option_map (λ ns. n ∷ ns) rest) name
+
+one_more_name : (names : List (List ℕ)) (n : List ℕ) (rest : Option (List (List ℕ))) → behind names (first_then (Some n) rest) ≡ behind (names ++ n ∷ []) rest
+one_more_name names n None = refl
+one_more_name names n (Some ns) = ap Some (sym (append_assoc names (n ∷ []) ns))
+
+pub name_read : (names : List (List ℕ)) (t : Written) (n : List ℕ) (ts : List Written) → T.name_of t ≡ Some n → behind names (T.names_of (t ∷ ts)) ≡ behind (names ++ n ∷ []) (T.names_of ts)
+name_read names t n ts e = ap (λ o. behind names (first_then o (T.names_of ts))) e ∙ one_more_name names n (T.names_of ts)
+
+pub no_name : (names : List (List ℕ)) (t : Written) (ts : List Written) → T.name_of t ≡ None → behind names (T.names_of (t ∷ ts)) ≡ None
+no_name names t ts e = ap (λ o. behind names (first_then o (T.names_of ts))) e

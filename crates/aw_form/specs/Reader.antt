@@ -1,0 +1,35 @@
+-- The state of a reader of terms, as the definitions speak of it.
+use Rattle.std.specs.Prelude.{◌≡◌, ℕ, List, map, reverse, Result, Ok, Err}
+use Rattle.aw_base.specs.Written.{Written, written_of}
+use Rattle.aw_form.specs.Terms as T
+use Rattle.aw_form.specs.declared.reader.Opened.{Opened}
+use Rattle.aw_form.specs.declared.reader.Expected.{Expected}
+use Rattle.aw_form.specs.declared.reader.Expected.TheVariants.{TermOrEnd, TermOnly, CommaOrEnd, BehindName}
+use Rattle.aw_form.specs.declared.reader.TermReader.{TermReader}
+use Rattle.aw_form.specs.declared.reader.Read.{Read}
+use Rattle.aw_form.specs.declared.reader.Read.TheVariants.{On, AtEnd}
+use Rattle.aw_form.specs.declared.unread.Unread.{Unread}
+use Rattle.aw_form.specs.declared.unread.Unread.TheVariants.{Form, NoMemory}
+
+abbrev pub opened_of : Opened → T.Opened
+opened_of o = record { name = o.name; before = map written_of o.before }
+
+abbrev pub expected_of : Expected → T.Expected
+expected_of TermOrEnd = T.TermOrEnd
+expected_of TermOnly = T.TermOnly
+expected_of CommaOrEnd = T.CommaOrEnd
+expected_of (BehindName name) = T.BehindName name
+
+-- the constructor that was opened last stands last in the code
+abbrev pub reading_of : TermReader → T.Reading
+reading_of r = record { opened = map opened_of (reverse r.opened); terms = map written_of r.terms; expected = expected_of r.expected }
+
+abbrev pub read_of : Read → T.Read
+read_of (On r) = T.On (reading_of r)
+read_of (AtEnd terms) = T.AtEnd (map written_of terms)
+
+-- The answer is what a lexeme does, unless memory ran out.
+abbrev pub Does : Result Read Unread → T.Read → Type 0
+Does (Ok read) done = done ≡ read_of read
+Does (Err Form) done = done ≡ T.Misplaced
+Does (Err NoMemory) done = Unit {0}

@@ -1,0 +1,26 @@
+-- Lexemes as tokens spell them: names are names, and contents of texts are contents.
+use Rattle.std.specs.Prelude.{◌≡◌, ℕ, true, List, Some}
+use Rattle.aw_text.specs.Spelling.{is_name, is_content}
+use Rattle.aw_lex.specs.declared.token.Token.{Token}
+use Rattle.aw_lex.specs.Tokens.{AreSlices}
+use Rattle.aw_term.specs.WellFormed.{Each}
+use Rattle.aw_base.specs.Written.{Written}
+use Rattle.aw_base.specs.Terms.{all_have_contents}
+use Rattle.aw_form.specs.Lexemes.{Lexeme, Name, Number, Node, Quoted, Mark, lexemes}
+use Rattle.aw_form.specs.Terms.{Expected, nothing_read, read_terms}
+
+abbrev pub IsSound : Lexeme → Type 0
+IsSound (Name n) = is_name n ≡ true
+IsSound (Quoted t) = is_content t ≡ true
+IsSound (Number n) = Unit {0}
+IsSound (Node n) = Unit {0}
+IsSound (Mark b) = Unit {0}
+
+-- tokens of a line have sound lexemes
+abbrev pub TokensAreSound : Type 0
+TokensAreSound = (line : List ℕ) (from : ℕ) (tokens : List Token) → AreSlices line from tokens → Each IsSound (lexemes line tokens)
+
+-- the texts in terms that are read from sound lexemes are contents
+abbrev pub TextsAreContents : Type 0
+TextsAreContents = (close : ℕ) (expected : Expected) (ls : List Lexeme) (ts : List Written) (rest : List Lexeme) →
+    Each IsSound ls → read_terms close (nothing_read expected) ls ≡ Some (ts, rest) → all_have_contents ts ≡ true

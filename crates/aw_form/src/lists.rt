@@ -1,0 +1,110 @@
+//! Readers of lists of terms and of names between marks.
+ghost use Rattle.std.specs.Prelude.{◌≡◌, Some, map};
+ghost use Rattle.aw_base.specs.Written.{written_of};
+ghost use Rattle.aw_form.specs.Lexemes.{lexemes};
+ghost use Rattle.aw_form.specs.Terms as list;
+ghost use Rattle.aw_form.specs.Forms as form;
+ghost use Rattle.aw_form.specs.Gives.{Gives};
+
+use crate::reader::{some_terms_up_to, terms_up_to};
+use crate::unread::Unread;
+use aw_base::{Names, RawTerm, RawTerms};
+use aw_lex::{Token, TokenKind};
+use aw_list::Text;
+use std::alloc::Global;
+
+/// The tokens behind this mark.
+pub fn mark<'a>(byte: u8, line: &[u8], tokens: &'a [Token]) -> Result<&'a [Token], Unread>
+    ensures { Gives (λ x. lexemes line.now x.now) result (form.mark byte (lexemes line.now tokens.entry.now)) }
+{
+    let [token, rest @ ..] = tokens else {
+        return Err(Unread::Form);
+    };
+    match token.kind {
+        TokenKind::Mark(found) if found == byte => Ok(rest),
+        _ => Err(Unread::Form),
+    }
+}
+
+/// The terms between two marks, and the tokens behind them.
+pub fn terms_between<'a>(
+    alloc: Global,
+    start: u8,
+    close: u8,
+    line: &[u8],
+    tokens: &'a [Token],
+) -> Result<(RawTerms, &'a [Token]), Unread>
+    ensures { Gives (λ x. (map written_of x.0, lexemes line.now x.1.now)) result (form.terms_between start close (lexemes line.now tokens.entry.now)) }
+{
+    let inside = mark(start, line, tokens)?;
+    terms_up_to(alloc, close, line, inside)
+}
+
+fn name_of(alloc: Global, term: &RawTerm) -> Result<Text, Unread>
+    ensures { Gives (λ x. x) result (list.name_of (written_of term.now)) }
+{
+    match term {
+        RawTerm::Word(name) => Ok(Text::from_bytes(alloc, name.as_slice())?),
+        RawTerm::Apply(_, _) | RawTerm::Lit(_) => Err(Unread::Form),
+    }
+}
+
+fn names_of(alloc: Global, terms: &[RawTerm]) -> Result<Names, Unread>
+    ensures { Gives (λ x. x) result (list.names_of (map written_of terms.now)) }
+{
+    let mut names = Names::new(alloc);
+    let mut rest = terms;
+    while let [term, behind @ ..] = rest {
+        names.push(name_of(alloc, term)?)?;
+        rest = behind;
+    }
+    Ok(names)
+}
+
+/// The names between two marks, and the tokens behind them.
+pub fn names_between<'a>(
+    alloc: Global,
+    start: u8,
+    close: u8,
+    line: &[u8],
+    tokens: &'a [Token],
+) -> Result<(Names, &'a [Token]), Unread>
+    ensures { Gives (λ x. (x.0, lexemes line.now x.1.now)) result (form.names_between start close (lexemes line.now tokens.entry.now)) }
+{
+    let (terms, rest) = terms_between(alloc, start, close, line, tokens)?;
+    let names = names_of(alloc, terms.as_slice())?;
+    Ok((names, rest))
+}
+
+/// Nothing, or one term or more between braces, and the tokens behind them.
+pub fn terms_in_braces<'a>(
+    alloc: Global,
+    line: &[u8],
+    tokens: &'a [Token],
+) -> Result<(RawTerms, &'a [Token]), Unread>
+    ensures { Gives (λ x. (map written_of x.0, lexemes line.now x.1.now)) result (form.terms_in_braces (lexemes line.now tokens.entry.now)) }
+{
+    match tokens {
+        [
+            Token {
+                kind: TokenKind::Mark(b'{'),
+                ..
+            },
+            inside @ ..,
+        ] => some_terms_up_to(alloc, b'}', line, inside),
+        _ => Ok((RawTerms::new(alloc), tokens)),
+    }
+}
+
+/// Nothing, or one name or more between braces, and the tokens behind them.
+pub fn names_in_braces<'a>(
+    alloc: Global,
+    line: &[u8],
+    tokens: &'a [Token],
+) -> Result<(Names, &'a [Token]), Unread>
+    ensures { Gives (λ x. (x.0, lexemes line.now x.1.now)) result (form.names_in_braces (lexemes line.now tokens.entry.now)) }
+{
+    let (terms, rest) = terms_in_braces(alloc, line, tokens)?;
+    let names = names_of(alloc, terms.as_slice())?;
+    Ok((names, rest))
+}
