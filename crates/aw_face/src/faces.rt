@@ -1,0 +1,36 @@
+//! What roles offer and use.
+use aw_base::Numbers;
+use aw_list::Items;
+
+/// A role uses a sort of another role. Both are positions from 0.
+#[derive(Clone, Copy, Debug, PartialEq, Eq)]
+pub struct Using {
+    pub role: u16,
+    pub sort: u16,
+}
+
+pub type Usings = Items<Using>;
+
+/// The sorts that are offered, and which role uses which sort.
+#[derive(Debug, PartialEq, Eq, Drop)]
+pub struct Faces {
+    pub offers: Numbers,
+    pub uses: Usings,
+}
+
+/// Why a child of another role may not stand in a rule.
+#[derive(Clone, Copy, Debug, PartialEq, Eq)]
+pub enum FaceKind {
+    /// The rule's role does not use the child's sort.
+    NotUsed,
+    /// The child's sort is not offered.
+    NotOffered,
+}
+
+/// The first child at fault: its rule from 0, and its place from 1.
+#[derive(Clone, Copy, Debug, PartialEq, Eq)]
+pub struct FaceFault {
+    pub rule: u16,
+    pub child: u8,
+    pub kind: FaceKind,
+}

@@ -1,0 +1,199 @@
+-- Lines that tokens spell declare names, and their texts are contents.
+use Rattle.std.proofs.Common.{◌≡◌, ℕ, Bool, true, false, cond, ◌&&◌, List, [], ◌∷◌, ◌++◌, Option, None, Some, codes, nat_eq, refl, sym, ap, ◌∙◌, subst}
+use Rattle.aw_text.specs.Spelling.{is_name, is_content}
+use Rattle.aw_term.specs.WellFormed.{Each}
+use Rattle.aw_base.specs.Written.{Written, WrittenChild, WrittenRule, side_by_side}
+use Rattle.aw_base.specs.Terms.{has_contents, all_have_contents, args_of, uses_of, terms_of}
+use Rattle.aw_form.specs.Lexemes.{Lexeme, Name, Number, Node, Quoted, Mark}
+use Rattle.aw_form.specs.Terms.{Expected, TermOrEnd, TermOnly, nothing_read, read_terms, spellings, terms_up_to, some_terms_up_to, names_of}
+use Rattle.aw_form.specs.Forms.{◌>>=◌, name, number, mark, end, only, terms_between, names_between, terms_in_braces, names_in_braces}
+use Rattle.aw_form.specs.Sound.{IsSound}
+use Rattle.aw_form.proofs.SoundTerms.{texts_are_contents}
+use Rattle.aw_form.proofs.SpelledIfRead.{spelled_if_read, some_spelled_if_read}
+use Rattle.aw_spec.specs.Lines.{Line, RoleLine, ConLine, SortLine, StartLine, OfferLine, UseLine, RuleLine, ScheduleLine}
+use Rattle.aw_spec.specs.Declares.{IsDeclared}
+use Rattle.aw_spec.specs.ReadLine.{child_of, is_semicolon, in_front, pieces, children_of, rest_of_rule, role_line, con_line, sort_line, start_line, offer_line, use_line, rule_line, by_word, line_of}
+
+abbrev AreSound : List Lexeme → Type 0
+AreSound ls = Each IsSound ls
+
+pub bound : {A B P : Type 0} (o : Option A) (f : A → Option B) (y : B) → (o >>= f) ≡ Some y → ((x : A) → o ≡ Some x → f x ≡ Some y → P) → P
+bound None f y e k = cc
+bound (Some x) f y e k = k x refl e
+
+behind_each : {A : Type 0} (P : A → Type 0) (xs ys : List A) → Each P (xs ++ ys) → Each P ys
+behind_each P [] ys h = h
+behind_each P (x ∷ xs) ys h = behind_each P xs ys h.1
+
+same_pair : {A B : Type 0} (x y : A × B) → Some x ≡ Some y → x ≡ y
+same_pair x y e = cc
+
+name_sound : (ls : List Lexeme) (x : List ℕ × List Lexeme) → AreSound ls → name ls ≡ Some x → (is_name x.0 ≡ true) × AreSound x.1
+name_sound [] x s e = cc
+name_sound (Name n ∷ ls) x s e = subst (λ (y : List ℕ × List Lexeme). (is_name y.0 ≡ true) × AreSound y.1) (same_pair (n, ls) x e) (s.0, s.1)
+name_sound (Number n ∷ ls) x s e = cc
+name_sound (Node n ∷ ls) x s e = cc
+name_sound (Quoted n ∷ ls) x s e = cc
+name_sound (Mark n ∷ ls) x s e = cc
+
+number_sound : (ls : List Lexeme) (x : ℕ × List Lexeme) → AreSound ls → number ls ≡ Some x → AreSound x.1
+number_sound [] x s e = cc
+number_sound (Number n ∷ ls) x s e = subst (λ (y : ℕ × List Lexeme). AreSound y.1) (same_pair (n, ls) x e) s.1
+number_sound (Name n ∷ ls) x s e = cc
+number_sound (Node n ∷ ls) x s e = cc
+number_sound (Quoted n ∷ ls) x s e = cc
+number_sound (Mark n ∷ ls) x s e = cc
+
+if_mark : (b : Bool) (ls rest : List Lexeme) → cond b (Some ls) None ≡ Some rest → ls ≡ rest
+if_mark true ls rest e = cc
+if_mark false ls rest e = cc
+
+mark_sound : (byte : ℕ) (ls rest : List Lexeme) → AreSound ls → mark byte ls ≡ Some rest → AreSound rest
+mark_sound byte [] rest s e = cc
+mark_sound byte (Mark b ∷ ls) rest s e = subst AreSound (if_mark (nat_eq b byte) ls rest e) s.1
+mark_sound byte (Name n ∷ ls) rest s e = cc
+mark_sound byte (Number n ∷ ls) rest s e = cc
+mark_sound byte (Node n ∷ ls) rest s e = cc
+mark_sound byte (Quoted n ∷ ls) rest s e = cc
+
+abbrev TermsSound : List Written × List Lexeme → Type 0
+TermsSound x = (all_have_contents x.0 ≡ true) × AreSound x.1
+
+rest_sound : (close : ℕ) (ls : List Lexeme) (ts : List Written) (rest : List Lexeme) → AreSound ls → ls ≡ spellings (side_by_side ts) ++ Mark close ∷ rest → AreSound rest
+rest_sound close ls ts rest s e =
+    let behind : AreSound (Mark close ∷ rest) = behind_each IsSound (spellings (side_by_side ts)) (Mark close ∷ rest) (subst AreSound e s) in behind.1
+
+up_to_sound : (close : ℕ) (ls : List Lexeme) (x : List Written × List Lexeme) → AreSound ls → terms_up_to close ls ≡ Some x → TermsSound x
+up_to_sound close ls x s e = (texts_are_contents close TermOrEnd ls x.0 x.1 s e, rest_sound close ls x.0 x.1 s (spelled_if_read close ls x.0 x.1 e))
+
+some_up_to_sound : (close : ℕ) (ls : List Lexeme) (x : List Written × List Lexeme) → AreSound ls → some_terms_up_to close ls ≡ Some x → AreSound x.1
+some_up_to_sound close ls x s e = rest_sound close ls x.0 x.1 s (some_spelled_if_read close ls x.0 x.1 e)
+
+between_sound : (start close : ℕ) (ls : List Lexeme) (x : List Written × List Lexeme) → AreSound ls → terms_between start close ls ≡ Some x → TermsSound x
+between_sound start close ls x s e = bound (mark start ls) (λ inside. terms_up_to close inside) x e (λ inside found next. up_to_sound close inside x (mark_sound start ls inside s found) next)
+
+braces_sound : (ls : List Lexeme) (x : List Written × List Lexeme) → AreSound ls → terms_in_braces ls ≡ Some x → AreSound x.1
+braces_sound [] x s e = subst (λ (y : List Written × List Lexeme). AreSound y.1) (same_pair ([], []) x e) tt
+braces_sound (Mark b ∷ ls) x s e = by_test (nat_eq b 123) e
+  where
+    by_test : (t : Bool) → cond t (some_terms_up_to 125 ls) (Some ([], Mark b ∷ ls)) ≡ Some x → AreSound x.1
+    by_test true h = some_up_to_sound 125 ls x s.1 h
+    by_test false h = subst (λ (y : List Written × List Lexeme). AreSound y.1) (same_pair ([], Mark b ∷ ls) x h) s
+braces_sound (Name n ∷ ls) x s e = subst (λ (y : List Written × List Lexeme). AreSound y.1) (same_pair ([], Name n ∷ ls) x e) s
+braces_sound (Number n ∷ ls) x s e = subst (λ (y : List Written × List Lexeme). AreSound y.1) (same_pair ([], Number n ∷ ls) x e) s
+braces_sound (Node n ∷ ls) x s e = subst (λ (y : List Written × List Lexeme). AreSound y.1) (same_pair ([], Node n ∷ ls) x e) s
+braces_sound (Quoted n ∷ ls) x s e = subst (λ (y : List Written × List Lexeme). AreSound y.1) (same_pair ([], Quoted n ∷ ls) x e) s
+
+with_names : (terms : List Written × List Lexeme) (x : List (List ℕ) × List Lexeme) → AreSound terms.1 → (names_of terms.0 >>= λ names. Some (names, terms.1)) ≡ Some x → AreSound x.1
+with_names terms x s e = bound (names_of terms.0) (λ names. Some (names, terms.1)) x e (λ names found next. subst (λ (y : List (List ℕ) × List Lexeme). AreSound y.1) (same_pair (names, terms.1) x next) s)
+
+names_in_braces_sound : (ls : List Lexeme) (x : List (List ℕ) × List Lexeme) → AreSound ls → names_in_braces ls ≡ Some x → AreSound x.1
+names_in_braces_sound ls x s e = bound (terms_in_braces ls) (λ terms. names_of terms.0 >>= λ names. Some (names, terms.1)) x e (λ terms found next. with_names terms x (braces_sound ls terms s found) next)
+
+child_fine : (ls : List Lexeme) (c : WrittenChild) → AreSound ls → child_of ls ≡ Some c → all_have_contents c.args ≡ true
+child_fine ls c s e =
+    bound (name ls) _ c e (λ sort found e1. bound (terms_between 40 41 sort.1) _ c e1 (λ args read e2. bound (names_between 60 62 args.1) _ c e2 (λ results listed e3.
+    bound (end results.1) _ c e3 (λ done ended e4.
+    let same : ◌≡◌ {A = WrittenChild} (record { sort = sort.0; args = args.0; results = results.0 }) c = cc in
+    subst (λ (d : WrittenChild). all_have_contents d.args ≡ true) same (between_sound 40 41 sort.1 args (name_sound ls sort s found).1 read).0))))
+
+front_sound : (l : Lexeme) (ps : List (List Lexeme)) → IsSound l → Each AreSound ps → Each AreSound (in_front l ps)
+front_sound l [] s h = ((s, tt), tt)
+front_sound l (p ∷ ps) s h = ((s, h.0), h.1)
+
+pieces_sound : (ls : List Lexeme) → AreSound ls → Each AreSound (pieces ls)
+pieces_sound [] s = (tt, tt)
+pieces_sound (l ∷ ls) s = elim (is_semicolon l) as (λ b. Each AreSound (cond b ([] ∷ pieces ls) (in_front l (pieces ls)))) [ true ↦ (tt, pieces_sound ls s.1) | false ↦ front_sound l (pieces ls) s.0 (pieces_sound ls s.1) ]
+
+and_left : (a b : Bool) → (a && b) ≡ true → a ≡ true
+and_left true b e = refl
+and_left false b e = cc
+
+and_right : (a b : Bool) → (a && b) ≡ true → b ≡ true
+and_right true b e = e
+and_right false b e = cc
+
+both : (ts us : List Written) → all_have_contents ts ≡ true → all_have_contents us ≡ true → all_have_contents (ts ++ us) ≡ true
+both [] us h k = k
+both (t ∷ ts) us h k = λ i. and_left (has_contents t) (all_have_contents ts) h i && both ts us (and_right (has_contents t) (all_have_contents ts) h) k i
+
+children_fine : (ps : List (List Lexeme)) (cs : List WrittenChild) → Each AreSound ps → children_of ps ≡ Some cs → all_have_contents (args_of cs) ≡ true
+children_fine [] cs s e =
+    let same : ◌≡◌ {A = List WrittenChild} [] cs = cc in subst (λ ds. all_have_contents (args_of ds) ≡ true) same refl
+children_fine (p ∷ ps) cs s e =
+    bound (child_of p) _ cs e (λ c found e1. bound (children_of ps) _ cs e1 (λ more read e2.
+    let same : ◌≡◌ {A = List WrittenChild} (c ∷ more) cs = cc in
+    subst (λ ds. all_have_contents (args_of ds) ≡ true) same (both c.args (args_of more) (child_fine p c s.0 found) (children_fine ps more s.1 read))))
+
+rest_fine : (ls : List Lexeme) (cs : List WrittenChild) → AreSound ls → rest_of_rule ls ≡ Some cs → all_have_contents (args_of cs) ≡ true
+rest_fine [] cs s e =
+    let same : ◌≡◌ {A = List WrittenChild} [] cs = cc in subst (λ ds. all_have_contents (args_of ds) ≡ true) same refl
+rest_fine (Mark b ∷ ls) cs s e = by_test (nat_eq b 61) e
+  where
+    by_test : (t : Bool) → cond t (children_of (pieces ls)) None ≡ Some cs → all_have_contents (args_of cs) ≡ true
+    by_test true h = children_fine (pieces ls) cs (pieces_sound ls s.1) h
+    by_test false h = cc
+rest_fine (Name n ∷ ls) cs s e = cc
+rest_fine (Number n ∷ ls) cs s e = cc
+rest_fine (Node n ∷ ls) cs s e = cc
+rest_fine (Quoted n ∷ ls) cs s e = cc
+
+-- a line that ends behind what was read
+at_end : (line l : Line) (ls : List Lexeme) → IsDeclared line → only line ls ≡ Some l → IsDeclared l
+at_end line l ls d e = bound (end ls) _ l e (λ done found next. let same : line ≡ l = cc in subst IsDeclared same d)
+
+role_declared : (ls : List Lexeme) (l : Line) → AreSound ls → role_line ls ≡ Some l → IsDeclared l
+role_declared ls l s e = bound (name ls) _ l e (λ n found e1. at_end (RoleLine n.0) l n.1 (name_sound ls n s found).0 e1)
+
+con_declared : (ls : List Lexeme) (l : Line) → AreSound ls → con_line ls ≡ Some l → IsDeclared l
+con_declared ls l s e = bound (name ls) _ l e (λ n found e1. bound (number n.1) _ l e1 (λ arity read e2. at_end (ConLine n.0 arity.0) l arity.1 (name_sound ls n s found).0 e2))
+
+sort_declared : (ls : List Lexeme) (l : Line) → AreSound ls → sort_line ls ≡ Some l → IsDeclared l
+sort_declared ls l s e =
+    bound (name ls) _ l e (λ n found e1. bound (name n.1) _ l e1 (λ role f2 e2. bound (number role.1) _ l e2 (λ takes f3 e3. bound (number takes.1) _ l e3 (λ gives f4 e4.
+    at_end (SortLine n.0 role.0 takes.0 gives.0) l gives.1 (name_sound ls n s found).0 e4))))
+
+start_declared : (ls : List Lexeme) (l : Line) → start_line ls ≡ Some l → IsDeclared l
+start_declared ls l e = bound (name ls) _ l e (λ n found e1. at_end (StartLine n.0) l n.1 tt e1)
+
+offer_declared : (ls : List Lexeme) (l : Line) → offer_line ls ≡ Some l → IsDeclared l
+offer_declared ls l e = bound (name ls) _ l e (λ n found e1. at_end (OfferLine n.0) l n.1 tt e1)
+
+use_declared : (ls : List Lexeme) (l : Line) → use_line ls ≡ Some l → IsDeclared l
+use_declared ls l e = bound (name ls) _ l e (λ n found e1. bound (name n.1) _ l e1 (λ sort f2 e2. at_end (UseLine n.0 sort.0) l sort.1 tt e2))
+
+rule_declared : (ls : List Lexeme) (l : Line) → AreSound ls → rule_line ls ≡ Some l → IsDeclared l
+rule_declared ls l s e =
+    bound (name ls) _ l e (λ n f1 e1.
+    bound (names_in_braces n.1) _ l e1 (λ params f2 e2.
+    bound (mark 58 params.1) _ l e2 (λ colon f3 e3.
+    bound (name colon) _ l e3 (λ sort f4 e4.
+    bound (terms_between 40 41 sort.1) _ l e4 (λ patterns f5 e5.
+    bound (terms_between 60 62 patterns.1) _ l e5 (λ results f6 e6.
+    bound (rest_of_rule results.1) _ l e6 (λ children f7 e7.
+    let rule : WrittenRule = record { name = n.0; params = params.0; sort = sort.0; patterns = patterns.0; results = results.0; children = children } in
+    let same : RuleLine rule ≡ l = cc in
+    let first = name_sound ls n s f1 in
+    let behind_params = names_in_braces_sound n.1 params first.1 f2 in
+    let behind_sort = name_sound colon sort (mark_sound 58 params.1 colon behind_params f3) f4 in
+    let pattern = between_sound 40 41 sort.1 patterns behind_sort.1 f5 in
+    let result = between_sound 60 62 patterns.1 results pattern.1 f6 in
+    subst IsDeclared same (first.0, both patterns.0 (uses_of rule) pattern.0 (both (args_of children) results.0 (rest_fine results.1 children result.1 f7) result.0)))))))))
+
+chosen : (t : Bool) (x y : Option Line) (l : Line) → (x ≡ Some l → IsDeclared l) → (y ≡ Some l → IsDeclared l) → cond t x y ≡ Some l → IsDeclared l
+chosen true x y l f g e = f e
+chosen false x y l f g e = g e
+
+word_declared : (w : List ℕ) (ls : List Lexeme) (l : Line) → AreSound ls → by_word w ls ≡ Some l → IsDeclared l
+word_declared w ls l s =
+    chosen _ (role_line ls) _ l (role_declared ls l s)
+    (chosen _ (con_line ls) _ l (con_declared ls l s)
+    (chosen _ (sort_line ls) _ l (sort_declared ls l s)
+    (chosen _ (start_line ls) _ l (start_declared ls l)
+    (chosen _ (offer_line ls) _ l (offer_declared ls l)
+    (chosen _ (use_line ls) _ l (use_declared ls l)
+    (chosen _ (rule_line ls) _ l (rule_declared ls l s)
+    (chosen _ (only ScheduleLine ls) None l (at_end ScheduleLine l ls tt) (λ e. cc))))))))
+
+pub line_declared : (ls : List Lexeme) (l : Line) → Each IsSound ls → line_of ls ≡ Some l → IsDeclared l
+line_declared ls l s e = bound (name ls) _ l e (λ w found e1. word_declared w.0 w.1 l (name_sound ls w s found).1 e1)

@@ -1,0 +1,68 @@
+-- Lines of early kinds declare neither sorts nor rules.
+use Rattle.std.proofs.Common.{◌≡◌, ℕ, ◌<◌, ◌≤◌, zero, refl, subst, Bool, true, false, cond, List, [], ◌∷◌, ◌++◌, map, length, arith, Option, None, Some}
+use Rattle.aw_base.specs.declared.fault.DeclKind.{DeclKind}
+use Rattle.aw_base.specs.Declarations.{Declarations, with_role, with_con, with_sort, with_start}
+use Rattle.aw_base.specs.Kinds.{role_kind, con_kind, sort_kind, start_kind}
+use Rattle.aw_face.specs.Faces.{is_offered, is_used}
+use Rattle.aw_base.specs.Declarations.{sort_names}
+use Rattle.aw_base.specs.NodeNames.{number_named}
+use Rattle.aw_spec.specs.declared.fault.SpecKind.TheVariants.{Double}
+use Rattle.aw_spec.specs.Lines.{Line, RoleLine, ConLine, SortLine, StartLine, OfferLine, UseLine, RuleLine, ScheduleLine}
+use Rattle.aw_spec.specs.Reading.{Spec, Step, On, Wrong, Stop, declaring, offering, using_by, using_sort, says, stage_of}
+
+-- what a property of declarations has to be for a step to keep it
+abbrev Holds : (Declarations → Type 0) → Step → Type 0
+Holds P (On s) = P s.declared
+Holds P (Wrong kind) = Unit {0}
+Holds P Stop = Unit {0}
+
+declares : (P : Declarations → Type 0) (s : Spec) (kind : Option DeclKind) (after : Declarations) → P after → Holds P (declaring s kind after)
+declares P s None after h = h
+declares P s (Some kind) after h = tt
+
+offers : (P : Declarations → Type 0) (s : Spec) (sort : Option ℕ) → P s.declared → Holds P (offering s sort)
+offers P s None h = tt
+offers P s (Some sort) h = elim (is_offered sort s.offers) as (λ b. Holds P (cond b (Wrong Double) (On (record s { offers = s.offers ++ sort ∷ [] })))) [ true ↦ tt | false ↦ h ]
+
+uses : (P : Declarations → Type 0) (s : Spec) (role : ℕ) (sort : Option ℕ) → P s.declared → Holds P (using_sort s role sort)
+uses P s role None h = tt
+uses P s role (Some sort) h = elim (is_used role sort s.uses) as (λ b. Holds P (cond b (Wrong Double) (On (record s { uses = s.uses ++ record { role = role; sort = sort } ∷ [] })))) [ true ↦ tt | false ↦ h ]
+
+uses_by : (P : Declarations → Type 0) (s : Spec) (role sort : Option ℕ) → P s.declared → Holds P (using_by s role sort)
+uses_by P s None sort h = tt
+uses_by P s (Some role) sort h = uses P s role sort h
+
+no_sorts : (s : Spec) (line : Line) → stage_of line < 3 → length s.declared.sorts ≡ 0 → Holds (λ d. length d.sorts ≡ 0) (says s line)
+no_sorts s (RoleLine name) h e = declares (λ d. length d.sorts ≡ 0) s _ _ e
+no_sorts s (ConLine name arity) h e = declares (λ d. length d.sorts ≡ 0) s _ _ e
+no_sorts s (SortLine name role takes gives) h e = absurd (omega arith)
+no_sorts s (StartLine sort) h e = absurd (omega arith)
+no_sorts s (OfferLine sort) h e = absurd (omega arith)
+no_sorts s (UseLine role sort) h e = absurd (omega arith)
+no_sorts s (RuleLine rule) h e = absurd (omega arith)
+no_sorts s ScheduleLine h e = tt
+
+no_rules : (s : Spec) (line : Line) → stage_of line < 7 → length s.declared.rules ≡ 0 → Holds (λ d. length d.rules ≡ 0) (says s line)
+no_rules s (RoleLine name) h e = declares (λ d. length d.rules ≡ 0) s _ _ e
+no_rules s (ConLine name arity) h e = declares (λ d. length d.rules ≡ 0) s _ _ e
+no_rules s (SortLine name role takes gives) h e = declares (λ d. length d.rules ≡ 0) s _ _ e
+no_rules s (StartLine sort) h e = declares (λ d. length d.rules ≡ 0) s _ _ e
+no_rules s (OfferLine sort) h e = offers (λ d. length d.rules ≡ 0) s _ e
+no_rules s (UseLine role sort) h e = uses_by (λ d. length d.rules ≡ 0) s _ _ e
+no_rules s (RuleLine rule) h e = absurd (omega arith)
+no_rules s ScheduleLine h e = tt
+
+held : (P : Declarations → Type 0) (x : Step) (s : Spec) → x ≡ On s → Holds P x → P s.declared
+held P (On t) s e h = let same : t ≡ s = cc in subst (λ (u : Spec). P u.declared) same h
+held P (Wrong kind) s e h = cc
+held P Stop s e h = cc
+
+pub keeps_no_sorts : (s after : Spec) (line : Line) → says s line ≡ On after → stage_of line < 3 → length s.declared.sorts ≡ 0 → length after.declared.sorts ≡ 0
+keeps_no_sorts s after line e h z = held (λ d. length d.sorts ≡ 0) (says s line) after e (no_sorts s line h z)
+
+pub keeps_no_rules : (s after : Spec) (line : Line) → says s line ≡ On after → stage_of line < 7 → length s.declared.rules ≡ 0 → length after.declared.rules ≡ 0
+keeps_no_rules s after line e h z = held (λ d. length d.rules ≡ 0) (says s line) after e (no_rules s line h z)
+
+pub none_in : {A : Type 0} (xs : List A) → length xs ≡ 0 → xs ≡ []
+none_in [] h = refl
+none_in (x ∷ xs) h = absurd (omega arith)

@@ -1,0 +1,28 @@
+use Rattle.std.proofs.Common.{◌≡◌, ◌<◌, ◌∙◌, sym, subst, arith, length, map, Ok}
+use Rattle.std.proofs.lemmas.List.{length-map}
+use Rattle.aw_base.specs.GrammarOf.{entry}
+use Rattle.aw_spec.specs.declared.draft.Said.{Said}
+use Rattle.aw_spec.specs.Reading.{says, stage_of}
+use Rattle.aw_spec.specs.LineAnswers.{Says, spec_so_far}
+use Rattle.aw_spec.specs.Views.{line_seen}
+use Rattle.aw_spec.proofs.Stages.{keeps_no_sorts, keeps_no_rules}
+use Rattle.aw_spec.proofs.reader.Reader.in_order.Goals as goal
+
+pub invariant_of-result : goal.invariant_of-result
+invariant_of-result c =
+    let s = spec_so_far c.args.self.draft in
+    let line = line_seen c.args.line in
+    let g = c.args.self.draft.grammar in
+    let after = c.in-On.draft.grammar in
+    let said = subst (λ (x : Said). Says s (Ok x) (says s line)) c.in-On.is c.in_ok-draft.ensures in
+    record {
+      no_sorts = λ h.
+          let here : stage_of line < 3 = omega (arith, h, c.stage-stage.ensures) in
+          let before : c.args.self.stage < 3 = omega (arith, h, c.if-stage-last.false) in
+          keeps_no_sorts s (spec_so_far c.in-On.draft) line said here (c.args.self.no_sorts before);
+      no_rules = λ h.
+          let here : stage_of line < 7 = omega (arith, h, c.stage-stage.ensures) in
+          let before : c.args.self.stage < 7 = omega (arith, h, c.if-stage-last.false) in
+          sym (length-map after.rules (entry after.sorts))
+          ∙ keeps_no_rules s (spec_so_far c.in-On.draft) line said here (length-map g.rules (entry g.sorts) ∙ c.args.self.no_rules before);
+    }

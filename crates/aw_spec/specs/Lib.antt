@@ -1,0 +1,11 @@
+pub mod Answers
+pub mod Declares
+pub mod KindNames
+pub mod Laws
+pub mod LineAnswers
+pub mod Lines
+pub mod Pieces
+pub mod ReadLine
+pub mod ReaderAnswers
+pub mod Reading
+pub mod Views

@@ -1,0 +1,105 @@
+-- Which line the lexemes spell.
+use Rattle.std.specs.Prelude.{ℕ, Bool, false, List, [], ◌∷◌, ◌++◌, Option, None, Some, nat_eq, if◌then◌else◌, codes}
+use Rattle.aw_term.specs.Trees.{nats_eq}
+use Rattle.aw_base.specs.Written.{Written, WrittenChild, WrittenRule}
+use Rattle.aw_form.specs.Lexemes.{Lexeme, Name, Number, Node, Quoted, Mark}
+use Rattle.aw_form.specs.Forms.{◌>>=◌, name, number, mark, only, terms_between, names_between, names_in_braces}
+use Rattle.aw_spec.specs.Lines.{Line, RoleLine, ConLine, SortLine, StartLine, OfferLine, UseLine, RuleLine, ScheduleLine}
+
+-- a subtask, and nothing behind it
+abbrev pub child_of : List Lexeme → Option WrittenChild
+child_of ls = do
+  sort ← name ls
+  args ← terms_between 40 41 sort.1
+  results ← names_between 60 62 args.1
+  only (record { sort = sort.0; args = args.0; results = results.0 }) results.1
+
+-- x in front of the first list
+abbrev pub in_front : {A : Type 0} → A → List (List A) → List (List A)
+in_front x [] = (x ∷ []) ∷ []
+in_front x (piece ∷ pieces) = (x ∷ piece) ∷ pieces
+
+abbrev pub is_semicolon : Lexeme → Bool
+is_semicolon (Mark b) = nat_eq b 59
+is_semicolon _ = false
+
+-- the pieces between the marks `;`
+abbrev pub pieces : List Lexeme → List (List Lexeme)
+pieces [] = [] ∷ []
+pieces (l ∷ ls) = if is_semicolon l then [] ∷ pieces ls else in_front l (pieces ls)
+
+abbrev pub children_of : List (List Lexeme) → Option (List WrittenChild)
+children_of [] = Some []
+children_of (piece ∷ others) = do
+  child ← child_of piece
+  children ← children_of others
+  Some (child ∷ children)
+
+-- what is left behind the results: nothing, or `=` and children
+abbrev pub rest_of_rule : List Lexeme → Option (List WrittenChild)
+rest_of_rule [] = Some []
+rest_of_rule (Mark b ∷ ls) = if nat_eq b 61 then children_of (pieces ls) else None
+rest_of_rule _ = None
+
+abbrev pub role_line : List Lexeme → Option Line
+role_line ls = do
+  n ← name ls
+  only (RoleLine n.0) n.1
+
+abbrev pub con_line : List Lexeme → Option Line
+con_line ls = do
+  n ← name ls
+  arity ← number n.1
+  only (ConLine n.0 arity.0) arity.1
+
+abbrev pub sort_line : List Lexeme → Option Line
+sort_line ls = do
+  n ← name ls
+  role ← name n.1
+  takes ← number role.1
+  gives ← number takes.1
+  only (SortLine n.0 role.0 takes.0 gives.0) gives.1
+
+abbrev pub start_line : List Lexeme → Option Line
+start_line ls = do
+  sort ← name ls
+  only (StartLine sort.0) sort.1
+
+abbrev pub offer_line : List Lexeme → Option Line
+offer_line ls = do
+  sort ← name ls
+  only (OfferLine sort.0) sort.1
+
+abbrev pub use_line : List Lexeme → Option Line
+use_line ls = do
+  role ← name ls
+  sort ← name role.1
+  only (UseLine role.0 sort.0) sort.1
+
+abbrev pub rule_line : List Lexeme → Option Line
+rule_line ls = do
+  n ← name ls
+  params ← names_in_braces n.1
+  colon ← mark 58 params.1
+  sort ← name colon
+  patterns ← terms_between 40 41 sort.1
+  results ← terms_between 60 62 patterns.1
+  children ← rest_of_rule results.1
+  Some (RuleLine (record { name = n.0; params = params.0; sort = sort.0; patterns = patterns.0; results = results.0; children = children }))
+
+-- by the first word; the words are not reserved elsewhere
+abbrev pub by_word : List ℕ → List Lexeme → Option Line
+by_word w ls =
+    if nats_eq w (codes "role") then role_line ls else
+    if nats_eq w (codes "con") then con_line ls else
+    if nats_eq w (codes "sort") then sort_line ls else
+    if nats_eq w (codes "start") then start_line ls else
+    if nats_eq w (codes "offer") then offer_line ls else
+    if nats_eq w (codes "use") then use_line ls else
+    if nats_eq w (codes "rule") then rule_line ls else
+    if nats_eq w (codes "schedule") then only ScheduleLine ls else None
+
+abbrev pub line_of : List Lexeme → Option Line
+line_of ls = do
+  word ← name ls
+  by_word word.0 word.1

@@ -1,0 +1,24 @@
+-- Lines and specifications of the program as the definitions speak of them.
+use Rattle.std.specs.Prelude.{List}
+use Rattle.aw_base.specs.declared.grammar.Grammar.{Grammar}
+use Rattle.aw_base.specs.GrammarOf.{declarations_of}
+use Rattle.aw_base.specs.Written.{rule_of_raw}
+use Rattle.aw_face.specs.declared.faces.Faces.{Faces}
+use Rattle.aw_spec.specs.declared.line.SpecLine.{SpecLine}
+use Rattle.aw_spec.specs.declared.line.SpecLine.TheVariants as line
+use Rattle.aw_spec.specs.Lines as L
+use Rattle.aw_spec.specs.Reading.{Spec}
+
+abbrev pub line_seen : SpecLine → L.Line
+line_seen (line.Role name) = L.RoleLine name
+line_seen (line.Con con) = L.ConLine con.name con.arity
+line_seen (line.Sort sort) = L.SortLine sort.name sort.role sort.takes sort.gives
+line_seen (line.Start sort) = L.StartLine sort
+line_seen (line.Offer sort) = L.OfferLine sort
+line_seen (line.Use role sort) = L.UseLine role sort
+line_seen (line.Rule rule) = L.RuleLine (rule_of_raw rule)
+line_seen line.Schedule = L.ScheduleLine
+
+-- what a grammar and the faces of its roles say
+abbrev pub spec_of : Grammar → Faces → Spec
+spec_of g f = record { declared = declarations_of g; offers = f.offers; uses = f.uses }

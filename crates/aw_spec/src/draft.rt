@@ -1,0 +1,244 @@
+//! A specification as far as it has been read.
+ghost use Rattle.std.specs.Prelude.{◌≡◌, ◌≤◌, ◌++◌, ◌∷◌, ◌<◌, ◌-◌, [], true, ℕ, List, length, map, slice_get, IfSome, Some, option_map};
+ghost use Rattle.std.specs.Option.{option_copied};
+ghost use Rattle.aw_text.specs.Spelling.{is_name};
+ghost use Rattle.aw_base.specs.Declarations.{Entry};
+ghost use Rattle.aw_base.specs.GrammarOf.{entry};
+ghost use Rattle.aw_base.specs.GrammarView.{sorts_of};
+ghost use Rattle.aw_base.specs.Terms.{all_have_contents, terms_of};
+ghost use Rattle.aw_base.specs.Written.{rule_of_raw};
+ghost use Rattle.aw_face.specs.Faces as face;
+ghost use Rattle.aw_spec.specs.Lines as lines;
+ghost use Rattle.aw_spec.specs.Reading.{says, stage_of, decl_kind, face_kind};
+ghost use Rattle.aw_spec.specs.Views.{line_seen};
+ghost use Rattle.aw_spec.specs.LineAnswers.{Adds, Says, spec_so_far};
+ghost use Rattle.aw_spec.specs.Declares.{IsDeclared};
+
+use crate::fault::SpecKind;
+use crate::line::SpecLine;
+use aw_base::{AddFault, DeclKind, Grammar, RawCon, RawRule, RawSort, Rule};
+use aw_face::{FaceKind, Faces, Using, is_offered, is_used, rule_fault};
+use aw_form::Unread;
+use aw_lex::LexFault;
+use aw_list::{Items, Text};
+use std::alloc::{AllocError, AllocFailed, Global};
+
+/// Why a line is at fault.
+#[derive(Clone, Copy, Debug, PartialEq, Eq)]
+pub enum LineFault {
+    Bad(SpecKind),
+    NoMemory,
+}
+
+impl From<AddFault> for LineFault {
+    ghost use Rattle.std.specs.Prelude.{◌≡◌};
+    ghost use Rattle.aw_spec.specs.LineAnswers.{of_add};
+
+    ghost from_gives = { λ fault e. e ≡ of_add fault };
+
+    fn from(fault: AddFault) -> LineFault {
+        match fault {
+            AddFault::Bad(kind) => LineFault::Bad(decl_kind(kind)),
+            AddFault::NoMemory => LineFault::NoMemory,
+        }
+    }
+}
+
+impl From<LexFault> for LineFault {
+    ghost use Rattle.std.specs.Prelude.{◌≡◌};
+    ghost use Rattle.aw_spec.specs.LineAnswers.{of_lex};
+
+    ghost from_gives = { λ fault e. e ≡ of_lex fault };
+
+    fn from(fault: LexFault) -> LineFault {
+        match fault {
+            LexFault::Bad { .. } => LineFault::Bad(SpecKind::Token),
+            LexFault::NoMemory => LineFault::NoMemory,
+        }
+    }
+}
+
+impl From<Unread> for LineFault {
+    ghost use Rattle.std.specs.Prelude.{◌≡◌};
+    ghost use Rattle.aw_spec.specs.LineAnswers.{of_unread};
+
+    ghost from_gives = { λ fault e. e ≡ of_unread fault };
+
+    fn from(fault: Unread) -> LineFault {
+        match fault {
+            Unread::Form => LineFault::Bad(SpecKind::Form),
+            Unread::NoMemory => LineFault::NoMemory,
+        }
+    }
+}
+
+impl<T: Drop> From<AllocFailed<T>> for LineFault {
+    ghost use Rattle.std.specs.Prelude.{◌≡◌};
+    ghost use Rattle.aw_spec.specs.declared.draft.LineFault.TheVariants.{NoMemory};
+
+    ghost from_gives = { λ _ e. e ≡ NoMemory };
+
+    fn from(_failed: AllocFailed<T>) -> LineFault {
+        LineFault::NoMemory
+    }
+}
+
+fn decl_kind(kind: DeclKind) -> SpecKind
+    ensures { result ≡ decl_kind kind }
+{
+    match kind {
+        DeclKind::Limit => SpecKind::Limit,
+        DeclKind::Double => SpecKind::Double,
+        DeclKind::Clash => SpecKind::Clash,
+        DeclKind::Unknown => SpecKind::Unknown,
+        DeclKind::Arity => SpecKind::Arity,
+        DeclKind::Twice => SpecKind::Twice,
+        DeclKind::Never => SpecKind::Never,
+        DeclKind::Inherits => SpecKind::Inherits,
+    }
+}
+
+fn face_kind(kind: FaceKind) -> SpecKind
+    ensures { result ≡ face_kind kind }
+{
+    match kind {
+        FaceKind::NotUsed => SpecKind::NotUsed,
+        FaceKind::NotOffered => SpecKind::NotOffered,
+    }
+}
+
+/// What the lines so far say.
+#[derive(Debug, Drop)]
+pub struct Draft {
+    pub grammar: Grammar,
+    pub faces: Faces,
+}
+
+/// What comes of a line: what is said so far, or the end at the line `schedule`.
+#[derive(Debug, Drop)]
+pub enum Said {
+    On(Draft),
+    Stop(Draft),
+}
+
+/// The rule that was declared last.
+fn last_rule(grammar: &Grammar) -> &Rule
+    requires { 0 < length grammar.now.rules }
+    ensures value { slice_get grammar.now.rules (length grammar.now.rules - 1) ≡ Some result.now }
+    ensures few { length result.now.children ≤ 8 }
+{
+    grammar.rules.at(grammar.rules.len() - 1)
+}
+
+/// The first child at fault of the rule that was declared last.
+fn last_fault(grammar: &Grammar, faces: &Faces) -> Option<(u8, FaceKind)>
+    requires { 0 < length grammar.now.rules }
+    ensures { (front : List Entry) → (e : Entry) → map (entry grammar.now.sorts) grammar.now.rules ≡ front ++ e ∷ [] → option_map (λ x. (x.0, x.1)) result ≡ face.rule_fault (sorts_of grammar.now.sorts) faces.now.offers faces.now.uses e.rule }
+{
+    rule_fault(grammar.sorts.as_slice(), faces, last_rule(grammar))
+}
+
+impl Draft {
+    fn add_role(self, name: Text) -> Result<Draft, LineFault>
+        requires named { is_name name ≡ true }
+        requires no_sorts { self.grammar.sorts ≡ [] }
+        requires no_rules { self.grammar.rules ≡ [] }
+        ensures { Adds result (says (spec_so_far self) (lines.RoleLine name)) }
+    {
+        let Draft { grammar, faces } = self;
+        let grammar = grammar.add_role(name)?;
+        Ok(Draft { grammar, faces })
+    }
+
+    fn add_con(self, con: RawCon) -> Result<Draft, LineFault>
+        requires named { is_name con.name ≡ true }
+        requires no_rules { self.grammar.rules ≡ [] }
+        ensures { Adds result (says (spec_so_far self) (lines.ConLine con.name con.arity)) }
+    {
+        let Draft { grammar, faces } = self;
+        let grammar = grammar.add_con(con)?;
+        Ok(Draft { grammar, faces })
+    }
+
+    fn add_sort(self, sort: RawSort) -> Result<Draft, LineFault>
+        requires named { is_name sort.name ≡ true }
+        requires no_rules { self.grammar.rules ≡ [] }
+        ensures { Adds result (says (spec_so_far self) (lines.SortLine sort.name sort.role sort.takes sort.gives)) }
+    {
+        let Draft { grammar, faces } = self;
+        let grammar = grammar.add_sort(sort)?;
+        Ok(Draft { grammar, faces })
+    }
+
+    fn add_start(self, sort: Text) -> Result<Draft, LineFault>
+        requires no_rules { self.grammar.rules ≡ [] }
+        ensures { Adds result (says (spec_so_far self) (lines.StartLine sort)) }
+    {
+        let Draft { grammar, faces } = self;
+        let grammar = grammar.add_start(&sort)?;
+        Ok(Draft { grammar, faces })
+    }
+
+    fn add_offer(self, sort: Text) -> Result<Draft, LineFault>
+        ensures { Adds result (says (spec_so_far self) (lines.OfferLine sort)) }
+    {
+        let Draft { grammar, mut faces } = self;
+        let Some(sort) = grammar.sort_named(sort.as_slice()) else {
+            return Err(LineFault::Bad(SpecKind::Unknown));
+        };
+        if is_offered(sort, faces.offers.as_slice()) {
+            return Err(LineFault::Bad(SpecKind::Double));
+        }
+        faces.offers.push(sort)?;
+        Ok(Draft { grammar, faces })
+    }
+
+    fn add_use(self, role: Text, sort: Text) -> Result<Draft, LineFault>
+        ensures { Adds result (says (spec_so_far self) (lines.UseLine role sort)) }
+    {
+        let Draft { grammar, mut faces } = self;
+        let Some(role) = grammar.role_named(role.as_slice()) else {
+            return Err(LineFault::Bad(SpecKind::Unknown));
+        };
+        let Some(sort) = grammar.sort_named(sort.as_slice()) else {
+            return Err(LineFault::Bad(SpecKind::Unknown));
+        };
+        if is_used(role, sort, faces.uses.as_slice()) {
+            return Err(LineFault::Bad(SpecKind::Double));
+        }
+        faces.uses.push(Using { role, sort })?;
+        Ok(Draft { grammar, faces })
+    }
+
+    fn add_rule(self, rule: RawRule) -> Result<Draft, LineFault>
+        requires named { is_name rule.name ≡ true }
+        requires contents { all_have_contents (terms_of (rule_of_raw rule)) ≡ true }
+        ensures { Adds result (says (spec_so_far self) (lines.RuleLine (rule_of_raw rule))) }
+    {
+        let Draft { grammar, faces } = self;
+        let grammar = grammar.add_rule(rule)?;
+        match last_fault(&grammar, &faces) {
+            None => Ok(Draft { grammar, faces }),
+            Some((_, kind)) => Err(LineFault::Bad(face_kind(kind))),
+        }
+    }
+
+    /// What a line says behind these.
+    pub fn says(self, line: SpecLine) -> Result<Said, LineFault>
+        requires declared { IsDeclared (line_seen line) }
+        requires no_sorts { stage_of (line_seen line) < 3 → self.grammar.sorts ≡ [] }
+        requires no_rules { stage_of (line_seen line) < 7 → self.grammar.rules ≡ [] }
+        ensures { Says (spec_so_far self) result (says (spec_so_far self) (line_seen line)) }
+    {
+        match line {
+            SpecLine::Role(name) => Ok(Said::On(self.add_role(name)?)),
+            SpecLine::Con(con) => Ok(Said::On(self.add_con(con)?)),
+            SpecLine::Sort(sort) => Ok(Said::On(self.add_sort(sort)?)),
+            SpecLine::Start(sort) => Ok(Said::On(self.add_start(sort)?)),
+            SpecLine::Offer(sort) => Ok(Said::On(self.add_offer(sort)?)),
+            SpecLine::Use { role, sort } => Ok(Said::On(self.add_use(role, sort)?)),
+            SpecLine::Rule(rule) => Ok(Said::On(self.add_rule(rule)?)),
+            SpecLine::Schedule => Ok(Said::Stop(self)),
+        }
+    }
+}

@@ -1,0 +1,76 @@
+//! Reading the specification at the front of a text.
+ghost use Rattle.std.specs.Prelude.{◌≡◌, ◌≤◌, length, drop, IfOk, None};
+ghost use Rattle.aw_lex.specs.Lines.{lines_of};
+ghost use Rattle.aw_base.specs.Declarations.{grammar_in, words_in};
+ghost use Rattle.aw_base.specs.GrammarOf.{grammar_of, words_of, declarations_of};
+ghost use Rattle.aw_face.specs.Faces.{face_fault};
+ghost use Rattle.aw_spec.specs.Reading.{specification};
+ghost use Rattle.aw_spec.specs.Answers.{Spells, at_line};
+
+use crate::draft::{Draft, LineFault};
+use crate::fault::SpecFault;
+use crate::reader::{AfterLine, Reader};
+use crate::spec_text::SpecText;
+use aw_lex::next_line;
+use std::alloc::Global;
+
+fn at_line(fault: LineFault, line: u64) -> SpecFault
+    ensures { result ≡ at_line line fault }
+{
+    match fault {
+        LineFault::Bad(kind) => SpecFault::Bad { line, kind },
+        LineFault::NoMemory => SpecFault::NoMemory,
+    }
+}
+
+fn text_of(draft: Draft, lines: u64, rest: usize) -> SpecText
+    ensures value { result ≡ record { grammar = draft.grammar; faces = draft.faces; lines = lines; rest = rest } }
+    ensures grammar { grammar_of result.grammar ≡ grammar_in (declarations_of result.grammar) }
+    ensures words { words_of result.grammar ≡ words_in (declarations_of result.grammar) }
+{
+    let Draft { grammar, faces } = draft;
+    SpecText {
+        grammar,
+        faces,
+        lines,
+        rest,
+    }
+}
+
+fn read_lines(alloc: Global, text: &[u8]) -> Result<SpecText, SpecFault>
+    ensures exact { Spells result (specification (lines_of text.now)) }
+    ensures within { IfOk result (λ s. s.rest ≤ length text.now) }
+    ensures rest { IfOk result (λ s. lines_of (drop s.rest text.now) ≡ drop s.lines (lines_of text.now)) }
+    ensures grammar { IfOk result (λ s. grammar_of s.grammar ≡ grammar_in (declarations_of s.grammar)) }
+    ensures words { IfOk result (λ s. words_of s.grammar ≡ words_in (declarations_of s.grammar)) }
+{
+    let mut reader = Reader::new(alloc);
+    let mut rest = text;
+    let mut lines = 0;
+    while let Some((line, behind)) = next_line(rest) {
+        lines += 1;
+        match reader.read_line(alloc, line) {
+            Ok(AfterLine::Next(next)) => reader = next,
+            Ok(AfterLine::End(draft)) => {
+                return Ok(text_of(draft, lines, text.len() - behind.len()));
+            }
+            Err(fault) => return Err(at_line(fault, lines)),
+        }
+        rest = behind;
+    }
+    let Reader { draft, .. } = reader;
+    Ok(text_of(draft, lines, text.len()))
+}
+
+/// The specification that the lines of a text spell up to the line `schedule`, or to the end; or the first line at fault with its first kind.
+pub fn read_spec(alloc: Global, text: &[u8]) -> Result<SpecText, SpecFault>
+    ensures exact { Spells result (specification (lines_of text.now)) }
+    ensures within { IfOk result (λ s. s.rest ≤ length text.now) }
+    ensures rest { IfOk result (λ s. lines_of (drop s.rest text.now) ≡ drop s.lines (lines_of text.now)) }
+    ensures grammar { IfOk result (λ s. grammar_of s.grammar ≡ grammar_in (declarations_of s.grammar)) }
+    ensures words { IfOk result (λ s. words_of s.grammar ≡ words_in (declarations_of s.grammar)) }
+    // The rules keep to the faces of the roles.
+    ensures faces { IfOk result (λ s. face_fault (grammar_of s.grammar) s.faces.offers s.faces.uses ≡ None) }
+{
+    read_lines(alloc, text)
+}

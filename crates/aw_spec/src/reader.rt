@@ -1,0 +1,78 @@
+//! Reading a specification line by line.
+ghost use Rattle.std.specs.Prelude.{◌≡◌, ◌<◌, length};
+
+use crate::draft::{Draft, LineFault, Said};
+use crate::fault::SpecKind;
+use crate::line::SpecLine;
+use crate::parse::parse_line;
+use aw_base::{Grammar, Numbers};
+use aw_face::{Faces, Usings};
+use aw_lex::{is_passed_over, tokens};
+use std::alloc::Global;
+
+/// The lines so far: what they say, and the stage of the last, or 0.
+#[derive(Debug, Drop)]
+pub struct Reader {
+    pub draft: Draft,
+    pub stage: u8,
+    ghost no_sorts: { stage < 3 → length draft.grammar.sorts ≡ 0 },
+    ghost no_rules: { stage < 7 → length draft.grammar.rules ≡ 0 },
+}
+
+/// What comes of a line: reading goes on, or it ends at the line `schedule`.
+#[derive(Debug, Drop)]
+pub enum AfterLine {
+    Next(Reader),
+    End(Draft),
+}
+
+impl Reader {
+    ghost use Rattle.aw_spec.specs.Reading as reading;
+    ghost use Rattle.aw_spec.specs.Views.{line_seen};
+    ghost use Rattle.aw_spec.specs.Declares.{IsDeclared};
+    ghost use Rattle.aw_spec.specs.ReaderAnswers.{draft_of, Reads};
+
+    /// No lines.
+    pub fn new(alloc: Global) -> Reader
+        ensures { draft_of result ≡ reading.no_draft }
+    {
+        let faces = Faces {
+            offers: Numbers::new(alloc),
+            uses: Usings::new(alloc),
+        };
+        Reader {
+            draft: Draft {
+                grammar: Grammar::new(alloc),
+                faces,
+            },
+            stage: 0,
+        }
+    }
+
+    fn in_order(self, line: SpecLine) -> Result<AfterLine, LineFault>
+        requires { IsDeclared (line_seen line) }
+        ensures { Reads (draft_of self) result (reading.in_order (draft_of self) (line_seen line)) }
+    {
+        let Reader { draft, stage: last } = self;
+        let stage = line.stage();
+        if stage < last {
+            return Err(LineFault::Bad(SpecKind::Order));
+        }
+        match draft.says(line)? {
+            Said::On(draft) => Ok(AfterLine::Next(Reader { draft, stage })),
+            Said::Stop(draft) => Ok(AfterLine::End(draft)),
+        }
+    }
+
+    /// What comes of the bytes of a line.
+    pub fn read_line(self, alloc: Global, line: &[u8]) -> Result<AfterLine, LineFault>
+        ensures { Reads (draft_of self) result (reading.read_line (draft_of self) line.now) }
+    {
+        if is_passed_over(line) {
+            return Ok(AfterLine::Next(self));
+        }
+        let tokens = tokens(alloc, line)?;
+        let spelled = parse_line(alloc, line, tokens.as_slice())?;
+        self.in_order(spelled)
+    }
+}
