@@ -1,0 +1,11 @@
+use Rattle.aw_form.specs.Lexemes.{lexemes}
+use Rattle.aw_form.proofs.SoundTerms.{tokens_are_sound}
+use Rattle.aw_sched.specs.LineSeen.{line_seen}
+use Rattle.aw_sched.proofs.SoundLines.{sound_line}
+use Rattle.aw_sched.proofs.read.event_said.Goals as goal
+
+pub event_of-requires : goal.event_of-requires
+event_of-requires c =
+    let line = c.args.line.now in
+    let tokens = c.args.tokens.now in
+    sound_line (lexemes line tokens) (line_seen c.in-Ok.said) (tokens_are_sound line 0 tokens c.requires) c.in-Ok.ensures

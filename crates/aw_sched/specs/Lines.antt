@@ -1,0 +1,61 @@
+-- The lines of a schedule: how each is spelled, and which line lexemes spell.
+use Rattle.std.specs.Prelude.{ℕ, List, [], ◌∷◌, ◌++◌, Option, None, codes, if◌then◌else◌}
+use Rattle.aw_term.specs.Trees.{nats_eq}
+use Rattle.aw_base.specs.Written.{Written, side_by_side}
+use Rattle.aw_form.specs.Lexemes.{Lexeme, Name, Number, Node, Mark}
+use Rattle.aw_form.specs.Terms.{spellings}
+use Rattle.aw_form.specs.Forms.{◌>>=◌, name, number, node, only, terms_in_braces}
+
+pub data Line : Type 0 where
+  StartLine : (sort : List ℕ) → (case : ℕ) → Line
+  ChooseLine : (node rule : List ℕ) → (args : List Written) → Line
+  DeliverLine : (message : ℕ) → Line
+  SettleLine : Line
+  ListLine : (role : List ℕ) → Line
+
+-- nothing, or `{..}`
+abbrev pub args_spelling : List Written → List Lexeme
+args_spelling [] = []
+args_spelling (t ∷ ts) = Mark 123 ∷ (spellings (side_by_side (t ∷ ts)) ++ Mark 125 ∷ [])
+
+abbrev pub line_spelling : Line → List Lexeme
+line_spelling (StartLine sort case) = Name (codes "start") ∷ Name sort ∷ Number case ∷ []
+line_spelling (ChooseLine n rule args) = Name (codes "choose") ∷ Node n ∷ Name rule ∷ args_spelling args
+line_spelling (DeliverLine message) = Name (codes "deliver") ∷ Number message ∷ []
+line_spelling SettleLine = Name (codes "settle") ∷ []
+line_spelling (ListLine role) = Name (codes "list") ∷ Name role ∷ []
+
+abbrev pub start_line : List Lexeme → Option Line
+start_line ls = do
+  sort ← name ls
+  case ← number sort.1
+  only (StartLine sort.0 case.0) case.1
+
+abbrev pub choose_line : List Lexeme → Option Line
+choose_line ls = do
+  n ← node ls
+  rule ← name n.1
+  args ← terms_in_braces rule.1
+  only (ChooseLine n.0 rule.0 args.0) args.1
+
+abbrev pub deliver_line : List Lexeme → Option Line
+deliver_line ls = do
+  message ← number ls
+  only (DeliverLine message.0) message.1
+
+abbrev pub list_line : List Lexeme → Option Line
+list_line ls = do
+  role ← name ls
+  only (ListLine role.0) role.1
+
+abbrev pub by_word : List ℕ → List Lexeme → Option Line
+by_word w ls =
+    if nats_eq w (codes "start") then start_line ls else
+    if nats_eq w (codes "choose") then choose_line ls else
+    if nats_eq w (codes "deliver") then deliver_line ls else
+    if nats_eq w (codes "settle") then only SettleLine ls else
+    if nats_eq w (codes "list") then list_line ls else None
+
+abbrev pub line_of : List Lexeme → Option Line
+line_of (Name w ∷ ls) = by_word w ls
+line_of _ = None

@@ -1,0 +1,57 @@
+//! What is wrong with a line of a schedule.
+use std::alloc::{AllocError, AllocFailed};
+
+/// The kinds of fault, in the order in which they are told.
+#[derive(Clone, Copy, Debug, PartialEq, Eq)]
+pub enum SchedKind {
+    /// The line is no list of tokens.
+    Token,
+    /// The tokens are no event.
+    Form,
+    /// More than 8 arguments, more than 256 symbols in them, one deeper than 32, or a node of more than 250 steps.
+    Limit,
+    /// A sort, a role, a rule, or a name in an argument is not declared.
+    Unknown,
+    /// A constructor in an argument has another number of parts.
+    Arity,
+    /// The sort of `start` is no start sort.
+    NotStart,
+    /// The node name is not valid.
+    Name,
+}
+
+/// Why a schedule is not read. Lines are counted from 1.
+#[derive(Clone, Copy, Debug, PartialEq, Eq)]
+pub enum SchedFault {
+    Bad { line: u64, kind: SchedKind },
+    NoMemory,
+}
+
+/// Why a line gives no event.
+#[derive(Clone, Copy, Debug, PartialEq, Eq)]
+pub(crate) enum LineFault {
+    Bad(SchedKind),
+    NoMemory,
+}
+
+impl From<AllocError> for LineFault {
+    ghost use Rattle.std.specs.Prelude.{◌≡◌};
+    ghost use Rattle.aw_sched.specs.declared.fault.LineFault.TheVariants.{NoMemory};
+
+    ghost from_gives = { λ _ e. e ≡ NoMemory };
+
+    fn from(_failed: AllocError) -> LineFault {
+        LineFault::NoMemory
+    }
+}
+
+impl<T: Drop> From<AllocFailed<T>> for LineFault {
+    ghost use Rattle.std.specs.Prelude.{◌≡◌};
+    ghost use Rattle.aw_sched.specs.declared.fault.LineFault.TheVariants.{NoMemory};
+
+    ghost from_gives = { λ _ e. e ≡ NoMemory };
+
+    fn from(_failed: AllocFailed<T>) -> LineFault {
+        LineFault::NoMemory
+    }
+}

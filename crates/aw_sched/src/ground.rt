@@ -1,0 +1,61 @@
+//! Arguments of a choice, from the terms that are written.
+ghost use Rattle.std.specs.Prelude.{◌≡◌, map, ◌||◌};
+ghost use Rattle.aw_term.specs.Views.{ground_of};
+ghost use Rattle.aw_base.specs.Written.{written_of};
+ghost use Rattle.aw_base.specs.GrammarOf.{words_of};
+ghost use Rattle.aw_sched.specs.Events.{args_are_past};
+ghost use Rattle.aw_base.specs.NodeNames.{number_named};
+ghost use Rattle.aw_sched.specs.Grounds.{Finds, known_ground, known_grounds};
+
+use crate::fault::{LineFault, SchedKind};
+use aw_base::{Grammar, Ground, Grounds, Lit, RawTerm, RawTerms, Text, room_after_all};
+use std::alloc::Global;
+
+/// Whether arguments are past a limit: 8 arguments, 256 symbols together, 32 levels each.
+pub(crate) fn args_are_past(args: &RawTerms) -> bool
+    ensures { result ≡ args_are_past (map written_of args.now) }
+{
+    args.len() > 8 || room_after_all(args, 32, 256).is_none()
+}
+
+fn con_named(g: &Grammar, name: &[u8]) -> Result<u16, LineFault>
+    ensures { Finds (λ c. c) (number_named (words_of g.now).cons name.now) result }
+{
+    match g.con_named(name) {
+        Some(con) => Ok(con),
+        None => Err(LineFault::Bad(SchedKind::Unknown)),
+    }
+}
+
+#[cycle(ground)]
+fn ground(alloc: Global, g: &Grammar, term: &RawTerm) -> Result<Ground, LineFault>
+    ensures { Finds ground_of (known_ground (words_of g.now).cons (written_of term.now)) result }
+{
+    match term {
+        RawTerm::Word(name) => {
+            let con = con_named(g, name.as_slice())?;
+            Ok(Ground::Con(con, Grounds::new(alloc)))
+        }
+        RawTerm::Apply(name, parts) => {
+            let con = con_named(g, name.as_slice())?;
+            let parts = grounds(alloc, g, parts.as_slice())?;
+            Ok(Ground::Con(con, parts))
+        }
+        RawTerm::Lit(Lit::Num(n)) => Ok(Ground::Num(*n)),
+        RawTerm::Lit(Lit::Text(text)) => {
+            Ok(Ground::Text(Text::from_bytes(alloc, text.as_slice())?))
+        },
+    }
+}
+
+/// The arguments with their names looked up. They are at most 32 deep.
+#[cycle(ground)]
+pub(crate) fn grounds(alloc: Global, g: &Grammar, terms: &[RawTerm]) -> Result<Grounds, LineFault>
+    ensures { Finds (λ found. map ground_of found) (known_grounds (words_of g.now).cons (map written_of terms.now)) result }
+{
+    let mut found = Grounds::new(alloc);
+    for term in terms {
+        found.push(ground(alloc, g, term)?)?;
+    }
+    Ok(found)
+}

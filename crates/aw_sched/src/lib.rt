@@ -1,0 +1,17 @@
+//! Schedules: the events that a text asks for, or the first line that is at fault.
+#![tactic(auto)]
+
+pub mod event;
+pub mod fault;
+mod ground;
+pub mod line;
+mod lookup;
+pub mod parse;
+pub mod read;
+
+pub use event::{Event, Events};
+pub use fault::{SchedFault, SchedKind};
+pub use read::read_schedule;
+
+#[cfg(test)]
+mod tests;

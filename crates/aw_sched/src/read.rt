@@ -1,0 +1,97 @@
+//! Reading a schedule, line by line.
+ghost use Rattle.std.specs.Prelude.{◌≡◌, IfOk, IfSome};
+ghost use Rattle.aw_lex.specs.Tokens.{AreSlices};
+ghost use Rattle.aw_term.specs.WellFormed.{Each};
+ghost use Rattle.aw_base.specs.GrammarOf.{declarations_of, grammar_of};
+ghost use Rattle.aw_form.specs.Lexemes.{lexemes};
+ghost use Rattle.aw_sched.specs.Lines.{line_of};
+ghost use Rattle.aw_sched.specs.Schedules.{by_form, read_line, schedule_of};
+ghost use Rattle.aw_sched.specs.Answers.{Answers, MayCome};
+ghost use Rattle.aw_sched.specs.LineEvents.{AddsLine, ReadsLine, fault_at};
+
+use crate::event::{Event, Events};
+use crate::fault::{LineFault, SchedFault, SchedKind};
+use crate::lookup::event_of;
+use crate::parse::parse_line;
+use aw_base::Grammar;
+use aw_form::Unread;
+use aw_lex::{LexFault, Token, is_passed_over, next_line, tokens};
+use std::alloc::Global;
+
+fn event_said(
+    alloc: Global,
+    g: &Grammar,
+    line: &[u8],
+    tokens: &[Token],
+) -> Result<Option<Event>, LineFault>
+    requires { AreSlices line.now 0 tokens.now }
+    ensures reads { ReadsLine (by_form (declarations_of g.now) (line_of (lexemes line.now tokens.now))) result }
+    ensures fits { IfOk result (λ found. IfSome found (MayCome (grammar_of g.now))) }
+{
+    match parse_line(alloc, line, tokens) {
+        Ok(said) => match event_of(alloc, g, &said) {
+            Ok(event) => Ok(Some(event)),
+            Err(fault) => Err(fault),
+        },
+        Err(Unread::Form) => Err(LineFault::Bad(SchedKind::Form)),
+        Err(Unread::NoMemory) => Err(LineFault::NoMemory),
+    }
+}
+
+fn line_event(alloc: Global, g: &Grammar, line: &[u8]) -> Result<Option<Event>, LineFault>
+    ensures reads { ReadsLine (read_line (declarations_of g.now) line.now) result }
+    ensures fits { IfOk result (λ found. IfSome found (MayCome (grammar_of g.now))) }
+{
+    if is_passed_over(line) {
+        return Ok(None);
+    }
+    match tokens(alloc, line) {
+        Ok(tokens) => event_said(alloc, g, line, tokens.as_slice()),
+        Err(LexFault::Bad { .. }) => Err(LineFault::Bad(SchedKind::Token)),
+        Err(LexFault::NoMemory) => Err(LineFault::NoMemory),
+    }
+}
+
+/// The events with that of a line behind them, where it gives one.
+fn with_line(alloc: Global, g: &Grammar, events: Events, line: &[u8]) -> Result<Events, LineFault>
+    requires { Each (MayCome (grammar_of g.now)) events }
+    ensures adds { AddsLine events (read_line (declarations_of g.now) line.now) result }
+    ensures fits { IfOk result (Each (MayCome (grammar_of g.now))) }
+{
+    let mut events = events;
+    match line_event(alloc, g, line)? {
+        Some(event) => {
+            events.push(event)?;
+            Ok(events)
+        }
+        None => Ok(events),
+    }
+}
+
+fn fault_at(line: u64, fault: LineFault) -> SchedFault
+    ensures { result ≡ fault_at line fault }
+{
+    match fault {
+        LineFault::Bad(kind) => SchedFault::Bad { line, kind },
+        LineFault::NoMemory => SchedFault::NoMemory,
+    }
+}
+
+/// The events of a schedule; or its first faulty line, counted from 1, and the first kind of fault there.
+pub fn read_schedule(alloc: Global, g: &Grammar, text: &[u8]) -> Result<Events, SchedFault>
+    ensures answer { Answers (schedule_of (declarations_of g.now) text.now) result }
+    ensures fits { IfOk result (λ events. Each (MayCome (grammar_of g.now)) events) }
+{
+    let mut events = Events::new(alloc);
+    let mut rest = text;
+    let mut number = 0;
+    while let Some((line, behind)) = next_line(rest) {
+        number += 1;
+        match with_line(alloc, g, events, line) {
+            Ok(more) => events = more,
+            Err(fault) => return Err(fault_at(number, fault)),
+        }
+        rest = behind;
+    }
+    Ok(events)
+}
