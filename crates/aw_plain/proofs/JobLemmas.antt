@@ -1,0 +1,98 @@
+-- Going through trees on a stack.
+use Rattle.std.proofs.Common.{◌≡◌, ℕ, ◌+◌, ◌-◌, ◌<◌, ◌≤◌, List, [], ◌∷◌, ◌++◌, map, length, take, drop, get_or, sym, ap, ◌∙◌, refl, arith, append_assoc, length-append}
+use Rattle.std.proofs.lemmas.List.{at_drop_more, take_at, drop_at, map-append, take-map, drop-map, length-map}
+use Rattle.aw_term.specs.Trees as P
+use Rattle.aw_term.specs.Trees.{Leaf, Made, Nil, More, bind, binds, join}
+use Rattle.aw_term.specs.Names.{Ref}
+use Rattle.aw_term.specs.Rules.{Value, get}
+use Rattle.aw_term.specs.Configs.{nothing}
+use Rattle.aw_plain.specs.declared.tree.Tree.{Tree, Con}
+use Rattle.std.specs.Prelude.{zero, suc, Result, Ok, Err, IfOk}
+use Rattle.aw_plain.specs.declared.put.Job.{Job}
+use Rattle.aw_plain.specs.TreeView.{value_of, values_of}
+use Rattle.aw_plain.specs.Jobs.{finish, do_job, made, work, work_of}
+use Rattle.aw_plain.proofs.ViewLemmas.{value_con}
+
+pub finish_push : (f : Ref → Value) (js : List Job) (j : Job) (ts : List Value) → finish f (js ++ j ∷ []) ts ≡ finish f js (do_job f j ts)
+finish_push f [] j ts = refl
+finish_push f (i ∷ js) j ts = ap (do_job f i) (finish_push f js j ts)
+
+pub work_push : (js : List Job) (j : Job) → work (js ++ j ∷ []) ≡ work_of j + work js
+work_push [] j = omega arith
+work_push (i ∷ js) j = omega (arith, work_push js j)
+
+-- the parts just made become one value
+pub made_of : (c : ℕ) (ts ps : List Value) → made c (length ps) (ts ++ ps) ≡ ts ++ Made (P.Con c) (join ps) ∷ []
+made_of c ts ps =
+    let n : length (ts ++ ps) - length ps ≡ length ts = omega (arith, length-append ts ps) in
+    ap (λ k. take k (ts ++ ps) ++ Made (P.Con c) (join (drop k (ts ++ ps))) ∷ []) n
+    ∙ ap (λ us. us ++ Made (P.Con c) (join (drop (length ts) (ts ++ ps))) ∷ []) (take_at ts ps (length ts) refl)
+    ∙ ap (λ us. ts ++ Made (P.Con c) (join us) ∷ []) (drop_at ts ps (length ts) refl)
+
+pub made_values : (c n k : ℕ) (ts : List Tree) → k ≡ length ts - n → values_of (take k ts ++ Con c (drop k ts) ∷ []) ≡ made c n (values_of ts)
+made_values c n k ts e =
+    map-append value_of (take k ts) _
+    ∙ ap (λ v. values_of (take k ts) ++ v ∷ []) (value_con c (drop k ts))
+    ∙ ap (λ us. us ++ Made (P.Con c) (join (values_of (drop k ts))) ∷ []) (sym (take-map value_of k ts))
+    ∙ ap (λ us. take k (values_of ts) ++ Made (P.Con c) (join us) ∷ []) (sym (drop-map value_of k ts))
+    ∙ ap (λ m. take m (values_of ts) ++ Made (P.Con c) (join (drop m (values_of ts))) ∷ []) (e ∙ ap (λ m. m - n) (sym (length-map ts value_of)))
+
+-- one more part at the front of those still to be gone through
+pub front_part : (g : Tree → Value) (ps : List Tree) (ts : List Value) (i k : ℕ) (p : Tree) → k ≡ i + 1 → i < length ps → p ≡ get_or ps i p → (ts ++ g p ∷ []) ++ map g (drop k ps) ≡ ts ++ map g (drop i ps)
+front_part g ps ts i k p ek lt ep =
+    append_assoc ts (g p ∷ []) (map g (drop k ps))
+    ∙ ap (λ us. ts ++ us) (ap (λ n. g p ∷ map g (drop n ps)) ek ∙ ap (λ q. g q ∷ map g (drop (i + 1) ps)) ep ∙ sym (at_drop_more (map g) ps i p lt))
+
+pub binds_join : {A B : Type 0} (f : A → P.Tree B) (ts : List (P.Tree A)) → binds f (join ts) ≡ join (map (bind f) ts)
+binds_join f [] = refl
+binds_join f (t ∷ ts) = ap (More (bind f t)) (binds_join f ts)
+
+map_map : {A B C : Type 0} (g : B → C) (f : A → B) (xs : List A) → map g (map f xs) ≡ map (λ x. g (f x)) xs
+map_map g f [] = refl
+map_map g f (x ∷ xs) = ap (λ ys. g (f x) ∷ ys) (map_map g f xs)
+
+pub bind_parts : {A B X : Type 0} (f : A → P.Tree B) (g : X → P.Tree A) (c : ℕ) (ps : List X) → bind f (Made (P.Con c) (join (map g ps))) ≡ Made (P.Con c) (join (map (λ t. bind f (g t)) ps))
+bind_parts f g c ps = ap (Made (P.Con c)) (binds_join f (map g ps) ∙ ap join (map_map (bind f) g ps))
+
+pub bind_con : (f : Ref → Value) (c : ℕ) (ps : List Tree) → bind f (value_of (Con c ps)) ≡ Made (P.Con c) (join (map (λ t. bind f (value_of t)) ps))
+bind_con f c ps = ap (bind f) (value_con c ps) ∙ bind_parts f value_of c ps
+
+mutual
+  pub bind_leaf : {A : Type 0} (t : P.Tree A) → bind Leaf t ≡ t
+  bind_leaf (Leaf x) = refl
+  bind_leaf (Made h ts) = ap (Made h) (binds_leaf ts)
+
+  pub binds_leaf : {A : Type 0} (ts : P.Trees A) → binds Leaf ts ≡ ts
+  binds_leaf Nil = refl
+  binds_leaf (More t ts) = λ i. More (bind_leaf t i) (binds_leaf ts i)
+
+pub last_value : (f : Ref → Value) (js : List Job) (ts us : List Tree) (t : Tree) (v : Value) → js ≡ [] → ts ≡ us ++ t ∷ [] → finish f js (values_of ts) ≡ v ∷ [] → value_of t ≡ v
+last_value f js ts us t v a b e =
+    let h : values_of us ++ value_of t ∷ [] ≡ [] ++ v ∷ [] = sym (map-append value_of us (t ∷ [])) ∙ sym (ap values_of b) ∙ sym (ap (λ ks. finish f ks (values_of ts)) a) ∙ e in
+    last_same (values_of us) [] (value_of t) v h
+  where
+    last_same : {A : Type 0} (xs ys : List A) (x y : A) → xs ++ x ∷ [] ≡ ys ++ y ∷ [] → x ≡ y
+    last_same [] [] x y e = cc
+    last_same [] (z ∷ []) x y e = absurd cc
+    last_same [] (z ∷ w ∷ ys) x y e = absurd cc
+    last_same (z ∷ []) [] x y e = absurd cc
+    last_same (z ∷ w ∷ xs) [] x y e = absurd cc
+    last_same (z ∷ xs) (w ∷ ys) x y e = last_same xs ys x y cc
+
+pub got_at : (ts : List Tree) (i : ℕ) (t : Tree) → i < length ts → t ≡ get_or ts i t → value_of t ≡ get nothing (values_of ts) i
+got_at [] i t l e = absurd (omega arith)
+got_at (u ∷ ts) zero t l e = ap value_of e
+got_at (u ∷ ts) (suc i) t l e = got_at ts i t (omega arith) e
+
+pub got_past : (ts : List Tree) (i : ℕ) → length ts ≤ i → nothing ≡ get nothing (values_of ts) i
+got_past [] i l = refl
+got_past (u ∷ ts) zero l = absurd (omega arith)
+got_past (u ∷ ts) (suc i) l = got_past ts i (omega arith)
+
+pub IfOk-weaken : {X E : Type 0} (P Q : X → Type 0) → ((x : X) → P x → Q x) → (r : Result X E) → IfOk r P → IfOk r Q
+IfOk-weaken P Q f (Ok x) p = f x p
+IfOk-weaken P Q f (Err e) p = p
+
+pub nil_from_length : {A : Type 0} (xs : List A) → length xs ≡ 0 → xs ≡ []
+nil_from_length [] e = refl
+nil_from_length (x ∷ xs) e = absurd (omega (arith, e))

@@ -1,0 +1,17 @@
+pub mod ViewLemmas
+pub mod Counts
+pub mod JobLemmas
+pub mod ListLemmas
+pub mod MatchLemmas
+pub mod GuardLemmas
+pub mod FitLemmas
+pub mod PrintLemmas
+pub mod LineLemmas
+pub mod OutcomeLemmas
+pub mod DevelopLemmas
+pub mod ChangeLemmas
+pub mod TakenLemmas
+pub mod RowLemmas
+pub mod FillLemmas
+pub mod StepLemmas
+pub mod OrderLemmas

@@ -1,0 +1,61 @@
+-- Items of a worklist, one rule after the other.
+use Rattle.std.proofs.Common.{◌≡◌, ◌≢◌, ℕ, zero, suc, ◌+◌, ◌≤◌, ◌<◌, Bool, true, false, cond, nat_eq, List, [], ◌∷◌, ◌++◌, length, map, drop, Option, Some, None, slice_get, option_map, sym, ap, ◌∙◌, refl, arith, append_assoc, append-nil, add-one, get_or}
+use Rattle.std.proofs.lemmas.List.{length-map}
+use Rattle.std.proofs.lemmas.Option.{slice_get-map, slice_get_read}
+use Rattle.std.proofs.Math.Nat.{ℕ_set}
+use Rattle.std.proofs.Math.Logic.{∥∥₁_elim}
+use Rattle.std.specs.Coded.{le_prop}
+use Rattle.aw_term.specs.Rules as P
+use Rattle.aw_term.specs.Configs as Q
+use Rattle.aw_term.specs.Artifacts.{Item}
+use Rattle.aw_term.specs.Runs.{item_at, rule_items}
+use Rattle.aw_base.specs.declared.grammar.Grammar.{Grammar}
+use Rattle.aw_base.specs.declared.rule.Rule.{Rule}
+use Rattle.aw_base.specs.GrammarView.{rule_of}
+use Rattle.aw_base.specs.GrammarOf.{grammar_of, words_of}
+use Rattle.aw_base.proofs.Fits.{each_map_at}
+use Rattle.aw_plain.specs.declared.row.Row.{Row}
+use Rattle.aw_plain.specs.RowView.{plain_row, config_of}
+use Rattle.aw_plain.specs.Filled.{IsFilled, AreFilled}
+
+from_here : {A : Type 0} (xs : List A) (n : ℕ) (x : A) → slice_get xs n ≡ Some x → drop n xs ≡ x ∷ drop (suc n) xs
+from_here [] n x e = absurd cc
+from_here (y ∷ ys) zero x e = let h : y ≡ x = cc in ap (λ z. z ∷ ys) h
+from_here (y ∷ ys) (suc n) x e = from_here ys n x e
+
+none_here : {A : Type 0} (xs : List A) (n : ℕ) → slice_get xs n ≡ None → (drop n xs ≡ []) × (drop (suc n) xs ≡ [])
+none_here [] zero e = (refl, refl)
+none_here [] (suc n) e = (refl, refl)
+none_here (y ∷ ys) zero e = absurd cc
+none_here (y ∷ ys) (suc n) e = none_here ys n e
+
+-- the rule with a number, as the plain definitions have it
+pub plain_here : (g : Grammar) (number : ℕ) (rule : Rule) → slice_get g.rules number ≡ Some rule → slice_get (grammar_of g).rules number ≡ Some (rule_of g.sorts rule)
+plain_here g number rule here = slice_get-map (rule_of g.sorts) g.rules number ∙ ap (option_map (rule_of g.sorts)) here
+
+pub plain_past : (g : Grammar) (number : ℕ) → slice_get g.rules number ≡ None → slice_get (grammar_of g).rules number ≡ None
+plain_past g number past = slice_get-map (rule_of g.sorts) g.rules number ∙ ap (option_map (rule_of g.sorts)) past
+
+-- a row of some that have the inherited values of their sorts
+pub filled_at : (g : P.Grammar) (rows : List Row) (i : ℕ) (row : Row) → i < length rows → row ≡ get_or rows i row → ∥ AreFilled g (config_of rows) ∥₁ → IsFilled g (plain_row row)
+filled_at g rows i row lt is filled =
+    ∥∥₁_elim filled (ℕ_set _ _) (λ each. each_map_at plain_row (IsFilled g) rows i row each (slice_get_read rows (length rows) i row refl lt is))
+
+-- a rule of the row's sort has an item
+pub rule_kept : (q : Q.Row) (n : ℕ) (rules : List P.Rule) (rule : P.Rule) (items : List Item) → slice_get rules n ≡ Some rule → nat_eq rule.sort q.sort ≡ true →
+    (items ++ item_at q n rule ∷ []) ++ rule_items q (n + 1) (drop (n + 1) rules) ≡ items ++ rule_items q n (drop n rules)
+rule_kept q n rules rule items here same = rw (add-one n, from_here rules n rule here, same) (append_assoc items _ _)
+
+-- a rule of another sort has none
+pub rule_passed : (q : Q.Row) (n : ℕ) (rules : List P.Rule) (rule : P.Rule) (items : List Item) → slice_get rules n ≡ Some rule → nat_eq rule.sort q.sort ≡ false →
+    items ++ rule_items q (n + 1) (drop (n + 1) rules) ≡ items ++ rule_items q n (drop n rules)
+rule_passed q n rules rule items here other = rw (add-one n, from_here rules n rule here, other) refl
+
+-- there is no rule with this number
+pub rule_past : (q : Q.Row) (n : ℕ) (rules : List P.Rule) (items : List Item) → slice_get rules n ≡ None →
+    items ++ rule_items q (n + 1) (drop (n + 1) rules) ≡ items ++ rule_items q n (drop n rules)
+rule_past q n rules items past = rw (add-one n, (none_here rules n past).0, (none_here rules n past).1) refl
+
+-- the numbers of rules fit sixteen bits
+pub rules_few : (g : Grammar) → length g.rules ≤ 1024
+rules_few g = ∥∥₁_elim g.well_formed le_prop (λ w. omega (arith, w.few_rules, length-map g.rules (λ (r : Rule). r.name)))

@@ -1,0 +1,139 @@
+-- Matching through the views.
+use Rattle.std.proofs.Common.{◌≡◌, ℕ, suc, ◌+◌, ◌<◌, ◌≤◌, cond, Bool, true, false, List, [], ◌∷◌, ◌++◌, length, map, drop, get_or, sym, ap, ◌∙◌, refl, arith, append_assoc, append-nil, eq-eqb, subst}
+use Rattle.std.specs.Prelude.{nat_eq, nat_le, ◌&&◌, zero}
+use Rattle.std.proofs.lemmas.List.{at_drop_more, map-append}
+use Rattle.aw_term.specs.Trees as P
+use Rattle.aw_term.specs.Trees.{Leaf, Made, Nil, More, count, head_eq, join}
+use Rattle.aw_term.specs.Names.{Ref}
+use Rattle.aw_term.specs.Rules.{Value}
+use Rattle.aw_term.specs.Matching.{Matched, Yes, Waits, Differs, Circle, and_then, under, match, match_parts}
+use Rattle.aw_term.specs.WellFormed.{symbols, all_symbols, nesting, all_nesting}
+use Rattle.aw_term.specs.Views.{pattern_of}
+use Rattle.aw_term.specs.declared.term.Pattern.{Pattern}
+use Rattle.aw_term.specs.declared.term.Pattern as pattern
+use Rattle.aw_term.proofs.ViewLemmas.{pattern_con}
+use Rattle.aw_plain.specs.declared.tree.Tree.{Tree}
+use Rattle.aw_plain.specs.declared.tree.Tree as tree
+use Rattle.aw_plain.specs.TreeView.{value_of, values_of}
+use Rattle.aw_plain.specs.MatchView.{behind}
+use Rattle.aw_plain.specs.Narrow.{is_narrow, are_narrow}
+use Rattle.aw_plain.proofs.ViewLemmas.{value_con}
+
+abbrev pub M : Type 0
+M = Matched Value Ref
+
+pub count_join : {X L : Type 0} (f : X → P.Tree L) (xs : List X) → count (join (map f xs)) ≡ length xs
+count_join f [] = refl
+count_join f (x ∷ xs) = ap suc (count_join f xs)
+
+nat_eq_other : (m n : ℕ) → (m ≡ n → ⊥) → nat_eq m n ≡ false
+nat_eq_other m n h = grind (arith, h)
+
+con_case : (c d : ℕ) (ps : List Pattern) (ts : List Tree) (b : Bool) → nat_eq (length ps) (length ts) ≡ b → c ≡ d →
+    match (pattern_of (pattern.Con c ps)) (value_of (tree.Con d ts)) ≡ cond b (match_parts 1 (join (map pattern_of ps)) (join (map value_of ts))) (Differs [])
+con_case c d ps ts b l e =
+    ap (λ p. match p (value_of (tree.Con d ts))) (pattern_con c ps)
+    ∙ ap (match (Made (P.Con c) (join (map pattern_of ps)))) (value_con d ts)
+    ∙ ap (λ x. cond (x && nat_eq (count (join (map pattern_of ps))) (count (join (map value_of ts)))) (match_parts 1 (join (map pattern_of ps)) (join (map value_of ts))) (Differs [])) (eq-eqb c d e)
+    ∙ ap (λ n. cond (nat_eq n (count (join (map value_of ts)))) (match_parts 1 (join (map pattern_of ps)) (join (map value_of ts))) (Differs [])) (count_join pattern_of ps)
+    ∙ ap (λ n. cond (nat_eq (length ps) n) (match_parts 1 (join (map pattern_of ps)) (join (map value_of ts))) (Differs [])) (count_join value_of ts)
+    ∙ ap (λ x. cond x (match_parts 1 (join (map pattern_of ps)) (join (map value_of ts))) (Differs [])) l
+
+-- the same constructor with as many parts
+pub con_match : (c d : ℕ) (ps : List Pattern) (ts : List Tree) (p : Pattern) (t : Tree) → p ≡ pattern.Con c ps → t ≡ tree.Con d ts → c ≡ d → length ps ≡ length ts → match (pattern_of p) (value_of t) ≡ match_parts 1 (join (map pattern_of ps)) (join (map value_of ts))
+con_match c d ps ts p t ep et e l =
+    ap (λ q. match (pattern_of q) (value_of t)) ep ∙ ap (λ u. match (pattern_of (pattern.Con c ps)) (value_of u)) et ∙ con_case c d ps ts true (eq-eqb _ _ l) e
+
+-- the same constructor with another number of parts
+pub con_long : (c d : ℕ) (ps : List Pattern) (ts : List Tree) (p : Pattern) (t : Tree) → p ≡ pattern.Con c ps → t ≡ tree.Con d ts → c ≡ d → (length ps ≡ length ts → ⊥) → match (pattern_of p) (value_of t) ≡ Differs []
+con_long c d ps ts p t ep et e l =
+    ap (λ q. match (pattern_of q) (value_of t)) ep ∙ ap (λ u. match (pattern_of (pattern.Con c ps)) (value_of u)) et ∙ con_case c d ps ts false (nat_eq_other _ _ l) e
+
+abbrev nowhere : M
+nowhere = Differs []
+
+pub behind_here : (q : List ℕ) → Differs q ≡ behind q nowhere
+behind_here q = ap Differs (sym (append-nil q))
+
+assoc : (a b : List Value) (m : M) → and_then (Yes (a ++ b)) m ≡ and_then (Yes a) (and_then (Yes b) m)
+assoc a b (Yes xs) = ap Yes (append_assoc a b xs)
+assoc a b (Waits r) = refl
+assoc a b (Differs p) = refl
+assoc a b (Circle r) = refl
+
+-- one part behind a path, and then the others
+behind_parts : (q : List ℕ) (n : ℕ) (a b : M) → behind q (and_then (under n a) b) ≡ and_then (behind (q ++ n ∷ []) a) (behind q b)
+behind_parts q n (Yes xs) (Yes ys) = refl
+behind_parts q n (Yes xs) (Waits r) = refl
+behind_parts q n (Yes xs) (Differs p) = refl
+behind_parts q n (Yes xs) (Circle r) = refl
+behind_parts q n (Waits r) b = refl
+behind_parts q n (Differs p) b = ap Differs (sym (append_assoc q (n ∷ []) p))
+behind_parts q n (Circle r) b = refl
+
+abbrev pub from : ℕ → ℕ → List Pattern → List Tree → M
+from n i ps ts = match_parts n (join (map pattern_of (drop i ps))) (join (map value_of (drop i ts)))
+
+from_more : (n i : ℕ) (ps : List Pattern) (ts : List Tree) (p : Pattern) (t : Tree) → i < length ps → i < length ts → p ≡ get_or ps i p → t ≡ get_or ts i t → from n i ps ts ≡ and_then (under n (match (pattern_of p) (value_of t))) (from (suc n) (i + 1) ps ts)
+from_more n i ps ts p t lp lt ep et =
+    at_drop_more (λ qs. match_parts n (join (map pattern_of qs)) (join (map value_of (drop i ts)))) ps i p lp
+    ∙ at_drop_more (λ us. match_parts n (join (map pattern_of (get_or ps i p ∷ drop (i + 1) ps))) (join (map value_of us))) ts i t lt
+    ∙ ap (λ q. and_then (under n (match (pattern_of q) (value_of (get_or ts i t)))) (from (suc n) (i + 1) ps ts)) (sym ep)
+    ∙ ap (λ u. and_then (under n (match (pattern_of p) (value_of u))) (from (suc n) (i + 1) ps ts)) (sym et)
+
+-- one more part has given this
+pub one_more : (q : List ℕ) (n i : ℕ) (ps : List Pattern) (ts : List Tree) (p : Pattern) (t : Tree) (xs : List Value) (m whole : M) → i < length ps → i < length ts → p ≡ get_or ps i p → t ≡ get_or ts i t → m ≡ behind (q ++ n ∷ []) (match (pattern_of p) (value_of t)) → and_then (Yes xs) (behind q (from n i ps ts)) ≡ whole → and_then (Yes xs) (and_then m (behind q (from (suc n) (i + 1) ps ts))) ≡ whole
+one_more q n i ps ts p t xs m whole lp lt ep et em w =
+    ap (λ z. and_then (Yes xs) (and_then z (behind q (from (suc n) (i + 1) ps ts)))) em
+    ∙ ap (and_then (Yes xs)) (sym (ap (behind q) (from_more n i ps ts p t lp lt ep et) ∙ behind_parts q n _ _)) ∙ w
+
+pub more_taken : (xs : List Tree) (ys : List Tree) (m : M) → and_then (Yes (values_of (xs ++ ys))) m ≡ and_then (Yes (values_of xs)) (and_then (Yes (values_of ys)) m)
+more_taken xs ys m = ap (λ zs. and_then (Yes zs) m) (map-append value_of xs ys) ∙ assoc (values_of xs) (values_of ys) m
+
+pub and_left : (a b : Bool) → (a && b) ≡ true → a ≡ true
+and_left true b e = refl
+and_left false b e = absurd cc
+
+pub and_right : (a b : Bool) → (a && b) ≡ true → b ≡ true
+and_right true b e = e
+and_right false b e = absurd cc
+
+pub narrow_at : (ps : List Pattern) (i : ℕ) (p : Pattern) → i < length ps → p ≡ get_or ps i p → are_narrow (join (map pattern_of ps)) ≡ true → is_narrow (pattern_of p) ≡ true
+narrow_at [] i p l e w = absurd (omega arith)
+narrow_at (q ∷ ps) zero p l e w = subst (λ z. is_narrow (pattern_of z) ≡ true) (sym e) (and_left _ _ w)
+narrow_at (q ∷ ps) (suc i) p l e w = narrow_at ps i p (omega arith) e (and_right (is_narrow (pattern_of q)) _ w)
+
+narrow_con : (c : ℕ) (ps : List Pattern) → is_narrow (pattern_of (pattern.Con c ps)) ≡ true → (length ps ≤ 8) × (are_narrow (join (map pattern_of ps)) ≡ true)
+narrow_con c ps w =
+    let v : (nat_le (count (join (map pattern_of ps))) 8 && are_narrow (join (map pattern_of ps))) ≡ true = sym (ap is_narrow (pattern_con c ps)) ∙ w in
+    let l : nat_le (count (join (map pattern_of ps))) 8 ≡ true = and_left _ _ v in
+    (grind (arith, l, count_join pattern_of ps), and_right (nat_le (count (join (map pattern_of ps))) 8) _ v)
+
+pub narrow_parts : (qs ps : List Pattern) (p : Pattern) (c : ℕ) → qs ≡ ps → p ≡ pattern.Con c ps → is_narrow (pattern_of p) ≡ true → are_narrow (join (map pattern_of qs)) ≡ true
+narrow_parts qs ps p c e i w = subst (λ zs. are_narrow (join (map pattern_of zs)) ≡ true) (sym e) (narrow_con c ps (subst (λ z. is_narrow (pattern_of z) ≡ true) i w)).1
+
+pub few_parts : (qs ps : List Pattern) (p : Pattern) (c : ℕ) → qs ≡ ps → p ≡ pattern.Con c ps → is_narrow (pattern_of p) ≡ true → length qs ≤ 8
+few_parts qs ps p c e i w = omega (arith, ap length e, (narrow_con c ps (subst (λ z. is_narrow (pattern_of z) ≡ true) i w)).0)
+
+pub symbols_con : (qs ps : List Pattern) (p : Pattern) (c : ℕ) → qs ≡ ps → p ≡ pattern.Con c ps → symbols (pattern_of p) ≡ 1 + all_symbols (join (map pattern_of qs))
+symbols_con qs ps p c e i = ap (λ z. symbols (pattern_of z)) i ∙ ap symbols (pattern_con c ps) ∙ omega (arith, ap (λ zs. all_symbols (join (map pattern_of zs))) e)
+
+pub nesting_con : (qs ps : List Pattern) (p : Pattern) (c : ℕ) → qs ≡ ps → p ≡ pattern.Con c ps → nesting (pattern_of p) ≡ 1 + all_nesting (join (map pattern_of qs))
+nesting_con qs ps p c e i = ap (λ z. nesting (pattern_of z)) i ∙ ap nesting (pattern_con c ps) ∙ omega (arith, ap (λ zs. all_nesting (join (map pattern_of zs))) e)
+
+pub symbols_at : (ps : List Pattern) (i : ℕ) (p : Pattern) → i < length ps → p ≡ get_or ps i p → symbols (pattern_of p) ≤ all_symbols (join (map pattern_of ps))
+symbols_at [] i p l e = absurd (omega (arith, l))
+symbols_at (q ∷ ps) zero p l e = omega (arith, ap (λ z. symbols (pattern_of z)) e)
+symbols_at (q ∷ ps) (suc i) p l e = omega (arith, symbols_at ps i p (omega (arith, l)) e)
+
+pub nesting_at : (ps : List Pattern) (i : ℕ) (p : Pattern) → i < length ps → p ≡ get_or ps i p → nesting (pattern_of p) ≤ all_nesting (join (map pattern_of ps))
+nesting_at [] i p l e = absurd (omega (arith, l))
+nesting_at (q ∷ ps) zero p l e = omega (arith, ap (λ z. nesting (pattern_of z)) e)
+nesting_at (q ∷ ps) (suc i) p l e = omega (arith, nesting_at ps i p (omega (arith, l)) e)
+
+positive : {A : Type 0} (t : P.Tree A) → 0 < nesting t
+positive (Leaf r) = omega arith
+positive (Made h ts) = omega arith
+
+pub nesting_positive : (p : Pattern) → 0 < nesting (pattern_of p)
+nesting_positive p = positive (pattern_of p)

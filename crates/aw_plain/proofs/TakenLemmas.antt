@@ -1,0 +1,130 @@
+-- What a choice keeps: that rows are filled, and that they are reached.
+use Rattle.std.proofs.Common.{◌≡◌, ℕ, zero, suc, Bool, true, false, cond, List, [], ◌∷◌, ◌++◌, length, map, Option, Some, None, slice_get, sym, ap, ◌∙◌, refl, subst}
+use Rattle.std.specs.Prelude.{option_and_then, Result, Ok, Err, IfOk, OnErr, nat_eq}
+use Rattle.std.proofs.lemmas.List.{length-map}
+use Rattle.aw_term.specs.Trees.{bind}
+use Rattle.aw_term.specs.Names.{Node, Ref, node_eq, node_lt}
+use Rattle.aw_term.specs.Rules.{Ground, Value, Child, Rule, Sort, Grammar}
+use Rattle.aw_term.specs.Matching.{Matched, Yes, Waits, Differs, Circle, match_all}
+use Rattle.aw_term.specs.Configs.{State, Pending, Done, Row, Config, child_rows, insert_row, insert_rows, row_of, done_row, row_put, rounds, develop, fill}
+use Rattle.aw_term.specs.Choices.{Choice, Start, Develop, Answer, NotItsRule, Arguments, TooDeep, Outcome, Refused, Starts, Takes, deep, after_guard, at_rule, at_state, at_row, outcome, start_row, taken, or_same, after, undivided}
+use Rattle.aw_term.specs.Artifacts.{Words}
+use Rattle.aw_term.specs.WellFormed.{Each, takes_of, SortFits, ChildFits, RuleFits, IsWellFormed}
+use Rattle.aw_base.specs.NodeNames.{is_start}
+use Rattle.aw_base.specs.ChoiceFits.{choice_ok}
+use Rattle.aw_base.proofs.Fits.{each_at}
+use Rattle.aw_plain.specs.declared.row.Row as rows
+use Rattle.aw_plain.specs.RowView.{config_of}
+use Rattle.aw_plain.specs.Filled.{IsFilled, AreFilled}
+use Rattle.aw_plain.specs.Reached.{IsReached}
+
+each_map : {A B : Type 0} (P : A → Type 0) (Q : B → Type 0) (f : A → B) (xs : List A) → ((x : A) → P x → Q (f x)) → Each P xs → Each Q (map f xs)
+each_map P Q f [] step each = tt
+each_map P Q f (x ∷ xs) step each = (step x each.0, each_map P Q f xs step each.1)
+
+each_rounds : {A : Type 0} (P : A → Type 0) (f : A → A) (m : ℕ) (xs : List A) → ((x : A) → P x → P (f x)) → Each P xs → Each P (rounds m (map f) xs)
+each_rounds P f zero xs step each = each
+each_rounds P f (suc m) xs step each = each_rounds P f m (map f xs) step (each_map P P f xs step each)
+
+insert_cases : (P : Row → Type 0) (b : Bool) (r q : Row) (qs zs : Config) → P r → Each P (q ∷ qs) → Each P zs → Each P (cond b (r ∷ q ∷ qs) (q ∷ zs))
+insert_cases P true r q qs zs here each later = (here, each)
+insert_cases P false r q qs zs here each later = (each.0, later)
+
+each_insert : (P : Row → Type 0) (r : Row) (c : Config) → P r → Each P c → Each P (insert_row r c)
+each_insert P r [] here each = (here, tt)
+each_insert P r (q ∷ qs) here each = insert_cases P (node_lt r.node q.node) r q qs (insert_row r qs) here each (each_insert P r qs here each.1)
+
+each_inserts : (P : Row → Type 0) (rs : List Row) (c : Config) → Each P rs → Each P c → Each P (insert_rows rs c)
+each_inserts P [] c new each = each
+each_inserts P (r ∷ rs) c new each = each_inserts P rs (insert_row r c) new.1 (each_insert P r c new.0 each)
+
+filled_put : (g : Grammar) (f : Ref → Value) (q : Row) → IsFilled g q → IsFilled g (row_put f q)
+filled_put g f q filled = length-map q.inherited (bind f) ∙ filled
+
+filled_cases : (g : Grammar) (b : Bool) (s : State) (q : Row) → IsFilled g q → IsFilled g (cond b (record q { state = s }) q)
+filled_cases g true s q filled = filled
+filled_cases g false s q filled = filled
+
+filled_children : (g : Grammar) (v : ℕ) (n : Node) (r : ℕ) (e : List Value) (k : ℕ) (cs : List Child) → Each (ChildFits g v) cs → Each (IsFilled g) (child_rows n r e k cs)
+filled_children g v n r e k [] fits = tt
+filled_children g v n r e k (c ∷ cs) fits = (length-map c.args (fill e) ∙ fits.0.takes, filled_children g v n r e (suc k) cs fits.1)
+
+start_takes : (roles : ℕ) (sorts : List Sort) (s : ℕ) → Each (SortFits roles) sorts → is_start (slice_get sorts s) ≡ true → 0 ≡ takes_of (slice_get sorts s)
+start_takes roles [] s fits e = absurd cc
+start_takes roles (x ∷ xs) zero fits e = sym (fits.0.start e)
+start_takes roles (x ∷ xs) (suc s) fits e = start_takes roles xs s fits.1 e
+
+-- the rule that is taken is that of the number
+first_takes : (b : Bool) (x : Outcome Value Ref) (a : Answer Ref) (rule : Rule) (bs : List Value) → cond b x (Refused a) ≡ Takes rule bs → x ≡ Takes rule bs
+first_takes true x a rule bs e = e
+first_takes false x a rule bs e = absurd cc
+
+deep_takes : (b : Bool) (x : Outcome Value Ref) (a : Answer Ref) (rule : Rule) (bs : List Value) → cond b (Refused a) x ≡ Takes rule bs → x ≡ Takes rule bs
+deep_takes true x a rule bs e = absurd cc
+deep_takes false x a rule bs e = e
+
+guard_takes : (n : Node) (r : Rule) (m : Matched Value Ref) (rule : Rule) (bs : List Value) → after_guard n r m ≡ Takes rule bs → r ≡ rule
+guard_takes n r (Yes xs) rule bs e = let f = deep_takes (deep n r) (Takes r xs) TooDeep rule bs e in cc
+guard_takes n r (Waits on) rule bs e = absurd cc
+guard_takes n r (Differs p) rule bs e = absurd cc
+guard_takes n r (Circle at) rule bs e = absurd cc
+
+rule_takes : (o : Option Rule) (n : Node) (args : List Ground) (q : Row) (rule : Rule) (bs : List Value) → at_rule o n args q ≡ Takes rule bs → o ≡ Some rule
+rule_takes None n args q rule bs e = absurd cc
+rule_takes (Some r) n args q rule bs e =
+    let guard = after_guard n r (match_all 1 r.patterns q.inherited) in
+    let f = first_takes (nat_eq r.sort q.sort) (cond (nat_eq (length args) r.params) guard (Refused Arguments)) NotItsRule rule bs e in
+    ap Some (guard_takes n r (match_all 1 r.patterns q.inherited) rule bs (first_takes (nat_eq (length args) r.params) guard Arguments rule bs f))
+
+state_takes : (s : State) (g : Grammar) (n : Node) (r : ℕ) (args : List Ground) (q : Row) (rule : Rule) (bs : List Value) → at_state s g n r args q ≡ Takes rule bs → slice_get g.rules r ≡ Some rule
+state_takes (Done a b) g n r args q rule bs e = absurd cc
+state_takes Pending g n r args q rule bs e = rule_takes (slice_get g.rules r) n args q rule bs e
+
+row_takes : (o : Option Row) (g : Grammar) (n : Node) (r : ℕ) (args : List Ground) (rule : Rule) (bs : List Value) → at_row o g n r args ≡ Takes rule bs → slice_get g.rules r ≡ Some rule
+row_takes None g n r args rule bs e = absurd cc
+row_takes (Some q) g n r args rule bs e = state_takes q.state g n r args q rule bs e
+
+module _ (w : Words) (g : Grammar) (fits : IsWellFormed w g) (c : Config) (filled : AreFilled g c) where
+  filled_developed : (n : Node) (r : ℕ) (rule : Rule) (bound : List Value) (args : List Ground) → slice_get g.rules r ≡ Some rule → AreFilled g (develop n r rule bound args c)
+  filled_developed n r rule bound args e =
+      each_rounds (IsFilled g) _ (length rule.results) _ (λ q. filled_put g _ q)
+      (each_inserts (IsFilled g) _ _ (filled_children g _ n r _ 1 rule.children (each_at (RuleFits g) g.rules r rule fits.rules e).children)
+      (each_map (IsFilled g) (IsFilled g) (done_row n (Done r args)) c (λ q. filled_cases g (node_eq n q.node) (Done r args) q) filled))
+
+  filled_taken : (x : Choice) (o : Outcome Value Ref) → outcome g c x ≡ o → choice_ok g x ≡ true → AreFilled g (or_same c (taken g c x o))
+  filled_taken x (Refused a) e ok = filled
+  filled_taken (Start s k) Starts e ok = each_insert (IsFilled g) (start_row g s k) c (start_takes g.roles g.sorts s fits.sorts ok) filled
+  filled_taken (Start s k) (Takes rule bound) e ok = filled
+  filled_taken (Develop n r args) Starts e ok = filled
+  filled_taken (Develop n r args) (Takes rule bound) e ok = filled_developed n r rule bound args (row_takes (row_of n c) g n r args rule bound e)
+
+  -- a choice leaves rows filled
+  pub filled_after : (x : Choice) → choice_ok g x ≡ true → AreFilled g (after g c x)
+  filled_after x ok = filled_taken x (outcome g c x) refl ok
+
+alone : (g : Grammar) (o : Option Config) → option_and_then (λ z. undivided g z []) o ≡ o
+alone g None = refl
+alone g (Some z) = refl
+
+later : (g : Grammar) (cs ds : List Choice) (d : Config) (whole o : Option Config) → ((z : Config) → undivided g z cs ≡ Some d → undivided g z ds ≡ whole) → option_and_then (λ z. undivided g z cs) o ≡ Some d → option_and_then (λ z. undivided g z ds) o ≡ whole
+later g cs ds d whole None f e = absurd cc
+later g cs ds d whole (Some z) f e = f z e
+
+-- one more choice at the end
+undivided_more : (g : Grammar) (c : Config) (cs : List Choice) (x : Choice) (d : Config) → undivided g c cs ≡ Some d → undivided g c (cs ++ x ∷ []) ≡ taken g d x (outcome g d x)
+undivided_more g c [] x d e =
+    let same : c ≡ d = cc in alone g (taken g c x (outcome g c x)) ∙ ap (λ z. taken g z x (outcome g z x)) same
+undivided_more g c (y ∷ cs) x d e = later g cs (cs ++ x ∷ []) d _ (taken g c y (outcome g c y)) (λ z. undivided_more g z cs x d) e
+
+reached_taken : (g : Grammar) (c : Config) (x : Choice) (o : Option Config) → taken g c x (outcome g c x) ≡ o → IsReached g c → IsReached g (or_same c o)
+reached_taken g c x None e w = w
+reached_taken g c x (Some d) e w = (w.0 ++ x ∷ [], undivided_more g [] w.0 x c w.1 ∙ e)
+
+-- what a choice leads to is reached
+pub reached_after : (g : Grammar) (c : Config) (x : Choice) → IsReached g c → IsReached g (after g c x)
+reached_after g c x w = reached_taken g c x (taken g c x (outcome g c x)) refl w
+
+-- what holds before a call and after the choice holds after the call, which fails without effect
+pub kept : {A E : Type 0} (P : Config → Type 0) (r : Result A E) (old new : List rows.Row) (next : Config) → IfOk r (λ a. config_of new ≡ next) → OnErr r (new ≡ old) → P (config_of old) → P next → P (config_of new)
+kept P (Ok a) old new next e n before after = subst P (sym e) after
+kept P (Err x) old new next e n before after = subst (λ rs. P (config_of rs)) (sym n) before

@@ -1,0 +1,15 @@
+use Rattle.std.proofs.Common.{◌≡◌, ◌+◌, ◌*◌, ◌≤◌, ◌++◌, map, drop, length}
+use Rattle.aw_term.specs.Artifacts.{Words}
+use Rattle.aw_plain.specs.Places.{places_of_all}
+use Rattle.aw_plain.specs.Pieces.{text_of, following, pending, pieces_work}
+use Rattle.aw_plain.proofs.print.push_following.Given as goal
+
+abbrev pub invariant-loop-k : goal.invariant-loop-k
+invariant-loop-k l = record {
+  within : l.k ≤ length l.trees;
+  text : (w : Words) → pending w l.pieces.items ≡ following (map (text_of w) (drop l.k l.trees)) ++ pending w l.fn.pieces.items;
+  work : pieces_work l.pieces.items ≡ pieces_work l.fn.pieces.items + 2 * places_of_all (drop l.k l.trees);
+}
+
+abbrev pub decreases-loop-k : goal.decreases-loop-k
+decreases-loop-k l = l.k

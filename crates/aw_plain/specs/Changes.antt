@@ -1,0 +1,26 @@
+-- What a taken rule makes of each row, and rows that are put in the places of others.
+use Rattle.std.specs.Prelude.{◌≡◌, ℕ, List, [], ◌∷◌, ◌++◌, length, map, take, drop, slice_set}
+use Rattle.aw_term.specs.Names.{Node}
+use Rattle.aw_term.specs.Rules.{Value}
+use Rattle.aw_term.specs.Configs as Q
+use Rattle.aw_term.specs.Configs.{put, row_put, rounds, done_row}
+use Rattle.aw_plain.specs.declared.row.Row.{Row}
+use Rattle.aw_plain.specs.declared.change.Change.{Change}
+use Rattle.aw_plain.specs.RowView.{config_of}
+
+-- a row with all holes of n replaced as many times as n has results
+abbrev pub row_fed : Node → List Value → Q.Row → Q.Row
+row_fed n results q = rounds (length results) (row_put (put n results)) q
+
+-- a row that was held, after a rule was taken on n
+abbrev pub row_after : Node → Q.State → List Value → Q.Row → Q.Row
+row_after n s results q = row_fed n results (done_row n s q)
+
+-- the rows with each of these put in its place
+abbrev pub changed : List Row → List Change → List Row
+changed rows [] = rows
+changed rows (x ∷ xs) = changed (slice_set rows x.at x.row) xs
+
+-- with these changes the rows before place i are as f makes them, and the others as they were
+abbrev pub IsChangedTo : (Q.Row → Q.Row) → List Row → List Change → ℕ → Type 0
+IsChangedTo f rows xs i = config_of (changed rows xs) ≡ map f (take i (config_of rows)) ++ drop i (config_of rows)

@@ -1,0 +1,12 @@
+pub mod TreeView
+pub mod Places
+pub mod Jobs
+pub mod MatchView
+pub mod Narrow
+pub mod RowView
+pub mod GuardView
+pub mod Filled
+pub mod OutcomeView
+pub mod Reached
+pub mod Changes
+pub mod Pieces

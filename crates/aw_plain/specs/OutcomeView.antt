@@ -1,0 +1,21 @@
+-- What a choice leads to, as the plain definitions speak of it.
+use Rattle.std.specs.Prelude.{◌<◌, List, length}
+use Rattle.aw_term.specs.Names.{Node, Ref}
+use Rattle.aw_term.specs.Rules.{Value}
+use Rattle.aw_term.specs.Choices as Q
+use Rattle.aw_base.specs.declared.rule.Sort.{Sort}
+use Rattle.aw_base.specs.declared.rule.Rule.{Rule}
+use Rattle.aw_base.specs.GrammarView.{rule_of}
+use Rattle.aw_base.specs.ChoiceView.{answer_of}
+use Rattle.aw_plain.specs.declared.outcome.Outcome.{Outcome}
+use Rattle.aw_plain.specs.declared.outcome.Outcome.TheVariants.{Refused, Takes}
+use Rattle.aw_plain.specs.TreeView.{values_of}
+
+abbrev pub outcome_of : List Sort → Outcome → Q.Outcome Value Ref
+outcome_of sorts (Refused answer) = Q.Refused (answer_of answer)
+outcome_of sorts (Takes rule bound) = Q.Takes (rule_of sorts rule.now) (values_of bound)
+
+-- the rule that is taken is such a rule, and the names of its children are not too long
+abbrev pub IsTakable : (Rule → Type 0) → Node → Outcome → Type 0
+IsTakable IsIt n (Refused answer) = Unit {0}
+IsTakable IsIt n (Takes rule bound) = IsIt rule.now × (0 < length rule.now.children → length n.steps < 250)

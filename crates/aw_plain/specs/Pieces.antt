@@ -1,0 +1,56 @@
+-- Printing a value on a stack: what is left to be printed.
+use Rattle.std.specs.Prelude.{ℕ, ◌+◌, ◌*◌, List, [], ◌∷◌, ◌++◌, map, codes}
+use Rattle.aw_term.specs.Trees.{Leaf, Made, Nil, More}
+use Rattle.aw_term.specs.Rules.{Value}
+use Rattle.aw_term.specs.Configs.{State, Pending, Done, lift}
+use Rattle.aw_term.specs.Artifacts.{Words, head_text, ref_text, value_text}
+use Rattle.aw_plain.specs.declared.tree.Tree as tree
+use Rattle.aw_plain.specs.declared.print.Piece.{Piece}
+use Rattle.aw_plain.specs.declared.print.Piece.TheVariants.{First, Next, Bytes}
+use Rattle.aw_plain.specs.TreeView.{value_of}
+use Rattle.aw_plain.specs.Places.{places}
+
+-- the text of a value up to its first part
+abbrev pub opening : Words → Value → List ℕ
+opening w (Leaf r) = codes "?" ++ ref_text w r
+opening w (Made h Nil) = head_text w h
+opening w (Made h (More t ts)) = head_text w h ++ codes "("
+
+-- the text of a value of the program
+abbrev pub text_of : Words → tree.Tree → List ℕ
+text_of w t = value_text w (value_of t)
+
+-- each text with a separator before it
+abbrev pub following : List (List ℕ) → List ℕ
+following [] = []
+following (t ∷ ts) = codes ", " ++ (t ++ following ts)
+
+abbrev pub piece_text : Words → Piece → List ℕ
+piece_text w (First t) = text_of w t.now
+piece_text w (Next t) = codes ", " ++ text_of w t.now
+piece_text w (Bytes b) = b.now
+
+-- what is printed of a piece before its parts
+abbrev pub piece_opening : Words → Piece → List ℕ
+piece_opening w (First t) = opening w (value_of t.now)
+piece_opening w (Next t) = codes ", " ++ opening w (value_of t.now)
+piece_opening w (Bytes b) = b.now
+
+-- all pieces, the last one first
+abbrev pub pending : Words → List Piece → List ℕ
+pending w [] = []
+pending w (p ∷ ps) = pending w ps ++ piece_text w p
+
+abbrev pub piece_work : Piece → ℕ
+piece_work (First t) = 2 * places t.now
+piece_work (Next t) = 2 * places t.now
+piece_work (Bytes b) = 1
+
+abbrev pub pieces_work : List Piece → ℕ
+pieces_work [] = 0
+pieces_work (p ∷ ps) = piece_work p + pieces_work ps
+
+-- the arguments of a state as values
+abbrev pub arguments : State → List Value
+arguments Pending = []
+arguments (Done r args) = map lift args

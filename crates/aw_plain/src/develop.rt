@@ -1,0 +1,181 @@
+//! What a taken rule does to the rows.
+ghost use Rattle.std.specs.Prelude.{◌≡◌, ◌<◌, ◌≤◌, IfOk, OnOk, OnErr, length, map, option_map};
+ghost use Rattle.aw_term.specs.Trees.{bind};
+ghost use Rattle.aw_term.specs.Configs.{develop as plain_develop, done_row as plain_done, put, row_put, Done};
+ghost use Rattle.aw_term.specs.Choices.{or_same};
+ghost use Rattle.aw_term.specs.Views.{ground_of};
+ghost use Rattle.aw_base.specs.GrammarView.{rule_of};
+ghost use Rattle.aw_plain.specs.TreeView.{values_of};
+ghost use Rattle.aw_plain.specs.RowView.{plain_row, plain_state, config_of};
+ghost use Rattle.aw_plain.specs.Changes.{row_fed, row_after as plain_after};
+
+use crate::change::{apply, changes};
+use crate::child::{bindings, child_rows};
+use crate::fill::fill_all;
+use crate::order::is_node;
+use crate::put::{copy_tree, put_all};
+use crate::row::{Row, State, add_rows, copy_state};
+use crate::tree::{Tree, Trees};
+use aw_base::{Grammar, Grounds, Rule};
+use aw_list::Items;
+use aw_name::{Node, copy_node};
+use std::alloc::{AllocError, Global};
+
+/// Values with all holes of the node replaced at once.
+fn put_trees(
+    alloc: Global,
+    trees: &[Tree],
+    node: &Node,
+    results: &[Tree],
+) -> Result<Trees, AllocError>
+    ensures { IfOk result (λ ts. values_of ts ≡ map (bind (put node.now (values_of results.now))) (values_of trees.now)) }
+{
+    let mut replaced = Vec::new(alloc);
+    for tree in trees {
+        replaced.push(put_all(alloc, tree, node, results)?)?;
+    }
+    Ok(Items::from_vec(replaced))
+}
+
+/// A row with all holes of the node replaced at once.
+fn put_row(alloc: Global, row: &Row, node: &Node, results: &[Tree]) -> Result<Row, AllocError>
+    ensures { IfOk result (λ r. plain_row r ≡ row_put (put node.now (values_of results.now)) (plain_row row.now)) }
+{
+    Ok(Row {
+        node: copy_node(&row.node)?,
+        sort: row.sort,
+        inherited: put_trees(alloc, row.inherited.as_slice(), node, results)?,
+        results: put_trees(alloc, row.results.as_slice(), node, results)?,
+        state: copy_state(&row.state)?,
+    })
+}
+
+/// Replaces all holes of the node as many times as it has results: a node may be fed by its own results.
+fn put_rounds(alloc: Global, mut row: Row, node: &Node, results: &[Tree]) -> Result<Row, AllocError>
+    ensures { IfOk result (λ r. plain_row r ≡ row_fed node.now (values_of results.now) (plain_row row)) }
+{
+    for _round in 0..results.len() {
+        row = put_row(alloc, &row, node, results)?;
+    }
+    Ok(row)
+}
+
+/// Each of these rows with all holes of the node replaced.
+fn put_each(
+    alloc: Global,
+    rows: Vec<Row>,
+    node: &Node,
+    results: &[Tree],
+) -> Result<Vec<Row>, AllocError>
+    ensures { IfOk result (λ rs. config_of rs.items ≡ map (row_fed node.now (values_of results.now)) (config_of rows.items)) }
+{
+    let mut replaced = Vec::new(alloc);
+    for row in rows {
+        replaced.push(put_rounds(alloc, row, node, results)?)?;
+    }
+    Ok(replaced)
+}
+
+/// A copy of arguments.
+fn copy_grounds(args: &Grounds) -> Result<Grounds, AllocError>
+    ensures { IfOk result (λ copy. copy ≡ args.now) }
+{
+    args.clone()
+}
+
+/// The state of a row after rule `number` was taken on the node.
+fn state_after(row: &Row, node: &Node, number: u16, args: &Grounds) -> Result<State, AllocError>
+    ensures { IfOk result (λ s. plain_state s ≡ (plain_done node.now (Done number (map ground_of args.now)) (plain_row row.now)).state) }
+{
+    if is_node(node, &row.node) {
+        Ok(State::Done {
+            rule: number,
+            args: copy_grounds(args)?,
+        })
+    } else {
+        copy_state(&row.state)
+    }
+}
+
+/// A copy of values.
+fn copy_trees(alloc: Global, trees: &[Tree]) -> Result<Trees, AllocError>
+    ensures { IfOk result (λ ts. values_of ts ≡ values_of trees.now) }
+{
+    let mut copies = Vec::new(alloc);
+    for tree in trees {
+        copies.push(copy_tree(alloc, tree)?)?;
+    }
+    Ok(Items::from_vec(copies))
+}
+
+/// A copy of a row, done where it is the node's.
+#[tactic(auto, using(crate::proofs::DevelopLemmas::done_parts))]
+fn done_row(
+    alloc: Global,
+    row: &Row,
+    node: &Node,
+    number: u16,
+    args: &Grounds,
+) -> Result<Row, AllocError>
+    ensures { IfOk result (λ r. plain_row r ≡ plain_done node.now (Done number (map ground_of args.now)) (plain_row row.now)) }
+{
+    Ok(Row {
+        node: copy_node(&row.node)?,
+        sort: row.sort,
+        inherited: copy_trees(alloc, row.inherited.as_slice())?,
+        results: copy_trees(alloc, row.results.as_slice())?,
+        state: state_after(row, node, number, args)?,
+    })
+}
+
+/// A row that was held, after rule `number` was taken on the node; none where it stays as it is.
+pub fn row_after(
+    alloc: Global,
+    row: &Row,
+    node: &Node,
+    number: u16,
+    args: &Grounds,
+    results: &[Tree],
+) -> Result<Option<Row>, AllocError>
+    ensures { IfOk result (λ after. or_same (plain_row row.now) (option_map plain_row after) ≡ plain_after node.now (Done number (map ground_of args.now)) (values_of results.now) (plain_row row.now)) }
+{
+    if results.is_empty() && !is_node(node, &row.node) {
+        return Ok(None);
+    }
+    let done = done_row(alloc, row, node, number, args)?;
+    Ok(Some(put_rounds(alloc, done, node, results)?))
+}
+
+/// Takes a rule with this number on the node. Nothing is changed before all that may fail is done.
+pub fn develop(
+    alloc: Global,
+    grammar: &Grammar,
+    rows: &mut Vec<Row>,
+    node: &Node,
+    number: u16,
+    rule: &Rule,
+    bound: Trees,
+    args: &Grounds,
+) -> Result<(), AllocError>
+    requires few { length rule.now.children ≤ 8 }
+    requires room { 0 < length rule.now.children → length node.now.steps < 250 }
+    ensures ok { OnOk result (config_of rows.new.items ≡ plain_develop node.now number (rule_of grammar.now.sorts rule.now) (values_of bound) (map ground_of args.now) (config_of rows.old.items)) }
+    ensures err { OnErr result (rows.new.items ≡ rows.old.items) }
+{
+    let env = bindings(alloc, grammar, node, number, rule, bound, args.as_slice())?;
+    let results = fill_all(alloc, rule.results.as_slice(), env.as_slice())?;
+    let open = child_rows(alloc, grammar, node, number, rule, env.as_slice())?;
+    let children = put_each(alloc, open, node, results.as_slice())?;
+    let changed = changes(
+        alloc,
+        rows.as_slice(),
+        node,
+        number,
+        args,
+        results.as_slice(),
+    )?;
+    rows.reserve(children.len())?;
+    apply(rows, changed);
+    add_rows(rows, children);
+    Ok(())
+}

@@ -1,0 +1,52 @@
+//! The guard of a rule: its patterns with the inherited values of a node.
+ghost use Rattle.std.specs.Prelude.{◌≡◌, ◌≤◌, true, IfOk, map, length};
+ghost use Rattle.aw_term.specs.Trees.{join};
+ghost use Rattle.aw_term.specs.Matching.{match_all as plain_guard};
+ghost use Rattle.aw_term.specs.WellFormed.{all_nesting};
+ghost use Rattle.aw_term.specs.Views.{pattern_of};
+ghost use Rattle.aw_plain.specs.TreeView.{values_of};
+ghost use Rattle.aw_plain.specs.GuardView.{guard_of};
+ghost use Rattle.aw_plain.specs.Narrow.{are_narrow};
+
+use crate::matching::{Matched, append, match_tree};
+use crate::tree::{Tree, Trees};
+use aw_base::{Pattern, Place, Ref};
+use aw_list::Items;
+use std::alloc::{AllocError, Global};
+
+/// What a guard gives: what the variables of the patterns take; or the missing result that it waits for; or the place
+/// that differs.
+#[derive(Debug, Drop)]
+pub enum Guard {
+    Yes(Trees),
+    Waits(Ref),
+    Differs(Place),
+}
+
+/// Matches the patterns of a rule with the inherited values of a node, from the first attribute on.
+pub fn match_all(
+    alloc: Global,
+    patterns: &[Pattern],
+    inherited: &[Tree],
+) -> Result<Guard, AllocError>
+    requires narrow { are_narrow (join (map pattern_of patterns.now)) ≡ true }
+    requires shallow { all_nesting (join (map pattern_of patterns.now)) ≤ 32 }
+    requires few { length patterns.now ≤ 8 }
+    requires same { length patterns.now ≡ length inherited.now }
+    ensures { IfOk result (λ m. guard_of m ≡ plain_guard 1 (map pattern_of patterns.now) (values_of inherited.now)) }
+{
+    let mut taken = Vec::new(alloc);
+    for i in 0..patterns.len() {
+        match match_tree(alloc, &patterns[i], &inherited[i])? {
+            Matched::Yes(found) => append(&mut taken, found)?,
+            Matched::Waits(r) => return Ok(Guard::Waits(r)),
+            Matched::Differs(path) => {
+                return Ok(Guard::Differs(Place {
+                    attribute: i as u8 + 1,
+                    path,
+                }));
+            }
+        }
+    }
+    Ok(Guard::Yes(Items::from_vec(taken)))
+}

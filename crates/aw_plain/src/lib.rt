@@ -1,0 +1,31 @@
+//! The undivided configuration: whole trees in one place, on which all choices are taken in turn, and its artifact text.
+//! It is what the plain definitions of `aw_term` say, and is meant for small cases.
+#![tactic(auto)]
+
+pub mod change;
+pub mod child;
+pub mod develop;
+pub mod fill;
+pub mod guard;
+pub mod list;
+pub mod matching;
+pub mod order;
+pub mod outcome;
+pub mod plain;
+pub mod print;
+pub mod put;
+pub mod row;
+pub mod take;
+pub mod tree;
+
+pub use guard::Guard;
+pub use list::list_rows;
+pub use matching::{Matched, match_tree};
+pub use plain::Plain;
+pub use print::print_rows;
+pub use put::copy_tree;
+pub use row::{Row, State};
+pub use tree::{Tree, Trees};
+
+#[cfg(test)]
+mod tests;

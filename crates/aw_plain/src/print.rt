@@ -1,0 +1,255 @@
+//! The artifact text of rows. Values are printed on a stack, so that the limit of a report ends even the largest.
+ghost use Rattle.std.specs.Prelude.{◌≡◌, ◌+◌, ◌*◌, ◌<◌, ◌≤◌, ◌++◌, ◌∷◌, [], List, IfOk, OnOk, length, map};
+ghost use Rattle.aw_term.specs.Artifacts.{Words, listed, node_text, row_text, state_text, artifact_text};
+ghost use Rattle.aw_base.specs.GrammarOf.{words_of};
+ghost use Rattle.aw_out.specs.Report.{Prints};
+ghost use Rattle.aw_plain.specs.TreeView.{value_of, values_of};
+ghost use Rattle.aw_plain.specs.RowView.{plain_row, plain_state, config_of};
+ghost use Rattle.aw_plain.specs.Places.{places, places_of_all};
+ghost use Rattle.aw_plain.specs.Pieces.{opening as plain_opening, arguments as plain_arguments, text_of, following, piece_text, piece_opening, pending, piece_work, pieces_work};
+
+use crate::fill::lift_all;
+use crate::row::{Row, State};
+use crate::tree::{Tree, Trees};
+use aw_base::{Grammar, con_name, push_node, rule_name};
+use aw_list::{Items, Text};
+use aw_name::Node;
+use aw_out::{PrintFault, Report};
+use aw_text::{push_number, push_quoted};
+use std::alloc::{AllocError, Global};
+
+/// What is still to be printed: the first of some values, one behind another, or bytes.
+#[derive(Drop)]
+pub enum Piece<'t> {
+    First(&'t Tree),
+    Next(&'t Tree),
+    Bytes(&'t [u8]),
+}
+
+/// Adds the name of a hole: `?visit#1:r1`.
+fn push_hole(text: &mut Text, grammar: &Grammar, node: &Node, j: u16) -> Result<(), AllocError>
+    ensures { OnOk result (text.new ≡ text.old ++ plain_opening (words_of grammar.now) (value_of (Tree.Hole node.now j))) }
+{
+    text.push_bytes(b"?")?;
+    push_node(text, grammar, node)?;
+    text.push_bytes(b":r")?;
+    push_number(text, u64::from(j))
+}
+
+/// Adds the text of a value up to its first part.
+fn push_opening(text: &mut Text, grammar: &Grammar, tree: &Tree) -> Result<(), AllocError>
+    ensures { OnOk result (text.new ≡ text.old ++ plain_opening (words_of grammar.now) (value_of tree.now)) }
+{
+    match tree {
+        Tree::Num(n) => push_number(text, *n),
+        Tree::Text(content) => push_quoted(text, content.as_slice()),
+        Tree::Hole(node, j) => push_hole(text, grammar, node, *j),
+        Tree::Con(c, parts) => {
+            text.push_bytes(con_name(grammar, *c))?;
+            if parts.is_empty() {
+                return Ok(());
+            }
+            text.push_bytes(b"(")
+        }
+    }
+}
+
+/// Notes values that stand behind another one.
+fn push_following<'t>(pieces: &mut Vec<Piece<'t>>, trees: &'t [Tree]) -> Result<(), AllocError>
+    ensures text { OnOk result ((w : Words) → pending w pieces.new.items ≡ following (map (text_of w) trees.now) ++ pending w pieces.old.items) }
+    ensures work { OnOk result (pieces_work pieces.new.items ≡ pieces_work pieces.old.items + 2 * places_of_all trees.now) }
+{
+    let mut k = trees.len();
+    while k > 0 {
+        k -= 1;
+        pieces.push(Piece::Next(&trees[k]))?;
+    }
+    Ok(())
+}
+
+/// Notes values with separators between them.
+fn push_listed<'t>(pieces: &mut Vec<Piece<'t>>, trees: &'t [Tree]) -> Result<(), AllocError>
+    ensures text { OnOk result ((w : Words) → pending w pieces.new.items ≡ listed (map (text_of w) trees.now) ++ pending w pieces.old.items) }
+    ensures work { OnOk result (pieces_work pieces.new.items ≡ pieces_work pieces.old.items + 2 * places_of_all trees.now) }
+{
+    match trees {
+        [] => Ok(()),
+        [first, rest @ ..] => {
+            push_following(pieces, rest)?;
+            pieces.push(Piece::First(first))?;
+            Ok(())
+        }
+    }
+}
+
+/// Notes the parts of a value.
+fn push_parts<'t>(pieces: &mut Vec<Piece<'t>>, tree: &'t Tree) -> Result<(), AllocError>
+    ensures text { OnOk result ((w : Words) → text_of w tree.now ++ pending w pieces.old.items ≡ plain_opening w (value_of tree.now) ++ pending w pieces.new.items) }
+    ensures work { OnOk result (pieces_work pieces.new.items < pieces_work pieces.old.items + 2 * places tree.now) }
+{
+    match tree {
+        Tree::Con(_con, parts) => {
+            if parts.is_empty() {
+                return Ok(());
+            }
+            pieces.push(Piece::Bytes(b")"))?;
+            push_listed(pieces, parts.as_slice())
+        }
+        _ => Ok(()),
+    }
+}
+
+/// The text of a piece up to its first part. Its parts are noted.
+fn begin_piece<'t>(
+    alloc: Global,
+    grammar: &Grammar,
+    pieces: &mut Vec<Piece<'t>>,
+    piece: Piece<'t>,
+) -> Result<Text, AllocError>
+    ensures opening { IfOk result (λ text. text ≡ piece_opening (words_of grammar.now) piece.entry) }
+    ensures text { OnOk result ((w : Words) → piece_text w piece.entry ++ pending w pieces.old.items ≡ piece_opening w piece.entry ++ pending w pieces.new.items) }
+    ensures work { OnOk result (pieces_work pieces.new.items < piece_work piece.entry + pieces_work pieces.old.items) }
+{
+    let mut text = Text::new(alloc);
+    match piece {
+        Piece::First(tree) => {
+            push_opening(&mut text, grammar, tree)?;
+            push_parts(pieces, tree)?;
+        }
+        Piece::Next(tree) => {
+            text.push_bytes(b", ")?;
+            push_opening(&mut text, grammar, tree)?;
+            push_parts(pieces, tree)?;
+        }
+        Piece::Bytes(bytes) => text.push_bytes(bytes)?,
+    }
+    Ok(text)
+}
+
+/// Prints a piece up to its first part. Its parts are noted.
+fn print_piece<'t>(
+    alloc: Global,
+    grammar: &Grammar,
+    pieces: &mut Vec<Piece<'t>>,
+    piece: Piece<'t>,
+    report: &mut Report,
+) -> Result<(), PrintFault>
+    ensures prints { Prints (piece_opening (words_of grammar.now) piece.entry) report.old report.new result }
+    ensures text { OnOk result ((w : Words) → piece_text w piece.entry ++ pending w pieces.old.items ≡ piece_opening w piece.entry ++ pending w pieces.new.items) }
+    ensures work { OnOk result (pieces_work pieces.new.items < piece_work piece.entry + pieces_work pieces.old.items) }
+{
+    let text = begin_piece(alloc, grammar, pieces, piece)?;
+    report.push(text.as_slice())
+}
+
+/// Prints all pieces, the last one first.
+fn print_pieces(
+    alloc: Global,
+    grammar: &Grammar,
+    mut pieces: Vec<Piece<'_>>,
+    report: &mut Report,
+) -> Result<(), PrintFault>
+    ensures { Prints (pending (words_of grammar.now) pieces.entry.items) report.old report.new result }
+{
+    while let Some(piece) = pieces.pop() {
+        print_piece(alloc, grammar, &mut pieces, piece, report)?;
+    }
+    Ok(())
+}
+
+/// Notes bytes.
+fn push_bytes<'t>(pieces: &mut Vec<Piece<'t>>, bytes: &'t [u8]) -> Result<(), AllocError>
+    ensures { OnOk result ((w : Words) → pending w pieces.new.items ≡ bytes.now ++ pending w pieces.old.items) }
+{
+    pieces.push(Piece::Bytes(bytes))?;
+    Ok(())
+}
+
+/// The arguments of a state as values; none where no choice was taken.
+fn arguments(alloc: Global, state: &State) -> Result<Trees, AllocError>
+    ensures { IfOk result (λ ts. values_of ts ≡ plain_arguments (plain_state state.now)) }
+{
+    match state {
+        State::Pending => Ok(Items::new(alloc)),
+        State::Done { rule: _rule, args } => lift_all(alloc, args.as_slice()),
+    }
+}
+
+/// Notes what a row is: open, or the rule that was taken with its arguments.
+fn push_state<'t>(
+    pieces: &mut Vec<Piece<'t>>,
+    grammar: &'t Grammar,
+    state: &State,
+    args: &'t [Tree],
+) -> Result<(), AllocError>
+    requires { values_of args.now ≡ plain_arguments (plain_state state.now) }
+    ensures { OnOk result (pending (words_of grammar.now) pieces.new.items ≡ state_text (words_of grammar.now) (plain_state state.now) ++ pending (words_of grammar.now) pieces.old.items) }
+{
+    match state {
+        State::Pending => push_bytes(pieces, b"open"),
+        State::Done {
+            rule,
+            args: _written,
+        } => {
+            push_bytes(pieces, b"}")?;
+            push_listed(pieces, args)?;
+            push_bytes(pieces, b" {")?;
+            push_bytes(pieces, rule_name(grammar, *rule))
+        }
+    }
+}
+
+/// Notes a row with the name of its node and its arguments.
+fn push_row<'t>(
+    pieces: &mut Vec<Piece<'t>>,
+    grammar: &'t Grammar,
+    row: &'t Row,
+    name: &'t [u8],
+    args: &'t [Tree],
+) -> Result<(), AllocError>
+    requires name { name.now ≡ node_text (words_of grammar.now) row.now.node }
+    requires args { values_of args.now ≡ plain_arguments (plain_state row.now.state) }
+    ensures { OnOk result (pending (words_of grammar.now) pieces.new.items ≡ row_text (words_of grammar.now) (plain_row row.now) ++ pending (words_of grammar.now) pieces.old.items) }
+{
+    push_bytes(pieces, b">\n")?;
+    push_listed(pieces, row.results.as_slice())?;
+    push_bytes(pieces, b") <")?;
+    push_listed(pieces, row.inherited.as_slice())?;
+    push_bytes(pieces, b" (")?;
+    push_state(pieces, grammar, &row.state, args)?;
+    push_bytes(pieces, b" ")?;
+    push_bytes(pieces, name)
+}
+
+/// Prints the line of a row.
+fn print_row(
+    alloc: Global,
+    grammar: &Grammar,
+    row: &Row,
+    report: &mut Report,
+) -> Result<(), PrintFault>
+    ensures { Prints (row_text (words_of grammar.now) (plain_row row.now)) report.old report.new result }
+{
+    let mut name = Text::new(alloc);
+    push_node(&mut name, grammar, &row.node)?;
+    let args = arguments(alloc, &row.state)?;
+    let mut pieces = Vec::new(alloc);
+    push_row(&mut pieces, grammar, row, name.as_slice(), args.as_slice())?;
+    print_pieces(alloc, grammar, pieces, report)
+}
+
+/// Prints one line for each row, in their order. Where the text would pass the report's limit, or memory is missing, the
+/// report has got the front of the text.
+pub fn print_rows(
+    alloc: Global,
+    grammar: &Grammar,
+    rows: &[Row],
+    report: &mut Report,
+) -> Result<(), PrintFault>
+    ensures { Prints (artifact_text (words_of grammar.now) (config_of rows.now)) report.old report.new result }
+{
+    for row in rows {
+        print_row(alloc, grammar, row, report)?;
+    }
+    Ok(())
+}

@@ -1,0 +1,94 @@
+//! Rows of a configuration, in the order of their nodes.
+ghost use Rattle.std.specs.Prelude.{◌≡◌, ◌+◌, ◌<◌, ◌≤◌, ◌++◌, ◌∷◌, IfOk, OnOk, OnErr, length, take, drop, option_map, vec_len, vec_capacity};
+ghost use Rattle.std.specs.Option.{option_copied};
+ghost use Rattle.aw_term.specs.Configs.{insert_row, insert_rows, row_of, Row as PlainRow};
+ghost use Rattle.aw_plain.specs.RowView.{plain_row, config_of};
+
+use crate::order::{is_before, is_node};
+use crate::tree::Trees;
+use aw_base::Grounds;
+use aw_name::Node;
+use std::alloc::AllocError;
+
+/// Whether a choice was taken on a node, and which.
+#[derive(Debug, Clone, PartialEq, Eq, Drop)]
+pub enum State {
+    Pending,
+    Done { rule: u16, args: Grounds },
+}
+
+/// A node with its inherited values and its results.
+#[derive(Debug, Drop)]
+pub struct Row {
+    pub node: Node,
+    pub sort: u16,
+    pub inherited: Trees,
+    pub results: Trees,
+    pub state: State,
+}
+
+/// A copy of a state.
+pub fn copy_state(state: &State) -> Result<State, AllocError>
+    ensures { IfOk result (λ s. s ≡ state.now) }
+{
+    state.clone()
+}
+
+/// The row of a node, where it is held.
+pub fn find_row<'r>(rows: &'r [Row], node: &Node) -> Option<&'r Row>
+    ensures { option_map plain_row (option_copied result) ≡ row_of node.now (config_of rows.now) }
+{
+    for row in rows {
+        if is_node(node, &row.node) {
+            return Some(row);
+        }
+    }
+    None
+}
+
+/// The place of the first row that is after the node.
+fn place(rows: &[Row], node: &Node) -> usize
+    ensures within { result ≤ length rows.now }
+    ensures value { (r : PlainRow) → r.node ≡ node.now → insert_row r (config_of rows.now) ≡ config_of (take result rows.now) ++ r ∷ config_of (drop result rows.now) }
+{
+    for at in 0..rows.len() {
+        if is_before(node, &rows[at].node) {
+            return at;
+        }
+    }
+    rows.len()
+}
+
+/// Puts a row before the first that is after it. There is room for it.
+fn put_between(rows: &mut Vec<Row>, row: Row)
+    requires { vec_len rows.old < vec_capacity rows.old }
+    ensures items { config_of rows.new.items ≡ insert_row (plain_row row) (config_of rows.old.items) }
+    ensures len { vec_len rows.new ≡ vec_len rows.old + 1 }
+    ensures room { vec_capacity rows.old ≤ vec_capacity rows.new }
+{
+    let at = place(rows.as_slice(), &row.node);
+    match rows.insert(at, row) {
+        Ok(()) => {}
+        Err(_) => unreachable!(),
+    }
+}
+
+/// Adds a row before the first that is after it. An error changes nothing.
+pub fn add_row(rows: &mut Vec<Row>, row: Row) -> Result<(), AllocError>
+    ensures ok { OnOk result (config_of rows.new.items ≡ insert_row (plain_row row) (config_of rows.old.items)) }
+    ensures err { OnErr result (rows.new.items ≡ rows.old.items) }
+{
+    rows.reserve(1)?;
+    put_between(rows, row);
+    Ok(())
+}
+
+/// Puts each of the rows before the first that is after it. There is room for all of them.
+pub fn add_rows(rows: &mut Vec<Row>, more: Vec<Row>)
+    requires { vec_len rows.old + vec_len more ≤ vec_capacity rows.old }
+    ensures { config_of rows.new.items ≡ insert_rows (config_of more.items) (config_of rows.old.items) }
+{
+    for row in more {
+        put_between(rows, row);
+    }
+}
