@@ -1,0 +1,5 @@
+pub mod Replays
+pub mod Printing
+pub mod Transcripts
+pub mod LineCounts
+pub mod Outputs

@@ -1,0 +1,52 @@
+//! The program: its words, its commands, and the top call.
+#![tactic(auto)]
+
+mod law;
+mod refusals;
+mod replay;
+mod reply;
+mod run;
+mod transcript;
+mod words;
+
+use aw_out::{StdSink, StdSource, SureWire, Texts};
+pub use law::choices_are_told_undivided;
+pub use reply::{Reply, Status};
+pub use run::run;
+use std::alloc::{AllocError, Global};
+use std::env;
+use std::io::ErrorKind;
+use std::process::ExitCode;
+use std::rt::Env;
+pub use words::{Command, Word};
+
+#[cfg(test)]
+mod tests;
+
+/// The words after the program's name. What is no text counts as no word.
+fn read_words<R: Env + AllocGlobal>(rt: &R) -> Result<Vec<Word>, AllocError> {
+    let mut words = Vec::new(rt.alloc());
+    let args = match env::args(rt) {
+        Ok(args) => args,
+        Err(error) if error.kind() == ErrorKind::OutOfMemory => return Err(AllocError),
+        Err(_) => return Ok(words),
+    };
+    for arg in args.skip(1) {
+        words.push(Word::from_bytes(rt.alloc(), arg.as_bytes())?)?;
+    }
+    Ok(words)
+}
+
+fn main(rt: HostRuntime) -> ExitCode {
+    let status = match read_words(&rt) {
+        Ok(words) => run(
+            rt.alloc(),
+            &words,
+            &mut StdSource::new(&rt),
+            &mut StdSink::new(&rt),
+            &mut SureWire::new(Texts::new(rt.alloc())),
+        ),
+        Err(_) => Status::NoMemory,
+    };
+    ExitCode::from(status.code())
+}

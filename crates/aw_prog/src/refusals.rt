@@ -1,0 +1,71 @@
+//! The lines that say why an input is refused.
+ghost use Rattle.std.specs.Prelude.{◌≡◌, ◌++◌, codes, OnOk, IfOk};
+ghost use Rattle.aw_spec.specs.KindNames.{kind_name};
+ghost use Rattle.aw_prog.specs.Output.{BadSpecification, BadSchedule};
+ghost use Rattle.aw_prog.specs.Refusals.{schedule_kind, at_line};
+ghost use Rattle.aw_prog.specs.Replies.{reply_with};
+
+use crate::reply::{Reply, Status};
+use aw_list::Text;
+use aw_sched::SchedKind;
+use aw_spec::SpecKind;
+use aw_text::push_number;
+use std::alloc::{AllocError, Global};
+
+/// The word by which a fault of a schedule is told.
+fn schedule_word(kind: SchedKind) -> &'static [u8]
+    ensures { result.now ≡ schedule_kind kind }
+{
+    match kind {
+        SchedKind::Token => b"token",
+        SchedKind::Form => b"form",
+        SchedKind::Limit => b"limit",
+        SchedKind::Unknown => b"unknown",
+        SchedKind::Arity => b"arity",
+        SchedKind::NotStart => b"notstart",
+        SchedKind::Name => b"name",
+    }
+}
+
+/// Adds `line 3 form`.
+fn push_place(text: &mut Text, line: u64, kind: &[u8]) -> Result<(), AllocError>
+    ensures { OnOk result (text.new ≡ text.old ++ at_line line kind.now) }
+{
+    text.push_bytes(b"line ")?;
+    push_number(text, line)?;
+    text.push_bytes(b" ")?;
+    text.push_bytes(kind)
+}
+
+/// The refusal of a specification with a faulty line, counted from 1.
+pub fn bad_specification(alloc: Global, line: u64, kind: SpecKind) -> Result<Reply, AllocError>
+    ensures { IfOk result (λ reply. reply ≡ reply_with (BadSpecification (at_line line (kind_name kind)))) }
+{
+    let mut text = Text::from_bytes(alloc, b"bad specification ")?;
+    push_place(&mut text, line, kind.name())?;
+    text.push_bytes(b"\n")?;
+    Ok(Reply {
+        status: Status::BadSpec,
+        text,
+    })
+}
+
+/// The refusal of a specification with more than one role.
+pub fn too_many_roles(alloc: Global) -> Result<Reply, AllocError>
+    ensures { IfOk result (λ reply. reply ≡ reply_with (BadSpecification (codes "roles"))) }
+{
+    Reply::line(alloc, Status::BadSpec, b"bad specification roles\n")
+}
+
+/// The refusal of a schedule with a faulty line, counted in the whole input.
+pub fn bad_schedule(alloc: Global, line: u64, kind: SchedKind) -> Result<Reply, AllocError>
+    ensures { IfOk result (λ reply. reply ≡ reply_with (BadSchedule (at_line line (schedule_kind kind)))) }
+{
+    let mut text = Text::from_bytes(alloc, b"bad schedule ")?;
+    push_place(&mut text, line, schedule_word(kind))?;
+    text.push_bytes(b"\n")?;
+    Ok(Reply {
+        status: Status::BadSchedule,
+        text,
+    })
+}
