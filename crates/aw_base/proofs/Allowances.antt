@@ -1,8 +1,8 @@
 -- Allowances of symbols.
-use Rattle.std.proofs.Common.{◌≡◌, ℕ, zero, suc, ◌+◌, ◌-◌, ◌≤◌, refl, sym, ap, ◌∙◌, Bool, true, false, ◌&&◌, cond, List, [], ◌∷◌, map, length, max, Option, Some, None, is_some, option_and_then, arith, nat_le}
+use Rattle.std.proofs.Common.{◌≡◌, ℕ, suc, ◌+◌, ◌-◌, ◌≤◌, refl, sym, ap, ◌∙◌, Bool, true, false, ◌&&◌, cond, List, [], ◌∷◌, map, length, max, Option, Some, None, is_some, option_and_then, arith, nat_le}
 use Rattle.std.proofs.lemmas.Bool.Decides.{nat_tests}
 use Rattle.std.proofs.lemmas.List.{length-map}
-use Rattle.aw_term.specs.Trees.{Never, Head, Con, Num, Text, Tree, Leaf, Made, Trees, Nil, More, join, count}
+use Rattle.aw_term.specs.Trees.{Con, Leaf, Made, join, count}
 use Rattle.aw_term.specs.Rules.{Ground, Grammar}
 use Rattle.aw_term.specs.WellFormed.{head_fits, heads_fit, all_heads_fit, symbols, all_symbols, symbols_of, nesting, all_nesting}
 use Rattle.aw_base.specs.ChoiceFits.{ground_ok, grounds_ok, args_ok}

@@ -1,10 +1,10 @@
 -- The children of a rule, as the plain definitions number them.
-use Rattle.std.proofs.Common.{◌≡◌, ℕ, zero, suc, refl, sym, ap, ◌∙◌, List, [], ◌∷◌, map, Option, Some, None, option_map, slice_get}
+use Rattle.std.proofs.Common.{◌≡◌, ℕ, zero, suc, refl, sym, ap, ◌∙◌, List, [], ◌∷◌, map, Option, option_map, slice_get}
 use Rattle.aw_term.specs.Rules as P
 use Rattle.aw_term.specs.Rules.{child_at}
-use Rattle.aw_base.specs.GrammarView.{child_of}
-use Rattle.aw_base.specs.declared.rule.Sort.{Sort}
-use Rattle.aw_base.specs.declared.rule.Child.{Child}
+use Rattle.aw_grammar.specs.GrammarView.{child_of}
+use Rattle.aw_grammar.specs.declared.rule.Sort.{Sort}
+use Rattle.aw_grammar.specs.declared.rule.Child.{Child}
 
 abbrev pub sort_at : List Child → ℕ → Option ℕ
 sort_at children at = option_map (λ (c : Child). c.sort) (slice_get children at)

@@ -1,13 +1,14 @@
 -- Which node a text names, by the parts of the text.
-use Rattle.std.proofs.Common.{◌≡◌, ℕ, suc, ◌+◌, ◌≤◌, ◌<◌, refl, sym, ap, ◌∙◌, Bool, true, false, cond, not, ◌==◌, List, [], ◌∷◌, ◌++◌, map, length, Option, Some, None, is_some, option_map, option_and_then, slice_get, count_by, arith, nat_lt, IsSomeAnd}
+use Rattle.std.proofs.Common.{◌≡◌, ℕ, ◌+◌, ◌≤◌, ◌<◌, refl, ap, ◌∙◌, Bool, true, false, cond, ◌==◌, List, [], ◌∷◌, length, Option, Some, None, is_some, option_map, option_and_then, slice_get, count_by, arith, nat_lt, IsSomeAnd}
 use Rattle.std.proofs.lemmas.Bool.Decides.{nat_tests}
 use Rattle.std.proofs.lemmas.List.Splits.{length-slice_split}
-use Rattle.aw_text.specs.Spelling.{parts, parts_behind, steps_of, step_of, name_from, start_of, parts_of_name}
-use Rattle.aw_term.specs.Names.{Step, Node}
+use Rattle.aw_text.specs.Spelling.{parts, steps_of, step_of, name_from, start_of, parts_of_name}
+use Rattle.aw_term.specs.Names.{Step}
 use Rattle.aw_term.specs.Rules.{Grammar}
 use Rattle.aw_term.specs.Artifacts.{Words}
-use Rattle.aw_base.specs.NodeNames.{NodeRead, Named, NoNodeName, TooLong, NotDeclared, NoFit, number_named, steps_named, is_start, with_start, with_steps, with_parts, first_misfit}
-use Rattle.aw_base.specs.NodeReading.{start_named, steps_behind, read_from}
+use Rattle.aw_base.specs.NodeNames.{NoNodeName, TooLong, NotDeclared, steps_named, is_start, with_start, with_steps, with_parts}
+use Rattle.aw_grammar.specs.Named.{number_named}
+use Rattle.aw_base.specs.NodeReading.{start_named, read_from}
 
 abbrev Parts : Type 0
 Parts = List ℕ × ℕ × List (List ℕ × ℕ)

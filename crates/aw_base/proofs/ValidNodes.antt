@@ -1,9 +1,10 @@
 -- A node that a text names is valid.
-use Rattle.std.proofs.Common.{◌≡◌, ℕ, ◌+◌, refl, sym, ap, ◌∙◌, subst, Bool, true, false, cond, List, [], ◌∷◌, length, Option, Some, None, is_some, option_and_then, slice_get, nat_lt}
-use Rattle.aw_term.specs.Names.{Step, Node}
+use Rattle.std.proofs.Common.{◌≡◌, ℕ, ◌+◌, refl, sym, ap, ◌∙◌, Bool, true, false, cond, List, [], ◌∷◌, Option, Some, None, is_some, option_and_then, slice_get}
+use Rattle.aw_term.specs.Names.{Step}
 use Rattle.aw_term.specs.Rules.{Sort, Grammar, sort_of_step, sort_after, sort_of}
 use Rattle.aw_term.specs.Artifacts.{Words}
-use Rattle.aw_base.specs.NodeNames.{number_named, is_start, misfit_or, first_misfit}
+use Rattle.aw_base.specs.NodeNames.{is_start, misfit_or, first_misfit}
+use Rattle.aw_grammar.specs.Named.{number_named}
 use Rattle.aw_base.specs.NodeReading.{start_named}
 
 fit_step : (g : Grammar) (at : ℕ) (steps : List Step) (next : Option ℕ)

@@ -1,8 +1,7 @@
 -- Which choices and references may be asked of a grammar.
-use Rattle.std.specs.Prelude.{◌≡◌, ℕ, Bool, true, false, ◌&&◌, List, [], ◌∷◌, length, Option, None, Some, slice_get, nat_lt, nat_le, is_some}
-use Rattle.aw_term.specs.Trees.{Tree}
-use Rattle.aw_term.specs.Names.{Node, Ref, Slot, Result, Part}
-use Rattle.aw_term.specs.Rules.{Ground, Rule, Grammar, sort_of}
+use Rattle.std.specs.Prelude.{ℕ, Bool, true, false, ◌&&◌, List, [], ◌∷◌, length, Option, None, Some, slice_get, nat_le, is_some}
+use Rattle.aw_term.specs.Names.{Ref, Slot, Result, Part}
+use Rattle.aw_term.specs.Rules.{Ground, Grammar, sort_of}
 use Rattle.aw_term.specs.Choices.{Choice, Start, Develop, gives_of}
 use Rattle.aw_term.specs.WellFormed.{heads_fit, symbols_of, nesting}
 use Rattle.aw_base.specs.NodeNames.{is_start}

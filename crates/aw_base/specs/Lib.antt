@@ -1,13 +1,4 @@
 pub mod Allowance
-pub mod Build
 pub mod ChoiceFits
-pub mod ChoiceView
-pub mod Declarations
-pub mod GrammarOf
-pub mod GrammarView
-pub mod Kinds
 pub mod NodeNames
 pub mod NodeReading
-pub mod Resolved
-pub mod Terms
-pub mod Written

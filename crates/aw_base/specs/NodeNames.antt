@@ -1,14 +1,10 @@
 -- Which node a text names.
 use Rattle.std.specs.Prelude.{ℕ, ◌+◌, Bool, false, List, [], ◌∷◌, length, Option, None, Some, slice_get, nat_lt, if◌then◌else◌, option_map, option_and_then}
-use Rattle.aw_index.specs.Places.{place_of}
+use Rattle.aw_grammar.specs.Named.{number_named}
 use Rattle.aw_text.specs.Spelling.{parts_of_name}
 use Rattle.aw_term.specs.Names.{Step, Node}
 use Rattle.aw_term.specs.Rules.{Sort, Grammar, sort_of_step}
 use Rattle.aw_term.specs.Artifacts.{Words}
-
--- the position of a name among those that are declared
-abbrev pub number_named : List (List ℕ) → List ℕ → Option ℕ
-number_named names name = place_of name names
 
 -- A node; or the first that holds: the text is no node name, it has more than 250 steps, a name in it is not declared or no start sort,
 -- or a step, counted from 0, does not fit.

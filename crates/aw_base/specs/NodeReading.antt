@@ -1,11 +1,11 @@
 -- Reading the name of a node, part by part.
 use Rattle.std.specs.Prelude.{◌≡◌, ℕ, List, ◌∷◌, Option, None, Some, Result, Ok, Err, slice_get, if◌then◌else◌, option_map, option_and_then, option_copied}
-use Rattle.std.specs.declared.vec.Vec.{Vec}
 use Rattle.aw_text.specs.Spelling.{steps_of, parts_behind}
 use Rattle.aw_term.specs.Names.{Step, Node}
 use Rattle.aw_term.specs.Rules.{Grammar}
 use Rattle.aw_term.specs.Artifacts.{Words}
-use Rattle.aw_base.specs.NodeNames.{NodeRead, Named, NoNodeName, TooLong, NotDeclared, NoFit, number_named, steps_named, is_start, with_steps}
+use Rattle.aw_base.specs.NodeNames.{NodeRead, Named, NoNodeName, TooLong, NotDeclared, NoFit, steps_named, is_start, with_steps}
+use Rattle.aw_grammar.specs.Named.{number_named}
 use Rattle.aw_base.specs.declared.read_node.NameFault.{NameFault}
 use Rattle.aw_base.specs.declared.read_node.NameFault.TheVariants.{Form, Long, Unknown, Step as Misfit, NoMemory}
 use Rattle.aw_base.specs.declared.read_node.NamedStep.{NamedStep}

@@ -3,15 +3,15 @@ ghost use Rattle.std.specs.Prelude.{◌≡◌, map, slice_get};
 ghost use Rattle.aw_term.specs.Trees.{Con};
 ghost use Rattle.aw_term.specs.Views.{ground_of};
 ghost use Rattle.aw_term.specs.WellFormed.{head_fits};
-ghost use Rattle.aw_base.specs.GrammarOf.{grammar_of};
-ghost use Rattle.aw_base.specs.ChoiceView.{choice_of};
+ghost use Rattle.aw_grammar.specs.GrammarOf.{grammar_of};
+ghost use Rattle.aw_choice.specs.ChoiceView.{choice_of};
 ghost use Rattle.aw_base.specs.ChoiceFits.{args_ok, choice_ok};
 ghost use Rattle.aw_base.specs.NodeNames.{is_start};
 ghost use Rattle.aw_base.specs.Allowance.{left_after, left_after_all};
 
-use crate::choice::Choice;
-use crate::grammar::Grammar;
 use crate::names::sort_of;
+use aw_choice::Choice;
+use aw_grammar::Grammar;
 use aw_term::{Ground, Grounds};
 use aw_text::content_ok;
 

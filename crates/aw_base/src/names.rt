@@ -1,13 +1,12 @@
 //! Which names of nodes and references are valid, and where a node is worked on. Nothing here takes memory.
 ghost use Rattle.std.specs.Prelude.{◌≡◌, List, map, option_map};
 ghost use Rattle.aw_term.specs.Rules.{child_at, sort_of_step, sort_after, sort_of, home_of};
-ghost use Rattle.aw_base.specs.GrammarView.{child_of};
-ghost use Rattle.aw_base.specs.declared.rule.Sort.{Sort};
-ghost use Rattle.aw_base.specs.GrammarOf.{grammar_of};
+ghost use Rattle.aw_grammar.specs.GrammarView.{child_of};
+ghost use Rattle.aw_grammar.specs.declared.rule.Sort.{Sort};
+ghost use Rattle.aw_grammar.specs.GrammarOf.{grammar_of};
 ghost use Rattle.aw_base.specs.ChoiceFits.{slot_ok, ref_ok};
 
-use crate::grammar::Grammar;
-use crate::rule::Children;
+use aw_grammar::{Children, Grammar};
 use aw_name::{Node, Ref, Slot, Step};
 
 /// The most parts of a node that a reference may speak of.

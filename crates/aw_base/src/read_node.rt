@@ -3,13 +3,13 @@ ghost use Rattle.std.specs.Prelude.{◌≡◌, is_some, true, ◌≤◌, ◌<◌
 ghost use Rattle.aw_term.specs.Rules.{sort_of};
 ghost use Rattle.aw_text.specs.NodeParts.{begins};
 ghost use Rattle.aw_text.specs.Spelling.{parts_of_name};
-ghost use Rattle.aw_base.specs.GrammarOf.{grammar_of, words_of};
+ghost use Rattle.aw_grammar.specs.GrammarOf.{grammar_of, words_of};
 ghost use Rattle.aw_base.specs.NodeNames.{first_misfit, node_read, with_parts};
 ghost use Rattle.aw_base.specs.NodeReading.{Reads, leads_on, start_named, steps_behind};
 ghost use Rattle.aw_base.specs.declared.read_node.NameFault.TheVariants.{NoMemory};
 
-use crate::grammar::Grammar;
 use crate::names::sort_of_step;
+use aw_grammar::Grammar;
 use aw_name::{Node, Step, Trail};
 use aw_text::{NodeStart, is_node_name, next_step, node_start};
 use std::alloc::{AllocError, AllocFailed, Global};

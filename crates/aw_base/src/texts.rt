@@ -2,11 +2,11 @@
 ghost use Rattle.std.specs.Prelude.{◌≡◌, ◌++◌, [], codes, decimal, flat_map, OnOk, OnErr, IfOk};
 ghost use Rattle.aw_term.specs.Rules.{get};
 ghost use Rattle.aw_term.specs.Artifacts.{step_text, steps_text, node_text, slot_text, ref_text, place_text, answer_text, standing_text, item_text};
-ghost use Rattle.aw_base.specs.GrammarOf.{words_of};
-ghost use Rattle.aw_base.specs.ChoiceView.{path_of, place_of, answer_of, refusal_of, item_of};
+ghost use Rattle.aw_grammar.specs.GrammarOf.{words_of};
+ghost use Rattle.aw_choice.specs.ChoiceView.{path_of, place_of, answer_of, refusal_of, item_of};
 
-use crate::choice::{Answer, Item, Path, Place, Standing};
-use crate::grammar::Grammar;
+use aw_choice::{Answer, Item, Path, Place, Standing};
+use aw_grammar::Grammar;
 use aw_list::Text;
 use aw_name::{Node, Ref, Slot, Step};
 use aw_text::push_number;

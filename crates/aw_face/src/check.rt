@@ -1,12 +1,12 @@
 //! Whether the rules of a grammar keep to the faces of its roles.
 ghost use Rattle.std.specs.Prelude.{◌≡◌, ◌≤◌, ◌<◌, Some, None, IfSome, option_map, map, length, slice_get};
 ghost use Rattle.std.specs.Option.{option_copied};
-ghost use Rattle.aw_base.specs.GrammarView.{sorts_of, child_of, rule_of};
-ghost use Rattle.aw_base.specs.GrammarOf.{grammar_of};
+ghost use Rattle.aw_grammar.specs.GrammarView.{sorts_of, child_of, rule_of};
+ghost use Rattle.aw_grammar.specs.GrammarOf.{grammar_of};
 ghost use Rattle.aw_face.specs.Faces as face;
 
 use crate::faces::{FaceFault, FaceKind, Faces, Using};
-use aw_base::{Child, Grammar, Rule, Sort};
+use aw_grammar::{Child, Grammar, Rule, Sort};
 
 /// Whether a sort is offered.
 pub fn is_offered(sort: u16, offers: &[u16]) -> bool

@@ -1,5 +1,5 @@
 //! What roles offer and use.
-use aw_base::Numbers;
+use aw_grammar::Numbers;
 use aw_list::Items;
 
 /// A role uses a sort of another role. Both are positions from 0.

@@ -2,10 +2,10 @@
 use Rattle.std.specs.Prelude.{◌≡◌, ℕ, List, [], ◌∷◌, ◌++◌, map, reverse, true, cond, nat_eq, Option, Some, None, option_map, option_and_then}
 use Rattle.std.proofs.Common.{refl, sym, ap, ◌∙◌, append_assoc}
 use Rattle.std.proofs.lemmas.List.{reverse-append, map-append}
-use Rattle.aw_base.specs.declared.raw.RawTerm.{RawTerm}
-use Rattle.aw_base.specs.declared.raw.RawTerm as raw
-use Rattle.aw_base.specs.Written.{Written, Apply, side_by_side, written_of}
-use Rattle.aw_base.proofs.WrittenLemmas.{written_apply}
+use Rattle.aw_grammar.specs.declared.raw.RawTerm.{RawTerm}
+use Rattle.aw_grammar.specs.declared.raw.RawTerm as raw
+use Rattle.aw_grammar.specs.Written.{Written, Apply, side_by_side, written_of}
+use Rattle.aw_grammar.proofs.WrittenLemmas.{written_apply}
 use Rattle.aw_form.specs.declared.reader.Opened.{Opened}
 use Rattle.aw_form.specs.Terms as T
 use Rattle.aw_form.specs.Reader.{opened_of}

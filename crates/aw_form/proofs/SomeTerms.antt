@@ -1,7 +1,7 @@
 -- A list that begins with a term has one term or more.
 use Rattle.std.proofs.Common.{◌≡◌, ℕ, Bool, true, false, cond, List, [], ◌∷◌, ◌++◌, Option, None, Some, refl, ap, subst, nat_eq}
 use Rattle.aw_term.specs.Trees as P
-use Rattle.aw_base.specs.Written.{Written, Word, Apply, Literal, side_by_side}
+use Rattle.aw_grammar.specs.Written.{Written, Word, Apply, Literal, side_by_side}
 use Rattle.aw_form.specs.Lexemes.{Lexeme, Name, Number, Node, Quoted, Mark}
 use Rattle.aw_form.specs.Terms.{Expected, TermOrEnd, TermOnly, CommaOrEnd, BehindName, Opened, Reading, Read, On, AtEnd, Misplaced, with_term, with_opened, closed, at_term, at_comma, at_start, behind_name, read_one, go_on, read_terms, nothing_read}
 

@@ -1,6 +1,6 @@
 -- What is read from tokens: names are names, and texts are contents.
 use Rattle.std.proofs.Common.{◌≡◌, ℕ, Bool, true, false, cond, ◌&&◌, List, [], ◌∷◌, ◌++◌, Option, None, Some, unwrap_or, IfSome, refl, sym, ap, ◌∙◌, subst, nat_eq}
-use Rattle.aw_text.specs.Spelling.{is_content, unquoted}
+use Rattle.aw_text.specs.Spelling.{is_name, is_content, unquoted}
 use Rattle.aw_text.proofs.Quotes.{unquoted_is_content}
 use Rattle.aw_lex.specs.declared.token.Token.{Token}
 use Rattle.aw_lex.specs.declared.token.TokenKind.{TokenKind}
@@ -8,11 +8,11 @@ use Rattle.aw_lex.specs.declared.token.TokenKind.TheVariants as kinds
 use Rattle.aw_lex.specs.Tokens.{AreSlices, Spells}
 use Rattle.aw_term.specs.Trees as P
 use Rattle.aw_term.specs.WellFormed.{Each}
-use Rattle.aw_base.specs.Written.{Written, Word, Apply, Literal, Writtens, Empty, Then, side_by_side}
-use Rattle.aw_base.specs.Terms.{has_contents, parts_have_contents, all_have_contents}
+use Rattle.aw_grammar.specs.Written.{Written, Word, Apply, Literal, Writtens, Empty, Then, side_by_side}
+use Rattle.aw_grammar.specs.Terms.{has_contents, parts_have_contents, all_have_contents}
 use Rattle.aw_form.specs.Lexemes.{Lexeme, Name, Number, Node, Quoted, Mark, said, slice, lexemes}
 use Rattle.aw_form.specs.Terms.{Expected, TermOrEnd, TermOnly, CommaOrEnd, BehindName, Opened, Reading, Read, On, AtEnd, Misplaced, with_term, with_opened, closed, at_term, at_comma, at_start, behind_name, read_one, go_on, read_terms, nothing_read}
-use Rattle.aw_form.specs.Sound.{IsSound}
+use Rattle.aw_form.specs.Sound.{IsSound, IsSoundBehind}
 
 content_or_empty : (o : Option (List ℕ)) → IfSome o (λ c. is_content c ≡ true) → is_content (unwrap_or o []) ≡ true
 content_or_empty None h = refl
@@ -53,7 +53,7 @@ OpenFine o = all_have_contents o.before ≡ true
 
 -- the terms read so far have contents
 abbrev IsFine : Reading → Type 0
-IsFine r = Each OpenFine r.opened × (all_have_contents r.terms ≡ true)
+IsFine r = Each OpenFine r.opened × ((all_have_contents r.terms ≡ true) × IsSoundBehind r.expected)
 
 abbrev ReadsFine : Read → Type 0
 ReadsFine (On r) = IsFine r
@@ -64,48 +64,48 @@ closes : (close : ℕ) (os : List Opened) (terms : List Written) (mark : ℕ) �
 closes close [] terms mark fine h = elim (nat_eq mark close) as (λ b. ReadsFine (cond b (AtEnd terms) Misplaced)) [ true ↦ h | false ↦ tt ]
 closes close (o ∷ os) terms mark fine h =
     elim (nat_eq mark 41) as (λ b. ReadsFine (cond b (On (record { opened = os; terms = o.before ++ Apply o.name (side_by_side terms) ∷ []; expected = CommaOrEnd })) Misplaced)) [
-      | true ↦ (fine.1, with_last o.before (Apply o.name (side_by_side terms)) fine.0 (parts_of_list terms h))
+      | true ↦ (fine.1, (with_last o.before (Apply o.name (side_by_side terms)) fine.0 (parts_of_list terms h), tt))
       | false ↦ tt
     ]
 
 term_step : (r : Reading) (l : Lexeme) → IsSound l → IsFine r → ReadsFine (at_term r l)
-term_step r (Name n) s fine = fine
-term_step r (Number n) s fine = (fine.0, with_last r.terms (Literal (P.Num n)) fine.1 refl)
-term_step r (Quoted t) s fine = (fine.0, with_last r.terms (Literal (P.Text t)) fine.1 s)
+term_step r (Name n) s fine = (fine.0, (fine.1.0, s))
+term_step r (Number n) s fine = (fine.0, (with_last r.terms (Literal (P.Num n)) fine.1.0 refl, tt))
+term_step r (Quoted t) s fine = (fine.0, (with_last r.terms (Literal (P.Text t)) fine.1.0 s, tt))
 term_step r (Node n) s fine = tt
 term_step r (Mark m) s fine = tt
 
 comma_step : (close : ℕ) (r : Reading) (l : Lexeme) → IsFine r → ReadsFine (at_comma close r l)
 comma_step close r (Mark m) fine =
-    elim (nat_eq m 44) as (λ b. ReadsFine (cond b (On (record r { expected = TermOnly })) (closed close r.opened r.terms m))) [ true ↦ fine | false ↦ closes close r.opened r.terms m fine.0 fine.1 ]
+    elim (nat_eq m 44) as (λ b. ReadsFine (cond b (On (record r { expected = TermOnly })) (closed close r.opened r.terms m))) [ true ↦ (fine.0, (fine.1.0, tt)) | false ↦ closes close r.opened r.terms m fine.0 fine.1.0 ]
 comma_step close r (Name n) fine = tt
 comma_step close r (Number n) fine = tt
 comma_step close r (Quoted t) fine = tt
 comma_step close r (Node n) fine = tt
 
 start_step : (close : ℕ) (r : Reading) (l : Lexeme) → IsSound l → IsFine r → ReadsFine (at_start close r l)
-start_step close r (Mark m) s fine = closes close r.opened r.terms m fine.0 fine.1
+start_step close r (Mark m) s fine = closes close r.opened r.terms m fine.0 fine.1.0
 start_step close r (Name n) s fine = term_step r (Name n) s fine
 start_step close r (Number n) s fine = term_step r (Number n) s fine
 start_step close r (Quoted t) s fine = term_step r (Quoted t) s fine
 start_step close r (Node n) s fine = tt
 
-name_step : (close : ℕ) (r : Reading) (name : List ℕ) (l : Lexeme) → IsFine r → ReadsFine (behind_name close r name l)
-name_step close r name (Mark m) fine =
+name_step : (close : ℕ) (r : Reading) (name : List ℕ) (l : Lexeme) → is_name name ≡ true → IsFine r → ReadsFine (behind_name close r name l)
+name_step close r name (Mark m) named fine =
     elim (nat_eq m 40) as (λ b. ReadsFine (cond b (On (with_opened r name)) (at_comma close (with_term r (Word name)) (Mark m)))) [
-      | true ↦ ((fine.1, fine.0), refl)
-      | false ↦ comma_step close (with_term r (Word name)) (Mark m) (fine.0, with_last r.terms (Word name) fine.1 refl)
+      | true ↦ ((fine.1.0, fine.0), (refl, tt))
+      | false ↦ comma_step close (with_term r (Word name)) (Mark m) (fine.0, (with_last r.terms (Word name) fine.1.0 named, tt))
     ]
-name_step close r name (Name n) fine = tt
-name_step close r name (Number n) fine = tt
-name_step close r name (Quoted t) fine = tt
-name_step close r name (Node n) fine = tt
+name_step close r name (Name n) named fine = tt
+name_step close r name (Number n) named fine = tt
+name_step close r name (Quoted t) named fine = tt
+name_step close r name (Node n) named fine = tt
 
-one_step : (close : ℕ) (r : Reading) (e : Expected) (l : Lexeme) → IsSound l → IsFine r → ReadsFine (read_one close r e l)
-one_step close r TermOrEnd l s fine = start_step close r l s fine
-one_step close r TermOnly l s fine = term_step r l s fine
-one_step close r CommaOrEnd l s fine = comma_step close r l fine
-one_step close r (BehindName name) l s fine = name_step close r name l fine
+one_step : (close : ℕ) (r : Reading) (e : Expected) (l : Lexeme) → IsSoundBehind e → IsSound l → IsFine r → ReadsFine (read_one close r e l)
+one_step close r TermOrEnd l b s fine = start_step close r l s fine
+one_step close r TermOnly l b s fine = term_step r l s fine
+one_step close r CommaOrEnd l b s fine = comma_step close r l fine
+one_step close r (BehindName name) l b s fine = name_step close r name l b fine
 
 from_step : (x : Read) (ls : List Lexeme) (more : Reading → Option (List Written × List Lexeme)) (ts : List Written) (rest : List Lexeme) → ReadsFine x →
     ((s : Reading) → IsFine s → more s ≡ Some (ts, rest) → all_have_contents ts ≡ true) → go_on x more ls ≡ Some (ts, rest) → all_have_contents ts ≡ true
@@ -118,7 +118,7 @@ from_step Misplaced ls more ts rest fine later e = cc
 fine_terms : (close : ℕ) (ls : List Lexeme) (r : Reading) (ts : List Written) (rest : List Lexeme) → Each IsSound ls → IsFine r → read_terms close r ls ≡ Some (ts, rest) → all_have_contents ts ≡ true
 fine_terms close [] r ts rest s fine e = cc
 fine_terms close (l ∷ ls) r ts rest s fine e =
-    from_step (read_one close r r.expected l) ls (λ next. read_terms close next ls) ts rest (one_step close r r.expected l s.0 fine) (λ next f h. fine_terms close ls next ts rest s.1 f h) e
+    from_step (read_one close r r.expected l) ls (λ next. read_terms close next ls) ts rest (one_step close r r.expected l fine.1.1 s.0 fine) (λ next f h. fine_terms close ls next ts rest s.1 f h) e
 
-pub texts_are_contents : (close : ℕ) (expected : Expected) (ls : List Lexeme) (ts : List Written) (rest : List Lexeme) → Each IsSound ls → read_terms close (nothing_read expected) ls ≡ Some (ts, rest) → all_have_contents ts ≡ true
-texts_are_contents close expected ls ts rest s e = fine_terms close ls (nothing_read expected) ts rest s (tt, refl) e
+pub texts_are_contents : (close : ℕ) (expected : Expected) (ls : List Lexeme) (ts : List Written) (rest : List Lexeme) → IsSoundBehind expected → Each IsSound ls → read_terms close (nothing_read expected) ls ≡ Some (ts, rest) → all_have_contents ts ≡ true
+texts_are_contents close expected ls ts rest b s e = fine_terms close ls (nothing_read expected) ts rest s (tt, (refl, b)) e

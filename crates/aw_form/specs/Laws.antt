@@ -1,7 +1,7 @@
 -- Reading and spelling of lists of terms are inverse to each other.
 use Rattle.std.specs.Prelude.{◌≡◌, ◌≢◌, ℕ, Bool, true, List, [], ◌∷◌, ◌++◌, Option, Some, nat_eq}
 use Rattle.aw_term.specs.Trees as P
-use Rattle.aw_base.specs.Written.{Written, Word, Apply, Literal, Writtens, Empty, Then, side_by_side}
+use Rattle.aw_grammar.specs.Written.{Written, Word, Apply, Literal, Writtens, Empty, Then, side_by_side}
 use Rattle.aw_form.specs.Lexemes.{Lexeme, Mark}
 use Rattle.aw_form.specs.Terms.{spellings, terms_up_to}
 

@@ -1,6 +1,6 @@
 -- The state of a reader of terms, as the definitions speak of it.
 use Rattle.std.specs.Prelude.{◌≡◌, ℕ, List, map, reverse, Result, Ok, Err}
-use Rattle.aw_base.specs.Written.{Written, written_of}
+use Rattle.aw_grammar.specs.Written.{Written, written_of}
 use Rattle.aw_form.specs.Terms as T
 use Rattle.aw_form.specs.declared.reader.Opened.{Opened}
 use Rattle.aw_form.specs.declared.reader.Expected.{Expected}

@@ -4,10 +4,10 @@ use Rattle.aw_text.specs.Spelling.{is_name, is_content}
 use Rattle.aw_lex.specs.declared.token.Token.{Token}
 use Rattle.aw_lex.specs.Tokens.{AreSlices}
 use Rattle.aw_term.specs.WellFormed.{Each}
-use Rattle.aw_base.specs.Written.{Written}
-use Rattle.aw_base.specs.Terms.{all_have_contents}
+use Rattle.aw_grammar.specs.Written.{Written}
+use Rattle.aw_grammar.specs.Terms.{all_have_contents}
 use Rattle.aw_form.specs.Lexemes.{Lexeme, Name, Number, Node, Quoted, Mark, lexemes}
-use Rattle.aw_form.specs.Terms.{Expected, nothing_read, read_terms}
+use Rattle.aw_form.specs.Terms.{Expected, TermOrEnd, TermOnly, CommaOrEnd, BehindName, nothing_read, read_terms}
 
 abbrev pub IsSound : Lexeme → Type 0
 IsSound (Name n) = is_name n ≡ true
@@ -20,7 +20,14 @@ IsSound (Mark b) = Unit {0}
 abbrev pub TokensAreSound : Type 0
 TokensAreSound = (line : List ℕ) (from : ℕ) (tokens : List Token) → AreSlices line from tokens → Each IsSound (lexemes line tokens)
 
--- the texts in terms that are read from sound lexemes are contents
+-- a name that was read is a name
+abbrev pub IsSoundBehind : Expected → Type 0
+IsSoundBehind TermOrEnd = Unit {0}
+IsSoundBehind TermOnly = Unit {0}
+IsSoundBehind CommaOrEnd = Unit {0}
+IsSoundBehind (BehindName name) = is_name name ≡ true
+
+-- the words in terms that are read from sound lexemes are names, and the texts are contents
 abbrev pub TextsAreContents : Type 0
 TextsAreContents = (close : ℕ) (expected : Expected) (ls : List Lexeme) (ts : List Written) (rest : List Lexeme) →
-    Each IsSound ls → read_terms close (nothing_read expected) ls ≡ Some (ts, rest) → all_have_contents ts ≡ true
+    IsSoundBehind expected → Each IsSound ls → read_terms close (nothing_read expected) ls ≡ Some (ts, rest) → all_have_contents ts ≡ true

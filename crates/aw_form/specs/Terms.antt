@@ -1,7 +1,7 @@
 -- Lists of written terms, separated by commas, up to a closing mark.
 use Rattle.std.specs.Prelude.{ℕ, Bool, true, false, List, [], ◌∷◌, ◌++◌, Option, None, Some, nat_eq, if◌then◌else◌, option_map, option_and_then}
 use Rattle.aw_term.specs.Trees as P
-use Rattle.aw_base.specs.Written.{Written, Word, Apply, Literal, Writtens, Empty, Then, side_by_side}
+use Rattle.aw_grammar.specs.Written.{Written, Word, Apply, Literal, Writtens, Empty, Then, side_by_side}
 use Rattle.aw_form.specs.Lexemes.{Lexeme, Name, Number, Node, Quoted, Mark}
 
 -- a number or a text; a constructor is not spelled so

@@ -1,6 +1,6 @@
 //! Readers of lists of terms and of names between marks.
 ghost use Rattle.std.specs.Prelude.{◌≡◌, Some, map};
-ghost use Rattle.aw_base.specs.Written.{written_of};
+ghost use Rattle.aw_grammar.specs.Written.{written_of};
 ghost use Rattle.aw_form.specs.Lexemes.{lexemes};
 ghost use Rattle.aw_form.specs.Terms as list;
 ghost use Rattle.aw_form.specs.Forms as form;
@@ -8,7 +8,7 @@ ghost use Rattle.aw_form.specs.Gives.{Gives};
 
 use crate::reader::{some_terms_up_to, terms_up_to};
 use crate::unread::Unread;
-use aw_base::{Names, RawTerm, RawTerms};
+use aw_grammar::{Names, RawTerm, RawTerms};
 use aw_lex::{Token, TokenKind};
 use aw_list::Text;
 use std::alloc::Global;

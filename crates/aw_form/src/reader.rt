@@ -1,6 +1,6 @@
 //! Reading written terms, one token after the other, on a stack of its own.
 ghost use Rattle.std.specs.Prelude.{◌≡◌, [], map, reverse, ℕ, List, IfOk, unwrap_or};
-ghost use Rattle.aw_base.specs.Written.{written_of};
+ghost use Rattle.aw_grammar.specs.Written.{written_of};
 ghost use Rattle.aw_form.specs.Lexemes.{lexeme, lexemes, said};
 ghost use Rattle.aw_form.specs.Lexemes as lex;
 ghost use Rattle.aw_text.specs.Spelling.{unquoted};
@@ -10,7 +10,7 @@ ghost use Rattle.aw_form.specs.Gives.{Gives};
 
 use crate::single::bytes_of;
 use crate::unread::Unread;
-use aw_base::{Lit, RawTerm, RawTerms};
+use aw_grammar::{Lit, RawTerm, RawTerms};
 use aw_lex::{Token, TokenKind};
 use aw_list::{Items, Text};
 use aw_text::{content_value, number_value};

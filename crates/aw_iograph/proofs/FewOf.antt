@@ -6,12 +6,12 @@ use Rattle.aw_term.specs.Rules as P
 use Rattle.aw_term.specs.Choices.{gives_of}
 use Rattle.aw_term.specs.WellFormed.{Each, takes_of, SortFits, RuleFits, ChildFits, variables}
 use Rattle.aw_term.specs.Views.{pattern_of, term_of}
-use Rattle.aw_base.specs.declared.rule.Rule.{Rule}
-use Rattle.aw_base.specs.declared.rule.Sort.{Sort}
-use Rattle.aw_base.specs.declared.grammar.Grammar.{Grammar}
-use Rattle.aw_base.specs.GrammarView.{rule_of, child_of, sort_of}
-use Rattle.aw_base.specs.GrammarOf.{grammar_of}
-use Rattle.aw_base.proofs.Fits.{each_at, each_map_at}
+use Rattle.aw_grammar.specs.declared.rule.Rule.{Rule}
+use Rattle.aw_grammar.specs.declared.rule.Sort.{Sort}
+use Rattle.aw_grammar.specs.declared.grammar.Grammar.{Grammar}
+use Rattle.aw_grammar.specs.GrammarView.{rule_of, child_of, sort_of}
+use Rattle.aw_grammar.specs.GrammarOf.{grammar_of}
+use Rattle.aw_grammar.proofs.Fits.{each_at, each_map_at}
 use Rattle.aw_iograph.specs.Small.{IsSmall, HasFew}
 use Rattle.aw_iograph.proofs.Members.{length_map, got_map}
 

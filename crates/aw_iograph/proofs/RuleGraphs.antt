@@ -1,9 +1,9 @@
 -- The arcs of a rule are its steps.
 use Rattle.std.proofs.Common.{◌≡◌, ℕ, zero, suc, ◌<◌, ◌≤◌, List, map, length, Some, slice_get, refl, sym, ap, ◌∙◌, subst, inl, inr, arith}
 use Rattle.aw_term.specs.Rules as P
-use Rattle.aw_base.specs.declared.rule.Rule.{Rule}
-use Rattle.aw_base.specs.declared.rule.Sort.{Sort}
-use Rattle.aw_base.specs.GrammarView.{rule_of, child_of}
+use Rattle.aw_grammar.specs.declared.rule.Rule.{Rule}
+use Rattle.aw_grammar.specs.declared.rule.Sort.{Sort}
+use Rattle.aw_grammar.specs.GrammarView.{rule_of, child_of}
 use Rattle.aw_iograph.specs.declared.reach.Arc.{Arc}
 use Rattle.aw_iograph.specs.declared.occ.Occ.{Occ}
 use Rattle.aw_iograph.specs.declared.io.Io.{Io}

@@ -1,8 +1,8 @@
 -- Widening in steps.
 use Rattle.std.proofs.Common.{ℕ, ◌≤◌, Bool, true, false, refl, ◌∙◌, subst, sym, arith}
 use Rattle.std.specs.Prelude.{◌⊎◌}
-use Rattle.aw_base.specs.declared.grammar.Grammar.{Grammar}
-use Rattle.aw_base.specs.GrammarOf.{grammar_of}
+use Rattle.aw_grammar.specs.declared.grammar.Grammar.{Grammar}
+use Rattle.aw_grammar.specs.GrammarOf.{grammar_of}
 use Rattle.aw_iograph.specs.declared.io.Io.{Io}
 use Rattle.aw_iograph.specs.Growth.{Grown, unset}
 use Rattle.aw_iograph.specs.Dependence.{Walk, Follows}

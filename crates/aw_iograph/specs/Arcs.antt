@@ -1,7 +1,7 @@
 -- Steps within a rule as arcs between the places of its occurrences.
 use Rattle.std.specs.Prelude.{◌≡◌, ℕ, suc, ◌<◌, ◌⊎◌, List, Some, slice_get}
 use Rattle.aw_term.specs.Rules.{Rule}
-use Rattle.aw_base.specs.declared.rule.Child.{Child}
+use Rattle.aw_grammar.specs.declared.rule.Child.{Child}
 use Rattle.aw_iograph.specs.declared.reach.Arc.{Arc}
 use Rattle.aw_iograph.specs.declared.occ.Occ.{Occ}
 use Rattle.aw_iograph.specs.declared.occ.Flow.{Flow}

@@ -1,6 +1,6 @@
 -- A relation of the program: a mark for each pair of each sort.
 use Rattle.std.specs.Prelude.{◌≡◌, ℕ, ◌+◌, ◌*◌, ◌-◌, ◌<◌, ◌≤◌, Bool, List, length}
-use Rattle.aw_base.specs.declared.grammar.Grammar.{Grammar}
+use Rattle.aw_grammar.specs.declared.grammar.Grammar.{Grammar}
 use Rattle.aw_iograph.specs.declared.io.Io.{Io}
 use Rattle.aw_iograph.specs.Growth.{Marked}
 

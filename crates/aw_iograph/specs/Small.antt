@@ -1,8 +1,8 @@
 -- At most 8 of each, as in every rule of a grammar.
 use Rattle.std.specs.Prelude.{◌≡◌, ℕ, ◌≤◌, List, length, Some, slice_get}
 use Rattle.aw_term.specs.Rules as P
-use Rattle.aw_base.specs.declared.rule.Child.{Child}
-use Rattle.aw_base.specs.declared.rule.Rule.{Rule}
+use Rattle.aw_grammar.specs.declared.rule.Child.{Child}
+use Rattle.aw_grammar.specs.declared.rule.Rule.{Rule}
 
 -- each child has at most 8 arguments
 abbrev pub HasFewArgs : List Child → Type 0

@@ -1,7 +1,7 @@
 -- Relations to which only pairs are added that follow.
 use Rattle.std.specs.Prelude.{◌≡◌, ℕ, ◌≤◌, length}
-use Rattle.aw_base.specs.declared.grammar.Grammar.{Grammar}
-use Rattle.aw_base.specs.GrammarOf.{grammar_of}
+use Rattle.aw_grammar.specs.declared.grammar.Grammar.{Grammar}
+use Rattle.aw_grammar.specs.GrammarOf.{grammar_of}
 use Rattle.aw_iograph.specs.declared.io.Io.{Io}
 use Rattle.aw_iograph.specs.Growth.{unset}
 use Rattle.aw_iograph.specs.Dependence.{Follows}

@@ -1,6 +1,6 @@
 //! All steps within a rule as arcs between the places of its occurrences.
 ghost use Rattle.std.specs.Prelude.{◌≡◌, ◌++◌, ◌<◌, ◌≤◌, ℕ, map, length, IfOk, OnOk};
-ghost use Rattle.aw_base.specs.GrammarView.{rule_of};
+ghost use Rattle.aw_grammar.specs.GrammarView.{rule_of};
 ghost use Rattle.aw_iograph.specs.Occurrences.{IsPlace, place_of};
 ghost use Rattle.aw_iograph.specs.Pairs.{Has};
 ghost use Rattle.aw_iograph.specs.Small.{IsSmall, HasFew};
@@ -10,7 +10,7 @@ use crate::graph::{RuleGraph, text_of};
 use crate::io::Io;
 use crate::occ::{Flow, Occ};
 use crate::reach::Arc;
-use aw_base::{Children, Grammar, Rule};
+use aw_grammar::{Children, Grammar, Rule};
 use std::alloc::{AllocError, Global};
 
 impl Occ {

@@ -1,7 +1,7 @@
 //! Whether an occurrence of a rule depends on itself.
 ghost use Rattle.std.specs.Prelude.{◌≡◌, ◌↔◌, ◌<◌, ℕ, true, length, slice_get, Some, IfOk, IsTrue};
 ghost use Rattle.aw_term.specs.Rules as P;
-ghost use Rattle.aw_base.specs.GrammarOf.{grammar_of};
+ghost use Rattle.aw_grammar.specs.GrammarOf.{grammar_of};
 ghost use Rattle.aw_iograph.specs.Graphs.{Plus, Arrow, Member, IsWithin, FirstCircle, Rises};
 ghost use Rattle.aw_iograph.specs.Dependence.{LeastOnCircle};
 ghost use Rattle.aw_iograph.specs.Pairs.{Has};
@@ -11,7 +11,7 @@ use crate::io::Io;
 use crate::occ::Occ;
 use crate::reach::{Arc, reach};
 use crate::rules::small_rule;
-use aw_base::Grammar;
+use aw_grammar::Grammar;
 use std::alloc::{AllocError, Global};
 
 /// Whether the numbers rise over an arc.

@@ -5,8 +5,8 @@ ghost use Rattle.aw_term.specs.Rules.{upto};
 ghost use Rattle.aw_term.specs.Choices.{gives_of};
 ghost use Rattle.aw_term.specs.WellFormed.{leaves, leaves_of};
 ghost use Rattle.aw_term.specs.Views.{pattern_of, term_of};
-ghost use Rattle.aw_base.specs.GrammarView.{rule_of, child_of};
-ghost use Rattle.aw_base.specs.GrammarOf.{grammar_of};
+ghost use Rattle.aw_grammar.specs.GrammarView.{rule_of, child_of};
+ghost use Rattle.aw_grammar.specs.GrammarOf.{grammar_of};
 ghost use Rattle.aw_iograph.specs.Occurrences.{given, inherited, pattern_entries, child_entries, entries, flow_to, flows_to, term_flows, child_flows, text_flows};
 ghost use Rattle.aw_iograph.specs.Graphs.{Member};
 ghost use Rattle.aw_iograph.specs.Dependence.{IsTextEdge};
@@ -14,7 +14,7 @@ ghost use Rattle.aw_iograph.specs.Small.{IsSmall, HasFewArgs};
 
 use crate::occ::{Flow, Occ};
 use crate::rules::small_rule;
-use aw_base::{Children, Expr, Grammar, Pattern, Patterns, Rule, Terms};
+use aw_grammar::{Children, Expr, Grammar, Pattern, Patterns, Rule, Terms};
 use aw_list::Items;
 use std::alloc::{AllocError, Global};
 

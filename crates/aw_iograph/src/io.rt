@@ -4,7 +4,7 @@ ghost use Rattle.aw_iograph.specs.Pairs.{Has, HasMark, HasSort, IsFor, IsNumber}
 ghost use Rattle.aw_iograph.specs.Growth.{Grown};
 
 use crate::reach::mark;
-use aw_base::Grammar;
+use aw_grammar::Grammar;
 use std::alloc::{AllocError, Global};
 
 /// A set of pairs for each sort: of an inherited value and a result that depends on it, both numbered from 1.

@@ -1,9 +1,9 @@
 //! Rules of a grammar with what every one of them keeps.
 ghost use Rattle.std.specs.Prelude.{◌≡◌, ◌<◌, length, slice_get, Some};
-ghost use Rattle.aw_base.specs.GrammarView.{rule_of};
+ghost use Rattle.aw_grammar.specs.GrammarView.{rule_of};
 ghost use Rattle.aw_iograph.specs.Small.{IsSmall, HasFew};
 
-use aw_base::{Grammar, Rule};
+use aw_grammar::{Grammar, Rule};
 
 /// A rule of a grammar, with what every rule keeps.
 pub(crate) fn small_rule(g: &Grammar, rule: usize) -> &Rule

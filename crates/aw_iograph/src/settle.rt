@@ -1,7 +1,7 @@
 //! The least relations that are closed under the rules of a grammar.
 ghost use Rattle.std.specs.Prelude.{◌≡◌, ◌↔◌, ◌⊎◌, ◌+◌, ◌*◌, ◌<◌, ◌≤◌, ℕ, false, length, slice_get, Some, IfOk, OnOk};
-ghost use Rattle.aw_base.specs.GrammarView.{rule_of};
-ghost use Rattle.aw_base.specs.GrammarOf.{grammar_of};
+ghost use Rattle.aw_grammar.specs.GrammarView.{rule_of};
+ghost use Rattle.aw_grammar.specs.GrammarOf.{grammar_of};
 ghost use Rattle.aw_iograph.specs.Graphs.{Plus, Arrow, IsWithin};
 ghost use Rattle.aw_iograph.specs.Growth.{Grown, Marked, unset};
 ghost use Rattle.aw_iograph.specs.Occurrences.{inherited, given, place_of};
@@ -13,7 +13,7 @@ use crate::arcs::arcs_of;
 use crate::io::Io;
 use crate::reach::{Arc, reach};
 use crate::rules::small_rule;
-use aw_base::{Children, Grammar, Rule};
+use aw_grammar::{Children, Grammar, Rule};
 use std::alloc::{AllocError, Global};
 
 /// Adds a pair where its result is reached, and says whether it was not there before.

@@ -6,13 +6,13 @@ use Rattle.std.specs.Prelude.{ℕ}
 use Rattle.aw_term.specs.Names.{Node}
 use Rattle.aw_term.specs.Rules.{sort_of}
 use Rattle.aw_term.specs.Artifacts.{node_text}
-use Rattle.aw_base.specs.GrammarView.{rule_of}
-use Rattle.aw_base.specs.GrammarView as view
-use Rattle.aw_base.specs.GrammarOf.{grammar_of, words_of}
+use Rattle.aw_grammar.specs.GrammarView.{rule_of}
+use Rattle.aw_grammar.specs.GrammarView as view
+use Rattle.aw_grammar.specs.GrammarOf.{grammar_of, words_of}
 use Rattle.aw_base.specs.NodeNames.{Named, node_read}
-use Rattle.aw_base.specs.declared.grammar.Grammar.{Grammar}
-use Rattle.aw_base.specs.declared.rule.Sort.{Sort}
-use Rattle.aw_base.specs.declared.rule.Rule.{Rule}
+use Rattle.aw_grammar.specs.declared.grammar.Grammar.{Grammar}
+use Rattle.aw_grammar.specs.declared.rule.Sort.{Sort}
+use Rattle.aw_grammar.specs.declared.rule.Rule.{Rule}
 use Rattle.aw_printed.specs.Printed.{AreNamed, IsHeld}
 use Rattle.aw_printed.proofs.NodeProps.{named_prop}
 use Rattle.aw_printed.proofs.Reading.{node_again}

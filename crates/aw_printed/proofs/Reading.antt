@@ -9,8 +9,9 @@ use Rattle.aw_term.specs.Names.{Step, Node}
 use Rattle.aw_term.specs.Rules.{Child, Rule, Sort, Grammar, get, child_at, sort_of_step, sort_after, sort_of}
 use Rattle.aw_term.specs.Artifacts.{Words}
 use Rattle.aw_term.specs.WellFormed.{Each, Differ, RuleFits, IsWellFormed}
-use Rattle.aw_base.proofs.Fits.{each_at}
-use Rattle.aw_base.specs.NodeNames.{Named, TooLong, NotDeclared, number_named, steps_named, misfit_or, first_misfit, is_start, fitted, with_steps, with_start, with_parts, node_read}
+use Rattle.aw_grammar.proofs.Fits.{each_at}
+use Rattle.aw_base.specs.NodeNames.{Named, TooLong, NotDeclared, steps_named, misfit_or, first_misfit, is_start, fitted, with_steps, with_start, with_parts, node_read}
+use Rattle.aw_grammar.specs.Named.{number_named}
 use Rattle.aw_printed.proofs.LookUps.{each_left, each_right, place_again}
 use Rattle.aw_printed.proofs.Printing.{IsNamedStep, step_parts, node_parts, node_spelled, node_has_spelling}
 use Rattle.aw_printed.specs.Printed.{AreNamed, IsHeld, PrintedNodeIsRead}

@@ -1,7 +1,7 @@
 //! The name of a valid node, printed and then read, is that node.
 ghost use Rattle.std.specs.Prelude.{◌≡◌, true, is_some, IfOk, IfErr};
 ghost use Rattle.aw_term.specs.Rules.{sort_of};
-ghost use Rattle.aw_base.specs.GrammarOf.{grammar_of};
+ghost use Rattle.aw_grammar.specs.GrammarOf.{grammar_of};
 ghost use Rattle.aw_base.specs.declared.read_node.NameFault.TheVariants.{NoMemory};
 ghost use Rattle.aw_printed.specs.Printed.{IsHeld, PrintedNodeIsRead};
 

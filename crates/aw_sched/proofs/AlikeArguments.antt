@@ -7,13 +7,13 @@ use Rattle.aw_term.specs.Trees.{Never, Head, Con, Num, Text, Made, Trees, Nil, M
 use Rattle.aw_term.specs.Rules.{Ground}
 use Rattle.aw_term.specs.Rules as P
 use Rattle.aw_term.specs.WellFormed.{head_fits, heads_fit, all_heads_fit, symbols, all_symbols, symbols_of, nesting, all_nesting}
-use Rattle.aw_base.specs.declared.rule.Con as declared
-use Rattle.aw_base.specs.Written.{Written, Word, Apply, Literal, Writtens, Empty, Then}
-use Rattle.aw_base.specs.Terms.{symbols_in, symbols_in_parts, symbols_in_all, depth_of, depth_of_parts, depth_of_all, is_literal, has_contents, parts_have_contents, all_have_contents}
-use Rattle.aw_base.specs.Kinds.{has_arity, con_called, count_parts, has_arities, parts_have_arities, all_have_arities}
+use Rattle.aw_grammar.specs.declared.rule.Con as declared
+use Rattle.aw_grammar.specs.Written.{Written, Word, Apply, Literal, Writtens, Empty, Then}
+use Rattle.aw_grammar.specs.Terms.{symbols_in, symbols_in_parts, symbols_in_all, depth_of, depth_of_parts, depth_of_all, is_literal, has_contents, parts_have_contents, all_have_contents}
+use Rattle.aw_grammar.specs.Kinds.{has_arity, con_called, count_parts, has_arities, parts_have_arities, all_have_arities}
 use Rattle.aw_base.specs.ChoiceFits.{grounds_ok, args_ok}
-use Rattle.aw_base.specs.NodeNames.{number_named}
-use Rattle.aw_base.proofs.Numbers.{number_is_place}
+use Rattle.aw_grammar.specs.Named.{number_named}
+use Rattle.aw_grammar.proofs.Numbers.{number_is_place}
 use Rattle.aw_sched.specs.Events.{args_are_past}
 use Rattle.aw_sched.specs.Grounds.{known_ground, known_parts, known_grounds}
 use Rattle.aw_sched.proofs.LookedUp.{found_below, named_within}

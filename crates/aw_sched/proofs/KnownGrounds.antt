@@ -9,9 +9,9 @@ use Rattle.aw_term.specs.Rules as R
 use Rattle.aw_term.specs.Views.{ground_of}
 use Rattle.aw_term.proofs.ViewLemmas.{ground_con}
 use Rattle.aw_term.specs.declared.ground.Ground as grounds
-use Rattle.aw_base.specs.Written.{Written, Word, Apply, side_by_side}
-use Rattle.aw_base.specs.NodeNames.{number_named}
-use Rattle.aw_base.specs.Terms.{symbols_in_all, depth_of_all}
+use Rattle.aw_grammar.specs.Written.{Written, Word, Apply, side_by_side}
+use Rattle.aw_grammar.specs.Named.{number_named}
+use Rattle.aw_grammar.specs.Terms.{symbols_in_all, depth_of_all}
 use Rattle.aw_sched.specs.Events.{args_are_past}
 use Rattle.aw_sched.specs.Grounds.{known_ground, known_parts, known_grounds, Finds}
 use Rattle.aw_sched.specs.declared.fault.LineFault.{LineFault}

@@ -6,11 +6,11 @@ use Rattle.aw_index.proofs.Lookups.{stands_is_placed}
 use Rattle.aw_term.specs.Trees.{Never, Con, Num, Made, Trees, Nil, More, bind, binds}
 use Rattle.aw_term.specs.Rules.{Ground}
 use Rattle.aw_term.specs.WellFormed.{leaves, all_leaves, leaves_of}
-use Rattle.aw_base.specs.Written.{Written, Word, Apply, Literal, Writtens, Empty, Then}
-use Rattle.aw_base.specs.Resolved.{word_tree, resolved, resolved_parts, all_resolved}
-use Rattle.aw_base.specs.Kinds.{is_known, parts_are_known, all_known}
-use Rattle.aw_base.specs.NodeNames.{number_named}
-use Rattle.aw_base.proofs.Numbers.{number_is_place}
+use Rattle.aw_grammar.specs.Written.{Written, Word, Apply, Literal, Writtens, Empty, Then}
+use Rattle.aw_grammar.specs.Resolved.{word_tree, resolved, resolved_parts, all_resolved}
+use Rattle.aw_grammar.specs.Kinds.{is_known, parts_are_known, all_known}
+use Rattle.aw_grammar.specs.Named.{number_named}
+use Rattle.aw_grammar.proofs.Numbers.{number_is_place}
 use Rattle.aw_sched.specs.Events.{ground_named}
 use Rattle.aw_sched.specs.Grounds.{known_ground, known_parts, known_grounds}
 

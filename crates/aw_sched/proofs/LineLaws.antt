@@ -8,15 +8,16 @@ use Rattle.aw_term.specs.Rules.{sort_of}
 use Rattle.aw_term.specs.Choices.{Start, Develop}
 use Rattle.aw_term.specs.Views.{ground_of}
 use Rattle.aw_term.specs.declared.ground.Ground.{Ground}
-use Rattle.aw_base.specs.declared.rule.Rule.{Rule}
-use Rattle.aw_base.specs.declared.grammar.Grammar.{Grammar}
-use Rattle.aw_base.specs.Written.{Written}
-use Rattle.aw_base.specs.Terms.{all_have_contents}
-use Rattle.aw_base.specs.Kinds.{all_have_arities}
-use Rattle.aw_base.specs.GrammarView.{rule_of}
-use Rattle.aw_base.specs.GrammarOf.{grammar_of, words_of, declarations_of}
-use Rattle.aw_base.specs.Declarations.{grammar_in, words_in, con_names, rule_names}
-use Rattle.aw_base.specs.NodeNames.{number_named, node_named, is_start}
+use Rattle.aw_grammar.specs.declared.rule.Rule.{Rule}
+use Rattle.aw_grammar.specs.declared.grammar.Grammar.{Grammar}
+use Rattle.aw_grammar.specs.Written.{Written}
+use Rattle.aw_grammar.specs.Terms.{all_have_contents}
+use Rattle.aw_grammar.specs.Kinds.{all_have_arities}
+use Rattle.aw_grammar.specs.GrammarView.{rule_of}
+use Rattle.aw_grammar.specs.GrammarOf.{grammar_of, words_of, declarations_of}
+use Rattle.aw_grammar.specs.Declarations.{grammar_in, words_in, con_names, rule_names}
+use Rattle.aw_base.specs.NodeNames.{node_named, is_start}
+use Rattle.aw_grammar.specs.Named.{number_named}
 use Rattle.aw_base.specs.ChoiceFits.{args_ok, choice_ok}
 use Rattle.aw_sched.specs.Lines.{StartLine, ChooseLine, ListLine}
 use Rattle.aw_sched.specs.Events as P

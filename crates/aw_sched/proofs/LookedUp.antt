@@ -2,14 +2,14 @@
 use Rattle.std.proofs.Common.{◌≡◌, ℕ, zero, suc, ◌<◌, arith, refl, sym, ap, ◌∙◌, true, false, List, [], ◌∷◌, map, length, Some, None, is_some, slice_get}
 use Rattle.aw_index.specs.Places.{number_of, stands, or_else}
 use Rattle.aw_index.proofs.Lookups.{stands_is_placed, place_within}
-use Rattle.aw_base.specs.declared.rule.Sort.{Sort}
-use Rattle.aw_base.specs.declared.rule.Rule.{Rule}
-use Rattle.aw_base.specs.declared.grammar.Grammar.{Grammar}
-use Rattle.aw_base.specs.GrammarView.{rule_of}
-use Rattle.aw_base.specs.GrammarOf.{grammar_of, words_of, entry, declarations_of}
-use Rattle.aw_base.specs.Declarations.{Entry, grammar_in, words_in}
-use Rattle.aw_base.specs.NodeNames.{number_named}
-use Rattle.aw_base.proofs.Numbers.{number_is_place}
+use Rattle.aw_grammar.specs.declared.rule.Sort.{Sort}
+use Rattle.aw_grammar.specs.declared.rule.Rule.{Rule}
+use Rattle.aw_grammar.specs.declared.grammar.Grammar.{Grammar}
+use Rattle.aw_grammar.specs.GrammarView.{rule_of}
+use Rattle.aw_grammar.specs.GrammarOf.{grammar_of, words_of, entry, declarations_of}
+use Rattle.aw_grammar.specs.Declarations.{Entry, grammar_in, words_in}
+use Rattle.aw_grammar.specs.Named.{number_named}
+use Rattle.aw_grammar.proofs.Numbers.{number_is_place}
 
 pub unnamed : (names : List (List ℕ)) (x : List ℕ) → None ≡ number_named names x → stands x names ≡ false
 unnamed names x e = sym (stands_is_placed x names) ∙ ap is_some (number_is_place names x ∙ sym e)

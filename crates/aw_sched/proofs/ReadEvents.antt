@@ -2,7 +2,7 @@
 use Rattle.std.proofs.Common.{◌≡◌, ℕ, suc, refl, ap, ◌∙◌, List, [], ◌∷◌, ◌++◌, map}
 use Rattle.aw_sched.specs.Events as P
 use Rattle.std.specs.Prelude.{Err}
-use Rattle.aw_base.specs.Declarations.{Declarations}
+use Rattle.aw_grammar.specs.Declarations.{Declarations}
 use Rattle.aw_sched.specs.Schedules.{Read, Events, FaultAt, in_front, read_line, read_lines, with_event}
 use Rattle.aw_sched.specs.Answers.{Answers, event_seen}
 use Rattle.aw_sched.specs.LineEvents.{AddsLine, fault_at, with_events}

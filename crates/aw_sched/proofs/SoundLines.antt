@@ -2,8 +2,8 @@
 use Rattle.std.proofs.Common.{◌≡◌, ℕ, refl, sym, ap, ◌∙◌, subst, Bool, true, false, cond, List, [], ◌∷◌, Option, Some, None, nat_eq, codes}
 use Rattle.aw_term.specs.Trees.{nats_eq}
 use Rattle.aw_term.specs.WellFormed.{Each}
-use Rattle.aw_base.specs.Written.{Written}
-use Rattle.aw_base.specs.Terms.{all_have_contents}
+use Rattle.aw_grammar.specs.Written.{Written}
+use Rattle.aw_grammar.specs.Terms.{all_have_contents}
 use Rattle.aw_form.specs.Lexemes.{Lexeme, Name, Number, Node, Quoted, Mark}
 use Rattle.aw_form.specs.Forms.{◌>>=◌, name, number, node, only, terms_in_braces}
 use Rattle.aw_form.specs.Terms.{TermOnly, some_terms_up_to}
@@ -72,7 +72,7 @@ no_terms : (x y : Terms) → x.0 ≡ [] → Some x ≡ Some y → all_have_conte
 no_terms x y e h = ap (λ (p : Terms). all_have_contents p.0) (sym (some_same x y h)) ∙ ap all_have_contents e
 
 in_braces : (b : Bool) (ls : List Lexeme) (x y : Terms) → x.0 ≡ [] → Each IsSound ls → cond b (some_terms_up_to 125 ls) (Some x) ≡ Some y → all_have_contents y.0 ≡ true
-in_braces true ls x y e s h = texts_are_contents 125 TermOnly ls y.0 y.1 s h
+in_braces true ls x y e s h = texts_are_contents 125 TermOnly ls y.0 y.1 tt s h
 in_braces false ls x y e s h = no_terms x y e h
 
 sound_args : (ls : List Lexeme) (ts : List Written) (rest : List Lexeme) → Each IsSound ls → terms_in_braces ls ≡ Some (ts, rest) → all_have_contents ts ≡ true

@@ -1,7 +1,7 @@
 -- What reading a schedule answers.
 use Rattle.std.specs.Prelude.{◌≡◌, ◌<◌, true, List, map, Result, Ok, Err}
 use Rattle.aw_term.specs.Rules.{Grammar}
-use Rattle.aw_base.specs.ChoiceView.{choice_of}
+use Rattle.aw_choice.specs.ChoiceView.{choice_of}
 use Rattle.aw_base.specs.ChoiceFits.{choice_ok}
 use Rattle.aw_sched.specs.Events as P
 use Rattle.aw_sched.specs.Schedules.{Read, Events, FaultAt}

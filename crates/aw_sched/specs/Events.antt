@@ -6,12 +6,12 @@ use Rattle.aw_term.specs.Trees.{Num, Made, Nil, bind}
 use Rattle.aw_term.specs.Names.{Node, root}
 use Rattle.aw_term.specs.Rules.{Ground}
 use Rattle.aw_term.specs.Choices.{Choice, Start, Develop}
-use Rattle.aw_base.specs.Written.{Written}
-use Rattle.aw_base.specs.Terms.{symbols_in_all, depth_of_all}
+use Rattle.aw_grammar.specs.Written.{Written}
+use Rattle.aw_grammar.specs.Terms.{symbols_in_all, depth_of_all}
 use Rattle.aw_term.specs.WellFormed.{leaves_of}
-use Rattle.aw_base.specs.Resolved.{resolved, all_resolved}
-use Rattle.aw_base.specs.Kinds.{all_known, all_have_arities}
-use Rattle.aw_base.specs.Declarations.{Declarations, con_names, sort_names, rule_names, grammar_in, words_in}
+use Rattle.aw_grammar.specs.Resolved.{resolved, all_resolved}
+use Rattle.aw_grammar.specs.Kinds.{all_known, all_have_arities}
+use Rattle.aw_grammar.specs.Declarations.{Declarations, con_names, sort_names, rule_names, grammar_in, words_in}
 use Rattle.aw_base.specs.NodeNames.{node_named, is_start}
 use Rattle.aw_sched.specs.Lines.{Line, StartLine, ChooseLine, DeliverLine, SettleLine, ListLine}
 use Rattle.aw_sched.specs.declared.fault.SchedKind.{SchedKind}

@@ -2,8 +2,8 @@
 use Rattle.std.specs.Prelude.{◌≡◌, ℕ, List, [], ◌∷◌, Option, Some, None, Result, Ok, Err, option_map, option_and_then}
 use Rattle.aw_term.specs.Trees.{Never, Con, Made, Trees, Nil, More}
 use Rattle.aw_term.specs.Rules.{Ground}
-use Rattle.aw_base.specs.Written.{Written, Word, Apply, Literal, Writtens, Empty, Then}
-use Rattle.aw_base.specs.NodeNames.{number_named}
+use Rattle.aw_grammar.specs.Written.{Written, Word, Apply, Literal, Writtens, Empty, Then}
+use Rattle.aw_grammar.specs.Named.{number_named}
 use Rattle.aw_sched.specs.declared.fault.SchedKind.TheVariants.{Unknown}
 use Rattle.aw_sched.specs.declared.fault.LineFault.{LineFault}
 use Rattle.aw_sched.specs.declared.fault.LineFault.TheVariants.{Bad, NoMemory}

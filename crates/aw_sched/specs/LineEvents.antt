@@ -5,9 +5,9 @@ use Rattle.aw_term.specs.Names.{Node}
 use Rattle.aw_term.specs.Rules.{Grammar, sort_of}
 use Rattle.aw_term.specs.Views.{ground_of}
 use Rattle.aw_term.specs.declared.ground.Ground.{Ground}
-use Rattle.aw_base.specs.Written.{Written}
-use Rattle.aw_base.specs.Kinds.{all_have_arities}
-use Rattle.aw_base.specs.Declarations.{Declarations, con_names, rule_names}
+use Rattle.aw_grammar.specs.Written.{Written}
+use Rattle.aw_grammar.specs.Kinds.{all_have_arities}
+use Rattle.aw_grammar.specs.Declarations.{Declarations, con_names, rule_names}
 use Rattle.aw_base.specs.ChoiceFits.{args_ok}
 use Rattle.aw_sched.specs.Events as P
 use Rattle.aw_sched.specs.Events.{first_kind, args_are_past, args_unknown, ground_named}

@@ -1,7 +1,7 @@
 -- A line of the program as the definitions speak of it.
 use Rattle.std.specs.Prelude.{◌≡◌, true, map}
-use Rattle.aw_base.specs.Terms.{all_have_contents}
-use Rattle.aw_base.specs.Written.{written_of}
+use Rattle.aw_grammar.specs.Terms.{all_have_contents}
+use Rattle.aw_grammar.specs.Written.{written_of}
 use Rattle.aw_sched.specs.Lines as P
 use Rattle.aw_sched.specs.declared.line.SchedLine.{SchedLine}
 use Rattle.aw_sched.specs.declared.line.SchedLine.TheVariants.{Start, Choose, Deliver, Settle, List}

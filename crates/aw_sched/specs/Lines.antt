@@ -1,7 +1,7 @@
 -- The lines of a schedule: how each is spelled, and which line lexemes spell.
 use Rattle.std.specs.Prelude.{ℕ, List, [], ◌∷◌, ◌++◌, Option, None, codes, if◌then◌else◌}
 use Rattle.aw_term.specs.Trees.{nats_eq}
-use Rattle.aw_base.specs.Written.{Written, side_by_side}
+use Rattle.aw_grammar.specs.Written.{Written, side_by_side}
 use Rattle.aw_form.specs.Lexemes.{Lexeme, Name, Number, Node, Mark}
 use Rattle.aw_form.specs.Terms.{spellings}
 use Rattle.aw_form.specs.Forms.{◌>>=◌, name, number, node, only, terms_in_braces}

@@ -4,7 +4,7 @@ use Rattle.aw_lex.specs.Lines.{lines_of, passed_over}
 use Rattle.aw_lex.specs.Tokens.{tokens_of}
 use Rattle.aw_lex.specs.declared.token.Token.{Token}
 use Rattle.aw_form.specs.Lexemes.{lexemes}
-use Rattle.aw_base.specs.Declarations.{Declarations}
+use Rattle.aw_grammar.specs.Declarations.{Declarations}
 use Rattle.aw_sched.specs.Lines.{Line, line_of}
 use Rattle.aw_sched.specs.Events.{Event, event_of, line_kind}
 use Rattle.aw_sched.specs.declared.fault.SchedKind.{SchedKind}

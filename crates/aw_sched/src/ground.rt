@@ -1,10 +1,10 @@
 //! Arguments of a choice, from the terms that are written.
 ghost use Rattle.std.specs.Prelude.{◌≡◌, map, ◌||◌};
 ghost use Rattle.aw_term.specs.Views.{ground_of};
-ghost use Rattle.aw_base.specs.Written.{written_of};
-ghost use Rattle.aw_base.specs.GrammarOf.{words_of};
+ghost use Rattle.aw_grammar.specs.Written.{written_of};
+ghost use Rattle.aw_grammar.specs.GrammarOf.{words_of};
 ghost use Rattle.aw_sched.specs.Events.{args_are_past};
-ghost use Rattle.aw_base.specs.NodeNames.{number_named};
+ghost use Rattle.aw_grammar.specs.Named.{number_named};
 ghost use Rattle.aw_sched.specs.Grounds.{Finds, known_ground, known_grounds};
 
 use crate::fault::{LineFault, SchedKind};

@@ -1,8 +1,8 @@
 //! The event that a line of a schedule asks for, its names looked up.
 ghost use Rattle.std.specs.Prelude.{◌≡◌, true, map, IfOk, IfErr};
-ghost use Rattle.aw_base.specs.Written.{written_of};
-ghost use Rattle.aw_base.specs.Terms.{all_have_contents};
-ghost use Rattle.aw_base.specs.GrammarOf.{declarations_of, grammar_of, words_of};
+ghost use Rattle.aw_grammar.specs.Written.{written_of};
+ghost use Rattle.aw_grammar.specs.Terms.{all_have_contents};
+ghost use Rattle.aw_grammar.specs.GrammarOf.{declarations_of, grammar_of, words_of};
 ghost use Rattle.aw_base.specs.NodeNames.{node_named};
 ghost use Rattle.aw_sched.specs.Lines.{StartLine, ChooseLine, ListLine};
 ghost use Rattle.aw_sched.specs.Events.{is_long, event_of, line_kind};

@@ -2,7 +2,7 @@
 ghost use Rattle.std.specs.Prelude.{◌≡◌, IfOk, IfSome};
 ghost use Rattle.aw_lex.specs.Tokens.{AreSlices};
 ghost use Rattle.aw_term.specs.WellFormed.{Each};
-ghost use Rattle.aw_base.specs.GrammarOf.{declarations_of, grammar_of};
+ghost use Rattle.aw_grammar.specs.GrammarOf.{declarations_of, grammar_of};
 ghost use Rattle.aw_form.specs.Lexemes.{lexemes};
 ghost use Rattle.aw_sched.specs.Lines.{line_of};
 ghost use Rattle.aw_sched.specs.Schedules.{by_form, read_line, schedule_of};

@@ -2,13 +2,13 @@
 use Rattle.std.proofs.Common.{◌≡◌, ℕ, refl, ap, List, [], ◌∷◌, map, length}
 use Rattle.aw_term.specs.Rules as P
 use Rattle.aw_term.specs.Artifacts.{Words}
-use Rattle.aw_base.specs.declared.grammar.Grammar.{Grammar}
-use Rattle.aw_base.specs.declared.rule.Con.{Con}
-use Rattle.aw_base.specs.declared.rule.Sort.{Sort}
-use Rattle.aw_base.specs.declared.rule.Rule.{Rule}
-use Rattle.aw_base.specs.Declarations.{Entry, grammar_in, words_in}
-use Rattle.aw_base.specs.GrammarView.{sorts_of, rule_of}
-use Rattle.aw_base.specs.GrammarOf.{grammar_of, words_of, entry, declarations_of}
+use Rattle.aw_grammar.specs.declared.grammar.Grammar.{Grammar}
+use Rattle.aw_grammar.specs.declared.rule.Con.{Con}
+use Rattle.aw_grammar.specs.declared.rule.Sort.{Sort}
+use Rattle.aw_grammar.specs.declared.rule.Rule.{Rule}
+use Rattle.aw_grammar.specs.Declarations.{Entry, grammar_in, words_in}
+use Rattle.aw_grammar.specs.GrammarView.{sorts_of, rule_of}
+use Rattle.aw_grammar.specs.GrammarOf.{grammar_of, words_of, entry, declarations_of}
 
 pub rules_of_entries : (sorts : List Sort) (rules : List Rule) → map (rule_of sorts) rules ≡ map (λ (e : Entry). e.rule) (map (entry sorts) rules)
 rules_of_entries sorts [] = refl

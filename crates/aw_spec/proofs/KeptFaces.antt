@@ -6,12 +6,12 @@ use Rattle.aw_term.specs.Rules as P
 use Rattle.aw_lex.specs.declared.token.Token.{Token}
 use Rattle.aw_lex.specs.Lines.{passed_over, lines_of}
 use Rattle.aw_lex.specs.Tokens.{tokens_of}
-use Rattle.aw_base.specs.declared.fault.DeclKind.{DeclKind}
-use Rattle.aw_base.specs.Declarations.{Entry, Declarations, entry_of, with_rule}
-use Rattle.aw_base.specs.GrammarView.{sorts_of}
-use Rattle.aw_base.specs.GrammarOf.{grammar_of}
-use Rattle.aw_base.specs.Kinds.{rule_kind}
-use Rattle.aw_base.specs.Written.{WrittenRule}
+use Rattle.aw_grammar.specs.declared.fault.DeclKind.{DeclKind}
+use Rattle.aw_grammar.specs.Declarations.{Entry, Declarations, entry_of, with_rule}
+use Rattle.aw_grammar.specs.GrammarView.{sorts_of}
+use Rattle.aw_grammar.specs.GrammarOf.{grammar_of}
+use Rattle.aw_grammar.specs.Kinds.{rule_kind}
+use Rattle.aw_grammar.specs.Written.{WrittenRule}
 use Rattle.aw_form.specs.Lexemes.{lexemes}
 use Rattle.aw_face.specs.declared.faces.Using.{Using}
 use Rattle.aw_face.specs.declared.faces.FaceKind.{FaceKind}

@@ -2,14 +2,14 @@
 use Rattle.std.proofs.Common.{◌≡◌, ℕ, zero, suc, ◌+◌, ◌<◌, ◌≤◌, refl, sym, ◌∙◌, ap, List, [], ◌∷◌, ◌++◌, map, length, slice_get, arith, Option, Some, None, length-append}
 use Rattle.std.proofs.lemmas.List.{length-map}
 use Rattle.aw_term.specs.WellFormed.{RuleFits}
-use Rattle.aw_base.specs.declared.fault.DeclKind.{DeclKind}
-use Rattle.aw_base.specs.declared.rule.Sort.{Sort}
-use Rattle.aw_base.specs.declared.rule.Rule.{Rule}
-use Rattle.aw_base.specs.Declarations.{Entry, Declarations, entry_of, with_rule}
-use Rattle.aw_base.specs.GrammarOf.{entry}
-use Rattle.aw_base.specs.GrammarView.{sorts_of, child_of, rule_of}
-use Rattle.aw_base.specs.Kinds.{rule_kind}
-use Rattle.aw_base.specs.Written.{WrittenRule}
+use Rattle.aw_grammar.specs.declared.fault.DeclKind.{DeclKind}
+use Rattle.aw_grammar.specs.declared.rule.Sort.{Sort}
+use Rattle.aw_grammar.specs.declared.rule.Rule.{Rule}
+use Rattle.aw_grammar.specs.Declarations.{Entry, Declarations, entry_of, with_rule}
+use Rattle.aw_grammar.specs.GrammarOf.{entry}
+use Rattle.aw_grammar.specs.GrammarView.{sorts_of, child_of, rule_of}
+use Rattle.aw_grammar.specs.Kinds.{rule_kind}
+use Rattle.aw_grammar.specs.Written.{WrittenRule}
 use Rattle.aw_face.specs.declared.faces.FaceKind.{FaceKind}
 use Rattle.aw_face.specs.Faces.{rule_fault}
 use Rattle.aw_spec.specs.Lines.{RuleLine}

@@ -2,7 +2,7 @@
 use Rattle.std.proofs.Common.{◌≡◌, ◌≢◌, ℕ, Bool, true, false, cond, List, [], ◌∷◌, ◌++◌, Option, None, Some, option_map, option_and_then, codes, nat_eq, refl, sym, ap, ◌∙◌, append_assoc, append-nil, arith}
 use Rattle.aw_term.specs.Trees as P
 use Rattle.aw_term.specs.WellFormed.{Each}
-use Rattle.aw_base.specs.Written.{Written, Word, Apply, Literal, Writtens, Empty, Then, WrittenChild, WrittenRule, side_by_side}
+use Rattle.aw_grammar.specs.Written.{Written, Word, Apply, Literal, Writtens, Empty, Then, WrittenChild, WrittenRule, side_by_side}
 use Rattle.aw_form.specs.Lexemes.{Lexeme, Name, Number, Node, Quoted, Mark}
 use Rattle.aw_form.specs.Laws.{IsWritten, AreWritten}
 use Rattle.aw_form.specs.Terms.{spelling, spellings, spellings_behind, literal_spelling, terms_up_to, names_of}

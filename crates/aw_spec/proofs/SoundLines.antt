@@ -1,9 +1,9 @@
--- Lines that tokens spell declare names, and their texts are contents.
-use Rattle.std.proofs.Common.{◌≡◌, ℕ, Bool, true, false, cond, ◌&&◌, List, [], ◌∷◌, ◌++◌, Option, None, Some, codes, nat_eq, refl, sym, ap, ◌∙◌, subst}
+-- Lines that tokens spell declare names; their words are names, and their texts are contents.
+use Rattle.std.proofs.Common.{◌≡◌, ℕ, Bool, true, false, cond, ◌&&◌, List, [], ◌∷◌, ◌++◌, Option, None, Some, option_map, codes, nat_eq, refl, sym, ap, ◌∙◌, subst}
 use Rattle.aw_text.specs.Spelling.{is_name, is_content}
 use Rattle.aw_term.specs.WellFormed.{Each}
-use Rattle.aw_base.specs.Written.{Written, WrittenChild, WrittenRule, side_by_side}
-use Rattle.aw_base.specs.Terms.{has_contents, all_have_contents, args_of, uses_of, terms_of}
+use Rattle.aw_grammar.specs.Written.{Written, Word, Apply, Literal, WrittenChild, WrittenRule, side_by_side}
+use Rattle.aw_grammar.specs.Terms.{has_contents, all_have_contents, are_names, args_of, results_of, uses_of, terms_of}
 use Rattle.aw_form.specs.Lexemes.{Lexeme, Name, Number, Node, Quoted, Mark}
 use Rattle.aw_form.specs.Terms.{Expected, TermOrEnd, TermOnly, nothing_read, read_terms, spellings, terms_up_to, some_terms_up_to, names_of}
 use Rattle.aw_form.specs.Forms.{◌>>=◌, name, number, mark, end, only, terms_between, names_between, terms_in_braces, names_in_braces}
@@ -64,46 +64,28 @@ rest_sound close ls ts rest s e =
     let behind : AreSound (Mark close ∷ rest) = behind_each IsSound (spellings (side_by_side ts)) (Mark close ∷ rest) (subst AreSound e s) in behind.1
 
 up_to_sound : (close : ℕ) (ls : List Lexeme) (x : List Written × List Lexeme) → AreSound ls → terms_up_to close ls ≡ Some x → TermsSound x
-up_to_sound close ls x s e = (texts_are_contents close TermOrEnd ls x.0 x.1 s e, rest_sound close ls x.0 x.1 s (spelled_if_read close ls x.0 x.1 e))
+up_to_sound close ls x s e = (texts_are_contents close TermOrEnd ls x.0 x.1 tt s e, rest_sound close ls x.0 x.1 s (spelled_if_read close ls x.0 x.1 e))
 
-some_up_to_sound : (close : ℕ) (ls : List Lexeme) (x : List Written × List Lexeme) → AreSound ls → some_terms_up_to close ls ≡ Some x → AreSound x.1
-some_up_to_sound close ls x s e = rest_sound close ls x.0 x.1 s (some_spelled_if_read close ls x.0 x.1 e)
+some_up_to_sound : (close : ℕ) (ls : List Lexeme) (x : List Written × List Lexeme) → AreSound ls → some_terms_up_to close ls ≡ Some x → TermsSound x
+some_up_to_sound close ls x s e = (texts_are_contents close TermOnly ls x.0 x.1 tt s e, rest_sound close ls x.0 x.1 s (some_spelled_if_read close ls x.0 x.1 e))
 
 between_sound : (start close : ℕ) (ls : List Lexeme) (x : List Written × List Lexeme) → AreSound ls → terms_between start close ls ≡ Some x → TermsSound x
 between_sound start close ls x s e = bound (mark start ls) (λ inside. terms_up_to close inside) x e (λ inside found next. up_to_sound close inside x (mark_sound start ls inside s found) next)
 
-braces_sound : (ls : List Lexeme) (x : List Written × List Lexeme) → AreSound ls → terms_in_braces ls ≡ Some x → AreSound x.1
-braces_sound [] x s e = subst (λ (y : List Written × List Lexeme). AreSound y.1) (same_pair ([], []) x e) tt
+no_terms : (ls : List Lexeme) (x : List Written × List Lexeme) → AreSound ls → Some ([], ls) ≡ Some x → TermsSound x
+no_terms ls x s e = subst TermsSound (same_pair ([], ls) x e) (refl, s)
+
+braces_sound : (ls : List Lexeme) (x : List Written × List Lexeme) → AreSound ls → terms_in_braces ls ≡ Some x → TermsSound x
+braces_sound [] x s e = no_terms [] x tt e
 braces_sound (Mark b ∷ ls) x s e = by_test (nat_eq b 123) e
   where
-    by_test : (t : Bool) → cond t (some_terms_up_to 125 ls) (Some ([], Mark b ∷ ls)) ≡ Some x → AreSound x.1
+    by_test : (t : Bool) → cond t (some_terms_up_to 125 ls) (Some ([], Mark b ∷ ls)) ≡ Some x → TermsSound x
     by_test true h = some_up_to_sound 125 ls x s.1 h
-    by_test false h = subst (λ (y : List Written × List Lexeme). AreSound y.1) (same_pair ([], Mark b ∷ ls) x h) s
-braces_sound (Name n ∷ ls) x s e = subst (λ (y : List Written × List Lexeme). AreSound y.1) (same_pair ([], Name n ∷ ls) x e) s
-braces_sound (Number n ∷ ls) x s e = subst (λ (y : List Written × List Lexeme). AreSound y.1) (same_pair ([], Number n ∷ ls) x e) s
-braces_sound (Node n ∷ ls) x s e = subst (λ (y : List Written × List Lexeme). AreSound y.1) (same_pair ([], Node n ∷ ls) x e) s
-braces_sound (Quoted n ∷ ls) x s e = subst (λ (y : List Written × List Lexeme). AreSound y.1) (same_pair ([], Quoted n ∷ ls) x e) s
-
-with_names : (terms : List Written × List Lexeme) (x : List (List ℕ) × List Lexeme) → AreSound terms.1 → (names_of terms.0 >>= λ names. Some (names, terms.1)) ≡ Some x → AreSound x.1
-with_names terms x s e = bound (names_of terms.0) (λ names. Some (names, terms.1)) x e (λ names found next. subst (λ (y : List (List ℕ) × List Lexeme). AreSound y.1) (same_pair (names, terms.1) x next) s)
-
-names_in_braces_sound : (ls : List Lexeme) (x : List (List ℕ) × List Lexeme) → AreSound ls → names_in_braces ls ≡ Some x → AreSound x.1
-names_in_braces_sound ls x s e = bound (terms_in_braces ls) (λ terms. names_of terms.0 >>= λ names. Some (names, terms.1)) x e (λ terms found next. with_names terms x (braces_sound ls terms s found) next)
-
-child_fine : (ls : List Lexeme) (c : WrittenChild) → AreSound ls → child_of ls ≡ Some c → all_have_contents c.args ≡ true
-child_fine ls c s e =
-    bound (name ls) _ c e (λ sort found e1. bound (terms_between 40 41 sort.1) _ c e1 (λ args read e2. bound (names_between 60 62 args.1) _ c e2 (λ results listed e3.
-    bound (end results.1) _ c e3 (λ done ended e4.
-    let same : ◌≡◌ {A = WrittenChild} (record { sort = sort.0; args = args.0; results = results.0 }) c = cc in
-    subst (λ (d : WrittenChild). all_have_contents d.args ≡ true) same (between_sound 40 41 sort.1 args (name_sound ls sort s found).1 read).0))))
-
-front_sound : (l : Lexeme) (ps : List (List Lexeme)) → IsSound l → Each AreSound ps → Each AreSound (in_front l ps)
-front_sound l [] s h = ((s, tt), tt)
-front_sound l (p ∷ ps) s h = ((s, h.0), h.1)
-
-pieces_sound : (ls : List Lexeme) → AreSound ls → Each AreSound (pieces ls)
-pieces_sound [] s = (tt, tt)
-pieces_sound (l ∷ ls) s = elim (is_semicolon l) as (λ b. Each AreSound (cond b ([] ∷ pieces ls) (in_front l (pieces ls)))) [ true ↦ (tt, pieces_sound ls s.1) | false ↦ front_sound l (pieces ls) s.0 (pieces_sound ls s.1) ]
+    by_test false h = no_terms (Mark b ∷ ls) x s h
+braces_sound (Name n ∷ ls) x s e = no_terms (Name n ∷ ls) x s e
+braces_sound (Number n ∷ ls) x s e = no_terms (Number n ∷ ls) x s e
+braces_sound (Node n ∷ ls) x s e = no_terms (Node n ∷ ls) x s e
+braces_sound (Quoted n ∷ ls) x s e = no_terms (Quoted n ∷ ls) x s e
 
 and_left : (a b : Bool) → (a && b) ≡ true → a ≡ true
 and_left true b e = refl
@@ -113,24 +95,82 @@ and_right : (a b : Bool) → (a && b) ≡ true → b ≡ true
 and_right true b e = e
 and_right false b e = cc
 
+with_name : (n : List ℕ) (ts : List Written) (o : Option (List (List ℕ))) (xs : List (List ℕ)) → names_of ts ≡ o → is_name n ≡ true
+    → ((ns : List (List ℕ)) → names_of ts ≡ Some ns → are_names ns ≡ true) → option_map (λ ns. n ∷ ns) o ≡ Some xs → are_names xs ≡ true
+with_name n ts None xs found named rest e = cc
+with_name n ts (Some ns) xs found named rest e =
+    let same : ◌≡◌ {A = List (List ℕ)} (n ∷ ns) xs = cc in subst (λ ys. are_names ys ≡ true) same (λ i. named i && rest ns found i)
+
+-- terms that are names alone
+names_named : (ts : List Written) (xs : List (List ℕ)) → all_have_contents ts ≡ true → names_of ts ≡ Some xs → are_names xs ≡ true
+names_named [] xs h e =
+    let same : ◌≡◌ {A = List (List ℕ)} [] xs = cc in subst (λ ys. are_names ys ≡ true) same refl
+names_named (Word n ∷ ts) xs h e =
+    with_name n ts (names_of ts) xs refl (and_left (is_name n) (all_have_contents ts) h) (λ ns f. names_named ts ns (and_right (is_name n) (all_have_contents ts) h) f) e
+names_named (Apply n us ∷ ts) xs h e = cc
+names_named (Literal l ∷ ts) xs h e = cc
+
+abbrev NamesSound : List (List ℕ) × List Lexeme → Type 0
+NamesSound x = (are_names x.0 ≡ true) × AreSound x.1
+
+with_names : (terms : List Written × List Lexeme) (x : List (List ℕ) × List Lexeme) → TermsSound terms → (names_of terms.0 >>= λ names. Some (names, terms.1)) ≡ Some x → NamesSound x
+with_names terms x s e =
+    bound (names_of terms.0) (λ names. Some (names, terms.1)) x e
+    (λ names found next. subst NamesSound (same_pair (names, terms.1) x next) (names_named terms.0 names s.0 found, s.1))
+
+names_in_braces_sound : (ls : List Lexeme) (x : List (List ℕ) × List Lexeme) → AreSound ls → names_in_braces ls ≡ Some x → NamesSound x
+names_in_braces_sound ls x s e = bound (terms_in_braces ls) (λ terms. names_of terms.0 >>= λ names. Some (names, terms.1)) x e (λ terms found next. with_names terms x (braces_sound ls terms s found) next)
+
+names_between_sound : (start close : ℕ) (ls : List Lexeme) (x : List (List ℕ) × List Lexeme) → AreSound ls → names_between start close ls ≡ Some x → NamesSound x
+names_between_sound start close ls x s e =
+    bound (terms_between start close ls) (λ terms. names_of terms.0 >>= λ names. Some (names, terms.1)) x e (λ terms found next. with_names terms x (between_sound start close ls terms s found) next)
+
+abbrev ChildFine : WrittenChild → Type 0
+ChildFine c = (all_have_contents c.args ≡ true) × (are_names c.results ≡ true)
+
+child_fine : (ls : List Lexeme) (c : WrittenChild) → AreSound ls → child_of ls ≡ Some c → ChildFine c
+child_fine ls c s e =
+    bound (name ls) _ c e (λ sort found e1. bound (terms_between 40 41 sort.1) _ c e1 (λ args read e2. bound (names_between 60 62 args.1) _ c e2 (λ results listed e3.
+    bound (end results.1) _ c e3 (λ done ended e4.
+    let same : ◌≡◌ {A = WrittenChild} (record { sort = sort.0; args = args.0; results = results.0 }) c = cc in
+    let taken = between_sound 40 41 sort.1 args (name_sound ls sort s found).1 read in
+    subst ChildFine same (taken.0, (names_between_sound 60 62 args.1 results taken.1 listed).0)))))
+
+front_sound : (l : Lexeme) (ps : List (List Lexeme)) → IsSound l → Each AreSound ps → Each AreSound (in_front l ps)
+front_sound l [] s h = ((s, tt), tt)
+front_sound l (p ∷ ps) s h = ((s, h.0), h.1)
+
+pieces_sound : (ls : List Lexeme) → AreSound ls → Each AreSound (pieces ls)
+pieces_sound [] s = (tt, tt)
+pieces_sound (l ∷ ls) s = elim (is_semicolon l) as (λ b. Each AreSound (cond b ([] ∷ pieces ls) (in_front l (pieces ls)))) [ true ↦ (tt, pieces_sound ls s.1) | false ↦ front_sound l (pieces ls) s.0 (pieces_sound ls s.1) ]
+
 both : (ts us : List Written) → all_have_contents ts ≡ true → all_have_contents us ≡ true → all_have_contents (ts ++ us) ≡ true
 both [] us h k = k
 both (t ∷ ts) us h k = λ i. and_left (has_contents t) (all_have_contents ts) h i && both ts us (and_right (has_contents t) (all_have_contents ts) h) k i
 
-children_fine : (ps : List (List Lexeme)) (cs : List WrittenChild) → Each AreSound ps → children_of ps ≡ Some cs → all_have_contents (args_of cs) ≡ true
+both_named : (xs ys : List (List ℕ)) → are_names xs ≡ true → are_names ys ≡ true → are_names (xs ++ ys) ≡ true
+both_named [] ys h k = k
+both_named (x ∷ xs) ys h k = λ i. and_left (is_name x) (are_names xs) h i && both_named xs ys (and_right (is_name x) (are_names xs) h) k i
+
+abbrev ChildrenFine : List WrittenChild → Type 0
+ChildrenFine cs = (all_have_contents (args_of cs) ≡ true) × (are_names (results_of cs) ≡ true)
+
+children_fine : (ps : List (List Lexeme)) (cs : List WrittenChild) → Each AreSound ps → children_of ps ≡ Some cs → ChildrenFine cs
 children_fine [] cs s e =
-    let same : ◌≡◌ {A = List WrittenChild} [] cs = cc in subst (λ ds. all_have_contents (args_of ds) ≡ true) same refl
+    let same : ◌≡◌ {A = List WrittenChild} [] cs = cc in subst ChildrenFine same (refl, refl)
 children_fine (p ∷ ps) cs s e =
     bound (child_of p) _ cs e (λ c found e1. bound (children_of ps) _ cs e1 (λ more read e2.
     let same : ◌≡◌ {A = List WrittenChild} (c ∷ more) cs = cc in
-    subst (λ ds. all_have_contents (args_of ds) ≡ true) same (both c.args (args_of more) (child_fine p c s.0 found) (children_fine ps more s.1 read))))
+    let first = child_fine p c s.0 found in
+    let later = children_fine ps more s.1 read in
+    subst ChildrenFine same (both c.args (args_of more) first.0 later.0, both_named c.results (results_of more) first.1 later.1)))
 
-rest_fine : (ls : List Lexeme) (cs : List WrittenChild) → AreSound ls → rest_of_rule ls ≡ Some cs → all_have_contents (args_of cs) ≡ true
+rest_fine : (ls : List Lexeme) (cs : List WrittenChild) → AreSound ls → rest_of_rule ls ≡ Some cs → ChildrenFine cs
 rest_fine [] cs s e =
-    let same : ◌≡◌ {A = List WrittenChild} [] cs = cc in subst (λ ds. all_have_contents (args_of ds) ≡ true) same refl
+    let same : ◌≡◌ {A = List WrittenChild} [] cs = cc in subst ChildrenFine same (refl, refl)
 rest_fine (Mark b ∷ ls) cs s e = by_test (nat_eq b 61) e
   where
-    by_test : (t : Bool) → cond t (children_of (pieces ls)) None ≡ Some cs → all_have_contents (args_of cs) ≡ true
+    by_test : (t : Bool) → cond t (children_of (pieces ls)) None ≡ Some cs → ChildrenFine cs
     by_test true h = children_fine (pieces ls) cs (pieces_sound ls s.1) h
     by_test false h = cc
 rest_fine (Name n ∷ ls) cs s e = cc
@@ -175,10 +215,11 @@ rule_declared ls l s e =
     let same : RuleLine rule ≡ l = cc in
     let first = name_sound ls n s f1 in
     let behind_params = names_in_braces_sound n.1 params first.1 f2 in
-    let behind_sort = name_sound colon sort (mark_sound 58 params.1 colon behind_params f3) f4 in
+    let behind_sort = name_sound colon sort (mark_sound 58 params.1 colon behind_params.1 f3) f4 in
     let pattern = between_sound 40 41 sort.1 patterns behind_sort.1 f5 in
     let result = between_sound 60 62 patterns.1 results pattern.1 f6 in
-    subst IsDeclared same (first.0, both patterns.0 (uses_of rule) pattern.0 (both (args_of children) results.0 (rest_fine results.1 children result.1 f7) result.0)))))))))
+    let subtasks = rest_fine results.1 children result.1 f7 in
+    subst IsDeclared same (first.0, (both patterns.0 (uses_of rule) pattern.0 (both (args_of children) results.0 subtasks.0 result.0), both_named params.0 (results_of children) behind_params.0 subtasks.1)))))))))
 
 chosen : (t : Bool) (x y : Option Line) (l : Line) → (x ≡ Some l → IsDeclared l) → (y ≡ Some l → IsDeclared l) → cond t x y ≡ Some l → IsDeclared l
 chosen true x y l f g e = f e

@@ -1,7 +1,7 @@
 -- What was read as a line is spelled so.
 use Rattle.std.proofs.Common.{◌≡◌, ℕ, Bool, true, false, cond, ◌&&◌, List, [], ◌∷◌, ◌++◌, Option, None, Some, option_map, option_and_then, codes, nat_eq, refl, sym, ap, ◌∙◌, subst, append_assoc, append-nil, arith}
 use Rattle.aw_term.specs.Trees.{Never, nats_eq}
-use Rattle.aw_base.specs.Written.{Written, Word, Apply, Literal, WrittenChild, WrittenRule, side_by_side}
+use Rattle.aw_grammar.specs.Written.{Written, Word, Apply, Literal, WrittenChild, WrittenRule, side_by_side}
 use Rattle.aw_form.specs.Lexemes.{Lexeme, Name, Number, Node, Quoted, Mark}
 use Rattle.aw_form.specs.Terms.{spellings, terms_up_to, some_terms_up_to, name_of, names_of}
 use Rattle.aw_form.specs.Forms.{◌>>=◌, name, number, mark, end, only, terms_between, names_between, terms_in_braces, names_in_braces}

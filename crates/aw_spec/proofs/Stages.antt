@@ -1,11 +1,11 @@
 -- Lines of early kinds declare neither sorts nor rules.
 use Rattle.std.proofs.Common.{◌≡◌, ℕ, ◌<◌, ◌≤◌, zero, refl, subst, Bool, true, false, cond, List, [], ◌∷◌, ◌++◌, map, length, arith, Option, None, Some}
-use Rattle.aw_base.specs.declared.fault.DeclKind.{DeclKind}
-use Rattle.aw_base.specs.Declarations.{Declarations, with_role, with_con, with_sort, with_start}
-use Rattle.aw_base.specs.Kinds.{role_kind, con_kind, sort_kind, start_kind}
+use Rattle.aw_grammar.specs.declared.fault.DeclKind.{DeclKind}
+use Rattle.aw_grammar.specs.Declarations.{Declarations, with_role, with_con, with_sort, with_start}
+use Rattle.aw_grammar.specs.Kinds.{role_kind, con_kind, sort_kind, start_kind}
 use Rattle.aw_face.specs.Faces.{is_offered, is_used}
-use Rattle.aw_base.specs.Declarations.{sort_names}
-use Rattle.aw_base.specs.NodeNames.{number_named}
+use Rattle.aw_grammar.specs.Declarations.{sort_names}
+use Rattle.aw_grammar.specs.Named.{number_named}
 use Rattle.aw_spec.specs.declared.fault.SpecKind.TheVariants.{Double}
 use Rattle.aw_spec.specs.Lines.{Line, RoleLine, ConLine, SortLine, StartLine, OfferLine, UseLine, RuleLine, ScheduleLine}
 use Rattle.aw_spec.specs.Reading.{Spec, Step, On, Wrong, Stop, declaring, offering, using_by, using_sort, says, stage_of}

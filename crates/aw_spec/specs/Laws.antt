@@ -1,7 +1,7 @@
 -- A line of a specification is read just as it is spelled.
 use Rattle.std.specs.Prelude.{◌≡◌, List, Some}
 use Rattle.aw_term.specs.WellFormed.{Each}
-use Rattle.aw_base.specs.Written.{WrittenChild, side_by_side}
+use Rattle.aw_grammar.specs.Written.{WrittenChild, side_by_side}
 use Rattle.aw_form.specs.Lexemes.{Lexeme}
 use Rattle.aw_form.specs.Laws.{AreWritten}
 use Rattle.aw_spec.specs.Lines.{Line, RoleLine, ConLine, SortLine, StartLine, OfferLine, UseLine, RuleLine, ScheduleLine, line_spelling}

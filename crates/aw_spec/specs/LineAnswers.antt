@@ -1,7 +1,7 @@
 -- What reading one line answers.
 use Rattle.std.specs.Prelude.{◌≡◌, Result, Ok, Err}
-use Rattle.aw_base.specs.declared.fault.AddFault.{AddFault}
-use Rattle.aw_base.specs.declared.fault.AddFault.TheVariants as add
+use Rattle.aw_grammar.specs.declared.fault.AddFault.{AddFault}
+use Rattle.aw_grammar.specs.declared.fault.AddFault.TheVariants as add
 use Rattle.aw_lex.specs.declared.token.LexFault.{LexFault}
 use Rattle.aw_lex.specs.declared.token.LexFault.TheVariants as lex
 use Rattle.aw_form.specs.declared.unread.Unread.{Unread}

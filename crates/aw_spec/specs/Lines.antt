@@ -1,6 +1,6 @@
 -- The lines of a specification, and how each is spelled in lexemes.
 use Rattle.std.specs.Prelude.{ℕ, List, [], ◌∷◌, ◌++◌, codes}
-use Rattle.aw_base.specs.Written.{Written, WrittenChild, WrittenRule, side_by_side, Word}
+use Rattle.aw_grammar.specs.Written.{Written, WrittenChild, WrittenRule, side_by_side, Word}
 use Rattle.aw_form.specs.Lexemes.{Lexeme, Name, Number, Mark}
 use Rattle.aw_form.specs.Terms.{spellings}
 

@@ -3,15 +3,15 @@ use Rattle.std.specs.Prelude.{ℕ, suc, Bool, List, [], ◌∷◌, ◌++◌, Opt
 use Rattle.aw_lex.specs.declared.token.Token.{Token}
 use Rattle.aw_lex.specs.Tokens.{tokens_of}
 use Rattle.aw_lex.specs.Lines.{passed_over}
-use Rattle.aw_base.specs.declared.raw.RawCon.{RawCon}
-use Rattle.aw_base.specs.declared.raw.RawSort.{RawSort}
-use Rattle.aw_base.specs.declared.fault.DeclKind.{DeclKind}
-use Rattle.aw_base.specs.declared.fault.DeclKind.TheVariants as decl
-use Rattle.aw_base.specs.Written.{WrittenRule}
-use Rattle.aw_base.specs.GrammarView.{sorts_of}
-use Rattle.aw_base.specs.NodeNames.{number_named}
-use Rattle.aw_base.specs.Declarations.{Declarations, no_declarations, sort_names, entry_of, with_role, with_con, with_sort, with_start, with_rule}
-use Rattle.aw_base.specs.Kinds.{role_kind, con_kind, sort_kind, start_kind, rule_kind}
+use Rattle.aw_grammar.specs.declared.raw.RawCon.{RawCon}
+use Rattle.aw_grammar.specs.declared.raw.RawSort.{RawSort}
+use Rattle.aw_grammar.specs.declared.fault.DeclKind.{DeclKind}
+use Rattle.aw_grammar.specs.declared.fault.DeclKind.TheVariants as decl
+use Rattle.aw_grammar.specs.Written.{WrittenRule}
+use Rattle.aw_grammar.specs.GrammarView.{sorts_of}
+use Rattle.aw_grammar.specs.Named.{number_named}
+use Rattle.aw_grammar.specs.Declarations.{Declarations, no_declarations, sort_names, entry_of, with_role, with_con, with_sort, with_start, with_rule}
+use Rattle.aw_grammar.specs.Kinds.{role_kind, con_kind, sort_kind, start_kind, rule_kind}
 use Rattle.aw_form.specs.Lexemes.{lexemes}
 use Rattle.aw_face.specs.declared.faces.Using.{Using}
 use Rattle.aw_face.specs.declared.faces.FaceKind.{FaceKind}

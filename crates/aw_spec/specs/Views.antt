@@ -1,8 +1,8 @@
 -- Lines and specifications of the program as the definitions speak of them.
 use Rattle.std.specs.Prelude.{List}
-use Rattle.aw_base.specs.declared.grammar.Grammar.{Grammar}
-use Rattle.aw_base.specs.GrammarOf.{declarations_of}
-use Rattle.aw_base.specs.Written.{rule_of_raw}
+use Rattle.aw_grammar.specs.declared.grammar.Grammar.{Grammar}
+use Rattle.aw_grammar.specs.GrammarOf.{declarations_of}
+use Rattle.aw_grammar.specs.Written.{rule_of_raw}
 use Rattle.aw_face.specs.declared.faces.Faces.{Faces}
 use Rattle.aw_spec.specs.declared.line.SpecLine.{SpecLine}
 use Rattle.aw_spec.specs.declared.line.SpecLine.TheVariants as line

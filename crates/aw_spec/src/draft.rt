@@ -2,11 +2,11 @@
 ghost use Rattle.std.specs.Prelude.{◌≡◌, ◌≤◌, ◌++◌, ◌∷◌, ◌<◌, ◌-◌, [], true, ℕ, List, length, map, slice_get, IfSome, Some, option_map};
 ghost use Rattle.std.specs.Option.{option_copied};
 ghost use Rattle.aw_text.specs.Spelling.{is_name};
-ghost use Rattle.aw_base.specs.Declarations.{Entry};
-ghost use Rattle.aw_base.specs.GrammarOf.{entry};
-ghost use Rattle.aw_base.specs.GrammarView.{sorts_of};
-ghost use Rattle.aw_base.specs.Terms.{all_have_contents, terms_of};
-ghost use Rattle.aw_base.specs.Written.{rule_of_raw};
+ghost use Rattle.aw_grammar.specs.Declarations.{Entry};
+ghost use Rattle.aw_grammar.specs.GrammarOf.{entry};
+ghost use Rattle.aw_grammar.specs.GrammarView.{sorts_of};
+ghost use Rattle.aw_grammar.specs.Terms.{all_have_contents, are_names, results_of, terms_of};
+ghost use Rattle.aw_grammar.specs.Written.{rule_of_raw};
 ghost use Rattle.aw_face.specs.Faces as face;
 ghost use Rattle.aw_spec.specs.Lines as lines;
 ghost use Rattle.aw_spec.specs.Reading.{says, stage_of, decl_kind, face_kind};
@@ -213,6 +213,7 @@ impl Draft {
     fn add_rule(self, rule: RawRule) -> Result<Draft, LineFault>
         requires named { is_name rule.name ≡ true }
         requires contents { all_have_contents (terms_of (rule_of_raw rule)) ≡ true }
+        requires variables { are_names ((rule_of_raw rule).params ++ results_of (rule_of_raw rule).children) ≡ true }
         ensures { Adds result (says (spec_so_far self) (lines.RuleLine (rule_of_raw rule))) }
     {
         let Draft { grammar, faces } = self;

@@ -2,7 +2,7 @@
 ghost use Rattle.std.specs.Prelude.{◌≡◌, ◌<◌, ◌∷◌, length, map, ℕ, List, IfSome, option_map, position};
 ghost use Rattle.std.specs.Option.{option_copied};
 ghost use Rattle.aw_term.specs.Trees.{nats_eq};
-ghost use Rattle.aw_base.specs.Written.{child_of_raw};
+ghost use Rattle.aw_grammar.specs.Written.{child_of_raw};
 ghost use Rattle.aw_form.specs.Lexemes.{lexemes};
 ghost use Rattle.aw_form.specs.Gives.{Gives};
 ghost use Rattle.aw_form.specs.Forms as form;

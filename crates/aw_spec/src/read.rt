@@ -1,8 +1,8 @@
 //! Reading the specification at the front of a text.
 ghost use Rattle.std.specs.Prelude.{◌≡◌, ◌≤◌, length, drop, IfOk, None};
 ghost use Rattle.aw_lex.specs.Lines.{lines_of};
-ghost use Rattle.aw_base.specs.Declarations.{grammar_in, words_in};
-ghost use Rattle.aw_base.specs.GrammarOf.{grammar_of, words_of, declarations_of};
+ghost use Rattle.aw_grammar.specs.Declarations.{grammar_in, words_in};
+ghost use Rattle.aw_grammar.specs.GrammarOf.{grammar_of, words_of, declarations_of};
 ghost use Rattle.aw_face.specs.Faces.{face_fault};
 ghost use Rattle.aw_spec.specs.Reading.{specification};
 ghost use Rattle.aw_spec.specs.Answers.{Spells, at_line};

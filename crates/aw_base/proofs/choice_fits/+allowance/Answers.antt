@@ -1,8 +1,7 @@
-use Rattle.std.proofs.Common.{◌≡◌, ◌+◌, ◌∙◌, sym, ap, arith, cond, map, Option, None, Some}
-use Rattle.aw_term.specs.Rules.{Ground as Plain}
+use Rattle.std.proofs.Common.{◌≡◌, ◌∙◌, sym, ap, arith, cond, map, None}
 use Rattle.aw_term.specs.Views.{ground_of}
 use Rattle.aw_term.proofs.ViewLemmas.{ground_con}
-use Rattle.aw_base.specs.GrammarOf.{grammar_of}
+use Rattle.aw_grammar.specs.GrammarOf.{grammar_of}
 use Rattle.aw_base.specs.Allowance.{left_after, left_after_all}
 use Rattle.aw_base.proofs.Allowances.{no_levels, no_symbols, made_by}
 use Rattle.aw_base.proofs.choice_fits.+allowance.Goals as goal

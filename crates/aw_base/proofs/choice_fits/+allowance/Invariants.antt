@@ -1,6 +1,6 @@
 use Rattle.std.proofs.Common.{◌≡◌, ◌*◌, ◌+◌, drop, map}
 use Rattle.aw_term.specs.Views.{ground_of}
-use Rattle.aw_base.specs.GrammarOf.{grammar_of}
+use Rattle.aw_grammar.specs.GrammarOf.{grammar_of}
 use Rattle.aw_base.specs.Allowance.{left_after_all}
 use Rattle.aw_base.proofs.choice_fits.+allowance.Given as goal
 

@@ -1,6 +1,6 @@
 use Rattle.std.proofs.Common.{◌≡◌, drop}
 use Rattle.aw_term.specs.Rules.{sort_after}
-use Rattle.aw_base.specs.GrammarOf.{grammar_of}
+use Rattle.aw_grammar.specs.GrammarOf.{grammar_of}
 use Rattle.aw_base.proofs.names.sort_after.Given as goal
 
 abbrev pub invariant-loop-step : goal.invariant-loop-step

@@ -1,5 +1,5 @@
-use Rattle.std.proofs.Common.{◌≡◌, ◌∙◌, suc, ap, arith, option_map}
-use Rattle.aw_base.specs.declared.rule.Child.{Child}
+use Rattle.std.proofs.Common.{◌∙◌, ap, arith, option_map}
+use Rattle.aw_grammar.specs.declared.rule.Child.{Child}
 use Rattle.aw_base.proofs.ChildPlaces.{child_sort}
 use Rattle.aw_base.proofs.names.sort_of_child.Goals as goal
 

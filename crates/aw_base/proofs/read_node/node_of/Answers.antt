@@ -1,8 +1,6 @@
-use Rattle.std.proofs.Common.{◌≡◌, ◌∙◌, sym, ap, subst, option_copied, is_some, true}
+use Rattle.std.proofs.Common.{◌∙◌, sym, ap, option_copied}
 use Rattle.aw_text.specs.Spelling.{steps_of, parts_behind}
-use Rattle.aw_term.specs.Names.{Node}
-use Rattle.aw_term.specs.Rules.{sort_of}
-use Rattle.aw_base.specs.GrammarOf.{grammar_of, words_of}
+use Rattle.aw_grammar.specs.GrammarOf.{grammar_of, words_of}
 use Rattle.aw_base.specs.NodeNames.{first_misfit}
 use Rattle.aw_base.proofs.NodeReads.{few_steps}
 use Rattle.aw_base.proofs.ValidNodes.{node_valid}

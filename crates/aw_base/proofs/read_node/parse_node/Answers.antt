@@ -1,7 +1,7 @@
 use Rattle.std.proofs.Common.{◌∙◌, refl, sym, ap, arith, is_some}
 use Rattle.aw_text.specs.NodeParts.{begins}
 use Rattle.aw_text.specs.Spelling.{parts_of_name}
-use Rattle.aw_base.specs.GrammarOf.{grammar_of, words_of}
+use Rattle.aw_grammar.specs.GrammarOf.{grammar_of, words_of}
 use Rattle.aw_base.proofs.NodeReads.{long_name, short_name}
 use Rattle.aw_base.proofs.read_node.parse_node.Goals as goal
 

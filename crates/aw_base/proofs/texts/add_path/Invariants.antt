@@ -1,7 +1,5 @@
-use Rattle.std.proofs.Common.{◌≡◌, ◌++◌, drop, take, codes, flat_map}
+use Rattle.std.proofs.Common.{◌≡◌, ◌++◌, take, codes, flat_map}
 use Rattle.std.specs.Fmt.{decimal}
-use Rattle.aw_term.specs.Artifacts.{steps_text}
-use Rattle.aw_base.specs.GrammarOf.{words_of}
 use Rattle.aw_base.proofs.texts.add_path.Given as goal
 
 abbrev pub invariant-loop-step : goal.invariant-loop-step

@@ -1,6 +1,6 @@
 use Rattle.std.proofs.Common.{◌∙◌, ap, ◌++◌}
 use Rattle.std.specs.Fmt.{decimal}
-use Rattle.aw_base.specs.ChoiceView.{path_of}
+use Rattle.aw_choice.specs.ChoiceView.{path_of}
 use Rattle.aw_base.proofs.NamesAt.{place_added}
 use Rattle.aw_base.proofs.texts.add_place.Goals as goal
 

@@ -1,6 +1,6 @@
 use Rattle.std.proofs.Common.{◌∙◌, sym, ap, [], option_map}
 use Rattle.std.specs.Prelude.{unwrap_or}
-use Rattle.aw_base.specs.declared.rule.Con.{Con}
+use Rattle.aw_grammar.specs.declared.rule.Con.{Con}
 use Rattle.aw_base.proofs.NamesAt.{name_of_at}
 use Rattle.aw_base.proofs.texts.con_name.Goals as goal
 

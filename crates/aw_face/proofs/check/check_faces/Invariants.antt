@@ -1,5 +1,5 @@
 use Rattle.std.proofs.Common.{◌≡◌, ◌-◌, drop, length}
-use Rattle.aw_base.specs.GrammarOf.{grammar_of}
+use Rattle.aw_grammar.specs.GrammarOf.{grammar_of}
 use Rattle.aw_face.specs.Faces.{face_fault}
 use Rattle.aw_face.proofs.RuleSteps.{faults_from}
 use Rattle.aw_face.proofs.check.check_faces.Given as goal

@@ -1,5 +1,5 @@
 use Rattle.std.proofs.Common.{◌≡◌, ◌+◌, ◌≤◌, length, map}
-use Rattle.aw_base.specs.GrammarView.{sorts_of, child_of}
+use Rattle.aw_grammar.specs.GrammarView.{sorts_of, child_of}
 use Rattle.aw_face.specs.Faces as face
 use Rattle.aw_face.proofs.check.children_fault.Given as goal
 

@@ -3,9 +3,9 @@ use Rattle.std.proofs.Math.Logic.{∥∥₁_elim}
 use Rattle.std.proofs.lemmas.List.{length-map}
 use Rattle.std.proofs.lemmas.Option.{slice_get_within}
 use Rattle.std.specs.Coded.{le_prop}
-use Rattle.aw_base.specs.GrammarOf.{grammar_of}
-use Rattle.aw_base.specs.declared.rule.Rule.{Rule}
-use Rattle.aw_base.proofs.Fits.{if_found}
+use Rattle.aw_grammar.specs.GrammarOf.{grammar_of}
+use Rattle.aw_grammar.specs.declared.rule.Rule.{Rule}
+use Rattle.aw_grammar.proofs.Fits.{if_found}
 use Rattle.aw_face.proofs.RuleSteps.{few_children}
 use Rattle.aw_face.proofs.check.declared_rule.Goals as goal
 

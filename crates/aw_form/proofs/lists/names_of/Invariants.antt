@@ -1,5 +1,5 @@
 use Rattle.std.proofs.Common.{◌≡◌, length, map}
-use Rattle.aw_base.specs.Written.{written_of}
+use Rattle.aw_grammar.specs.Written.{written_of}
 use Rattle.aw_form.specs.Terms as terms
 use Rattle.aw_form.proofs.ReaderLemmas.{behind}
 use Rattle.aw_form.proofs.lists.names_of.Given as goal

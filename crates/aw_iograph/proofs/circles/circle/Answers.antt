@@ -1,5 +1,5 @@
 use Rattle.std.proofs.Common.{List, sym, subst}
-use Rattle.aw_base.specs.GrammarView.{rule_of}
+use Rattle.aw_grammar.specs.GrammarView.{rule_of}
 use Rattle.aw_iograph.specs.declared.reach.Arc.{Arc}
 use Rattle.aw_iograph.specs.Graphs.{IsWithin}
 use Rattle.aw_iograph.specs.Pairs.{Has}

@@ -1,5 +1,5 @@
 use Rattle.std.proofs.Common.{◌≡◌, ◌+◌, ◌++◌, map, drop}
-use Rattle.aw_base.specs.GrammarView.{child_of}
+use Rattle.aw_grammar.specs.GrammarView.{child_of}
 use Rattle.aw_iograph.specs.Occurrences.{child_flows}
 use Rattle.aw_iograph.proofs.graph.flow_children.Given as goal
 

@@ -1,5 +1,5 @@
 use Rattle.std.proofs.Common.{List, ap, sym, ◌∙◌, subst}
-use Rattle.aw_base.specs.GrammarView.{rule_of}
+use Rattle.aw_grammar.specs.GrammarView.{rule_of}
 use Rattle.aw_iograph.specs.declared.occ.Flow.{Flow}
 use Rattle.aw_iograph.specs.Graphs.{Member}
 use Rattle.aw_iograph.specs.Occurrences.{text_flows}

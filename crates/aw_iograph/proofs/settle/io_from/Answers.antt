@@ -1,5 +1,5 @@
 use Rattle.std.proofs.Common.{List, Bool, subst, sym}
-use Rattle.aw_base.specs.GrammarOf.{grammar_of}
+use Rattle.aw_grammar.specs.GrammarOf.{grammar_of}
 use Rattle.aw_iograph.specs.Dependence.{Follows}
 use Rattle.aw_iograph.specs.Pairs.{Has, HasMark}
 use Rattle.aw_iograph.proofs.Relations.{follows_least}

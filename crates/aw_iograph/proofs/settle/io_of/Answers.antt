@@ -1,4 +1,4 @@
-use Rattle.aw_base.specs.GrammarOf.{grammar_of}
+use Rattle.aw_grammar.specs.GrammarOf.{grammar_of}
 use Rattle.aw_iograph.specs.Pairs.{Has}
 use Rattle.aw_iograph.proofs.Relations.{io_least, follows_none}
 use Rattle.aw_iograph.proofs.settle.io_of.Goals as goal

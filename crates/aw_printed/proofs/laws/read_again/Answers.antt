@@ -1,5 +1,5 @@
 use Rattle.std.proofs.Common.{◌∙◌}
-use Rattle.aw_base.specs.GrammarOf.{grammar_of, words_of}
+use Rattle.aw_grammar.specs.GrammarOf.{grammar_of, words_of}
 use Rattle.aw_base.specs.NodeNames.{node_read}
 use Rattle.aw_printed.proofs.Outcomes.{ok_named, err_named}
 use Rattle.aw_printed.proofs.ProgramNodes.{read_by_grammar}

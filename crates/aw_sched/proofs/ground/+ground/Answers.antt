@@ -2,10 +2,10 @@ use Rattle.std.proofs.Common.{◌≡◌, ◌∙◌, sym, ap, map, subst, List}
 use Rattle.std.specs.Prelude.{Err}
 use Rattle.aw_term.specs.declared.ground.Ground.{Ground}
 use Rattle.aw_term.specs.Views.{ground_of}
-use Rattle.aw_base.specs.Written.{Apply, side_by_side, written_of}
-use Rattle.aw_base.specs.GrammarOf.{words_of}
-use Rattle.aw_base.specs.NodeNames.{number_named}
-use Rattle.aw_base.proofs.WrittenLemmas.{written_apply}
+use Rattle.aw_grammar.specs.Written.{Apply, side_by_side, written_of}
+use Rattle.aw_grammar.specs.GrammarOf.{words_of}
+use Rattle.aw_grammar.specs.Named.{number_named}
+use Rattle.aw_grammar.proofs.WrittenLemmas.{written_apply}
 use Rattle.aw_sched.specs.Grounds.{Finds, known_ground, known_grounds}
 use Rattle.aw_sched.proofs.KnownGrounds.{word_known, apply_known, apply_unknown, error_is}
 use Rattle.aw_sched.proofs.ground.+ground.Goals as goal

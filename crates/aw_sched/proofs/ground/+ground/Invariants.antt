@@ -1,7 +1,7 @@
 use Rattle.std.proofs.Common.{◌≡◌, ◌++◌, drop, map, option_map}
 use Rattle.aw_term.specs.Views.{ground_of}
-use Rattle.aw_base.specs.Written.{written_of}
-use Rattle.aw_base.specs.GrammarOf.{words_of}
+use Rattle.aw_grammar.specs.Written.{written_of}
+use Rattle.aw_grammar.specs.GrammarOf.{words_of}
 use Rattle.aw_sched.specs.Grounds.{known_grounds}
 use Rattle.aw_sched.proofs.ground.+ground.Given as goal
 

@@ -1,5 +1,5 @@
 use Rattle.std.proofs.Common.{◌∙◌, arith}
-use Rattle.aw_base.specs.Written.{written_of}
+use Rattle.aw_grammar.specs.Written.{written_of}
 use Rattle.aw_sched.proofs.KnownGrounds.{none_is, past_is}
 use Rattle.aw_sched.proofs.ground.args_are_past.Goals as goal
 

@@ -1,6 +1,6 @@
 use Rattle.std.proofs.Common.{sym, map, subst}
-use Rattle.aw_base.specs.Written.{written_of}
-use Rattle.aw_base.specs.GrammarOf.{declarations_of, grammar_of, words_of}
+use Rattle.aw_grammar.specs.Written.{written_of}
+use Rattle.aw_grammar.specs.GrammarOf.{declarations_of, grammar_of, words_of}
 use Rattle.aw_base.specs.NodeNames.{node_named}
 use Rattle.aw_sched.specs.Lines.{ChooseLine}
 use Rattle.aw_sched.specs.Events.{event_of, is_long, line_kind}

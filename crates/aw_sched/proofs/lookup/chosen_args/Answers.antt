@@ -2,8 +2,8 @@ use Rattle.std.proofs.Common.{◌≡◌, ◌∙◌, sym, ap, subst, map, List}
 use Rattle.std.specs.Prelude.{Err}
 use Rattle.aw_term.specs.Views.{ground_of}
 use Rattle.aw_term.specs.declared.ground.Ground.{Ground}
-use Rattle.aw_base.specs.Written.{written_of}
-use Rattle.aw_base.specs.GrammarOf.{declarations_of, grammar_of, words_of}
+use Rattle.aw_grammar.specs.Written.{written_of}
+use Rattle.aw_grammar.specs.GrammarOf.{declarations_of, grammar_of, words_of}
 use Rattle.aw_sched.specs.Grounds.{Finds, known_grounds}
 use Rattle.aw_sched.specs.LineEvents.{GivesArgs}
 use Rattle.aw_sched.proofs.KnownGrounds.{error_is}

@@ -1,4 +1,4 @@
-use Rattle.aw_base.specs.GrammarOf.{words_of}
+use Rattle.aw_grammar.specs.GrammarOf.{words_of}
 use Rattle.aw_sched.proofs.LineLaws.{list_good, list_unknown}
 use Rattle.aw_sched.proofs.LookedUp.{named_within}
 use Rattle.aw_sched.proofs.lookup.list_event.Goals as goal

@@ -1,7 +1,7 @@
 use Rattle.std.proofs.Common.{◌≡◌, ◌∙◌, ◌∷◌, sym, ap, suc, subst, map, add-one}
 use Rattle.std.specs.Prelude.{Err}
 use Rattle.aw_lex.specs.Lines.{lines_of}
-use Rattle.aw_base.specs.GrammarOf.{declarations_of}
+use Rattle.aw_grammar.specs.GrammarOf.{declarations_of}
 use Rattle.aw_sched.specs.Schedules.{read_lines, schedule_of}
 use Rattle.aw_sched.specs.Answers.{Answers, event_seen}
 use Rattle.aw_sched.specs.LineEvents.{fault_at, with_events}

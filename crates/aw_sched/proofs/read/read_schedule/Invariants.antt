@@ -1,7 +1,7 @@
 use Rattle.std.proofs.Common.{◌≡◌, ◌+◌, ◌≤◌, suc, length, map}
 use Rattle.aw_lex.specs.Lines.{lines_of}
 use Rattle.aw_term.specs.WellFormed.{Each}
-use Rattle.aw_base.specs.GrammarOf.{declarations_of, grammar_of}
+use Rattle.aw_grammar.specs.GrammarOf.{declarations_of, grammar_of}
 use Rattle.aw_sched.specs.Schedules.{read_lines, schedule_of}
 use Rattle.aw_sched.specs.Answers.{MayCome, event_seen}
 use Rattle.aw_sched.specs.LineEvents.{with_events}

@@ -1,6 +1,6 @@
 use Rattle.std.proofs.Common.{◌∙◌, sym, ap, subst, map}
 use Rattle.std.specs.Prelude.{Ok}
-use Rattle.aw_base.specs.GrammarOf.{declarations_of}
+use Rattle.aw_grammar.specs.GrammarOf.{declarations_of}
 use Rattle.aw_sched.specs.Schedules.{in_front, read_line}
 use Rattle.aw_sched.specs.Answers.{event_seen}
 use Rattle.aw_sched.specs.LineEvents.{ReadsLine, with_events}

@@ -1,7 +1,7 @@
 use Rattle.std.proofs.Common.{◌≡◌, ◌+◌, ◌-◌, ◌∙◌, ap, length, arith}
-use Rattle.aw_base.specs.Declarations.{Entry}
-use Rattle.aw_base.specs.GrammarOf.{entry}
-use Rattle.aw_base.specs.GrammarView.{sorts_of, rule_of}
+use Rattle.aw_grammar.specs.Declarations.{Entry}
+use Rattle.aw_grammar.specs.GrammarOf.{entry}
+use Rattle.aw_grammar.specs.GrammarView.{sorts_of, rule_of}
 use Rattle.aw_face.specs.Faces.{rule_fault}
 use Rattle.aw_spec.proofs.LastRule.{at_last}
 use Rattle.aw_spec.proofs.draft.last_fault.Goals as goal

@@ -2,9 +2,9 @@ use Rattle.std.proofs.Common.{◌-◌}
 use Rattle.std.proofs.Math.Logic.{∥∥₁_elim}
 use Rattle.std.specs.Coded.{le_prop}
 use Rattle.aw_term.specs.WellFormed.{RuleFits}
-use Rattle.aw_base.specs.GrammarOf.{grammar_of}
-use Rattle.aw_base.specs.GrammarView.{rule_of}
-use Rattle.aw_base.proofs.Fits.{each_map_at}
+use Rattle.aw_grammar.specs.GrammarOf.{grammar_of}
+use Rattle.aw_grammar.specs.GrammarView.{rule_of}
+use Rattle.aw_grammar.proofs.Fits.{each_map_at}
 use Rattle.aw_spec.proofs.LastRule.{few_children}
 use Rattle.aw_spec.proofs.draft.last_rule.Goals as goal
 

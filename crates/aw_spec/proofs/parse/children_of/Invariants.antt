@@ -1,7 +1,7 @@
 use Rattle.std.proofs.Common.{◌≡◌, ◌+◌, ℕ, List, length, map, Option, Some, None, option_map}
 use Rattle.std.specs.Option.{option_copied}
 use Rattle.aw_lex.specs.declared.token.Token.{Token}
-use Rattle.aw_base.specs.Written.{child_of_raw}
+use Rattle.aw_grammar.specs.Written.{child_of_raw}
 use Rattle.aw_form.specs.Lexemes.{lexemes}
 use Rattle.aw_spec.specs.ReadLine as read
 use Rattle.aw_spec.specs.Pieces.{pieces_behind}

@@ -1,8 +1,8 @@
 use Rattle.std.proofs.Common.{◌≡◌, ◌∙◌, sym, ap, map, Some}
-use Rattle.aw_base.specs.Declarations.{Declarations, entry_of}
-use Rattle.aw_base.specs.GrammarOf.{entry}
-use Rattle.aw_base.specs.GrammarView.{sorts_of}
-use Rattle.aw_base.specs.Written.{rule_of_raw}
+use Rattle.aw_grammar.specs.Declarations.{Declarations, entry_of}
+use Rattle.aw_grammar.specs.GrammarOf.{entry}
+use Rattle.aw_grammar.specs.GrammarView.{sorts_of}
+use Rattle.aw_grammar.specs.Written.{rule_of_raw}
 use Rattle.aw_face.specs.Faces.{rule_fault}
 use Rattle.aw_spec.specs.Reading.{Wrong}
 use Rattle.aw_spec.specs.LineAnswers.{spec_so_far}

@@ -1,6 +1,6 @@
 use Rattle.std.proofs.Common.{◌≡◌, ◌<◌, ◌∙◌, sym, subst, arith, length, map, Ok}
 use Rattle.std.proofs.lemmas.List.{length-map}
-use Rattle.aw_base.specs.GrammarOf.{entry}
+use Rattle.aw_grammar.specs.GrammarOf.{entry}
 use Rattle.aw_spec.specs.declared.draft.Said.{Said}
 use Rattle.aw_spec.specs.Reading.{says, stage_of}
 use Rattle.aw_spec.specs.LineAnswers.{Says, spec_so_far}

@@ -6,9 +6,13 @@ use Rattle.aw_spec.specs.declared.line.SpecLine.{SpecLine}
 use Rattle.aw_spec.specs.ReadLine.{line_of}
 use Rattle.aw_spec.specs.ReaderAnswers.{draft_of}
 use Rattle.aw_spec.specs.Views.{line_seen}
-use Rattle.aw_spec.proofs.LineFaults.{unread_line}
+use Rattle.aw_spec.proofs.LineFaults.{untokened_line, unread_line}
 use Rattle.aw_spec.proofs.SoundLines.{line_declared}
 use Rattle.aw_spec.proofs.reader.Reader.read_line.Goals as goal
+
+pub returns-in_err-tokens : goal.returns-in_err-tokens
+returns-in_err-tokens c =
+    untokened_line (draft_of c.args.self) c.args.line.now c.in_err-tokens.field-0.0 c.from_residual.result c.from_residual.ensures.1 (sym c.if-is_passed_over.ensures) c.in_err-tokens.ensures.exact
 
 pub returns-in_err-spelled : goal.returns-in_err-spelled
 returns-in_err-spelled c =

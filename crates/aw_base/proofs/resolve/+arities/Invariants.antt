@@ -1,7 +1,0 @@
-use Rattle.std.proofs.Common.{◌≡◌, drop, map}
-use Rattle.aw_base.specs.Written.{written_of}
-use Rattle.aw_base.specs.Kinds.{all_have_arities}
-use Rattle.aw_base.proofs.resolve.+arities.Given as goal
-
-abbrev pub invariant-have_arities-loop-term : goal.invariant-have_arities-loop-term
-invariant-have_arities-loop-term l = all_have_arities l.grammar.cons (map written_of (drop l.term-index l.term-items)) ≡ all_have_arities l.grammar.cons (map written_of l.terms)

@@ -1,0 +1,145 @@
+-- Declarations in turn: what is left to look at after one of them.
+use Rattle.std.proofs.Common.{◌≡◌, ℕ, suc, ◌+◌, true, List, [], ◌∷◌, ◌++◌, Option, Some, None, Result, Ok, Err, refl, sym, ap, ◌∙◌, subst, arith, map}
+use Rattle.std.specs.Result.{IsErrAnd, IfOk}
+use Rattle.aw_term.specs.WellFormed.{IsWellFormed}
+use Rattle.aw_grammar.specs.declared.fault.DeclKind.{DeclKind}
+use Rattle.aw_grammar.specs.declared.fault.DeclPlace.{DeclPlace}
+use Rattle.aw_grammar.specs.declared.fault.AddFault.{AddFault}
+use Rattle.aw_grammar.specs.declared.fault.AddFault.TheVariants as add
+use Rattle.aw_grammar.specs.declared.fault.GrammarFault.{GrammarFault}
+use Rattle.aw_grammar.specs.declared.fault.GrammarFault.TheVariants as build
+use Rattle.aw_grammar.specs.declared.raw.RawCon.{RawCon}
+use Rattle.aw_grammar.specs.declared.raw.RawSort.{RawSort}
+use Rattle.aw_grammar.specs.declared.rule.Sort.{Sort}
+use Rattle.aw_grammar.specs.declared.rule.Rule.{Rule}
+use Rattle.aw_grammar.specs.GrammarView.{rule_of}
+use Rattle.aw_grammar.specs.declared.grammar.Grammar.{Grammar}
+use Rattle.aw_grammar.specs.Declarations.{Entry, Declarations, with_role, with_con, with_sort, grammar_in, words_in}
+use Rattle.aw_grammar.specs.GrammarOf.{declarations_of, entry, grammar_of, words_of}
+use Rattle.aw_grammar.specs.Build.{Declaration, kind_of, declare, here_or, first_fault, declare_all, placed, is_spelled, AllSpelled, Added, BuiltOn, fault_at, roles_placed, cons_placed, sorts_placed}
+
+suc_place : (n : ℕ) → n + 1 ≡ suc n
+suc_place n = omega arith
+
+pub fault_goes : {A : Type 0} (at : ℕ → DeclPlace) (wrap : A → Declaration) (d e : Declarations) (i : ℕ) (x : A) (rest left : List A) → left ≡ x ∷ rest → kind_of d (wrap x) ≡ None → e ≡ declare d (wrap x) → first_fault e (placed at wrap (i + 1) rest) ≡ first_fault d (placed at wrap i left)
+fault_goes at wrap d e i x rest left next none after =
+    ap (λ n. first_fault e (placed at wrap n rest)) (suc_place i) ∙ ap (λ f. first_fault f (placed at wrap (suc i) rest)) after
+    ∙ sym (ap (λ xs. first_fault d (placed at wrap i xs)) next ∙ ap (λ k. here_or (at i) k (first_fault (declare d (wrap x)) (placed at wrap (suc i) rest))) none)
+
+pub declared_goes : {A : Type 0} (at : ℕ → DeclPlace) (wrap : A → Declaration) (d e : Declarations) (i : ℕ) (x : A) (rest left : List A) → left ≡ x ∷ rest → e ≡ declare d (wrap x) → declare_all e (placed at wrap (i + 1) rest) ≡ declare_all d (placed at wrap i left)
+declared_goes at wrap d e i x rest left next after =
+    ap (λ n. declare_all e (placed at wrap n rest)) (suc_place i) ∙ ap (λ f. declare_all f (placed at wrap (suc i) rest)) after
+    ∙ sym (ap (λ xs. declare_all d (placed at wrap i xs)) next)
+
+pub spelled_goes : {A : Type 0} (at : ℕ → DeclPlace) (wrap : A → Declaration) (i : ℕ) (x : A) (rest left : List A) → left ≡ x ∷ rest → AllSpelled (placed at wrap i left) → (is_spelled (wrap x) ≡ true) × AllSpelled (placed at wrap (i + 1) rest)
+spelled_goes at wrap i x rest left next each =
+    let now = subst (λ xs. AllSpelled (placed at wrap i xs)) next each in
+    (now.0, subst (λ n. AllSpelled (placed at wrap n rest)) (sym (suc_place i)) now.1)
+
+-- a fault that is told here is the first
+pub stops_here : {A : Type 0} (at : ℕ → DeclPlace) (wrap : A → Declaration) (d old : Declarations) (i : ℕ) (x : A) (rest left : List A) (all : List (DeclPlace × Declaration)) (fault : AddFault) → left ≡ x ∷ rest → first_fault d (placed at wrap i left) ≡ first_fault old all → Added (kind_of d (wrap x)) (declare d (wrap x)) (Err fault) → BuiltOn old all (Err (fault_at (at i) fault))
+stops_here at wrap d old i x rest left all (add.Bad kind) next so_far told =
+    sym so_far ∙ ap (λ xs. first_fault d (placed at wrap i xs)) next ∙ ap (λ k. here_or (at i) k (first_fault (declare d (wrap x)) (placed at wrap (suc i) rest))) told
+stops_here at wrap d old i x rest left all add.NoMemory next so_far told = tt
+
+-- where nothing is left, all is declared
+pub all_done : {A : Type 0} (at : ℕ → DeclPlace) (wrap : A → Declaration) (old : Declarations) (i : ℕ) (left : List A) (all : List (DeclPlace × Declaration)) (g : Grammar) → left ≡ [] → first_fault (declarations_of g) (placed at wrap i left) ≡ first_fault old all → declare_all (declarations_of g) (placed at wrap i left) ≡ declare_all old all → BuiltOn old all (Ok g)
+all_done at wrap old i left all g none fault declared = (
+  sym fault ∙ ap (λ xs. first_fault (declarations_of g) (placed at wrap i xs)) none,
+  sym (ap (λ xs. declare_all (declarations_of g) (placed at wrap i xs)) none) ∙ declared,
+)
+
+none_of_map : {A B : Type 0} (f : A → B) (xs : List A) → map f xs ≡ [] → xs ≡ []
+none_of_map f [] h = refl
+none_of_map f (x ∷ xs) h = cc
+
+-- a declaration that is no rule leaves the grammar without rules
+pub still_no_rules : (g h : Grammar) → (declarations_of h).rules ≡ (declarations_of g).rules → g.rules ≡ [] → h.rules ≡ []
+still_no_rules g h same none = none_of_map (entry h.sorts) h.rules (same ∙ ap (map (entry g.sorts)) none)
+
+or_later : {P : Type 0} → Option (P × DeclKind) → Option (P × DeclKind) → Option (P × DeclKind)
+or_later None later = later
+or_later (Some f) later = Some f
+
+here_or_later : {P : Type 0} (p : P) (k : Option DeclKind) (rest later told : Option (P × DeclKind)) → told ≡ or_later rest later → here_or p k told ≡ or_later (here_or p k rest) later
+unfolding or_later
+here_or_later p None rest later told e = e
+here_or_later p (Some kind) rest later told e = refl
+
+fault_append : (d : Declarations) (xs ys : List (DeclPlace × Declaration)) → first_fault d (xs ++ ys) ≡ or_later (first_fault d xs) (first_fault (declare_all d xs) ys)
+unfolding or_later
+fault_append d [] ys = refl
+fault_append d (x ∷ xs) ys = here_or_later x.0 (kind_of d x.1) (first_fault (declare d x.1) xs) (first_fault (declare_all (declare d x.1) xs) ys) (first_fault (declare d x.1) (xs ++ ys)) (fault_append (declare d x.1) xs ys)
+
+declared_append : (d : Declarations) (xs ys : List (DeclPlace × Declaration)) → declare_all d (xs ++ ys) ≡ declare_all (declare_all d xs) ys
+declared_append d [] ys = refl
+declared_append d (x ∷ xs) ys = declared_append (declare d x.1) xs ys
+
+fault_after : (d e : Declarations) (xs ys : List (DeclPlace × Declaration)) → first_fault d xs ≡ None → e ≡ declare_all d xs → first_fault d (xs ++ ys) ≡ first_fault e ys
+unfolding or_later
+fault_after d e xs ys none same = fault_append d xs ys ∙ ap (λ o. or_later o (first_fault (declare_all d xs) ys)) none ∙ ap (λ f. first_fault f ys) (sym same)
+
+-- some declarations, and then more
+pub built_after : (d : Declarations) (xs ys : List (DeclPlace × Declaration)) (g : Grammar) (result : Result Grammar GrammarFault) → BuiltOn d xs (Ok g) → BuiltOn (declarations_of g) ys result → BuiltOn d (xs ++ ys) result
+built_after d xs ys g (Ok h) first later =
+    (fault_after d (declarations_of g) xs ys first.0 first.1 ∙ later.0, later.1 ∙ sym (declared_append d xs ys ∙ ap (λ f. declare_all f ys) (sym first.1)))
+built_after d xs ys g (Err (build.Bad place kind)) first later = fault_after d (declarations_of g) xs ys first.0 first.1 ∙ later
+built_after d xs ys g (Err build.NoMemory) first later = tt
+
+fault_before : (d : Declarations) (xs ys : List (DeclPlace × Declaration)) (f : DeclPlace × DeclKind) → first_fault d xs ≡ Some f → first_fault d (xs ++ ys) ≡ Some f
+unfolding or_later
+fault_before d xs ys f h = fault_append d xs ys ∙ ap (λ o. or_later o (first_fault (declare_all d xs) ys)) h
+
+built_before_err : (d : Declarations) (xs ys : List (DeclPlace × Declaration)) (fault : GrammarFault) → BuiltOn d xs (Err fault) → BuiltOn d (xs ++ ys) (Err fault)
+built_before_err d xs ys (build.Bad place kind) h = fault_before d xs ys (place, kind) h
+built_before_err d xs ys build.NoMemory h = tt
+
+pub stops_before : (d : Declarations) (xs ys : List (DeclPlace × Declaration)) (fault : GrammarFault) (result : Result Grammar GrammarFault) → IsErrAnd result (λ e. e ≡ fault) → BuiltOn d xs (Err fault) → BuiltOn d (xs ++ ys) result
+stops_before d xs ys fault (Ok g) h told = absurd h
+stops_before d xs ys fault (Err e) h told = subst (λ f. BuiltOn d (xs ++ ys) (Err f)) (sym h) (built_before_err d xs ys fault told)
+
+-- declarations that are no rules leave the rules as they are
+pub roles_keep : (d : Declarations) (i : ℕ) (names : List (List ℕ)) → (declare_all d (roles_placed i names)).rules ≡ d.rules
+roles_keep d i [] = refl
+roles_keep d i (x ∷ xs) = roles_keep (with_role d x) (suc i) xs
+
+pub cons_keep : (d : Declarations) (i : ℕ) (cons : List RawCon) → (declare_all d (cons_placed i cons)).rules ≡ d.rules
+cons_keep d i [] = refl
+cons_keep d i (x ∷ xs) = cons_keep (with_con d x) (suc i) xs
+
+pub sorts_keep : (d : Declarations) (i : ℕ) (sorts : List RawSort) → (declare_all d (sorts_placed i sorts)).rules ≡ d.rules
+sorts_keep d i [] = refl
+sorts_keep d i (x ∷ xs) = sorts_keep (with_sort d x) (suc i) xs
+
+pub rules_of_none : (g h : Grammar) (xs : List (DeclPlace × Declaration)) → BuiltOn (declarations_of g) xs (Ok h) → (declare_all (declarations_of g) xs).rules ≡ (declarations_of g).rules → g.rules ≡ [] → h.rules ≡ []
+rules_of_none g h xs built keep none = still_no_rules g h (ap (λ (z : Declarations). z.rules) built.1 ∙ keep) none
+
+plain_rules : (sorts : List Sort) (rules : List Rule) → map (rule_of sorts) rules ≡ map (λ (e : Entry). e.rule) (map (entry sorts) rules)
+plain_rules sorts [] = refl
+plain_rules sorts (r ∷ rules) = ap (λ us. rule_of sorts r ∷ us) (plain_rules sorts rules)
+
+plain_names : (sorts : List Sort) (rules : List Rule) → map (λ (r : Rule). r.name) rules ≡ map (λ (e : Entry). e.name) (map (entry sorts) rules)
+plain_names sorts [] = refl
+plain_names sorts (r ∷ rules) = ap (λ ns. r.name ∷ ns) (plain_names sorts rules)
+
+-- the grammar and the words of what is declared
+pub grammar_is : (g : Grammar) (d : Declarations) → declarations_of g ≡ d → grammar_of g ≡ grammar_in d
+grammar_is g d e = ap (λ rs. record (grammar_in (declarations_of g)) { rules = rs }) (plain_rules g.sorts g.rules) ∙ ap grammar_in e
+
+pub words_are : (g : Grammar) (d : Declarations) → declarations_of g ≡ d → words_of g ≡ words_in d
+words_are g d e = ap (λ rs. record (words_in (declarations_of g)) { rules = rs }) (plain_names g.sorts g.rules) ∙ ap words_in e
+
+pub no_rules_in : (g : Grammar) (d : Declarations) → declarations_of g ≡ d → d.rules ≡ [] → g.rules ≡ []
+no_rules_in g d e none = none_of_map (entry g.sorts) g.rules (ap (λ (z : Declarations). z.rules) e ∙ none)
+
+pub grammar_if_built : (items : List (DeclPlace × Declaration)) (d : Declarations) (result : Result Grammar GrammarFault) → BuiltOn d items result → IfOk result (λ g. grammar_of g ≡ grammar_in (declare_all d items))
+grammar_if_built items d (Ok g) built = grammar_is g (declare_all d items) built.1
+grammar_if_built items d (Err e) built = tt
+
+pub words_if_built : (items : List (DeclPlace × Declaration)) (d : Declarations) (result : Result Grammar GrammarFault) → BuiltOn d items result → IfOk result (λ g. words_of g ≡ words_in (declare_all d items))
+words_if_built items d (Ok g) built = words_are g (declare_all d items) built.1
+words_if_built items d (Err e) built = tt
+
+pub well_formed_if_built : (result : Result Grammar GrammarFault) → IfOk result (λ g. ∥ IsWellFormed (words_of g) (grammar_of g) ∥₁)
+well_formed_if_built (Ok g) = g.well_formed
+well_formed_if_built (Err e) = tt

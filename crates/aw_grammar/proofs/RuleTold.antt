@@ -1,0 +1,59 @@
+-- Which kind of a rule is told, group by group of tests.
+use Rattle.std.proofs.Common.{◌≡◌, ℕ, ◌≤◌, Bool, true, false, cond, not, ◌||◌, nat_le, nat_lt, List, [], ◌∷◌, ◌++◌, length, Option, Some, None, MatchOption, refl, sym, ap, ◌∙◌, arith}
+use Rattle.aw_index.specs.Places.{has_double}
+use Rattle.aw_grammar.specs.declared.fault.DeclKind.{DeclKind}
+use Rattle.aw_grammar.specs.declared.fault.DeclKind.TheVariants.{Limit, Twice, Never}
+use Rattle.aw_grammar.specs.declared.variables.Variables.{Variables}
+use Rattle.aw_grammar.specs.Written.{WrittenRule}
+use Rattle.aw_grammar.specs.Declarations.{Declarations}
+use Rattle.aw_grammar.specs.Kinds.{first_kind, is_past_counts}
+use Rattle.aw_grammar.proofs.NoKind.{neither}
+
+abbrev or_kind : Option DeclKind → Option DeclKind → Option DeclKind
+or_kind None later = later
+or_kind (Some k) later = Some k
+
+one_test : (test : Bool) (kind : DeclKind) (rest later told : Option DeclKind) → told ≡ or_kind rest later → cond test (Some kind) told ≡ or_kind (cond test (Some kind) rest) later
+one_test true kind rest later told e = refl
+one_test false kind rest later told e = e
+
+first_append : (xs ys : List (Bool × DeclKind)) → first_kind (xs ++ ys) ≡ or_kind (first_kind xs) (first_kind ys)
+first_append [] ys = refl
+first_append (x ∷ xs) ys = one_test x.0 x.1 (first_kind xs) (first_kind ys) (first_kind (xs ++ ys)) (first_append xs ys)
+
+pub either_false : (a b : Bool) → a ≡ false → b ≡ false → (a || b) ≡ false
+either_false a b h k = ap (λ x. x || b) h ∙ k
+
+-- where the tests before tell nothing, those after decide
+pub later_tests : (past : Bool) (before after : List (Bool × DeclKind)) → past ≡ false → None ≡ first_kind before → first_kind ((past, Limit) ∷ (before ++ after)) ≡ first_kind after
+later_tests past before after fits none =
+    ap (λ b. cond b (Some Limit) (first_kind (before ++ after))) fits ∙ first_append before after ∙ ap (λ o. or_kind o (first_kind after)) (sym none)
+
+pub terms_told : (past : Bool) (names terms variables : List (Bool × DeclKind)) (kind : DeclKind) → past ≡ false → None ≡ first_kind names → Some kind ≡ first_kind terms → first_kind ((past, Limit) ∷ (names ++ (terms ++ variables))) ≡ Some kind
+terms_told past names terms variables kind fits none told =
+    later_tests past names (terms ++ variables) fits none ∙ first_append terms variables ∙ ap (λ o. or_kind o (first_kind variables)) (sym told)
+
+pub variables_told : (past : Bool) (names terms variables : List (Bool × DeclKind)) → past ≡ false → None ≡ first_kind names → None ≡ first_kind terms → first_kind ((past, Limit) ∷ (names ++ (terms ++ variables))) ≡ first_kind variables
+variables_told past names terms variables fits none nothing =
+    later_tests past names (terms ++ variables) fits none ∙ first_append terms variables ∙ ap (λ o. or_kind o (first_kind variables)) (sym nothing)
+
+pub never_told : (double enter : Bool) → double ≡ false → enter ≡ false → first_kind ((double, Twice) ∷ (not enter, Never) ∷ []) ≡ Some Never
+never_told double enter h k = ap (λ b. cond b (Some Twice) (cond (not enter) (Some Never) None)) h ∙ ap (λ b. cond (not b) (Some Never) None) k
+
+-- what was found of names
+pub found_variables : (names : List (List ℕ)) (found : Option Variables) (v : Variables) → found ≡ Some v → MatchOption found (has_double names ≡ true) (λ w. (has_double names ≡ false) × (w.names ≡ names)) → (has_double names ≡ false) × (v.names ≡ names)
+found_variables names None v e h = cc
+found_variables names (Some w) v e h =
+    let same : w ≡ v = cc in
+    (h.0, sym (ap (λ (u : Variables). u.names) same) ∙ h.1)
+
+small_count : (n : ℕ) → nat_lt 8 n ≡ false → n ≤ 8
+small_count n h = grind arith
+
+pub few_params : (d : Declarations) (r : WrittenRule) → is_past_counts d r ≡ false → length r.params ≤ 8
+few_params d r h =
+    let a = neither (nat_le 1024 (length d.rules)) (nat_lt 8 (length r.patterns) || (nat_lt 8 (length r.results) || (nat_lt 8 (length r.params) || nat_lt 8 (length r.children)))) h in
+    let b = neither (nat_lt 8 (length r.patterns)) (nat_lt 8 (length r.results) || (nat_lt 8 (length r.params) || nat_lt 8 (length r.children))) a.1 in
+    let c = neither (nat_lt 8 (length r.results)) (nat_lt 8 (length r.params) || nat_lt 8 (length r.children)) b.1 in
+    let e = neither (nat_lt 8 (length r.params)) (nat_lt 8 (length r.children)) c.1 in
+    small_count (length r.params) e.0

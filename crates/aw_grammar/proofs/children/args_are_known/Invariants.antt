@@ -1,0 +1,8 @@
+use Rattle.std.proofs.Common.{◌≡◌, drop, map}
+use Rattle.aw_grammar.specs.Written.{child_of_raw}
+use Rattle.aw_grammar.specs.Terms.{args_of}
+use Rattle.aw_grammar.specs.Kinds.{all_known}
+use Rattle.aw_grammar.proofs.children.args_are_known.Given as goal
+
+abbrev pub invariant-loop-child : goal.invariant-loop-child
+invariant-loop-child l = all_known l.cons (args_of (map child_of_raw (drop l.child-index l.child-items))) ≡ all_known l.cons (args_of (map child_of_raw l.children))

@@ -1,0 +1,28 @@
+use Rattle.std.proofs.Common.{◌∙◌, ap, arith}
+use Rattle.std.specs.Vec.Iter.{into_iter_items}
+use Rattle.aw_grammar.specs.declared.raw.RawCon.{RawCon}
+use Rattle.aw_grammar.specs.declared.fault.DeclPlace.TheVariants as place
+use Rattle.aw_grammar.specs.Declarations.{Declarations}
+use Rattle.aw_grammar.specs.GrammarOf.{declarations_of}
+use Rattle.aw_grammar.specs.Build as D
+use Rattle.aw_grammar.proofs.InTurn.{fault_goes, declared_goes, spelled_goes, still_no_rules}
+use Rattle.aw_grammar.proofs.whole.add_cons.Goals as goal
+
+pub loop-con-preserved : goal.loop-con-preserved
+loop-con-preserved c =
+    let inv = c.loop-con.invariant in
+    let d = declarations_of c.loop-con.grammar in
+    let e = declarations_of c.in-Ok.next in
+    let i = c.loop-con.place in
+    let x = c.in-Some.con in
+    let rest = into_iter_items c.next.new.self in
+    let left = into_iter_items c.loop-con.left in
+    let next = c.in-Some.ensures.items in
+    let later = spelled_goes (λ n. place.Con n) (λ (c : RawCon). D.Constructor c) i x rest left next inv.spelled in
+    record {
+      fault = fault_goes (λ n. place.Con n) (λ (c : RawCon). D.Constructor c) d e i x rest left next c.in-Ok.ensures.0 c.in-Ok.ensures.1 ∙ inv.fault;
+      declared = declared_goes (λ n. place.Con n) (λ (c : RawCon). D.Constructor c) d e i x rest left next c.in-Ok.ensures.1 ∙ inv.declared;
+      spelled = later.1;
+      no_rules = still_no_rules c.loop-con.grammar c.in-Ok.next (ap (λ (z : Declarations). z.rules) c.in-Ok.ensures.1) inv.no_rules;
+      counted = omega (arith, inv.counted, c.in-Some.ensures.len);
+    }

@@ -1,0 +1,21 @@
+use Rattle.std.proofs.Common.{◌≡◌, ◌++◌, true}
+use Rattle.aw_grammar.specs.Build.{is_spelled, cons_placed, sorts_placed, starts_placed, rules_placed}
+use Rattle.aw_grammar.specs.GrammarOf.{declarations_of}
+use Rattle.aw_grammar.proofs.Growth.{each_left, each_right}
+use Rattle.aw_grammar.proofs.InTurn.{built_after, stops_before, rules_of_none, cons_keep}
+use Rattle.aw_grammar.proofs.whole.add_from_cons.Goals as goal
+
+pub add_cons-requires-clause-spelled : goal.add_cons-requires-clause-spelled
+add_cons-requires-clause-spelled c = each_left (λ x. is_spelled x.1 ≡ true) (cons_placed 0 c.args.cons) (sorts_placed 0 c.args.sorts ++ (starts_placed 0 c.args.starts ++ rules_placed 0 c.args.rules)) c.requires.spelled
+
+pub add_from_sorts-requires-clause-spelled : goal.add_from_sorts-requires-clause-spelled
+add_from_sorts-requires-clause-spelled c = each_right (λ x. is_spelled x.1 ≡ true) (cons_placed 0 c.args.cons) (sorts_placed 0 c.args.sorts ++ (starts_placed 0 c.args.starts ++ rules_placed 0 c.args.rules)) c.requires.spelled
+
+pub add_from_sorts-requires-clause-no_rules : goal.add_from_sorts-requires-clause-no_rules
+add_from_sorts-requires-clause-no_rules c = rules_of_none c.args.grammar c.in_ok-grammar.grammar (cons_placed 0 c.args.cons) c.in_ok-grammar.ensures (cons_keep (declarations_of c.args.grammar) 0 c.args.cons) c.requires.no_rules
+
+pub returns : goal.returns
+returns c = built_after (declarations_of c.args.grammar) (cons_placed 0 c.args.cons) (sorts_placed 0 c.args.sorts ++ (starts_placed 0 c.args.starts ++ rules_placed 0 c.args.rules)) c.in_ok-grammar.grammar c.add_from_sorts.result c.in_ok-grammar.ensures c.add_from_sorts.ensures
+
+pub returns-in_err-grammar : goal.returns-in_err-grammar
+returns-in_err-grammar c = stops_before (declarations_of c.args.grammar) (cons_placed 0 c.args.cons) (sorts_placed 0 c.args.sorts ++ (starts_placed 0 c.args.starts ++ rules_placed 0 c.args.rules)) c.in_err-grammar.field-0.0 c.from_residual.result c.from_residual.ensures.1 c.in_err-grammar.ensures

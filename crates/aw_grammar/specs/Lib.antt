@@ -1,0 +1,10 @@
+pub mod Build
+pub mod Declarations
+pub mod GrammarOf
+pub mod GrammarView
+pub mod Kinds
+pub mod Named
+pub mod Resolved
+pub mod Terms
+pub mod Variables
+pub mod Written

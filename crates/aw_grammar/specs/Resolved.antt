@@ -1,0 +1,49 @@
+-- Written terms with their names looked up: first constructors, then variables.
+use Rattle.std.specs.Prelude.{ℕ, List, ◌++◌, map, length, Option, Some, None}
+use Rattle.aw_index.specs.Places.{place_of, number_of}
+use Rattle.aw_term.specs.Trees.{Con, Tree, Leaf, Made, Trees, Nil, More, bind}
+use Rattle.aw_term.specs.Rules.{Term}
+use Rattle.aw_term.specs.Rules as P
+use Rattle.aw_term.specs.WellFormed.{leaves_of}
+use Rattle.aw_grammar.specs.Written.{Written, Word, Apply, Literal, Writtens, Empty, Then, WrittenChild, WrittenRule}
+use Rattle.aw_grammar.specs.Terms.{results_of}
+
+-- a bare name: a constructor without parts where it is one, and else a variable
+abbrev pub word_tree : List ℕ → Option ℕ → Tree (List ℕ)
+word_tree x None = Leaf x
+word_tree x (Some c) = Made (Con c) Nil
+
+-- a term with its constructors by number; its leaves are the names of variables
+abbrev mutual
+  pub resolved : List (List ℕ) → Written → Tree (List ℕ)
+  resolved cons (Word x) = word_tree x (place_of x cons)
+  resolved cons (Apply x ts) = Made (Con (number_of x cons)) (resolved_parts cons ts)
+  resolved cons (Literal h) = Made h Nil
+
+  pub resolved_parts : List (List ℕ) → Writtens → Trees (List ℕ)
+  resolved_parts cons Empty = Nil
+  resolved_parts cons (Then t ts) = More (resolved cons t) (resolved_parts cons ts)
+
+abbrev pub all_resolved : List (List ℕ) → List Written → List (Tree (List ℕ))
+all_resolved cons ts = map (resolved cons) ts
+
+-- the names of variables in the order in which they enter: in patterns depth first, as parameters, as results of children
+abbrev pub entering : List (List ℕ) → WrittenRule → List (List ℕ)
+entering cons r = leaves_of (all_resolved cons r.patterns) ++ (r.params ++ results_of r.children)
+
+-- a term with its variables by number
+abbrev pub numbered : List (List ℕ) → List (List ℕ) → Written → Term
+numbered cons variables t = bind (λ x. Leaf (number_of x variables)) (resolved cons t)
+
+abbrev pub child_numbered : List (List ℕ) → List (List ℕ) → List (List ℕ) → WrittenChild → P.Child
+child_numbered cons sorts variables c = record { sort = number_of c.sort sorts; args = map (numbered cons variables) c.args; outs = length c.results }
+
+-- a rule with what it names by number, where these are the names of constructors, of sorts, and of its variables
+abbrev pub rule_numbered : List (List ℕ) → List (List ℕ) → List (List ℕ) → WrittenRule → P.Rule
+rule_numbered cons sorts variables r = record {
+  sort = number_of r.sort sorts;
+  patterns = map (numbered cons variables) r.patterns;
+  params = length r.params;
+  results = map (numbered cons variables) r.results;
+  children = map (child_numbered cons sorts variables) r.children;
+}

@@ -1,0 +1,242 @@
+//! Building a grammar, one declaration after the other.
+ghost use Rattle.std.specs.Prelude.{◌≡◌, ◌<◌, ◌++◌, true, [], length, IfOk};
+ghost use Rattle.aw_grammar.specs.Declarations.{with_start_at};
+ghost use Rattle.aw_text.specs.Spelling.{is_name};
+
+use crate::fault::{AddFault, GrammarFault};
+use crate::grammar::Grammar;
+use crate::made::checked_rule;
+use crate::raw::{Parts, RawCon, RawRule, RawSort};
+use crate::rule::{Con, Sort, Sorts};
+use crate::whole::add_all;
+use aw_index::NameIndex;
+use aw_list::{Items, Text};
+use std::alloc::Global;
+
+impl Grammar {
+    ghost use Rattle.aw_term.specs.WellFormed.{IsWellFormed};
+    ghost use Rattle.aw_grammar.specs.Written.{rule_of_raw};
+    ghost use Rattle.aw_grammar.specs.Terms.{all_have_contents, are_names, results_of, terms_of};
+    ghost use Rattle.aw_grammar.specs.Declarations.{no_declarations, grammar_in, words_in, with_role, with_con, with_sort, with_start, with_rule};
+    ghost use Rattle.aw_grammar.specs.Kinds.{role_kind, con_kind, sort_kind, start_kind, rule_kind};
+    ghost use Rattle.aw_grammar.specs.Build.{Added, Built, AllSpelled, all_placed, declare_all};
+    ghost use Rattle.aw_grammar.specs.GrammarOf.{declarations_of, grammar_of, words_of};
+
+    /// A grammar in which nothing is declared.
+    pub fn new(alloc: Global) -> Grammar
+        ensures { declarations_of result ≡ no_declarations }
+    {
+        Grammar {
+            roles: Items::new(alloc),
+            cons: Items::new(alloc),
+            sorts: Items::new(alloc),
+            rules: Items::new(alloc),
+            role_index: NameIndex::new(alloc),
+            con_index: NameIndex::new(alloc),
+            sort_index: NameIndex::new(alloc),
+            rule_index: NameIndex::new(alloc),
+        }
+    }
+
+    /// Declares a role. Sorts come later.
+    pub fn add_role(self, name: Text) -> Result<Grammar, AddFault>
+        requires named { is_name name ≡ true }
+        requires no_sorts { self.sorts ≡ [] }
+        requires no_rules { self.rules ≡ [] }
+        ensures { Added (role_kind (declarations_of self) name) (with_role (declarations_of self) name) result }
+    {
+        if let Some(kind) = self.kind_of_role(&name) {
+            return Err(AddFault::Bad(kind));
+        }
+        let Grammar {
+            mut roles,
+            cons,
+            sorts,
+            rules,
+            mut role_index,
+            con_index,
+            sort_index,
+            rule_index,
+        } = self;
+        role_index.push(name.as_slice())?;
+        roles.push(name)?;
+        Ok(Grammar {
+            roles,
+            cons,
+            sorts,
+            rules,
+            role_index,
+            con_index,
+            sort_index,
+            rule_index,
+        })
+    }
+
+    /// Declares a constructor. Rules come later.
+    pub fn add_con(self, con: RawCon) -> Result<Grammar, AddFault>
+        requires named { is_name con.name ≡ true }
+        requires no_rules { self.rules ≡ [] }
+        ensures { Added (con_kind (declarations_of self) con) (with_con (declarations_of self) con) result }
+    {
+        if let Some(kind) = self.kind_of_con(&con) {
+            return Err(AddFault::Bad(kind));
+        }
+        let Grammar {
+            roles,
+            mut cons,
+            sorts,
+            rules,
+            role_index,
+            mut con_index,
+            sort_index,
+            rule_index,
+        } = self;
+        let RawCon { name, arity } = con;
+        con_index.push(name.as_slice())?;
+        cons.push(Con {
+            name,
+            arity: arity as u8,
+        })?;
+        Ok(Grammar {
+            roles,
+            cons,
+            sorts,
+            rules,
+            role_index,
+            con_index,
+            sort_index,
+            rule_index,
+        })
+    }
+
+    /// Declares a sort of a role that is declared. Rules come later.
+    pub fn add_sort(self, sort: RawSort) -> Result<Grammar, AddFault>
+        requires named { is_name sort.name ≡ true }
+        requires no_rules { self.rules ≡ [] }
+        ensures { Added (sort_kind (declarations_of self) sort) (with_sort (declarations_of self) sort) result }
+    {
+        if let Some(kind) = self.kind_of_sort(&sort) {
+            return Err(AddFault::Bad(kind));
+        }
+        let role = self.role_index.place(sort.role.as_slice()) as u16;
+        let Grammar {
+            roles,
+            cons,
+            mut sorts,
+            rules,
+            role_index,
+            con_index,
+            mut sort_index,
+            rule_index,
+        } = self;
+        let RawSort {
+            name,
+            takes,
+            gives,
+            ..
+        } = sort;
+        sort_index.push(name.as_slice())?;
+        sorts.push(Sort {
+            name,
+            role,
+            takes: takes as u8,
+            gives: gives as u8,
+            start: false,
+        })?;
+        Ok(Grammar {
+            roles,
+            cons,
+            sorts,
+            rules,
+            role_index,
+            con_index,
+            sort_index,
+            rule_index,
+        })
+    }
+
+    /// Makes a declared sort a start sort. Rules come later.
+    pub fn add_start(self, name: &Text) -> Result<Grammar, AddFault>
+        requires no_rules { self.rules ≡ [] }
+        ensures { Added (start_kind (declarations_of self) name.now) (with_start (declarations_of self) name.now) result }
+    {
+        if let Some(kind) = self.kind_of_start(name) {
+            return Err(AddFault::Bad(kind));
+        }
+        let place = self.sort_index.place(name.as_slice());
+        let Grammar {
+            roles,
+            cons,
+            sorts,
+            rules,
+            role_index,
+            con_index,
+            sort_index,
+            rule_index,
+        } = self;
+        Ok(Grammar {
+            roles,
+            cons,
+            sorts: start_at(sorts, place),
+            rules,
+            role_index,
+            con_index,
+            sort_index,
+            rule_index,
+        })
+    }
+
+    /// Declares a rule.
+    pub fn add_rule(self, rule: RawRule) -> Result<Grammar, AddFault>
+        requires named { is_name rule.name ≡ true }
+        requires contents { all_have_contents (terms_of (rule_of_raw rule)) ≡ true }
+        requires variables { are_names ((rule_of_raw rule).params ++ results_of (rule_of_raw rule).children) ≡ true }
+        ensures { Added (rule_kind (declarations_of self) (rule_of_raw rule)) (with_rule (declarations_of self) (rule_of_raw rule)) result }
+    {
+        let made = checked_rule(&self, &rule)?;
+        let Grammar {
+            roles,
+            cons,
+            sorts,
+            mut rules,
+            role_index,
+            con_index,
+            sort_index,
+            mut rule_index,
+        } = self;
+        rule_index.push(made.name.as_slice())?;
+        rules.push(made)?;
+        Ok(Grammar {
+            roles,
+            cons,
+            sorts,
+            rules,
+            role_index,
+            con_index,
+            sort_index,
+            rule_index,
+        })
+    }
+
+    /// The grammar of a specification's declarations, or the first place with a fault, in the order roles, constructors, sorts, starts, rules, with its
+    /// first kind.
+    pub fn build(alloc: Global, parts: Parts) -> Result<Grammar, GrammarFault>
+        requires { AllSpelled (all_placed parts) }
+        ensures built { Built parts result }
+        ensures grammar { IfOk result (λ g. grammar_of g ≡ grammar_in (declare_all no_declarations (all_placed parts))) }
+        ensures words { IfOk result (λ g. words_of g ≡ words_in (declare_all no_declarations (all_placed parts))) }
+        ensures law { IfOk result (λ g. ∥ IsWellFormed (words_of g) (grammar_of g) ∥₁) }
+    {
+        add_all(Grammar::new(alloc), parts)
+    }
+}
+
+/// Makes the sort at a place a start sort.
+fn start_at(sorts: Sorts, place: usize) -> Sorts
+    requires { place < length sorts }
+    ensures { result ≡ with_start_at sorts place }
+{
+    let mut sorts = sorts.into_vec();
+    sorts[place].start = true;
+    Items::from_vec(sorts)
+}

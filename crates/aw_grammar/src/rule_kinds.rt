@@ -1,0 +1,158 @@
+//! What is wrong with a rule.
+ghost use Rattle.std.specs.Prelude.{◌≡◌, ◌+◌, ◌<◌, ◌≤◌, ◌++◌, ◌⊎◌, length, true, not, MatchOption, IfOk, nat_lt};
+ghost use Rattle.aw_index.specs.Places.{any_stands, all_stand, stands};
+ghost use Rattle.aw_term.specs.WellFormed.{leaves_of};
+ghost use Rattle.aw_grammar.specs.Written.{rule_of_raw};
+ghost use Rattle.aw_grammar.specs.Terms.{results_of, uses_of, terms_of, depth_of_all, symbols_in_all};
+ghost use Rattle.aw_grammar.specs.Resolved.{all_resolved, entering};
+ghost use Rattle.aw_grammar.specs.Kinds.{is_past_counts, is_past_terms, all_known, all_have_arities, takes_and_gives, sort_called, names_unknown, arity_differs, first_kind, name_tests, term_tests};
+ghost use Rattle.aw_grammar.specs.GrammarOf.{declarations_of, words_of};
+
+use crate::children::{
+    any_result_stands, args_are_known, args_have_arities, children_fit, push_arg_variables,
+    push_names, push_results, room_after_args, sorts_stand, takes_and_gives,
+};
+use crate::fault::DeclKind;
+use crate::grammar::Grammar;
+use crate::raw::RawRule;
+use crate::resolve::have_arities;
+use crate::rule::Names;
+use crate::terms::{are_known, push_all_variables, room_after_all};
+use aw_list::Items;
+use std::alloc::AllocError;
+
+/// Whether a count of the rule is past its limit.
+pub(crate) fn is_past_counts(grammar: &Grammar, rule: &RawRule) -> bool
+    ensures { result ≡ is_past_counts (declarations_of grammar.now) (rule_of_raw rule.now) }
+{
+    grammar.rules.len() >= 1024
+        || rule.patterns.len() > 8
+        || rule.results.len() > 8
+        || rule.params.len() > 8
+        || rule.children.len() > 8
+}
+
+/// What is left of the room for the symbols of a rule, or nothing where they are too many or a term is too deep.
+fn room_after_rule(rule: &RawRule) -> Option<u16>
+    ensures { MatchOption result ((32 < depth_of_all (terms_of (rule_of_raw rule.now))) ⊎ (256 < symbols_in_all (terms_of (rule_of_raw rule.now)))) (λ left. (depth_of_all (terms_of (rule_of_raw rule.now)) ≤ 32) × (left + symbols_in_all (terms_of (rule_of_raw rule.now)) ≡ 256)) }
+{
+    let left = room_after_all(&rule.patterns, 32, 256)?;
+    let left = room_after_args(&rule.children, left)?;
+    room_after_all(&rule.results, 32, left)
+}
+
+/// Whether a term of the rule is too deep, or its symbols are too many.
+pub(crate) fn is_past_terms(rule: &RawRule) -> bool
+    ensures { result ≡ is_past_terms (rule_of_raw rule.now) }
+{
+    room_after_rule(rule).is_none()
+}
+
+/// The names of a rule's variables in the order in which they enter.
+pub(crate) fn entering(grammar: &Grammar, rule: &RawRule) -> Result<Names, AllocError>
+    ensures { IfOk result (λ names. names ≡ entering (words_of grammar.now).cons (rule_of_raw rule.now)) }
+{
+    let mut names = Items::new(rule.name.allocator());
+    push_all_variables(&grammar.con_index, &rule.patterns, &mut names)?;
+    push_names(&mut names, rule.params.as_slice())?;
+    push_results(&rule.children, &mut names)?;
+    Ok(names)
+}
+
+/// The names of the variables in a rule's arguments and results.
+pub(crate) fn used(grammar: &Grammar, rule: &RawRule) -> Result<Names, AllocError>
+    ensures { IfOk result (λ names. names ≡ leaves_of (all_resolved (words_of grammar.now).cons (uses_of (rule_of_raw rule.now)))) }
+{
+    let mut names = Items::new(rule.name.allocator());
+    push_arg_variables(&grammar.con_index, &rule.children, &mut names)?;
+    push_all_variables(&grammar.con_index, &rule.results, &mut names)?;
+    Ok(names)
+}
+
+/// Whether a parameter or a child's result has the name of a constructor.
+fn clashes(grammar: &Grammar, rule: &RawRule) -> bool
+    ensures { result ≡ any_stands ((rule_of_raw rule.now).params ++ results_of (rule_of_raw rule.now).children) (words_of grammar.now).cons }
+{
+    if grammar.con_index.contains_any(rule.params.as_slice()) {
+        return true;
+    }
+    any_result_stands(&rule.children, &grammar.con_index)
+}
+
+fn knows_terms(grammar: &Grammar, rule: &RawRule) -> bool
+    ensures { result ≡ all_known (words_of grammar.now).cons (terms_of (rule_of_raw rule.now)) }
+{
+    if !are_known(&grammar.con_index, &rule.patterns) {
+        return false;
+    }
+    if !args_are_known(&grammar.con_index, &rule.children) {
+        return false;
+    }
+    are_known(&grammar.con_index, &rule.results)
+}
+
+/// Whether a sort or a constructor of the rule is not declared.
+fn names_unknown(grammar: &Grammar, rule: &RawRule) -> bool
+    ensures { result ≡ names_unknown (declarations_of grammar.now) (rule_of_raw rule.now) }
+{
+    !grammar.sort_index.contains(rule.sort.as_slice())
+        || !sorts_stand(&rule.children, &grammar.sort_index)
+        || !knows_terms(grammar, rule)
+}
+
+fn terms_have_arities(grammar: &Grammar, rule: &RawRule) -> bool
+    ensures { result ≡ all_have_arities grammar.now.cons (terms_of (rule_of_raw rule.now)) }
+{
+    if !have_arities(grammar, &rule.patterns) {
+        return false;
+    }
+    if !args_have_arities(grammar, &rule.children) {
+        return false;
+    }
+    have_arities(grammar, &rule.results)
+}
+
+fn head_fits(grammar: &Grammar, rule: &RawRule) -> bool
+    ensures { result ≡ takes_and_gives (sort_called rule.now.sort grammar.now.sorts) (length (rule_of_raw rule.now).patterns) (length (rule_of_raw rule.now).results) }
+{
+    takes_and_gives(grammar, &rule.sort, rule.patterns.len(), rule.results.len())
+}
+
+/// Whether a number of parts, inherited values or results is another than declared.
+fn arity_differs(grammar: &Grammar, rule: &RawRule) -> bool
+    ensures { result ≡ arity_differs (declarations_of grammar.now) (rule_of_raw rule.now) }
+{
+    !head_fits(grammar, rule)
+        || !children_fit(grammar, &rule.children)
+        || !terms_have_arities(grammar, rule)
+}
+
+/// The first kind that the names of a rule's declarations tell; `names` are those that enter.
+pub(crate) fn kind_of_names(grammar: &Grammar, rule: &RawRule, names: &Names) -> Option<DeclKind>
+    requires { names.now ≡ entering (words_of grammar.now).cons (rule_of_raw rule.now) }
+    ensures { result ≡ first_kind (name_tests (declarations_of grammar.now) (rule_of_raw rule.now)) }
+{
+    if names.len() > 64 {
+        return Some(DeclKind::Limit);
+    }
+    if grammar.rule_index.contains(rule.name.as_slice()) {
+        return Some(DeclKind::Double);
+    }
+    if clashes(grammar, rule) {
+        return Some(DeclKind::Clash);
+    }
+    None
+}
+
+/// The first kind that the names and numbers in a rule's terms tell.
+pub(crate) fn kind_of_terms(grammar: &Grammar, rule: &RawRule) -> Option<DeclKind>
+    ensures { result ≡ first_kind (term_tests (declarations_of grammar.now) (rule_of_raw rule.now)) }
+{
+    if names_unknown(grammar, rule) {
+        return Some(DeclKind::Unknown);
+    }
+    if arity_differs(grammar, rule) {
+        return Some(DeclKind::Arity);
+    }
+    None
+}
