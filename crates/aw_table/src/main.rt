@@ -1,0 +1,102 @@
+//! A table of inputs: of each it is told whether its specification and its schedule are good, or the first faulty line of
+//! the whole input and its kind. What stands in `stdin` was made from the stated limits, and `stdout` says what has to be
+//! told; nothing in them comes from the program.
+#![tactic(auto)]
+
+use aw_list::Text;
+use aw_out::{StdSink, StdSource, read_all, write_all};
+use aw_sched::{SchedFault, SchedKind, read_schedule};
+use aw_spec::{SpecFault, SpecText, read_spec};
+use aw_text::push_number;
+use bstr::ByteSlice;
+use std::alloc::{AllocError, Global};
+use std::process::ExitCode;
+
+/// What stands in front of an entry's name.
+const MARK: &[u8] = b"=== ";
+
+/// The most bytes of a table.
+const LIMIT: usize = 16_777_216;
+
+fn schedule_word(kind: SchedKind) -> &'static [u8] {
+    match kind {
+        SchedKind::Token => b"token",
+        SchedKind::Form => b"form",
+        SchedKind::Limit => b"limit",
+        SchedKind::Unknown => b"unknown",
+        SchedKind::Arity => b"arity",
+        SchedKind::NotStart => b"notstart",
+        SchedKind::Name => b"name",
+    }
+}
+
+/// Adds `schedule line 3 form`.
+fn push_place(told: &mut Text, what: &[u8], line: u64, kind: &[u8]) -> Result<(), AllocError> {
+    told.push_bytes(what)?;
+    told.push_bytes(b" line ")?;
+    push_number(told, line)?;
+    told.push_bytes(b" ")?;
+    told.push_bytes(kind)
+}
+
+/// Adds what is told of the schedule behind a good specification.
+fn push_schedule_verdict(
+    alloc: Global,
+    told: &mut Text,
+    spec: &SpecText,
+    schedule: &[u8],
+) -> Result<(), AllocError> {
+    match read_schedule(alloc, &spec.grammar, schedule) {
+        Ok(_) => told.push_bytes(b"good"),
+        Err(SchedFault::Bad { line, kind }) => push_place(
+            told,
+            b"schedule",
+            line.saturating_add(spec.lines),
+            schedule_word(kind),
+        ),
+        Err(SchedFault::NoMemory) => Err(AllocError),
+    }
+}
+
+/// Adds what is told of an input.
+fn push_verdict(alloc: Global, told: &mut Text, input: &[u8]) -> Result<(), AllocError> {
+    match read_spec(alloc, input) {
+        Ok(spec) => push_schedule_verdict(alloc, told, &spec, &input[spec.rest..]),
+        Err(SpecFault::Bad { line, kind }) => {
+            push_place(told, b"specification", line, kind.name())
+        }
+        Err(SpecFault::NoMemory) => Err(AllocError),
+    }
+}
+
+/// Adds the line of an entry.
+fn push_entry(alloc: Global, told: &mut Text, name: &[u8], input: &[u8]) -> Result<(), AllocError> {
+    told.push_bytes(name)?;
+    told.push_bytes(b": ")?;
+    push_verdict(alloc, told, input)?;
+    told.push_bytes(b"\n")
+}
+
+/// The lines of all entries. What stands before the first mark is none.
+fn table(alloc: Global, text: &[u8]) -> Result<Text, AllocError> {
+    let mut told = Text::new(alloc);
+    for entry in text.split_str(MARK) {
+        if let Some((name, input)) = entry.split_once_str(b"\n") {
+            push_entry(alloc, &mut told, name, input)?;
+        }
+    }
+    Ok(told)
+}
+
+fn main(rt: HostRuntime) -> ExitCode {
+    let Ok(text) = read_all(rt.alloc(), &mut StdSource::new(&rt), LIMIT) else {
+        return ExitCode::from(7);
+    };
+    let Ok(told) = table(rt.alloc(), text.as_slice()) else {
+        return ExitCode::from(10);
+    };
+    match write_all(&mut StdSink::new(&rt), told.as_slice()) {
+        Ok(()) => ExitCode::SUCCESS,
+        Err(_) => ExitCode::from(8),
+    }
+}
