@@ -4,7 +4,7 @@ use Rattle.std.specs.Prelude.{◌⊎◌}
 use Rattle.aw_term.specs.Rules.{Child, Rule, Grammar}
 use Rattle.aw_term.specs.Artifacts.{Words}
 use Rattle.aw_term.specs.WellFormed.{Each, RuleFits, ChildFits, IsWellFormed, variables}
-use Rattle.aw_base.proofs.Fits.{each_at}
+use Rattle.aw_grammar.proofs.Fits.{each_at}
 use Rattle.aw_iograph.specs.Graphs.{Member}
 use Rattle.aw_iograph.proofs.Members.{never}
 use Rattle.aw_accept.specs.Acyclic.{IsGivenGrammar}

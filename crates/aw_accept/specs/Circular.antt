@@ -1,8 +1,8 @@
 -- Rules in which an occurrence depends on itself.
 use Rattle.std.specs.Prelude.{◌≡◌, ℕ, ◌<◌, ◌↔◌, Option, Some, None, slice_get}
 use Rattle.aw_term.specs.Rules as P
-use Rattle.aw_base.specs.declared.grammar.Grammar.{Grammar}
-use Rattle.aw_base.specs.GrammarOf.{grammar_of}
+use Rattle.aw_grammar.specs.declared.grammar.Grammar.{Grammar}
+use Rattle.aw_grammar.specs.GrammarOf.{grammar_of}
 use Rattle.aw_iograph.specs.declared.io.Io.{Io}
 use Rattle.aw_iograph.specs.Dependence.{IO, LeastOnCircle, HasNoCircle}
 use Rattle.aw_iograph.specs.Pairs.{Has}

@@ -1,7 +1,7 @@
 -- What a refusal says of a grammar.
 use Rattle.std.specs.Prelude.{◌≡◌, Some}
-use Rattle.aw_base.specs.declared.grammar.Grammar.{Grammar}
-use Rattle.aw_base.specs.GrammarOf.{grammar_of}
+use Rattle.aw_grammar.specs.declared.grammar.Grammar.{Grammar}
+use Rattle.aw_grammar.specs.GrammarOf.{grammar_of}
 use Rattle.aw_accept.specs.declared.refused.Refused.{Refused}
 use Rattle.aw_accept.specs.declared.refused.Refused.TheVariants.{Circular, NoMemory}
 use Rattle.aw_accept.specs.Circular.{LeastFault}

@@ -1,7 +1,7 @@
 //! A grammar that was accepted, with its dependence relations.
 ghost use Rattle.std.specs.Prelude.{◌≡◌};
 
-use aw_base::Grammar;
+use aw_grammar::Grammar;
 use aw_iograph::Io;
 
 /// A grammar in which no value depends on itself, and the dependence relations of its sorts.
@@ -14,7 +14,7 @@ pub struct Accepted {
     pub ghost sound: { ∥ HasNoCircle (grammar_of grammar) (IO (grammar_of grammar)) ∥₁ },
 }
 
-ghost use Rattle.aw_base.specs.GrammarOf.{grammar_of};
+ghost use Rattle.aw_grammar.specs.GrammarOf.{grammar_of};
 ghost use Rattle.aw_iograph.specs.Pairs.{IsFor};
 ghost use Rattle.aw_iograph.specs.Dependence.{IO, HasNoCircle};
 ghost use Rattle.aw_accept.specs.Circular.{IsRelation};
@@ -30,6 +30,7 @@ impl Accepted {
 
     /// The dependence relations of the grammar's sorts.
     pub fn io(&self) -> &Io
+        ensures value { result.now ≡ self.now.io }
         ensures made { IsFor self.now.grammar result.now }
         ensures exact { ∥ IsRelation self.now.grammar result.now ∥₁ }
     {

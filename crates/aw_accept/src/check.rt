@@ -1,6 +1,6 @@
 //! Looking for a circle in every rule, and accepting a grammar that has none.
 ghost use Rattle.std.specs.Prelude.{◌≡◌, length, IfOk, IfErr};
-ghost use Rattle.aw_base.specs.GrammarOf.{grammar_of};
+ghost use Rattle.aw_grammar.specs.GrammarOf.{grammar_of};
 ghost use Rattle.aw_iograph.specs.Pairs.{IsFor};
 ghost use Rattle.aw_iograph.specs.Dependence.{IO, HasNoCircle};
 ghost use Rattle.aw_accept.specs.Circular.{IsRelation, LeastFault};
@@ -8,7 +8,7 @@ ghost use Rattle.aw_accept.specs.Refusals.{Tells};
 
 use crate::accepted::Accepted;
 use crate::refused::{Fault, Refused};
-use aw_base::Grammar;
+use aw_grammar::Grammar;
 use aw_iograph::{Io, circle, io_of};
 use std::alloc::{AllocError, Global};
 
@@ -37,6 +37,7 @@ fn least_fault(alloc: Global, g: &Grammar, io: &Io) -> Result<Option<Fault>, All
 /// relations of the sorts of its children.
 pub fn accept(alloc: Global, g: Grammar) -> Result<Accepted, Refused>
     ensures accepted { IfOk result (λ a. a.grammar ≡ g) }
+    ensures relation { IfOk result (λ a. IsRelation g a.io) }
     ensures sound { IfOk result (λ a. HasNoCircle (grammar_of g) (IO (grammar_of g))) }
     ensures circular { IfErr result (λ e. Tells g e) }
 {

@@ -2,7 +2,7 @@
 ghost use Rattle.std.specs.Prelude.{◌≡◌};
 ghost use Rattle.aw_accept.specs.declared.refused.Refused.TheVariants.{NoMemory};
 
-use aw_base::Grammar;
+use aw_grammar::Grammar;
 use aw_iograph::Occ;
 use std::alloc::AllocError;
 

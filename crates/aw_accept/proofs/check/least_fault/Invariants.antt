@@ -1,4 +1,4 @@
-use Rattle.aw_base.specs.GrammarOf.{grammar_of}
+use Rattle.aw_grammar.specs.GrammarOf.{grammar_of}
 use Rattle.aw_accept.specs.Circular.{NoneBelow}
 use Rattle.aw_accept.proofs.check.least_fault.Given as goal
 

@@ -1,0 +1,63 @@
+-- The test of a pair tells whether the relation has it.
+use Rattle.std.proofs.Common.{◌≡◌, ◌↔◌, ℕ, ◌<◌, ◌≤◌, Bool, true, false, ◌&&◌, IsTrue, Option, None, Some, nat_lt, nat_le, slice_get, refl, sym, ap, ◌∙◌, arith, List, Ok, Err, IfOk}
+use Rattle.std.specs.declared.result.Result.{Result}
+use Rattle.std.proofs.lemmas.Bool.Decides.{nat_tests}
+use Rattle.aw_grammar.specs.declared.grammar.Grammar.{Grammar}
+use Rattle.aw_grammar.specs.GrammarOf.{grammar_of, words_of}
+use Rattle.aw_iograph.specs.declared.io.Io.{Io}
+use Rattle.aw_iograph.specs.Pairs.{Has, IsNumber, mark_of}
+use Rattle.aw_accept.specs.Circular.{IsRelation}
+use Rattle.aw_told.specs.Told.{TellsAccepted, accepted_text}
+use Rattle.aw_told.specs.PairTests.{is_number, is_set, has_pair}
+
+both : (a b : Bool) → a && b ≡ true → (a ≡ true) × (b ≡ true)
+both true b e = (refl, e)
+both false b e = absurd (cc (e))
+
+join : (a b : Bool) → a ≡ true → b ≡ true → a && b ≡ true
+join true b e f = f
+join false b e f = absurd (cc (e))
+
+above-none : (i : ℕ) → nat_lt 0 i ≡ true → 0 < i
+above-none i e = grind (arith, nat_tests)
+
+up-to-eight : (i : ℕ) → nat_le i 8 ≡ true → i ≤ 8
+up-to-eight i e = grind (arith, nat_tests)
+
+number-of : (i : ℕ) → is_number i ≡ true → IsNumber i
+number-of i e = let tests = both (nat_lt 0 i) (nat_le i 8) e in record { counted = above-none i tests.0; few = up-to-eight i tests.1 }
+
+number-test : (i : ℕ) → 0 < i → i ≤ 8 → is_number i ≡ true
+number-test i counted few = let e : nat_lt 0 i ≡ true = grind (arith, nat_tests) in let f : nat_le i 8 ≡ true = grind (arith, nat_tests) in join _ _ e f
+
+set-of : (mark : Option Bool) → is_set mark ≡ true → mark ≡ Some true
+set-of None e = absurd (cc (e))
+set-of (Some mark) e = ap Some e
+
+pub pair-test : (io : Io) (s i j : ℕ) → IsTrue (has_pair io s i j) ↔ Has io s i j
+pair-test io s i j = (
+  (λ e.
+      let first = both (is_number i) (is_number j && is_set (slice_get io.marks.items (mark_of s i j))) e in
+      let next = both (is_number j) (is_set (slice_get io.marks.items (mark_of s i j))) first.1 in
+      record { inherited = number-of i first.0; result = number-of j next.0; marked = set-of _ next.1 }),
+  (λ has.
+      join _ _ (number-test i has.inherited.counted has.inherited.few) (join _ _ (number-test j has.result.counted has.result.few) (ap is_set has.marked))),
+)
+
+same-tests : (a b : Bool) → (a ≡ true → b ≡ true) → (b ≡ true → a ≡ true) → a ≡ b
+same-tests true b there back = sym (there refl)
+same-tests false true there back = back refl
+same-tests false false there back = refl
+
+-- what another test tells of the pair is the same
+pub pair-same : (io : Io) (s i j : ℕ) (told : Bool) → IsTrue told ↔ Has io s i j → told ≡ has_pair io s i j
+pair-same io s i j told says = same-tests told (has_pair io s i j) (λ e. (pair-test io s i j).1 (says.0 e)) (λ e. says.1 ((pair-test io s i j).0 e))
+
+-- the text of a relation that is that of the grammar tells it
+pub tells : {E : Type 0} (result : Result (List ℕ) E) (g : Grammar) (io : Io) (h : Grammar) (jo : Io) → IsRelation g io → h ≡ g → jo ≡ io → IfOk result (λ text. text ≡ accepted_text (has_pair jo) (words_of h) (grammar_of h)) → IfOk result (λ text. TellsAccepted (words_of g) (grammar_of g) text)
+tells (Ok text) g io h jo same is is_io e = (
+  has_pair io,
+  (λ s i j. ((λ test. (same s i j).0 ((pair-test io s i j).0 test)), (λ walk. (pair-test io s i j).1 ((same s i j).1 walk)))),
+  e ∙ ap (λ (k : Grammar). accepted_text (has_pair jo) (words_of k) (grammar_of k)) is ∙ ap (λ (k : Io). accepted_text (has_pair k) (words_of g) (grammar_of g)) is_io,
+)
+tells (Err error) g io h jo same is is_io e = tt

@@ -1,0 +1,38 @@
+//! Where a grammar is circular.
+ghost use Rattle.std.specs.Prelude.{◌≡◌, ◌++◌, OnOk};
+ghost use Rattle.aw_grammar.specs.GrammarOf.{words_of};
+ghost use Rattle.aw_told.specs.Told.{side_text, occ_text, circle_text};
+
+use aw_accept::Fault;
+use aw_base::rule_name;
+use aw_grammar::Grammar;
+use aw_iograph::Occ;
+use aw_list::Text;
+use aw_text::push_number;
+use std::alloc::AllocError;
+
+/// The word for results, or for inherited values.
+fn side(is_result: bool) -> &'static [u8]
+    ensures { result.now ≡ side_text is_result }
+{
+    if is_result { b"out" } else { b"in" }
+}
+
+/// Adds `1.in2`, or `0.out1`.
+fn push_occ(text: &mut Text, occ: Occ) -> Result<(), AllocError>
+    ensures { OnOk result (text.new ≡ text.old ++ occ_text occ) }
+{
+    push_number(text, u64::from(occ.child))?;
+    text.push_bytes(b".")?;
+    text.push_bytes(side(occ.result))?;
+    push_number(text, u64::from(occ.number))
+}
+
+/// Adds `loop at 1.in1`: a rule, and an occurrence in it that depends on itself.
+pub fn push_circle(text: &mut Text, g: &Grammar, fault: Fault) -> Result<(), AllocError>
+    ensures { OnOk result (text.new ≡ text.old ++ circle_text (words_of g.now) fault) }
+{
+    text.push_bytes(rule_name(g, fault.rule))?;
+    text.push_bytes(b" at ")?;
+    push_occ(text, fault.occ)
+}
