@@ -11,11 +11,11 @@ use Rattle.aw_term.specs.Trees.{Head, Con, Num, Text, Tree, Leaf, Made, Trees, N
 use Rattle.aw_term.specs.Rules as P
 use Rattle.aw_term.specs.Views.{pattern_of}
 use Rattle.aw_term.specs.WellFormed.{Each, all_nesting, head_fits, heads_fit, all_heads_fit, TermFits, takes_of, RuleFits, SortFits, IsWellFormed}
-use Rattle.aw_base.specs.declared.grammar.Grammar.{Grammar}
-use Rattle.aw_base.specs.declared.rule.Rule.{Rule}
-use Rattle.aw_base.specs.GrammarView.{rule_of, child_of}
-use Rattle.aw_base.specs.GrammarOf.{grammar_of, words_of}
-use Rattle.aw_base.proofs.Fits.{each_map_at}
+use Rattle.aw_grammar.specs.declared.grammar.Grammar.{Grammar}
+use Rattle.aw_grammar.specs.declared.rule.Rule.{Rule}
+use Rattle.aw_grammar.specs.GrammarView.{rule_of, child_of}
+use Rattle.aw_grammar.specs.GrammarOf.{grammar_of, words_of}
+use Rattle.aw_grammar.proofs.Fits.{each_map_at}
 use Rattle.aw_plain.specs.Narrow.{is_narrow, are_narrow}
 use Rattle.aw_plain.proofs.MatchLemmas.{and_left, and_right}
 

@@ -6,12 +6,15 @@ use Rattle.aw_term.specs.Trees.{Leaf, Made, Nil, More, bind, binds, join}
 use Rattle.aw_term.specs.Names.{Ref}
 use Rattle.aw_term.specs.Rules.{Value, get}
 use Rattle.aw_term.specs.Configs.{nothing}
+use Rattle.std.specs.declared.vec.Vec.{Vec}
+use Rattle.std.specs.declared.rc.Rc.{Rc}
+use Rattle.std.specs.declared.alloc.Global.{Global}
 use Rattle.aw_plain.specs.declared.tree.Tree.{Tree, Con}
-use Rattle.std.specs.Prelude.{zero, suc, Result, Ok, Err, IfOk}
+use Rattle.std.specs.Prelude.{zero, suc, Result, Ok, Err, IfOk, Bool, true, false}
 use Rattle.aw_plain.specs.declared.put.Job.{Job}
-use Rattle.aw_plain.specs.TreeView.{value_of, values_of}
+use Rattle.aw_plain.specs.TreeView.{value_of, value_under, values_of}
 use Rattle.aw_plain.specs.Jobs.{finish, do_job, made, work, work_of}
-use Rattle.aw_plain.proofs.ViewLemmas.{value_con}
+use Rattle.aw_plain.proofs.ViewLemmas.{value_con, bind_whole}
 
 pub finish_push : (f : Ref → Value) (js : List Job) (j : Job) (ts : List Value) → finish f (js ++ j ∷ []) ts ≡ finish f js (do_job f j ts)
 finish_push f [] j ts = refl
@@ -29,13 +32,17 @@ made_of c ts ps =
     ∙ ap (λ us. us ++ Made (P.Con c) (join (drop (length ts) (ts ++ ps))) ∷ []) (take_at ts ps (length ts) refl)
     ∙ ap (λ us. ts ++ Made (P.Con c) (join us) ∷ []) (drop_at ts ps (length ts) refl)
 
-pub made_values : (c n k : ℕ) (ts : List Tree) → k ≡ length ts - n → values_of (take k ts ++ Con c (drop k ts) ∷ []) ≡ made c n (values_of ts)
-made_values c n k ts e =
+pub made_values : (c n k : ℕ) (ts : List Tree) (t : Tree) → k ≡ length ts - n → value_of t ≡ Made (P.Con c) (join (values_of (drop k ts))) → values_of (take k ts ++ t ∷ []) ≡ made c n (values_of ts)
+made_values c n k ts t e v =
     map-append value_of (take k ts) _
-    ∙ ap (λ v. values_of (take k ts) ++ v ∷ []) (value_con c (drop k ts))
+    ∙ ap (λ v. values_of (take k ts) ++ v ∷ []) v
     ∙ ap (λ us. us ++ Made (P.Con c) (join (values_of (drop k ts))) ∷ []) (sym (take-map value_of k ts))
     ∙ ap (λ us. take k (values_of ts) ++ Made (P.Con c) (join us) ∷ []) (sym (drop-map value_of k ts))
     ∙ ap (λ m. take m (values_of ts) ++ Made (P.Con c) (join (drop m (values_of ts))) ∷ []) (e ∙ ap (λ m. m - n) (sym (length-map ts value_of)))
+
+-- one more value
+pub value_pushed : (ts us : List Tree) (t : Tree) (v : Value) → us ≡ ts ++ t ∷ [] → value_of t ≡ v → values_of us ≡ values_of ts ++ v ∷ []
+value_pushed ts us t v e w = ap values_of e ∙ map-append value_of ts (t ∷ []) ∙ ap (λ v. values_of ts ++ v ∷ []) w
 
 -- one more part at the front of those still to be gone through
 pub front_part : (g : Tree → Value) (ps : List Tree) (ts : List Value) (i k : ℕ) (p : Tree) → k ≡ i + 1 → i < length ps → p ≡ get_or ps i p → (ts ++ g p ∷ []) ++ map g (drop k ps) ≡ ts ++ map g (drop i ps)
@@ -54,17 +61,16 @@ map_map g f (x ∷ xs) = ap (λ ys. g (f x) ∷ ys) (map_map g f xs)
 pub bind_parts : {A B X : Type 0} (f : A → P.Tree B) (g : X → P.Tree A) (c : ℕ) (ps : List X) → bind f (Made (P.Con c) (join (map g ps))) ≡ Made (P.Con c) (join (map (λ t. bind f (g t)) ps))
 bind_parts f g c ps = ap (Made (P.Con c)) (binds_join f (map g ps) ∙ ap join (map_map (bind f) g ps))
 
-pub bind_con : (f : Ref → Value) (c : ℕ) (ps : List Tree) → bind f (value_of (Con c ps)) ≡ Made (P.Con c) (join (map (λ t. bind f (value_of t)) ps))
-bind_con f c ps = ap (bind f) (value_con c ps) ∙ bind_parts f value_of c ps
+pub bind_con : (f : Ref → Value) (t : Tree) (c : ℕ) (w : Bool) (ts : Rc (Vec Tree Global) Global) (ps : List Tree) → t ≡ Con c w ts → w ≡ false → ps ≡ ts.value.items → bind f (value_of t) ≡ Made (P.Con c) (join (map (λ t. bind f (value_of t)) ps))
+bind_con f t c w ts ps e m i =
+    ap (λ t. bind f (value_of t)) (e ∙ ap (λ w. Con c w ts) m) ∙ ap (bind f) (value_con false c false ts)
+    ∙ bind_parts f value_of c ts.value.items ∙ ap (λ qs. Made (P.Con c) (join (map (λ t. bind f (value_of t)) qs))) (sym i)
 
-mutual
-  pub bind_leaf : {A : Type 0} (t : P.Tree A) → bind Leaf t ≡ t
-  bind_leaf (Leaf x) = refl
-  bind_leaf (Made h ts) = ap (Made h) (binds_leaf ts)
-
-  pub binds_leaf : {A : Type 0} (ts : P.Trees A) → binds Leaf ts ≡ ts
-  binds_leaf Nil = refl
-  binds_leaf (More t ts) = λ i. More (bind_leaf t i) (binds_leaf ts i)
+-- a constructor that is marked whole has nothing to replace
+pub bind_marked : (f : Ref → Value) (t : Tree) (c : ℕ) (w : Bool) (ts : Rc (Vec Tree Global) Global) → t ≡ Con c w ts → w ≡ true → value_of t ≡ bind f (value_of t)
+bind_marked f t c w ts e m =
+    let v : value_of t ≡ value_under true (Con c true ts) = ap value_of (e ∙ ap (λ w. Con c w ts) m) ∙ value_con false c true ts ∙ sym (value_con true c true ts) in
+    v ∙ sym (bind_whole f (Con c true ts)) ∙ sym (ap (bind f) v)
 
 pub last_value : (f : Ref → Value) (js : List Job) (ts us : List Tree) (t : Tree) (v : Value) → js ≡ [] → ts ≡ us ++ t ∷ [] → finish f js (values_of ts) ≡ v ∷ [] → value_of t ≡ v
 last_value f js ts us t v a b e =

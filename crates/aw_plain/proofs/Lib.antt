@@ -11,6 +11,11 @@ pub mod OutcomeLemmas
 pub mod DevelopLemmas
 pub mod ChangeLemmas
 pub mod TakenLemmas
+pub mod CaseLemmas
+pub mod TouchLemmas
+pub mod NodeOrder
+pub mod TurnLemmas
+pub mod OrderedLemmas
 pub mod RowLemmas
 pub mod FillLemmas
 pub mod StepLemmas

@@ -1,6 +1,6 @@
 -- The line of a row.
 use Rattle.std.proofs.Common.{◌≡◌, ℕ, zero, suc, ◌+◌, ◌<◌, ◌≤◌, List, [], ◌∷◌, ◌++◌, map, drop, get_or, length, codes, sym, ap, ◌∙◌, refl, append_assoc, subst, arith}
-use Rattle.std.specs.Prelude.{Result, Ok, Err}
+use Rattle.std.specs.Prelude.{false, Result, Ok, Err}
 use Rattle.std.proofs.lemmas.List.{at_drop_more}
 use Rattle.aw_term.specs.Trees.{Never, Leaf, Made, Trees, Nil, More, binds}
 use Rattle.aw_term.specs.Rules.{Ground, get}
@@ -13,12 +13,7 @@ use Rattle.aw_plain.specs.declared.tree.Tree as tree
 use Rattle.aw_plain.specs.declared.row.Row as rows
 use Rattle.aw_plain.specs.TreeView.{values_of}
 use Rattle.aw_plain.specs.RowView.{plain_row, config_of}
-use Rattle.aw_plain.specs.Pieces.{text_of}
-
--- texts of values
-pub texts_of : (w : Words) (ts : List tree.Tree) → map (text_of w) ts ≡ map (value_text w) (values_of ts)
-texts_of w [] = refl
-texts_of w (t ∷ ts) = ap (λ us. text_of w t ∷ us) (texts_of w ts)
+use Rattle.aw_plain.specs.Pieces.{texts_under}
 
 -- an argument has the same text as a value
 mutual
@@ -35,12 +30,12 @@ all_lifted w [] = refl
 all_lifted w (g ∷ gs) = λ i. lifted_text w g i ∷ all_lifted w gs i
 
 -- arguments that are printed as values
-pub args_text : (w : Words) (ts : List tree.Tree) (gs : List Ground) → values_of ts ≡ map lift gs → map (text_of w) ts ≡ map (ground_text w) gs
-args_text w ts gs e = texts_of w ts ∙ ap (map (value_text w)) e ∙ all_lifted w gs
+pub args_text : (w : Words) (ts : List tree.Tree) (gs : List Ground) → values_of ts ≡ map lift gs → texts_under w false ts ≡ map (ground_text w) gs
+args_text w ts gs e = ap (map (value_text w)) e ∙ all_lifted w gs
 
 -- what is noted of a rule that was taken
 pub done_line : (w : Words) (r : ℕ) (gs : List Ground) (ts : List tree.Tree) (name old p1 p2 p3 p4 : List ℕ) → values_of ts ≡ map lift gs → name ≡ get [] w.rules r →
-    p1 ≡ codes "}" ++ old → p2 ≡ listed (map (text_of w) ts) ++ p1 → p3 ≡ codes " {" ++ p2 → p4 ≡ name ++ p3 → p4 ≡ state_text w (Done r gs) ++ old
+    p1 ≡ codes "}" ++ old → p2 ≡ listed (texts_under w false ts) ++ p1 → p3 ≡ codes " {" ++ p2 → p4 ≡ name ++ p3 → p4 ≡ state_text w (Done r gs) ++ old
 done_line w r gs ts name old p1 p2 p3 p4 ea en e1 e2 e3 e4 =
     let rule = get [] w.rules r in
     let args = listed (map (ground_text w) gs) in
@@ -51,7 +46,7 @@ done_line w r gs ts name old p1 p2 p3 p4 ea en e1 e2 e3 e4 =
 
 -- what is noted of a row
 pub row_line : (w : Words) (q : rows.Row) (name old p1 p2 p3 p4 p5 p6 p7 p8 : List ℕ) (inherited results : List tree.Tree) → name ≡ node_text w q.node → inherited ≡ q.inherited → results ≡ q.results →
-    p1 ≡ codes ">\n" ++ old → p2 ≡ listed (map (text_of w) results) ++ p1 → p3 ≡ codes ") <" ++ p2 → p4 ≡ listed (map (text_of w) inherited) ++ p3 → p5 ≡ codes " (" ++ p4 →
+    p1 ≡ codes ">\n" ++ old → p2 ≡ listed (texts_under w false results) ++ p1 → p3 ≡ codes ") <" ++ p2 → p4 ≡ listed (texts_under w false inherited) ++ p3 → p5 ≡ codes " (" ++ p4 →
     p6 ≡ state_text w (plain_row q).state ++ p5 → p7 ≡ codes " " ++ p6 → p8 ≡ name ++ p7 → p8 ≡ row_text w (plain_row q) ++ old
 row_line w q name old p1 p2 p3 p4 p5 p6 p7 p8 inherited results en ei er e1 e2 e3 e4 e5 e6 e7 e8 =
     let node = node_text w q.node in
@@ -65,9 +60,9 @@ row_line w q name old p1 p2 p3 p4 p5 p6 p7 p8 inherited results en ei er e1 e2 e
     let s5 = codes " (" ++ s4 in
     let s6 = state ++ s5 in
     let s7 = codes " " ++ s6 in
-    let f2 : p2 ≡ s2 ++ old = e2 ∙ ap (λ us. listed us ++ p1) (texts_of w results ∙ ap (λ ts. map (value_text w) (values_of ts)) er) ∙ ap (λ u. outs ++ u) e1 ∙ sym (append_assoc outs end old) in
+    let f2 : p2 ≡ s2 ++ old = e2 ∙ ap (λ us. listed us ++ p1) (ap (texts_under w false) er) ∙ ap (λ u. outs ++ u) e1 ∙ sym (append_assoc outs end old) in
     let f3 : p3 ≡ s3 ++ old = e3 ∙ ap (λ u. codes ") <" ++ u) f2 ∙ sym (append_assoc (codes ") <") s2 old) in
-    let f4 : p4 ≡ s4 ++ old = e4 ∙ ap (λ us. listed us ++ p3) (texts_of w inherited ∙ ap (λ ts. map (value_text w) (values_of ts)) ei) ∙ ap (λ u. ins ++ u) f3 ∙ sym (append_assoc ins s3 old) in
+    let f4 : p4 ≡ s4 ++ old = e4 ∙ ap (λ us. listed us ++ p3) (ap (texts_under w false) ei) ∙ ap (λ u. ins ++ u) f3 ∙ sym (append_assoc ins s3 old) in
     let f5 : p5 ≡ s5 ++ old = e5 ∙ ap (λ u. codes " (" ++ u) f4 ∙ sym (append_assoc (codes " (") s4 old) in
     let f6 : p6 ≡ s6 ++ old = e6 ∙ ap (λ u. state ++ u) f5 ∙ sym (append_assoc state s5 old) in
     let f7 : p7 ≡ s7 ++ old = e7 ∙ ap (λ u. codes " " ++ u) f6 ∙ sym (append_assoc (codes " ") s6 old) in

@@ -1,7 +1,7 @@
 -- Matching through the views.
 use Rattle.std.proofs.Common.{◌≡◌, ℕ, suc, ◌+◌, ◌<◌, ◌≤◌, cond, Bool, true, false, List, [], ◌∷◌, ◌++◌, length, map, drop, get_or, sym, ap, ◌∙◌, refl, arith, append_assoc, append-nil, eq-eqb, subst}
 use Rattle.std.specs.Prelude.{nat_eq, nat_le, ◌&&◌, zero}
-use Rattle.std.proofs.lemmas.List.{at_drop_more, map-append}
+use Rattle.std.proofs.lemmas.List.{at_drop_more, map-append, length-map}
 use Rattle.aw_term.specs.Trees as P
 use Rattle.aw_term.specs.Trees.{Leaf, Made, Nil, More, count, head_eq, join}
 use Rattle.aw_term.specs.Names.{Ref}
@@ -12,12 +12,15 @@ use Rattle.aw_term.specs.Views.{pattern_of}
 use Rattle.aw_term.specs.declared.term.Pattern.{Pattern}
 use Rattle.aw_term.specs.declared.term.Pattern as pattern
 use Rattle.aw_term.proofs.ViewLemmas.{pattern_con}
+use Rattle.std.specs.declared.vec.Vec.{Vec}
+use Rattle.std.specs.declared.rc.Rc.{Rc}
+use Rattle.std.specs.declared.alloc.Global.{Global}
 use Rattle.aw_plain.specs.declared.tree.Tree.{Tree}
 use Rattle.aw_plain.specs.declared.tree.Tree as tree
-use Rattle.aw_plain.specs.TreeView.{value_of, values_of}
+use Rattle.aw_plain.specs.TreeView.{value_of, value_under, values_of}
 use Rattle.aw_plain.specs.MatchView.{behind}
 use Rattle.aw_plain.specs.Narrow.{is_narrow, are_narrow}
-use Rattle.aw_plain.proofs.ViewLemmas.{value_con}
+use Rattle.aw_plain.proofs.ViewLemmas.{value_parts}
 
 abbrev pub M : Type 0
 M = Matched Value Ref
@@ -26,28 +29,36 @@ pub count_join : {X L : Type 0} (f : X → P.Tree L) (xs : List X) → count (jo
 count_join f [] = refl
 count_join f (x ∷ xs) = ap suc (count_join f xs)
 
+count_list : {L : Type 0} (us : List (P.Tree L)) → count (join us) ≡ length us
+count_list [] = refl
+count_list (u ∷ us) = ap suc (count_list us)
+
 nat_eq_other : (m n : ℕ) → (m ≡ n → ⊥) → nat_eq m n ≡ false
 nat_eq_other m n h = grind (arith, h)
 
-con_case : (c d : ℕ) (ps : List Pattern) (ts : List Tree) (b : Bool) → nat_eq (length ps) (length ts) ≡ b → c ≡ d →
-    match (pattern_of (pattern.Con c ps)) (value_of (tree.Con d ts)) ≡ cond b (match_parts 1 (join (map pattern_of ps)) (join (map value_of ts))) (Differs [])
-con_case c d ps ts b l e =
-    ap (λ p. match p (value_of (tree.Con d ts))) (pattern_con c ps)
-    ∙ ap (match (Made (P.Con c) (join (map pattern_of ps)))) (value_con d ts)
-    ∙ ap (λ x. cond (x && nat_eq (count (join (map pattern_of ps))) (count (join (map value_of ts)))) (match_parts 1 (join (map pattern_of ps)) (join (map value_of ts))) (Differs [])) (eq-eqb c d e)
-    ∙ ap (λ n. cond (nat_eq n (count (join (map value_of ts)))) (match_parts 1 (join (map pattern_of ps)) (join (map value_of ts))) (Differs [])) (count_join pattern_of ps)
-    ∙ ap (λ n. cond (nat_eq (length ps) n) (match_parts 1 (join (map pattern_of ps)) (join (map value_of ts))) (Differs [])) (count_join value_of ts)
-    ∙ ap (λ x. cond x (match_parts 1 (join (map pattern_of ps)) (join (map value_of ts))) (Differs [])) l
+con_case : (c d : ℕ) (ps : List Pattern) (us : List Value) (b : Bool) → nat_eq (length ps) (length us) ≡ b → c ≡ d →
+    match (pattern_of (pattern.Con c ps)) (Made (P.Con d) (join us)) ≡ cond b (match_parts 1 (join (map pattern_of ps)) (join us)) (Differs [])
+con_case c d ps us b l e =
+    ap (λ p. match p (Made (P.Con d) (join us))) (pattern_con c ps)
+    ∙ ap (λ x. cond (x && nat_eq (count (join (map pattern_of ps))) (count (join us))) (match_parts 1 (join (map pattern_of ps)) (join us)) (Differs [])) (eq-eqb c d e)
+    ∙ ap (λ n. cond (nat_eq n (count (join us))) (match_parts 1 (join (map pattern_of ps)) (join us)) (Differs [])) (count_join pattern_of ps)
+    ∙ ap (λ n. cond (nat_eq (length ps) n) (match_parts 1 (join (map pattern_of ps)) (join us)) (Differs [])) (count_list us)
+    ∙ ap (λ x. cond x (match_parts 1 (join (map pattern_of ps)) (join us)) (Differs [])) l
+
+pub parts_of : (d : ℕ) (w : Bool) (ts : Rc (Vec Tree Global) Global) (t : Tree) (xs us : List Tree) → t ≡ tree.Con d w ts → xs ≡ ts.value.items → values_of us ≡ map (value_under w) xs → value_of t ≡ Made (P.Con d) (join (values_of us))
+parts_of d w ts t xs us e i v = value_parts t d w ts xs e i ∙ ap (λ vs. Made (P.Con d) (join vs)) (sym v)
 
 -- the same constructor with as many parts
-pub con_match : (c d : ℕ) (ps : List Pattern) (ts : List Tree) (p : Pattern) (t : Tree) → p ≡ pattern.Con c ps → t ≡ tree.Con d ts → c ≡ d → length ps ≡ length ts → match (pattern_of p) (value_of t) ≡ match_parts 1 (join (map pattern_of ps)) (join (map value_of ts))
-con_match c d ps ts p t ep et e l =
-    ap (λ q. match (pattern_of q) (value_of t)) ep ∙ ap (λ u. match (pattern_of (pattern.Con c ps)) (value_of u)) et ∙ con_case c d ps ts true (eq-eqb _ _ l) e
+pub con_match : (c d : ℕ) (ps : List Pattern) (us : List Tree) (p : Pattern) (t : Tree) → p ≡ pattern.Con c ps → value_of t ≡ Made (P.Con d) (join (values_of us)) → c ≡ d → length ps ≡ length us → match (pattern_of p) (value_of t) ≡ match_parts 1 (join (map pattern_of ps)) (join (map value_of us))
+con_match c d ps us p t ep et e l =
+    ap (λ q. match (pattern_of q) (value_of t)) ep ∙ ap (match (pattern_of (pattern.Con c ps))) et
+    ∙ con_case c d ps (values_of us) true (eq-eqb _ _ (l ∙ sym (length-map us value_of))) e
 
 -- the same constructor with another number of parts
-pub con_long : (c d : ℕ) (ps : List Pattern) (ts : List Tree) (p : Pattern) (t : Tree) → p ≡ pattern.Con c ps → t ≡ tree.Con d ts → c ≡ d → (length ps ≡ length ts → ⊥) → match (pattern_of p) (value_of t) ≡ Differs []
-con_long c d ps ts p t ep et e l =
-    ap (λ q. match (pattern_of q) (value_of t)) ep ∙ ap (λ u. match (pattern_of (pattern.Con c ps)) (value_of u)) et ∙ con_case c d ps ts false (nat_eq_other _ _ l) e
+pub con_long : (c d : ℕ) (ps : List Pattern) (us : List Tree) (p : Pattern) (t : Tree) → p ≡ pattern.Con c ps → value_of t ≡ Made (P.Con d) (join (values_of us)) → c ≡ d → (length ps ≡ length us → ⊥) → match (pattern_of p) (value_of t) ≡ Differs []
+con_long c d ps us p t ep et e l =
+    ap (λ q. match (pattern_of q) (value_of t)) ep ∙ ap (match (pattern_of (pattern.Con c ps))) et
+    ∙ con_case c d ps (values_of us) false (nat_eq_other _ _ (λ h. l (h ∙ length-map us value_of))) e
 
 abbrev nowhere : M
 nowhere = Differs []

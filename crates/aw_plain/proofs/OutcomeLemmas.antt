@@ -9,10 +9,10 @@ use Rattle.aw_term.specs.Configs as Q
 use Rattle.aw_term.specs.Configs.{Config, row_of}
 use Rattle.aw_term.specs.Choices.{at_rule, at_state, at_row}
 use Rattle.aw_term.specs.WellFormed.{Each}
-use Rattle.aw_base.specs.declared.grammar.Grammar.{Grammar}
-use Rattle.aw_base.specs.declared.rule.Rule.{Rule}
-use Rattle.aw_base.specs.GrammarView.{rule_of}
-use Rattle.aw_base.specs.GrammarOf.{grammar_of}
+use Rattle.aw_grammar.specs.declared.grammar.Grammar.{Grammar}
+use Rattle.aw_grammar.specs.declared.rule.Rule.{Rule}
+use Rattle.aw_grammar.specs.GrammarView.{rule_of}
+use Rattle.aw_grammar.specs.GrammarOf.{grammar_of}
 use Rattle.aw_plain.specs.declared.tree.Tree.{Tree}
 use Rattle.aw_plain.specs.declared.row.Row.{Row}
 use Rattle.aw_plain.specs.declared.row.State.TheVariants.{Pending}

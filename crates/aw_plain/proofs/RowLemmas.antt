@@ -1,39 +1,123 @@
--- Inserting a row in the order of nodes.
-use Rattle.std.proofs.Common.{◌≡◌, ℕ, zero, suc, ◌+◌, ◌<◌, ◌≤◌, List, [], ◌∷◌, ◌++◌, length, take, drop, get_or, true, false, cond, ap, sym, ◌∙◌, refl, arith, append_assoc}
-use Rattle.std.proofs.lemmas.List.{at_drop_more, take_more, map-append}
-use Rattle.aw_term.specs.Names.{Node, node_lt}
+-- Finding rows, and the place of a new one, in the order of nodes.
+use Rattle.std.proofs.Common.{◌≡◌, ℕ, zero, suc, ◌<◌, ◌≤◌, List, [], ◌∷◌, ◌++◌, length, take, drop, get_or, Some, None, slice_get, Bool, true, false, cond, ap, subst, sym, ◌∙◌, refl, arith}
+use Rattle.std.specs.Prelude.{not}
+use Rattle.std.specs.List.{AllWithin}
+use Rattle.std.specs.List.Sorted.{IsPartitionedBy}
+use Rattle.std.proofs.Math.ListN.{get_or-map}
+use Rattle.aw_term.specs.Names.{Node, node_lt, node_eq}
 use Rattle.aw_term.specs.Configs as Q
-use Rattle.aw_term.specs.Configs.{insert_row}
+use Rattle.aw_term.specs.Configs.{insert_row, row_of}
 use Rattle.aw_plain.specs.declared.row.Row.{Row}
 use Rattle.aw_plain.specs.RowView.{plain_row, config_of}
+use Rattle.aw_plain.specs.Ordered.{IsOrdered}
+use Rattle.aw_plain.proofs.NodeOrder.{node_order, node_tied, node_same, node_refl}
+use Rattle.aw_plain.proofs.OrderedLemmas.{far}
 
--- what the insertion has come to before a place
-abbrev pub Before : List Row → Node → ℕ → Type 0
-Before rows n i = (r : Q.Row) → r.node ≡ n → insert_row r (config_of rows) ≡ config_of (take i rows) ++ insert_row r (config_of (drop i rows))
-
-pub here : (rows : List Row) (n : Node) (i : ℕ) (q : Row) → i < length rows → q ≡ get_or rows i q → node_lt n q.node ≡ true → Before rows n i → (r : Q.Row) → r.node ≡ n → insert_row r (config_of rows) ≡ config_of (take i rows) ++ r ∷ config_of (drop i rows)
-here rows n i q l e b w r en =
-    w r en
-    ∙ ap (λ xs. config_of (take i rows) ++ insert_row r (config_of xs)) (more ∙ ap (λ z. z ∷ drop (i + 1) rows) (sym e))
-    ∙ ap (λ x. config_of (take i rows) ++ cond x (r ∷ plain_row q ∷ config_of (drop (i + 1) rows)) (plain_row q ∷ insert_row r (config_of (drop (i + 1) rows)))) (ap (λ m. node_lt m q.node) en ∙ b)
-    ∙ ap (λ xs. config_of (take i rows) ++ r ∷ config_of xs) (sym (more ∙ ap (λ z. z ∷ drop (i + 1) rows) (sym e)))
+pub rows_far : (rows : List Row) → IsOrdered (config_of rows) → (i j : ℕ) (d : Row) → i ≤ j → j < length rows → node_lt (get_or rows j d).node (get_or rows i d).node ≡ false
+rows_far rows up i j d le l =
+    let at = λ (k : ℕ). ap (λ (q : Q.Row). q.node) (get_or-map plain_row rows k d) in
+    subst (λ m. node_lt (get_or rows j d).node m ≡ false) (at i)
+    (subst (λ m. node_lt m (get_or (config_of rows) i (plain_row d)).node ≡ false) (at j)
+    (far (config_of rows) up i j (plain_row d) le (subst (λ n. j < n) (sym (length_map rows)) l)))
   where
-    more : drop i rows ≡ get_or rows i q ∷ drop (i + 1) rows
-    more = at_drop_more (λ xs. xs) rows i q l
+    length_map : (rows : List Row) → length (config_of rows) ≡ length rows
+    length_map [] = refl
+    length_map (x ∷ xs) = ap suc (length_map xs)
 
-pub later : (rows : List Row) (n : Node) (i : ℕ) (q : Row) → i < length rows → q ≡ get_or rows i q → node_lt n q.node ≡ false → Before rows n i → Before rows n (i + 1)
-later rows n i q l e b w r en =
-    w r en
-    ∙ ap (λ xs. config_of (take i rows) ++ insert_row r (config_of xs)) (at_drop_more (λ xs. xs) rows i q l ∙ ap (λ z. z ∷ drop (i + 1) rows) (sym e))
-    ∙ ap (λ x. config_of (take i rows) ++ cond x (r ∷ plain_row q ∷ config_of (drop (i + 1) rows)) (plain_row q ∷ insert_row r (config_of (drop (i + 1) rows)))) (ap (λ m. node_lt m q.node) en ∙ b)
-    ∙ sym (append_assoc (config_of (take i rows)) (plain_row q ∷ []) (insert_row r (config_of (drop (i + 1) rows))))
-    ∙ ap (λ xs. xs ++ insert_row r (config_of (drop (i + 1) rows))) (sym (ap config_of (take_more rows i q l ∙ ap (λ z. take i rows ++ z ∷ []) (sym e)) ∙ map-append plain_row (take i rows) (q ∷ [])))
+before_cases : (n a b : Node) (x : Bool) → node_lt a n ≡ x → node_lt b a ≡ false → node_lt b n ≡ true → x ≡ true
+before_cases n a b true e up l = refl
+before_cases n a b false e up l = let z = node_order.chain b a n up e in absurd cc
 
-pub last : (rows : List Row) (n : Node) (i : ℕ) → length rows ≤ i → Before rows n i → (r : Q.Row) → r.node ≡ n → insert_row r (config_of rows) ≡ config_of (take i rows) ++ r ∷ config_of (drop i rows)
-last rows n i l w r en = w r en ∙ ap (λ xs. config_of (take i rows) ++ insert_row r (config_of xs)) (nothing rows i l) ∙ ap (λ xs. config_of (take i rows) ++ r ∷ config_of xs) (sym (nothing rows i l))
+-- the rows before a node stand in front
+pub before_first : (rows : List Row) (n : Node) → IsOrdered (config_of rows) → IsPartitionedBy (λ r. node_lt r.node n) rows
+before_first rows n up i j d le l h = before_cases n (get_or rows i d).node (get_or rows j d).node _ refl (rows_far rows up i j d le l) h
+
+pub not_true : (b : Bool) → not b ≡ true → b ≡ false
+not_true true e = absurd cc
+not_true false e = refl
+
+pub not_false : (b : Bool) → not b ≡ false → b ≡ true
+not_false true e = refl
+not_false false e = absurd cc
+
+-- the rows that a node is not before stand in front
+pub after_last : (rows : List Row) (n : Node) → IsOrdered (config_of rows) → IsPartitionedBy (λ r. not (node_lt n r.node)) rows
+after_last rows n up i j d le l h =
+    ap not (node_order.chain n (get_or rows j d).node (get_or rows i d).node (not_true _ h) (rows_far rows up i j d le l))
+
+-- a row goes between those that it is not before and those that it is before
+pub inserted_at : (rows : List Row) (n : Node) (i : ℕ) → i ≤ length rows → AllWithin (λ r. not (node_lt n r.node) ≡ true) rows 0 i → AllWithin (λ r. not (node_lt n r.node) ≡ false) rows i (length rows) → (r : Q.Row) → r.node ≡ n → insert_row r (config_of rows) ≡ config_of (take i rows) ++ r ∷ config_of (drop i rows)
+inserted_at [] n zero le low high r e = refl
+inserted_at [] n (suc i) le low high r e = refl
+inserted_at (x ∷ xs) n zero le low high r e =
+    ap (λ b. cond b (r ∷ plain_row x ∷ config_of xs) (plain_row x ∷ insert_row r (config_of xs))) (ap (λ m. node_lt m x.node) e ∙ not_false _ (high 0 x (omega arith) (omega arith)))
+inserted_at (x ∷ xs) n (suc i) le low high r e =
+    ap (λ b. cond b (r ∷ plain_row x ∷ config_of xs) (plain_row x ∷ insert_row r (config_of xs))) (ap (λ m. node_lt m x.node) e ∙ not_true _ (low 0 x (omega arith) (omega arith)))
+    ∙ ap (λ c. plain_row x ∷ c) (inserted_at xs n i (omega (arith, le)) (λ k d a b. low (suc k) d (omega arith) (omega (arith, b))) (λ k d a b. high (suc k) d (omega (arith, a)) (omega (arith, b))) r e)
+
+differs : (n m : Node) (b : Bool) → node_eq n m ≡ b → (n ≡ m → node_lt m m ≡ true) → b ≡ false
+differs n m true e h = let same = node_same n m e in let l = h same in let z = node_order.one_way m m l in absurd cc
+differs n m false e h = refl
+
+other_before : (n m : Node) → node_lt m n ≡ true → node_eq n m ≡ false
+other_before n m l = differs n m _ refl (λ e. subst (λ k. node_lt m k ≡ true) e l)
+
+other_after : (n m : Node) → node_lt n m ≡ true → node_eq n m ≡ false
+other_after n m l = differs n m _ refl (λ e. subst (λ k. node_lt k m ≡ true) e l)
+
+-- the row behind those that are before the node, where it is the node's
+pub row_here : (rows : List Row) (n : Node) (i : ℕ) (row : Row) → AllWithin (λ r. node_lt r.node n ≡ true) rows 0 i → slice_get rows i ≡ Some row → node_eq n row.node ≡ true → row_of n (config_of rows) ≡ Some (plain_row row)
+row_here [] n i row low at e = absurd cc
+row_here (x ∷ xs) n zero row low at e =
+    let same : x ≡ row = cc in
+    ap (λ b. cond b (Some (plain_row x)) (row_of n (config_of xs))) (ap (λ (r : Row). node_eq n r.node) same ∙ e) ∙ ap (λ r. Some (plain_row r)) same
+row_here (x ∷ xs) n (suc i) row low at e =
+    ap (λ b. cond b (Some (plain_row x)) (row_of n (config_of xs))) (other_before n x.node (low 0 x (omega arith) (omega arith)))
+    ∙ row_here xs n i row (λ k d a b. low (suc k) d (omega arith) (omega (arith, b))) at e
+
+-- no row of the node where it is before all
+none_after : (rows : List Row) (n : Node) → ((k : ℕ) (d : Row) → k < length rows → node_lt n (get_or rows k d).node ≡ true) → row_of n (config_of rows) ≡ None
+none_after [] n high = refl
+none_after (x ∷ xs) n high =
+    ap (λ b. cond b (Some (plain_row x)) (row_of n (config_of xs))) (other_after n x.node (high 0 x (omega arith)))
+    ∙ none_after xs n (λ k d l. high (suc k) d (omega (arith, l)))
+
+after_cases : (n a b : Node) (x : Bool) → node_lt n b ≡ x → node_lt n a ≡ true → node_lt b a ≡ false → x ≡ true
+after_cases n a b true e l up = refl
+after_cases n a b false e l up = let z = node_order.chain n b a e up in absurd cc
+
+strict_cases : (n a : Node) (x : Bool) → node_lt n a ≡ x → node_lt a n ≡ false → node_eq n a ≡ false → x ≡ true
+strict_cases n a true e low differ = refl
+strict_cases n a false e low differ = let same = node_tied n a e low in let z = node_self n a same in absurd cc
   where
-    nothing : (rows : List Row) (i : ℕ) → length rows ≤ i → drop i rows ≡ []
-    nothing [] zero l = refl
-    nothing [] (suc i) l = refl
-    nothing (x ∷ xs) zero l = absurd (omega (arith, l))
-    nothing (x ∷ xs) (suc i) l = nothing xs i (omega (arith, l))
+    node_self : (n a : Node) → n ≡ a → node_eq n a ≡ true
+    node_self n a e = subst (λ k. node_eq n k ≡ true) e (node_refl n)
+
+abbrev Far : List Row → Type 0
+Far rows = (i j : ℕ) (d : Row) → i ≤ j → j < length rows → node_lt (get_or rows j d).node (get_or rows i d).node ≡ false
+
+gone : (rows : List Row) (n : Node) (i : ℕ) → Far rows → AllWithin (λ r. node_lt r.node n ≡ true) rows 0 i → AllWithin (λ r. node_lt r.node n ≡ false) rows i (length rows) → ((row : Row) → slice_get rows i ≡ Some row → node_eq n row.node ≡ false) → row_of n (config_of rows) ≡ None
+gone [] n i up low high here = refl
+gone (x ∷ xs) n zero up low high here =
+    let differ = here x refl in
+    let first = strict_cases n x.node _ refl (high 0 x (omega arith) (omega arith)) differ in
+    ap (λ b. cond b (Some (plain_row x)) (row_of n (config_of xs))) differ
+    ∙ none_after xs n (λ k d l. after_cases n x.node (get_or xs k d).node _ refl first (up 0 (suc k) d (omega arith) (omega (arith, l))))
+gone (x ∷ xs) n (suc i) up low high here =
+    ap (λ b. cond b (Some (plain_row x)) (row_of n (config_of xs))) (other_before n x.node (low 0 x (omega arith) (omega arith)))
+    ∙ gone xs n i (λ a b d le l. up (suc a) (suc b) d (omega (arith, le)) (omega (arith, l))) (λ k d a b. low (suc k) d (omega arith) (omega (arith, b))) (λ k d a b. high (suc k) d (omega (arith, a)) (omega (arith, b))) here
+
+-- no row of the node, where the row behind those that are before it is another's
+pub row_gone : (rows : List Row) (n : Node) (i : ℕ) → IsOrdered (config_of rows) → AllWithin (λ r. node_lt r.node n ≡ true) rows 0 i → AllWithin (λ r. node_lt r.node n ≡ false) rows i (length rows) → ((row : Row) → slice_get rows i ≡ Some row → node_eq n row.node ≡ false) → row_of n (config_of rows) ≡ None
+row_gone rows n i up low high here = gone rows n i (rows_far rows up) low high here
+
+pub other_here : (rows : List Row) (n : Node) (i : ℕ) (row other : Row) → slice_get rows i ≡ Some row → slice_get rows i ≡ Some other → node_eq n other.node ≡ false → node_eq n row.node ≡ false
+other_here rows n i row other here there e =
+    let same : other ≡ row = some_same (sym there ∙ here) in
+    ap (λ (r : Row). node_eq n r.node) (sym same) ∙ e
+  where
+    some_same : {a b : Row} → Some a ≡ Some b → a ≡ b
+    some_same e = cc
+
+pub nothing_here : (rows : List Row) (n : Node) (i : ℕ) (row : Row) → slice_get rows i ≡ Some row → slice_get rows i ≡ None → node_eq n row.node ≡ false
+nothing_here rows n i row here gone = absurd cc

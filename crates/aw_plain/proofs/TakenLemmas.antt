@@ -1,6 +1,7 @@
--- What a choice keeps: that rows are filled, and that they are reached.
-use Rattle.std.proofs.Common.{◌≡◌, ℕ, zero, suc, Bool, true, false, cond, List, [], ◌∷◌, ◌++◌, length, map, Option, Some, None, slice_get, sym, ap, ◌∙◌, refl, subst}
+-- What a choice keeps: that rows are filled, that they are reached, and so that they are acyclic.
+use Rattle.std.proofs.Common.{◌≡◌, ℕ, zero, suc, arith, Bool, true, false, cond, List, [], ◌∷◌, ◌++◌, length, map, Option, Some, None, slice_get, sym, ap, ◌∙◌, refl, subst}
 use Rattle.std.specs.Prelude.{option_and_then, Result, Ok, Err, IfOk, OnErr, nat_eq}
+use Rattle.std.proofs.Math.Logic.{∥∥₁_map₂}
 use Rattle.std.proofs.lemmas.List.{length-map}
 use Rattle.aw_term.specs.Trees.{bind}
 use Rattle.aw_term.specs.Names.{Node, Ref, node_eq, node_lt}
@@ -12,10 +13,17 @@ use Rattle.aw_term.specs.Artifacts.{Words}
 use Rattle.aw_term.specs.WellFormed.{Each, takes_of, SortFits, ChildFits, RuleFits, IsWellFormed}
 use Rattle.aw_base.specs.NodeNames.{is_start}
 use Rattle.aw_base.specs.ChoiceFits.{choice_ok}
-use Rattle.aw_base.proofs.Fits.{each_at}
+use Rattle.aw_grammar.proofs.Fits.{each_at}
+use Rattle.aw_iograph.specs.Dependence.{IO, HasNoCircle}
+use Rattle.aw_iograph.proofs.Members.{never}
+use Rattle.aw_accept.specs.Acyclic.{IsAcyclic}
+use Rattle.aw_accept.proofs.Fitting.{given_of}
+use Rattle.aw_accept.proofs.UndividedRuns.{undivided-acyclic}
 use Rattle.aw_plain.specs.declared.row.Row as rows
 use Rattle.aw_plain.specs.RowView.{config_of}
 use Rattle.aw_plain.specs.Filled.{IsFilled, AreFilled}
+use Rattle.aw_plain.specs.Ordered.{IsOrdered}
+use Rattle.aw_plain.specs.Cases.{AreApart}
 use Rattle.aw_plain.specs.Reached.{IsReached}
 
 each_map : {A B : Type 0} (P : A → Type 0) (Q : B → Type 0) (f : A → B) (xs : List A) → ((x : A) → P x → Q (f x)) → Each P xs → Each Q (map f xs)
@@ -123,6 +131,25 @@ reached_taken g c x (Some d) e w = (w.0 ++ x ∷ [], undivided_more g [] w.0 x c
 -- what a choice leads to is reached
 pub reached_after : (g : Grammar) (c : Config) (x : Choice) → IsReached g c → IsReached g (after g c x)
 reached_after g c x w = reached_taken g c x (taken g c x (outcome g c x)) refl w
+
+-- what is reached on a grammar without circles is acyclic
+pub acyclic_reached : (w : Words) (g : Grammar) (c : Config) → ∥ IsWellFormed w g ∥₁ → ∥ HasNoCircle g (IO g) ∥₁ → ∥ IsReached g c ∥₁ → ∥ IsAcyclic (IO g) c ∥₁
+acyclic_reached w g c formed accepted reached =
+    let start = λ (f : IsWellFormed w g) (a : HasNoCircle g (IO g)) (r : IsReached g c). undivided-acyclic g (given_of w g f) a r.0 c r.1 in
+    ∥∥₁_map₂ (∥∥₁_map₂ formed accepted start) reached (λ f r. f r)
+
+-- what holds of no rows
+pub filled_none : (g : Grammar) (rs : List rows.Row) → rs ≡ [] → ∥ AreFilled g (config_of rs) ∥₁
+filled_none g rs e = subst (λ xs. ∥ AreFilled g (config_of xs) ∥₁) (sym e) ∣ tt ∣₁
+
+pub reached_none : (g : Grammar) (rs : List rows.Row) → rs ≡ [] → ∥ IsReached g (config_of rs) ∥₁
+reached_none g rs e = subst (λ xs. ∥ IsReached g (config_of xs) ∥₁) (sym e) ∣ ([], refl) ∣₁
+
+pub ordered_none : (rs : List rows.Row) → rs ≡ [] → IsOrdered (config_of rs)
+ordered_none rs e = subst (λ xs. IsOrdered (config_of xs)) (sym e) (λ k d low l. absurd (omega (arith, l)))
+
+pub apart_none : (rs : List rows.Row) → rs ≡ [] → AreApart (config_of rs)
+apart_none rs e = subst (λ xs. AreApart (config_of xs)) (sym e) (λ q m. never m)
 
 -- what holds before a call and after the choice holds after the call, which fails without effect
 pub kept : {A E : Type 0} (P : Config → Type 0) (r : Result A E) (old new : List rows.Row) (next : Config) → IfOk r (λ a. config_of new ≡ next) → OnErr r (new ≡ old) → P (config_of old) → P next → P (config_of new)

@@ -1,52 +1,35 @@
--- The view of values at a constructor with parts, and back.
-use Rattle.std.specs.Prelude.{◌≡◌, ℕ, List, [], ◌∷◌, map}
-use Rattle.std.proofs.Common.{refl, sym, ap, ◌∙◌}
+-- A value over the list of its parts.
+use Rattle.std.proofs.Common.{◌≡◌, ℕ, List, map, Bool, true, false, ◌||◌, refl, ap, sym, ◌∙◌}
+use Rattle.std.specs.declared.vec.Vec.{Vec}
+use Rattle.std.specs.declared.alloc.Global.{Global}
+use Rattle.std.specs.declared.rc.Rc.{Rc}
 use Rattle.aw_term.specs.Trees as P
-use Rattle.aw_term.specs.Trees.{Leaf, Made, Nil, More, join}
-use Rattle.aw_term.specs.Names.{Slot, Result, Part, Ref}
+use Rattle.aw_term.specs.Trees.{Leaf, Made, Nil, More, join, bind, binds}
+use Rattle.aw_term.specs.Names.{Ref}
 use Rattle.aw_term.specs.Rules.{Value}
 use Rattle.aw_plain.specs.declared.tree.Tree as tree
 use Rattle.aw_plain.specs.declared.tree.Tree.TheBlock as tree_block
-use Rattle.aw_plain.specs.declared.tree.Tree.TheViews as views
-use Rattle.aw_plain.specs.TreeView.{value_of, value_row}
+use Rattle.aw_plain.specs.TreeView.{value_under, row_under, value_of}
 
-value_row_list : (m : _) (row : tree.Row_of-Tree m) → value_row row ≡ join (map value_of (tree.items-the_row-Tree m row))
-value_row_list _ tree.end_of-Tree = refl
-value_row_list _ (tree.more_of-Tree p rest) = ap (More (value_of p)) (value_row_list _ rest)
+row_list : (w : Bool) (m : _) (row : tree.Row_of-Tree m) → row_under w row ≡ join (map (value_under w) (tree.items-the_row-Tree m row))
+row_list w _ tree.end_of-Tree = refl
+row_list w _ (tree.more_of-Tree p rest) = ap (More (value_under w p)) (row_list w _ rest)
 
-pub value_con : (c : ℕ) (ts : List tree.Tree) → value_of (tree.Con c ts) ≡ Made (P.Con c) (join (map value_of ts))
-value_con c ts = ap (Made (P.Con c)) (value_row_list _ (tree_block.hidden-the_row-Tree-0 ts) ∙ ap (λ qs. join (map value_of qs)) (tree.items_hidden-the_row-Tree-0 ts))
+pub value_con : (w : Bool) (c : ℕ) (m : Bool) (ts : Rc (Vec tree.Tree Global) Global) → value_under w (tree.Con c m ts) ≡ Made (P.Con c) (join (map (value_under (w || m)) ts.value.items))
+value_con w c m ts = ap (Made (P.Con c)) (row_list (w || m) _ (tree_block.hidden-the_row-Tree-0 ts.value) ∙ ap (λ qs. join (map (value_under (w || m)) qs)) (tree.items_hidden-the_row-Tree-0 ts.value))
 
-abbrev number : Slot → ℕ
-number (Result j) = j
-number (Part k) = k
+-- the parts of a constructor, each as a value of its own
+pub value_parts : (t : tree.Tree) (c : ℕ) (m : Bool) (ts : Rc (Vec tree.Tree Global) Global) (ps : List tree.Tree) → t ≡ tree.Con c m ts → ps ≡ ts.value.items → value_of t ≡ Made (P.Con c) (join (map (value_under m) ps))
+value_parts t c m ts ps e i = ap value_of e ∙ value_con false c m ts ∙ ap (λ qs. Made (P.Con c) (join (map (value_under m) qs))) (sym i)
 
--- the tree back from its view
-abbrev mutual
-  pub back : Value → tree.Tree
-  back (Leaf r) = tree.Hole r.node (number r.slot)
-  back (Made (P.Con c) ts) = tree.Con c (backs ts)
-  back (Made (P.Num n) ts) = tree.Num n
-  back (Made (P.Text t) ts) = tree.Text t
-
-  pub backs : P.Trees Ref → List tree.Tree
-  backs Nil = []
-  backs (More t ts) = back t ∷ backs ts
-
-con_row : (c : ℕ) (n : List (Unit {0})) (row : tree.Row_of-Tree _) → tree.Con c (tree.items-the_row-Tree _ row) ≡ tree.Con' c n row
-unfolding tree.out-Tree tree.roll-Tree denote.Hole.Carrier.roll denote.Hole.Carrier.out
-con_row c n row = ap (tree.Con c) (sym (tree.items_shown-the_row-Tree-0 n row)) ∙ views.rolls-Con c _ ∙ tree.roll-out-Tree (tree.Con' c n row)
-
+-- nothing is looked for below a mark
 mutual
-  pub back_of : (t : tree.Tree) → back (value_of t) ≡ t
-  back_of (tree.Con' c n row) = ap (tree.Con c) (backs_of _ row) ∙ con_row c n row
-  back_of (tree.Num n) = refl
-  back_of (tree.Text t) = refl
-  back_of (tree.Hole n j) = refl
+  pub bind_whole : (f : Ref → Value) (t : tree.Tree) → bind f (value_under true t) ≡ value_under true t
+  bind_whole f (tree.Con' c m p n row) = ap (Made (P.Con c)) (binds_whole f row)
+  bind_whole f (tree.Num n) = refl
+  bind_whole f (tree.Text t) = refl
+  bind_whole f (tree.Hole n j) = refl
 
-  backs_of : (m : _) (row : tree.Row_of-Tree m) → backs (value_row row) ≡ tree.items-the_row-Tree m row
-  backs_of _ tree.end_of-Tree = refl
-  backs_of _ (tree.more_of-Tree t rest) = λ i. back_of t i ∷ backs_of _ rest i
-
-pub value_injective : (t u : tree.Tree) → value_of t ≡ value_of u → t ≡ u
-value_injective t u e = sym (back_of t) ∙ ap back e ∙ back_of u
+  binds_whole : (f : Ref → Value) {m : _} (row : tree.Row_of-Tree m) → binds f (row_under true row) ≡ row_under true row
+  binds_whole f tree.end_of-Tree = refl
+  binds_whole f (tree.more_of-Tree t rest) = λ i. More (bind_whole f t i) (binds_whole f rest i)

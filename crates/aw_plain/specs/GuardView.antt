@@ -2,7 +2,7 @@
 use Rattle.aw_term.specs.Names.{Ref}
 use Rattle.aw_term.specs.Rules.{Value}
 use Rattle.aw_term.specs.Matching as Q
-use Rattle.aw_base.specs.ChoiceView.{place_of}
+use Rattle.aw_choice.specs.ChoiceView.{place_of}
 use Rattle.aw_plain.specs.declared.guard.Guard.{Guard}
 use Rattle.aw_plain.specs.declared.guard.Guard.TheVariants.{Yes, Waits, Differs}
 use Rattle.aw_plain.specs.TreeView.{values_of}

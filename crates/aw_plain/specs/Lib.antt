@@ -8,5 +8,8 @@ pub mod GuardView
 pub mod Filled
 pub mod OutcomeView
 pub mod Reached
+pub mod Ordered
+pub mod Cases
+pub mod InTurn
 pub mod Changes
 pub mod Pieces

@@ -3,7 +3,7 @@ use Rattle.std.specs.Prelude.{ℕ, List, ◌++◌}
 use Rattle.aw_term.specs.Names.{Ref}
 use Rattle.aw_term.specs.Rules.{Value}
 use Rattle.aw_term.specs.Matching as Q
-use Rattle.aw_base.specs.ChoiceView.{path_of}
+use Rattle.aw_choice.specs.ChoiceView.{path_of}
 use Rattle.aw_plain.specs.declared.matching.Matched.{Matched}
 use Rattle.aw_plain.specs.declared.matching.Matched.TheVariants.{Yes, Waits, Differs}
 use Rattle.aw_plain.specs.TreeView.{values_of}

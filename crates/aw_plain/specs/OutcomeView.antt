@@ -3,10 +3,10 @@ use Rattle.std.specs.Prelude.{◌<◌, List, length}
 use Rattle.aw_term.specs.Names.{Node, Ref}
 use Rattle.aw_term.specs.Rules.{Value}
 use Rattle.aw_term.specs.Choices as Q
-use Rattle.aw_base.specs.declared.rule.Sort.{Sort}
-use Rattle.aw_base.specs.declared.rule.Rule.{Rule}
-use Rattle.aw_base.specs.GrammarView.{rule_of}
-use Rattle.aw_base.specs.ChoiceView.{answer_of}
+use Rattle.aw_grammar.specs.declared.rule.Sort.{Sort}
+use Rattle.aw_grammar.specs.declared.rule.Rule.{Rule}
+use Rattle.aw_grammar.specs.GrammarView.{rule_of}
+use Rattle.aw_choice.specs.ChoiceView.{answer_of}
 use Rattle.aw_plain.specs.declared.outcome.Outcome.{Outcome}
 use Rattle.aw_plain.specs.declared.outcome.Outcome.TheVariants.{Refused, Takes}
 use Rattle.aw_plain.specs.TreeView.{values_of}

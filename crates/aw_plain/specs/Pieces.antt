@@ -1,13 +1,16 @@
 -- Printing a value on a stack: what is left to be printed.
-use Rattle.std.specs.Prelude.{ℕ, ◌+◌, ◌*◌, List, [], ◌∷◌, ◌++◌, map, codes}
+use Rattle.std.specs.Prelude.{Bool, ℕ, ◌+◌, ◌*◌, List, [], ◌∷◌, ◌++◌, map, codes}
 use Rattle.aw_term.specs.Trees.{Leaf, Made, Nil, More}
 use Rattle.aw_term.specs.Rules.{Value}
 use Rattle.aw_term.specs.Configs.{State, Pending, Done, lift}
 use Rattle.aw_term.specs.Artifacts.{Words, head_text, ref_text, value_text}
+use Rattle.std.specs.declared.result.Result.{Result}
+use Rattle.aw_out.specs.declared.error.PrintFault.{PrintFault}
+use Rattle.aw_out.specs.Report.{Bounded, Prints}
 use Rattle.aw_plain.specs.declared.tree.Tree as tree
 use Rattle.aw_plain.specs.declared.print.Piece.{Piece}
 use Rattle.aw_plain.specs.declared.print.Piece.TheVariants.{First, Next, Bytes}
-use Rattle.aw_plain.specs.TreeView.{value_of}
+use Rattle.aw_plain.specs.TreeView.{value_of, value_under}
 use Rattle.aw_plain.specs.Places.{places}
 
 -- the text of a value up to its first part
@@ -20,20 +23,24 @@ opening w (Made h (More t ts)) = head_text w h ++ codes "("
 abbrev pub text_of : Words → tree.Tree → List ℕ
 text_of w t = value_text w (value_of t)
 
+-- the texts of parts below a constructor that is marked whole or not
+abbrev pub texts_under : Words → Bool → List tree.Tree → List (List ℕ)
+texts_under w m ts = map (value_text w) (map (value_under m) ts)
+
 -- each text with a separator before it
 abbrev pub following : List (List ℕ) → List ℕ
 following [] = []
 following (t ∷ ts) = codes ", " ++ (t ++ following ts)
 
 abbrev pub piece_text : Words → Piece → List ℕ
-piece_text w (First t) = text_of w t.now
-piece_text w (Next t) = codes ", " ++ text_of w t.now
+piece_text w (First t) = text_of w t
+piece_text w (Next t) = codes ", " ++ text_of w t
 piece_text w (Bytes b) = b.now
 
 -- what is printed of a piece before its parts
 abbrev pub piece_opening : Words → Piece → List ℕ
-piece_opening w (First t) = opening w (value_of t.now)
-piece_opening w (Next t) = codes ", " ++ opening w (value_of t.now)
+piece_opening w (First t) = opening w (value_of t)
+piece_opening w (Next t) = codes ", " ++ opening w (value_of t)
 piece_opening w (Bytes b) = b.now
 
 -- all pieces, the last one first
@@ -42,13 +49,17 @@ pending w [] = []
 pending w (p ∷ ps) = pending w ps ++ piece_text w p
 
 abbrev pub piece_work : Piece → ℕ
-piece_work (First t) = 2 * places t.now
-piece_work (Next t) = 2 * places t.now
+piece_work (First t) = 2 * places t
+piece_work (Next t) = 2 * places t
 piece_work (Bytes b) = 1
 
 abbrev pub pieces_work : List Piece → ℕ
 pieces_work [] = 0
 pieces_work (p ∷ ps) = piece_work p + pieces_work ps
+
+-- what is printed of the one text into the one report is what is printed of the other text into the other report
+abbrev pub Continues : List ℕ → Bounded → List ℕ → Bounded → Type 0
+Continues text old rest new = (last : Bounded) (result : Result Unit PrintFault) → Prints rest new last result → Prints text old last result
 
 -- the arguments of a state as values
 abbrev pub arguments : State → List Value

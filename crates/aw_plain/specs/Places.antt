@@ -1,6 +1,7 @@
 -- How many places values have: what going through them comes down by.
 use Rattle.std.specs.Prelude.{ℕ, ◌+◌, ◌*◌, List, [], ◌∷◌, Option, None, Some}
 use Rattle.std.specs.declared.vec.Vec.{Vec}
+use Rattle.std.specs.declared.rc.Rc.{Rc}
 use Rattle.std.specs.declared.alloc.Global.{Global}
 use Rattle.aw_term.specs.WellFormed.{symbols}
 use Rattle.aw_plain.specs.declared.tree.Tree.{Tree}
@@ -15,9 +16,9 @@ places_of_all [] = 0
 places_of_all (t ∷ ts) = places t + places_of_all ts
 
 -- the places of the list that is open
-abbrev pub places_open : Option (Vec Tree Global) → ℕ
+abbrev pub places_open : Option (Rc (Vec Tree Global) Global) → ℕ
 places_open None = 0
-places_open (Some v) = places_of_all v.items
+places_open (Some v) = places_of_all v.value.items
 
 -- the pair of t and h in lexicographic order, where h is at most t
 abbrev pub rank : ℕ → ℕ → ℕ

@@ -1,10 +1,11 @@
 //! Rows that a taken rule changes: they are made first, and put in their places when nothing can fail any more.
-ghost use Rattle.std.specs.Prelude.{◌≡◌, ◌+◌, ◌<◌, IfOk, OnOk, List, length, map, slice_set, slice_index_or, vec_len, vec_capacity};
+ghost use Rattle.std.specs.Prelude.{◌≡◌, ◌+◌, ◌<◌, ◌≤◌, IfOk, OnOk, List, length, map, slice_set, slice_index_or, vec_len, vec_capacity};
 ghost use Rattle.aw_term.specs.Configs.{Done};
 ghost use Rattle.aw_term.specs.Views.{ground_of};
 ghost use Rattle.aw_plain.specs.declared.row.Row.{Row as RowValue};
 ghost use Rattle.aw_plain.specs.TreeView.{values_of};
 ghost use Rattle.aw_plain.specs.RowView.{config_of};
+ghost use Rattle.aw_plain.specs.Cases.{AreOutside};
 ghost use Rattle.aw_plain.specs.Changes.{row_after as plain_after, changed, IsChangedTo};
 
 use crate::develop::row_after;
@@ -13,6 +14,7 @@ use crate::tree::Tree;
 use aw_base::Grounds;
 use aw_name::Node;
 use std::alloc::{AllocError, Global};
+use std::ops::Range;
 
 /// A row that takes the place of another.
 #[derive(Debug, Drop)]
@@ -41,19 +43,23 @@ fn push_change(
     Ok(())
 }
 
-/// The changes that a rule brings to the rows that are held.
+/// The changes that a rule brings to the rows that are held: only those at these places change.
 pub fn changes(
     alloc: Global,
     rows: &[Row],
+    places: Range<usize>,
     node: &Node,
     number: u16,
     args: &Grounds,
     results: &[Tree],
 ) -> Result<Vec<Change>, AllocError>
+    requires order { places.start ≤ places.end }
+    requires within { places.end ≤ length rows.now }
+    requires outside { AreOutside (λ q. plain_after node.now (Done number (map ground_of args.now)) (values_of results.now) q ≡ q) places.start places.end (config_of rows.now) }
     ensures { IfOk result (λ xs. config_of (changed rows.now xs.items) ≡ map (plain_after node.now (Done number (map ground_of args.now)) (values_of results.now)) (config_of rows.now)) }
 {
     let mut changes = Vec::new(alloc);
-    for at in 0..rows.len() {
+    for at in places.start..places.end {
         push_change(
             alloc,
             &mut changes,

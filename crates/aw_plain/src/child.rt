@@ -4,8 +4,8 @@ ghost use Rattle.aw_term.specs.Names.{below};
 ghost use Rattle.aw_term.specs.Configs.{holes as plain_holes, child_rows as plain_child_rows, env as plain_env};
 ghost use Rattle.aw_term.specs.Choices.{gives_of};
 ghost use Rattle.aw_term.specs.Views.{ground_of};
-ghost use Rattle.aw_base.specs.GrammarView.{child_of, rule_of};
-ghost use Rattle.aw_base.specs.GrammarOf.{grammar_of};
+ghost use Rattle.aw_grammar.specs.GrammarView.{child_of, rule_of};
+ghost use Rattle.aw_grammar.specs.GrammarOf.{grammar_of};
 ghost use Rattle.aw_plain.specs.TreeView.{values_of};
 ghost use Rattle.aw_plain.specs.RowView.{plain_row, config_of};
 

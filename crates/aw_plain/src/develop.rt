@@ -4,17 +4,20 @@ ghost use Rattle.aw_term.specs.Trees.{bind};
 ghost use Rattle.aw_term.specs.Configs.{develop as plain_develop, done_row as plain_done, put, row_put, Done};
 ghost use Rattle.aw_term.specs.Choices.{or_same};
 ghost use Rattle.aw_term.specs.Views.{ground_of};
-ghost use Rattle.aw_base.specs.GrammarView.{rule_of};
+ghost use Rattle.aw_grammar.specs.GrammarView.{rule_of};
 ghost use Rattle.aw_plain.specs.TreeView.{values_of};
 ghost use Rattle.aw_plain.specs.RowView.{plain_row, plain_state, config_of};
 ghost use Rattle.aw_plain.specs.Changes.{row_fed, row_after as plain_after};
+ghost use Rattle.aw_plain.specs.Ordered.{IsOrdered};
+ghost use Rattle.aw_plain.specs.Cases.{AreApart};
 
 use crate::change::{apply, changes};
 use crate::child::{bindings, child_rows};
 use crate::fill::fill_all;
 use crate::order::is_node;
-use crate::put::{copy_tree, put_all};
+use crate::put::{copy_parts, put_all};
 use crate::row::{Row, State, add_rows, copy_state};
+use crate::touch::touched;
 use crate::tree::{Tree, Trees};
 use aw_base::{Grammar, Grounds, Rule};
 use aw_list::Items;
@@ -97,15 +100,11 @@ fn state_after(row: &Row, node: &Node, number: u16, args: &Grounds) -> Result<St
     }
 }
 
-/// A copy of values.
+/// A copy of values. They share their parts.
 fn copy_trees(alloc: Global, trees: &[Tree]) -> Result<Trees, AllocError>
     ensures { IfOk result (λ ts. values_of ts ≡ values_of trees.now) }
 {
-    let mut copies = Vec::new(alloc);
-    for tree in trees {
-        copies.push(copy_tree(alloc, tree)?)?;
-    }
-    Ok(Items::from_vec(copies))
+    copy_parts(alloc, trees, false)
 }
 
 /// A copy of a row, done where it is the node's.
@@ -159,21 +158,19 @@ pub fn develop(
 ) -> Result<(), AllocError>
     requires few { length rule.now.children ≤ 8 }
     requires room { 0 < length rule.now.children → length node.now.steps < 250 }
+    requires ordered { IsOrdered (config_of rows.old.items) }
+    requires apart { AreApart (config_of rows.old.items) }
     ensures ok { OnOk result (config_of rows.new.items ≡ plain_develop node.now number (rule_of grammar.now.sorts rule.now) (values_of bound) (map ground_of args.now) (config_of rows.old.items)) }
     ensures err { OnErr result (rows.new.items ≡ rows.old.items) }
 {
     let env = bindings(alloc, grammar, node, number, rule, bound, args.as_slice())?;
     let results = fill_all(alloc, rule.results.as_slice(), env.as_slice())?;
+    let given = results.as_slice();
     let open = child_rows(alloc, grammar, node, number, rule, env.as_slice())?;
-    let children = put_each(alloc, open, node, results.as_slice())?;
-    let changed = changes(
-        alloc,
-        rows.as_slice(),
-        node,
-        number,
-        args,
-        results.as_slice(),
-    )?;
+    let children = put_each(alloc, open, node, given)?;
+    let held = rows.as_slice();
+    let places = touched(held, node, given);
+    let changed = changes(alloc, held, places, node, number, args, given)?;
     rows.reserve(children.len())?;
     apply(rows, changed);
     add_rows(rows, children);

@@ -4,7 +4,7 @@ ghost use Rattle.aw_term.specs.Configs.{fill as plain_fill, lift as plain_lift, 
 ghost use Rattle.aw_term.specs.Views.{ground_of, term_of};
 ghost use Rattle.aw_plain.specs.TreeView.{value_of, values_of};
 
-use crate::put::{copy_at, copy_text};
+use crate::put::{copy_at, make_con, make_text};
 use crate::tree::{Tree, Trees};
 use aw_base::{Expr, Ground, Lit};
 use aw_list::Items;
@@ -17,10 +17,10 @@ fn fill(alloc: Global, expr: &Expr, env: &[Tree]) -> Result<Tree, AllocError>
     ensures { IfOk result (λ t. value_of t ≡ plain_fill (values_of env.now) (term_of expr.now)) }
 {
     match expr {
-        Expr::Var(x) => copy_at(alloc, env, usize::from(*x)),
+        Expr::Var(x) => copy_at(env, usize::from(*x)),
         Expr::Lit(Lit::Num(n)) => Ok(Tree::Num(*n)),
-        Expr::Lit(Lit::Text(t)) => Ok(Tree::Text(copy_text(t)?)),
-        Expr::Con(c, parts) => Ok(Tree::Con(*c, fill_all(alloc, parts.as_slice(), env)?)),
+        Expr::Lit(Lit::Text(t)) => make_text(alloc, t),
+        Expr::Con(c, parts) => make_con(*c, fill_all(alloc, parts.as_slice(), env)?.into_vec()),
     }
 }
 
@@ -43,8 +43,8 @@ fn lift(alloc: Global, ground: &Ground) -> Result<Tree, AllocError>
 {
     match ground {
         Ground::Num(n) => Ok(Tree::Num(*n)),
-        Ground::Text(t) => Ok(Tree::Text(copy_text(t)?)),
-        Ground::Con(c, parts) => Ok(Tree::Con(*c, lift_all(alloc, parts.as_slice())?)),
+        Ground::Text(t) => make_text(alloc, t),
+        Ground::Con(c, parts) => make_con(*c, lift_all(alloc, parts.as_slice())?.into_vec()),
     }
 }
 

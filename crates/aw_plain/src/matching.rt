@@ -1,18 +1,18 @@
 //! Matching patterns with values: the first place in depth-first order that does not match decides.
 ghost use Rattle.std.specs.Prelude.{◌≡◌, ◌≤◌, ◌+◌, ◌++◌, true, IfOk, OnOk, map, length};
-ghost use Rattle.aw_term.specs.Trees.{join};
+ghost use Rattle.aw_term.specs.Trees.{join, Made, Text as PlainText, Nil};
 ghost use Rattle.aw_term.specs.Matching.{match as plain_match, match_parts as plain_parts};
 ghost use Rattle.aw_term.specs.WellFormed.{nesting, all_nesting};
 ghost use Rattle.aw_term.specs.Views.{pattern_of};
-ghost use Rattle.aw_base.specs.ChoiceView.{path_of};
+ghost use Rattle.aw_choice.specs.ChoiceView.{path_of};
 ghost use Rattle.aw_plain.specs.TreeView.{value_of};
 ghost use Rattle.aw_plain.specs.MatchView.{matched_of, behind};
 ghost use Rattle.aw_plain.specs.Narrow.{is_narrow, are_narrow};
 
-use crate::put::copy_tree;
+use crate::put::{copy_parts, copy_tree};
 use crate::tree::{Tree, Trees};
 use aw_base::{Lit, Path, Pattern, Ref, Slot};
-use aw_list::Items;
+use aw_list::{Items, Text};
 use aw_name::{Node, copy_node};
 use std::alloc::{AllocError, Global};
 
@@ -35,21 +35,28 @@ fn waits(node: &Node, j: u16) -> Result<Matched, AllocError>
     }))
 }
 
+/// A number or a text with the text that stands at this path.
+fn match_text(alloc: Global, lit: &Lit, text: &Text, at: &Path) -> Result<Matched, AllocError>
+    ensures { IfOk result (λ m. matched_of m ≡ behind (path_of at.now) (plain_match (pattern_of (Pattern.Lit lit.now)) (Made (PlainText text.now) Nil))) }
+{
+    match lit {
+        Lit::Text(u) if *u == *text => Ok(Matched::Yes(Items::new(alloc))),
+        _ => Ok(Matched::Differs(*at)),
+    }
+}
+
 /// A number or a text with the value that stands at this path.
 fn match_lit(alloc: Global, lit: &Lit, tree: &Tree, at: &Path) -> Result<Matched, AllocError>
     ensures { IfOk result (λ m. matched_of m ≡ behind (path_of at.now) (plain_match (pattern_of (Pattern.Lit lit.now)) (value_of tree.now))) }
 {
     match tree {
         Tree::Hole(n, j) => waits(n, *j),
-        Tree::Con(_, _) => Ok(Matched::Differs(*at)),
+        Tree::Con { .. } => Ok(Matched::Differs(*at)),
         Tree::Num(n) => match lit {
             Lit::Num(m) if *m == *n => Ok(Matched::Yes(Items::new(alloc))),
             _ => Ok(Matched::Differs(*at)),
         },
-        Tree::Text(t) => match lit {
-            Lit::Text(u) if *u == *t => Ok(Matched::Yes(Items::new(alloc))),
-            _ => Ok(Matched::Differs(*at)),
-        },
+        Tree::Text(t) => match_text(alloc, lit, t.as_ref(), at),
     }
 }
 
@@ -98,7 +105,7 @@ fn match_at(alloc: Global, pattern: &Pattern, tree: &Tree, at: &Path) -> Result<
     match pattern {
         Pattern::Var(_) => {
             let mut taken = Items::new(alloc);
-            taken.push(copy_tree(alloc, tree)?)?;
+            taken.push(copy_tree(tree)?)?;
             Ok(Matched::Yes(taken))
         }
         Pattern::Lit(lit) => match_lit(alloc, lit, tree, at),
@@ -106,10 +113,15 @@ fn match_at(alloc: Global, pattern: &Pattern, tree: &Tree, at: &Path) -> Result<
             Tree::Hole(n, j) => waits(n, *j),
             Tree::Num(_) => Ok(Matched::Differs(*at)),
             Tree::Text(_) => Ok(Matched::Differs(*at)),
-            Tree::Con(d, trees) => {
-                if *c != *d {
+            Tree::Con {
+                con,
+                whole,
+                parts: below,
+            } => {
+                if *c != *con {
                     return Ok(Matched::Differs(*at));
                 }
+                let trees = copy_parts(alloc, below.as_slice(), *whole)?;
                 if parts.len() != trees.len() {
                     return Ok(Matched::Differs(*at));
                 }

@@ -1,6 +1,7 @@
 //! Whether two nodes are one, and which comes first, as the plain definitions have it.
 ghost use Rattle.std.specs.Prelude.{◌≡◌, IfOk};
 ghost use Rattle.aw_term.specs.Names.{steps_eq, node_eq, steps_lt, node_lt};
+ghost use Rattle.aw_plain.specs.Cases.{case_lt};
 
 use aw_name::{Node, Step};
 
@@ -55,4 +56,11 @@ pub fn is_before(a: &Node, b: &Node) -> bool
         return a.case < b.case;
     }
     steps_before(a.steps.as_slice(), b.steps.as_slice())
+}
+
+/// Whether the case of a node comes before that of another.
+pub fn is_case_before(a: &Node, b: &Node) -> bool
+    ensures { result ≡ case_lt a.now b.now }
+{
+    a.start < b.start || (a.start == b.start && a.case < b.case)
 }

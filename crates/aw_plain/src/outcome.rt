@@ -5,12 +5,13 @@ ghost use Rattle.aw_term.specs.Trees.{join};
 ghost use Rattle.aw_term.specs.Choices.{Develop, after_guard, at_rule, outcome};
 ghost use Rattle.aw_term.specs.WellFormed.{all_nesting};
 ghost use Rattle.aw_term.specs.Views.{ground_of, pattern_of};
-ghost use Rattle.aw_base.specs.declared.rule.Sort.{Sort as SortValue};
-ghost use Rattle.aw_base.specs.GrammarView.{rule_of};
-ghost use Rattle.aw_base.specs.GrammarOf.{grammar_of};
+ghost use Rattle.aw_grammar.specs.declared.rule.Sort.{Sort as SortValue};
+ghost use Rattle.aw_grammar.specs.GrammarView.{rule_of};
+ghost use Rattle.aw_grammar.specs.GrammarOf.{grammar_of};
 ghost use Rattle.aw_plain.specs.TreeView.{values_of};
 ghost use Rattle.aw_plain.specs.RowView.{plain_row, config_of};
 ghost use Rattle.aw_plain.specs.Filled.{AreFilled};
+ghost use Rattle.aw_plain.specs.Ordered.{IsOrdered};
 ghost use Rattle.aw_plain.specs.Narrow.{are_narrow};
 ghost use Rattle.aw_plain.specs.OutcomeView.{outcome_of, IsTakable};
 
@@ -78,6 +79,7 @@ pub fn weigh<'g>(
     args: &[Ground],
 ) -> Result<Outcome<'g>, AllocError>
     requires filled { ∥ AreFilled (grammar_of grammar.now) (config_of rows.now) ∥₁ }
+    requires ordered { IsOrdered (config_of rows.now) }
     ensures value { IfOk result (λ o. outcome_of grammar.now.sorts o ≡ outcome (grammar_of grammar.now) (config_of rows.now) (Develop node.now number (map ground_of args.now))) }
     ensures takable { IfOk result (λ o. IsTakable (λ r. slice_get grammar.now.rules number ≡ Some r) node.now o) }
 {

@@ -3,34 +3,44 @@ ghost use Rattle.std.specs.Prelude.{◌≡◌, [], true, IfOk, OnErr, length};
 ghost use Rattle.aw_term.specs.Choices.{Start, Develop, answer, after};
 ghost use Rattle.aw_term.specs.Views.{ground_of};
 ghost use Rattle.aw_base.specs.ChoiceFits.{choice_ok};
-ghost use Rattle.aw_base.specs.ChoiceView.{answer_of, choice_of};
-ghost use Rattle.aw_base.specs.GrammarOf.{grammar_of};
+ghost use Rattle.aw_choice.specs.ChoiceView.{answer_of, choice_of};
+ghost use Rattle.aw_grammar.specs.GrammarOf.{grammar_of};
+ghost use Rattle.aw_iograph.specs.Dependence.{IO, HasNoCircle};
+ghost use Rattle.aw_accept.specs.Acyclic.{IsAcyclic};
 ghost use Rattle.aw_plain.specs.RowView.{config_of};
 ghost use Rattle.aw_plain.specs.Filled.{AreFilled};
+ghost use Rattle.aw_plain.specs.Ordered.{IsOrdered};
+ghost use Rattle.aw_plain.specs.Cases.{AreApart};
 ghost use Rattle.aw_plain.specs.Reached.{IsReached};
 
 use crate::row::Row;
 use crate::take::choose;
+use aw_accept::Accepted;
 use aw_base::{Answer, Choice, Grammar};
 use std::alloc::{AllocError, Global};
 
-/// The rows that all taken choices lead to, one after the other, from none.
+/// The rows that all taken choices lead to, one after the other, from none. Its grammar was accepted, so no value in it
+/// ever waits for itself.
 #[derive(Debug, Drop)]
 pub struct Plain<'g> {
     grammar: &'g Grammar,
     rows: Vec<Row>,
+    ghost accepted: { ∥ HasNoCircle (grammar_of grammar.now) (IO (grammar_of grammar.now)) ∥₁ },
     ghost filled: { ∥ AreFilled (grammar_of grammar.now) (config_of rows.items) ∥₁ },
-    ghost reached: { ∥ IsReached (grammar_of grammar.now) (config_of rows.items) ∥₁ },
+    pub ghost ordered: { IsOrdered (config_of rows.items) },
+    ghost apart: { AreApart (config_of rows.items) },
+    pub ghost reached: { ∥ IsReached (grammar_of grammar.now) (config_of rows.items) ∥₁ },
+    pub ghost acyclic: { ∥ IsAcyclic (IO (grammar_of grammar.now)) (config_of rows.items) ∥₁ },
 }
 
 impl<'g> Plain<'g> {
     /// No rows.
-    pub fn new(alloc: Global, grammar: &'g Grammar) -> Plain<'g>
-        ensures grammar { result.grammar.now ≡ grammar.now }
+    pub fn new(alloc: Global, accepted: &'g Accepted) -> Plain<'g>
+        ensures grammar { result.grammar.now ≡ accepted.now.grammar }
         ensures rows { result.rows.items ≡ [] }
     {
         Plain {
-            grammar,
+            grammar: accepted.grammar(),
             rows: Vec::new(alloc),
         }
     }
@@ -50,6 +60,7 @@ impl<'g> Plain<'g> {
         ensures rows { IfOk result (λ a. config_of self.new.rows.items ≡ after (grammar_of self.old.grammar.now) (config_of self.old.rows.items) (choice_of choice.now)) }
         ensures refused { IfOk result (λ a. (a ≡ Answer.Taken → ⊥) → self.new.rows.items ≡ self.old.rows.items) }
         ensures err { OnErr result (self.new.rows.items ≡ self.old.rows.items) }
+        ensures acyclic { ∥ IsAcyclic (IO (grammar_of self.new.grammar.now)) (config_of self.new.rows.items) ∥₁ }
     {
         choose(self.grammar, &mut self.rows, choice)
     }

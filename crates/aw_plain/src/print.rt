@@ -1,14 +1,15 @@
 //! The artifact text of rows. Values are printed on a stack, so that the limit of a report ends even the largest.
-ghost use Rattle.std.specs.Prelude.{◌≡◌, ◌+◌, ◌*◌, ◌<◌, ◌≤◌, ◌++◌, ◌∷◌, [], List, IfOk, OnOk, length, map};
+ghost use Rattle.std.specs.Prelude.{◌≡◌, ◌↔◌, ◌+◌, ◌*◌, ◌<◌, ◌≤◌, ◌++◌, ◌∷◌, [], ℕ, List, Err, IfOk, IfErr, OnOk, IsTrue, length, map};
 ghost use Rattle.aw_term.specs.Artifacts.{Words, listed, node_text, row_text, state_text, artifact_text};
-ghost use Rattle.aw_base.specs.GrammarOf.{words_of};
+ghost use Rattle.aw_grammar.specs.GrammarOf.{words_of};
 ghost use Rattle.aw_out.specs.Report.{Prints};
 ghost use Rattle.aw_plain.specs.TreeView.{value_of, values_of};
 ghost use Rattle.aw_plain.specs.RowView.{plain_row, plain_state, config_of};
 ghost use Rattle.aw_plain.specs.Places.{places, places_of_all};
-ghost use Rattle.aw_plain.specs.Pieces.{opening as plain_opening, arguments as plain_arguments, text_of, following, piece_text, piece_opening, pending, piece_work, pieces_work};
+ghost use Rattle.aw_plain.specs.Pieces.{opening as plain_opening, arguments as plain_arguments, text_of, texts_under, following, piece_text, piece_opening, pending, piece_work, pieces_work, Continues};
 
 use crate::fill::lift_all;
+use crate::put::copy_part;
 use crate::row::{Row, State};
 use crate::tree::{Tree, Trees};
 use aw_base::{Grammar, con_name, push_node, rule_name};
@@ -21,8 +22,8 @@ use std::alloc::{AllocError, Global};
 /// What is still to be printed: the first of some values, one behind another, or bytes.
 #[derive(Drop)]
 pub enum Piece<'t> {
-    First(&'t Tree),
-    Next(&'t Tree),
+    First(Tree),
+    Next(Tree),
     Bytes(&'t [u8]),
 }
 
@@ -36,6 +37,12 @@ fn push_hole(text: &mut Text, grammar: &Grammar, node: &Node, j: u16) -> Result<
     push_number(text, u64::from(j))
 }
 
+fn are_none(trees: &[Tree]) -> bool
+    ensures { IsTrue result ↔ (trees.now ≡ []) }
+{
+    trees.is_empty()
+}
+
 /// Adds the text of a value up to its first part.
 fn push_opening(text: &mut Text, grammar: &Grammar, tree: &Tree) -> Result<(), AllocError>
     ensures { OnOk result (text.new ≡ text.old ++ plain_opening (words_of grammar.now) (value_of tree.now)) }
@@ -44,9 +51,13 @@ fn push_opening(text: &mut Text, grammar: &Grammar, tree: &Tree) -> Result<(), A
         Tree::Num(n) => push_number(text, *n),
         Tree::Text(content) => push_quoted(text, content.as_slice()),
         Tree::Hole(node, j) => push_hole(text, grammar, node, *j),
-        Tree::Con(c, parts) => {
-            text.push_bytes(con_name(grammar, *c))?;
-            if parts.is_empty() {
+        Tree::Con {
+            con,
+            whole: _,
+            parts,
+        } => {
+            text.push_bytes(con_name(grammar, *con))?;
+            if are_none(parts.as_slice()) {
                 return Ok(());
             }
             text.push_bytes(b"(")
@@ -54,92 +65,115 @@ fn push_opening(text: &mut Text, grammar: &Grammar, tree: &Tree) -> Result<(), A
     }
 }
 
-/// Notes values that stand behind another one.
-fn push_following<'t>(pieces: &mut Vec<Piece<'t>>, trees: &'t [Tree]) -> Result<(), AllocError>
-    ensures text { OnOk result ((w : Words) → pending w pieces.new.items ≡ following (map (text_of w) trees.now) ++ pending w pieces.old.items) }
+/// Notes values that stand behind another one, below a constructor that is marked whole or not.
+fn push_following(
+    pieces: &mut Vec<Piece<'_>>,
+    trees: &[Tree],
+    whole: bool,
+) -> Result<(), AllocError>
+    ensures text { OnOk result ((w : Words) → pending w pieces.new.items ≡ following (texts_under w whole trees.now) ++ pending w pieces.old.items) }
     ensures work { OnOk result (pieces_work pieces.new.items ≡ pieces_work pieces.old.items + 2 * places_of_all trees.now) }
 {
     let mut k = trees.len();
     while k > 0 {
         k -= 1;
-        pieces.push(Piece::Next(&trees[k]))?;
+        pieces.push(Piece::Next(copy_part(&trees[k], whole)?))?;
     }
     Ok(())
 }
 
-/// Notes values with separators between them.
-fn push_listed<'t>(pieces: &mut Vec<Piece<'t>>, trees: &'t [Tree]) -> Result<(), AllocError>
-    ensures text { OnOk result ((w : Words) → pending w pieces.new.items ≡ listed (map (text_of w) trees.now) ++ pending w pieces.old.items) }
+/// Notes values with separators between them, below a constructor that is marked whole or not.
+fn push_listed(pieces: &mut Vec<Piece<'_>>, trees: &[Tree], whole: bool) -> Result<(), AllocError>
+    ensures text { OnOk result ((w : Words) → pending w pieces.new.items ≡ listed (texts_under w whole trees.now) ++ pending w pieces.old.items) }
     ensures work { OnOk result (pieces_work pieces.new.items ≡ pieces_work pieces.old.items + 2 * places_of_all trees.now) }
 {
     match trees {
         [] => Ok(()),
         [first, rest @ ..] => {
-            push_following(pieces, rest)?;
-            pieces.push(Piece::First(first))?;
+            push_following(pieces, rest, whole)?;
+            pieces.push(Piece::First(copy_part(first, whole)?))?;
             Ok(())
         }
     }
 }
 
 /// Notes the parts of a value.
-fn push_parts<'t>(pieces: &mut Vec<Piece<'t>>, tree: &'t Tree) -> Result<(), AllocError>
+fn push_parts(pieces: &mut Vec<Piece<'_>>, tree: &Tree) -> Result<(), AllocError>
     ensures text { OnOk result ((w : Words) → text_of w tree.now ++ pending w pieces.old.items ≡ plain_opening w (value_of tree.now) ++ pending w pieces.new.items) }
     ensures work { OnOk result (pieces_work pieces.new.items < pieces_work pieces.old.items + 2 * places tree.now) }
 {
     match tree {
-        Tree::Con(_con, parts) => {
-            if parts.is_empty() {
+        Tree::Con {
+            con: _con,
+            whole,
+            parts,
+        } => {
+            if are_none(parts.as_slice()) {
                 return Ok(());
             }
             pieces.push(Piece::Bytes(b")"))?;
-            push_listed(pieces, parts.as_slice())
+            push_listed(pieces, parts.as_slice(), *whole)
         }
         _ => Ok(()),
     }
 }
 
-/// The text of a piece up to its first part. Its parts are noted.
+/// Gathers a piece up to its first part. Its parts are noted.
 fn begin_piece<'t>(
-    alloc: Global,
+    text: &mut Text,
     grammar: &Grammar,
     pieces: &mut Vec<Piece<'t>>,
     piece: Piece<'t>,
-) -> Result<Text, AllocError>
-    ensures opening { IfOk result (λ text. text ≡ piece_opening (words_of grammar.now) piece.entry) }
+) -> Result<(), AllocError>
+    ensures opening { OnOk result (text.new ≡ text.old ++ piece_opening (words_of grammar.now) piece.entry) }
     ensures text { OnOk result ((w : Words) → piece_text w piece.entry ++ pending w pieces.old.items ≡ piece_opening w piece.entry ++ pending w pieces.new.items) }
     ensures work { OnOk result (pieces_work pieces.new.items < piece_work piece.entry + pieces_work pieces.old.items) }
 {
-    let mut text = Text::new(alloc);
     match piece {
         Piece::First(tree) => {
-            push_opening(&mut text, grammar, tree)?;
-            push_parts(pieces, tree)?;
+            push_opening(text, grammar, &tree)?;
+            push_parts(pieces, &tree)?;
         }
         Piece::Next(tree) => {
             text.push_bytes(b", ")?;
-            push_opening(&mut text, grammar, tree)?;
-            push_parts(pieces, tree)?;
+            push_opening(text, grammar, &tree)?;
+            push_parts(pieces, &tree)?;
         }
         Piece::Bytes(bytes) => text.push_bytes(bytes)?,
     }
-    Ok(text)
+    Ok(())
 }
 
-/// Prints a piece up to its first part. Its parts are noted.
+/// So many bytes are gathered before they are added to the report.
+const GATHERED: usize = 4096;
+
+/// Adds what was gathered to the report, where it is long. What stays gathered comes back.
+fn add_gathered(alloc: Global, text: Text, report: &mut Report) -> Result<Text, PrintFault>
+    ensures ok { IfOk result (λ left. (more : List ℕ) → Continues (text ++ more) report.old (left ++ more) report.new) }
+    ensures err { IfErr result (λ fault. Prints text report.old report.new (Err fault)) }
+{
+    if text.len() < GATHERED {
+        return Ok(text);
+    }
+    report.push(text.as_slice())?;
+    Ok(Text::new(alloc))
+}
+
+/// Prints a piece up to its first part, behind what was gathered. Its parts are noted, and what is gathered now comes back.
 fn print_piece<'t>(
     alloc: Global,
     grammar: &Grammar,
     pieces: &mut Vec<Piece<'t>>,
     piece: Piece<'t>,
+    mut text: Text,
     report: &mut Report,
-) -> Result<(), PrintFault>
-    ensures prints { Prints (piece_opening (words_of grammar.now) piece.entry) report.old report.new result }
-    ensures text { OnOk result ((w : Words) → piece_text w piece.entry ++ pending w pieces.old.items ≡ piece_opening w piece.entry ++ pending w pieces.new.items) }
+) -> Result<Text, PrintFault>
+    ensures ok { IfOk result (λ left. Continues (text ++ (piece_text (words_of grammar.now) piece.entry ++ pending (words_of grammar.now) pieces.old.items)) report.old (left ++ pending (words_of grammar.now) pieces.new.items) report.new) }
+    ensures err { IfErr result (λ fault. Prints (text ++ (piece_text (words_of grammar.now) piece.entry ++ pending (words_of grammar.now) pieces.old.items)) report.old report.new (Err fault)) }
     ensures work { OnOk result (pieces_work pieces.new.items < piece_work piece.entry + pieces_work pieces.old.items) }
 {
-    let text = begin_piece(alloc, grammar, pieces, piece)?;
-    report.push(text.as_slice())
+    begin_piece(&mut text, grammar, pieces, piece)?;
+    add_gathered(alloc, text, report)
 }
 
 /// Prints all pieces, the last one first.
@@ -151,10 +185,11 @@ fn print_pieces(
 ) -> Result<(), PrintFault>
     ensures { Prints (pending (words_of grammar.now) pieces.entry.items) report.old report.new result }
 {
+    let mut text = Text::new(alloc);
     while let Some(piece) = pieces.pop() {
-        print_piece(alloc, grammar, &mut pieces, piece, report)?;
+        text = print_piece(alloc, grammar, &mut pieces, piece, text, report)?;
     }
-    Ok(())
+    report.push(text.as_slice())
 }
 
 /// Notes bytes.
@@ -180,7 +215,7 @@ fn push_state<'t>(
     pieces: &mut Vec<Piece<'t>>,
     grammar: &'t Grammar,
     state: &State,
-    args: &'t [Tree],
+    args: &[Tree],
 ) -> Result<(), AllocError>
     requires { values_of args.now ≡ plain_arguments (plain_state state.now) }
     ensures { OnOk result (pending (words_of grammar.now) pieces.new.items ≡ state_text (words_of grammar.now) (plain_state state.now) ++ pending (words_of grammar.now) pieces.old.items) }
@@ -192,7 +227,7 @@ fn push_state<'t>(
             args: _written,
         } => {
             push_bytes(pieces, b"}")?;
-            push_listed(pieces, args)?;
+            push_listed(pieces, args, false)?;
             push_bytes(pieces, b" {")?;
             push_bytes(pieces, rule_name(grammar, *rule))
         }
@@ -203,18 +238,18 @@ fn push_state<'t>(
 fn push_row<'t>(
     pieces: &mut Vec<Piece<'t>>,
     grammar: &'t Grammar,
-    row: &'t Row,
+    row: &Row,
     name: &'t [u8],
-    args: &'t [Tree],
+    args: &[Tree],
 ) -> Result<(), AllocError>
     requires name { name.now ≡ node_text (words_of grammar.now) row.now.node }
     requires args { values_of args.now ≡ plain_arguments (plain_state row.now.state) }
     ensures { OnOk result (pending (words_of grammar.now) pieces.new.items ≡ row_text (words_of grammar.now) (plain_row row.now) ++ pending (words_of grammar.now) pieces.old.items) }
 {
     push_bytes(pieces, b">\n")?;
-    push_listed(pieces, row.results.as_slice())?;
+    push_listed(pieces, row.results.as_slice(), false)?;
     push_bytes(pieces, b") <")?;
-    push_listed(pieces, row.inherited.as_slice())?;
+    push_listed(pieces, row.inherited.as_slice(), false)?;
     push_bytes(pieces, b" (")?;
     push_state(pieces, grammar, &row.state, args)?;
     push_bytes(pieces, b" ")?;

@@ -1,23 +1,112 @@
-//! Copies of values, and values with the holes of a node replaced. Each walk keeps a stack of its own.
+//! Values that share their parts: copies, constructors, and values with the holes of a node replaced, which a walk makes on
+//! a stack of its own.
 ghost use Rattle.std.specs.Prelude.{◌≡◌, ◌+◌, ◌*◌, ◌<◌, ◌++◌, ◌∷◌, [], List, IfOk, OnOk, map};
-ghost use Rattle.aw_term.specs.Trees.{bind, Leaf};
+ghost use Rattle.aw_term.specs.Trees.{bind, join, Made, Con, Text as PlainText, Nil};
 ghost use Rattle.aw_term.specs.Names.{Ref as PlainRef, result as result_of};
 ghost use Rattle.aw_term.specs.Rules.{Value, get, nth};
 ghost use Rattle.aw_term.specs.Configs.{put, nothing};
-ghost use Rattle.aw_plain.specs.TreeView.{value_of, values_of};
+ghost use Rattle.aw_plain.specs.TreeView.{value_of, value_under, values_of};
 ghost use Rattle.aw_plain.specs.Places.{places, places_of_all};
 ghost use Rattle.aw_plain.specs.Jobs.{finish, made, work};
 
 use crate::order::is_node;
-use crate::tree::Tree;
+use crate::tree::{Tree, Trees};
 use aw_list::{Items, Text};
 use aw_name::{Node, copy_node};
 use std::alloc::{AllocError, Global};
+use std::rc::Rc;
 
-pub(crate) fn copy_text(text: &Text) -> Result<Text, AllocError>
+fn copy_text(text: &Text) -> Result<Text, AllocError>
     ensures { IfOk result (λ t. t ≡ text.now) }
 {
     text.clone()
+}
+
+/// A text as a value.
+pub fn make_text(alloc: Global, text: &Text) -> Result<Tree, AllocError>
+    ensures { IfOk result (λ t. value_of t ≡ Made (PlainText text.now) Nil) }
+{
+    Ok(Tree::Text(Rc::new(alloc, copy_text(text)?)?))
+}
+
+/// What a part stands for below a constructor, which is marked whole or not, as a value of its own. It shares its parts.
+pub fn copy_part(tree: &Tree, whole: bool) -> Result<Tree, AllocError>
+    ensures { IfOk result (λ t. value_of t ≡ value_under whole tree.now) }
+{
+    match tree {
+        Tree::Num(n) => Ok(Tree::Num(*n)),
+        Tree::Text(text) => Ok(Tree::Text(text.clone()?)),
+        Tree::Hole(_, _) if whole => Ok(Tree::Num(0)),
+        Tree::Hole(node, j) => Ok(Tree::Hole(copy_node(node)?, *j)),
+        Tree::Con {
+            con,
+            whole: marked,
+            parts,
+        } => Ok(Tree::Con {
+            con: *con,
+            whole: whole || *marked,
+            parts: parts.clone()?,
+        }),
+    }
+}
+
+/// The parts of a constructor, which is marked whole or not, as values of their own.
+pub fn copy_parts(alloc: Global, parts: &[Tree], whole: bool) -> Result<Trees, AllocError>
+    ensures { IfOk result (λ ts. values_of ts ≡ map (value_under whole) parts.now) }
+{
+    let mut copies = Vec::new(alloc);
+    for part in parts {
+        copies.push(copy_part(part, whole)?)?;
+    }
+    Ok(Items::from_vec(copies))
+}
+
+/// A copy of a value. It shares its parts.
+pub fn copy_tree(tree: &Tree) -> Result<Tree, AllocError>
+    ensures { IfOk result (λ t. value_of t ≡ value_of tree.now) }
+{
+    copy_part(tree, false)
+}
+
+/// Whether a value is known to have no holes, without a walk.
+fn is_whole(tree: &Tree) -> bool
+    ensures { value_under result tree.now ≡ value_of tree.now }
+{
+    match tree {
+        Tree::Num(_) => true,
+        Tree::Text(_) => true,
+        Tree::Hole(_, _) => false,
+        Tree::Con {
+            con: _,
+            whole,
+            parts: _,
+        } => *whole,
+    }
+}
+
+/// Whether values are known to have no holes.
+fn are_whole(trees: &[Tree]) -> bool
+    ensures { map (value_under result) trees.now ≡ values_of trees.now }
+{
+    for tree in trees {
+        if !is_whole(tree) {
+            return false;
+        }
+    }
+    true
+}
+
+/// A constructor over parts, marked whole where they are.
+pub fn make_con(con: u16, parts: Vec<Tree>) -> Result<Tree, AllocError>
+    ensures { IfOk result (λ t. value_of t ≡ Made (Con con) (join (values_of parts.items))) }
+{
+    let alloc = *parts.allocator();
+    let whole = are_whole(parts.as_slice());
+    Ok(Tree::Con {
+        con,
+        whole,
+        parts: Rc::new(alloc, parts)?,
+    })
 }
 
 /// What is still to be done: to go through a tree, or to make one of the last results.
@@ -44,88 +133,42 @@ fn make(values: &mut Vec<Tree>, con: u16, n: usize) -> Result<(), AllocError>
 {
     let at = values.len().saturating_sub(n);
     let parts = values.split_off(at)?;
-    values.push(Tree::Con(con, Items::from_vec(parts)))?;
+    values.push(make_con(con, parts)?)?;
     Ok(())
-}
-
-fn begin_copy<'t>(
-    todo: &mut Vec<Job<'t>>,
-    values: &mut Vec<Tree>,
-    tree: &'t Tree,
-) -> Result<(), AllocError>
-    ensures finish { OnOk result (finish Leaf todo.new.items (values_of values.new.items) ≡ finish Leaf todo.old.items (values_of values.old.items ++ bind Leaf (value_of tree.now) ∷ [])) }
-    ensures work { OnOk result (work todo.new.items < work todo.old.items + 2 * places tree.now) }
-{
-    match tree {
-        Tree::Num(n) => values.push(Tree::Num(*n))?,
-        Tree::Text(t) => values.push(Tree::Text(copy_text(t)?))?,
-        Tree::Hole(n, j) => values.push(Tree::Hole(copy_node(n)?, *j))?,
-        Tree::Con(c, parts) => {
-            todo.push(Job::Make(*c, parts.len()))?;
-            push_parts(todo, parts.as_slice())?;
-        }
-    }
-    Ok(())
-}
-
-/// A copy of a tree, however deep.
-pub fn copy_tree(alloc: Global, tree: &Tree) -> Result<Tree, AllocError>
-    ensures { IfOk result (λ t. t ≡ tree.now) }
-{
-    let mut todo = Vec::new(alloc);
-    let mut values = Vec::new(alloc);
-    todo.push(Job::Visit(tree))?;
-    while let Some(job) = todo.pop() {
-        match job {
-            Job::Visit(part) => begin_copy(&mut todo, &mut values, part)?,
-            Job::Make(con, n) => make(&mut values, con, n)?,
-        }
-    }
-    match values.pop() {
-        Some(copy) => Ok(copy),
-        None => unreachable!(),
-    }
 }
 
 /// A copy of the tree at a place, or 0 past the end.
-pub fn copy_at(alloc: Global, trees: &[Tree], at: usize) -> Result<Tree, AllocError>
+pub fn copy_at(trees: &[Tree], at: usize) -> Result<Tree, AllocError>
     ensures { IfOk result (λ t. value_of t ≡ get nothing (values_of trees.now) at) }
 {
     match trees.get(at) {
-        Some(t) => copy_tree(alloc, t),
+        Some(t) => copy_tree(t),
         None => Ok(Tree::Num(0)),
     }
 }
 
 /// A copy of the tree at a place that is counted from 1, or 0 where there is none.
-fn copy_nth(alloc: Global, trees: &[Tree], place: u16) -> Result<Tree, AllocError>
+fn copy_nth(trees: &[Tree], place: u16) -> Result<Tree, AllocError>
     ensures { IfOk result (λ t. value_of t ≡ nth nothing (values_of trees.now) place) }
 {
     match place.checked_sub(1) {
-        Some(at) => copy_at(alloc, trees, usize::from(at)),
+        Some(at) => copy_at(trees, usize::from(at)),
         None => Ok(Tree::Num(0)),
     }
 }
 
 /// What stands for a hole, where the results of the node are these.
-fn at_hole(
-    alloc: Global,
-    node: &Node,
-    results: &[Tree],
-    hole: &Node,
-    j: u16,
-) -> Result<Tree, AllocError>
+fn at_hole(node: &Node, results: &[Tree], hole: &Node, j: u16) -> Result<Tree, AllocError>
     ensures { IfOk result (λ t. value_of t ≡ put node.now (values_of results.now) (result_of hole.now j)) }
 {
     if is_node(node, hole) {
-        copy_nth(alloc, results, j)
+        copy_nth(results, j)
     } else {
         Ok(Tree::Hole(copy_node(hole)?, j))
     }
 }
 
 fn begin_put<'t>(
-    alloc: Global,
     todo: &mut Vec<Job<'t>>,
     values: &mut Vec<Tree>,
     tree: &'t Tree,
@@ -136,18 +179,23 @@ fn begin_put<'t>(
     ensures work { OnOk result (work todo.new.items < work todo.old.items + 2 * places tree.now) }
 {
     match tree {
-        Tree::Num(n) => values.push(Tree::Num(*n))?,
-        Tree::Text(t) => values.push(Tree::Text(copy_text(t)?))?,
-        Tree::Hole(hole, j) => values.push(at_hole(alloc, node, results, hole, *j)?)?,
-        Tree::Con(c, parts) => {
-            todo.push(Job::Make(*c, parts.len()))?;
+        Tree::Hole(hole, j) => values.push(at_hole(node, results, hole, *j)?)?,
+        Tree::Con { con, whole, parts } => {
+            if *whole {
+                values.push(copy_tree(tree)?)?;
+                return Ok(());
+            }
+            todo.push(Job::Make(*con, parts.len()))?;
             push_parts(todo, parts.as_slice())?;
         }
+        Tree::Num(_) => values.push(copy_tree(tree)?)?,
+        Tree::Text(_) => values.push(copy_tree(tree)?)?,
     }
     Ok(())
 }
 
-/// The tree with all holes of the node replaced at once.
+/// The tree with all holes of the node replaced at once. What is known to have no holes is shared and not walked; a part
+/// with holes that is shared is walked at each of its places.
 pub fn put_all(
     alloc: Global,
     tree: &Tree,
@@ -162,7 +210,7 @@ pub fn put_all(
     while let Some(job) = todo.pop() {
         match job {
             Job::Visit(part) => {
-                begin_put(alloc, &mut todo, &mut values, part, node, results)?;
+                begin_put(&mut todo, &mut values, part, node, results)?;
             }
             Job::Make(con, n) => make(&mut values, con, n)?,
         }

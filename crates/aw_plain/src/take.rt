@@ -3,10 +3,12 @@ ghost use Rattle.std.specs.Prelude.{◌≡◌, ◌∷◌, [], true, IfOk, OnErr,
 ghost use Rattle.aw_term.specs.Choices.{Start, Develop, answer, after, start_row as plain_start_row};
 ghost use Rattle.aw_term.specs.Names.{root as plain_root};
 ghost use Rattle.aw_term.specs.Views.{ground_of};
-ghost use Rattle.aw_base.specs.ChoiceView.{answer_of, choice_of};
-ghost use Rattle.aw_base.specs.GrammarOf.{grammar_of};
+ghost use Rattle.aw_choice.specs.ChoiceView.{answer_of, choice_of};
+ghost use Rattle.aw_grammar.specs.GrammarOf.{grammar_of};
 ghost use Rattle.aw_plain.specs.RowView.{plain_row, config_of};
 ghost use Rattle.aw_plain.specs.Filled.{AreFilled};
+ghost use Rattle.aw_plain.specs.Ordered.{IsOrdered};
+ghost use Rattle.aw_plain.specs.Cases.{AreApart};
 
 use crate::child::gives;
 use crate::develop::develop;
@@ -46,6 +48,7 @@ fn start_row(alloc: Global, grammar: &Grammar, sort: u16, case: u64) -> Result<R
 
 /// Takes a start, unless its node is held.
 fn start(grammar: &Grammar, rows: &mut Vec<Row>, sort: u16, case: u64) -> Result<Answer, AllocError>
+    requires { IsOrdered (config_of rows.old.items) }
     ensures answer { IfOk result (λ a. answer_of a ≡ answer (grammar_of grammar.now) (config_of rows.old.items) (Start sort case)) }
     ensures rows { IfOk result (λ a. config_of rows.new.items ≡ after (grammar_of grammar.now) (config_of rows.old.items) (Start sort case)) }
     ensures refused { IfOk result (λ a. (a ≡ Answer.Taken → ⊥) → rows.new.items ≡ rows.old.items) }
@@ -68,7 +71,9 @@ fn take(
     number: u16,
     args: &Grounds,
 ) -> Result<Answer, AllocError>
-    requires { ∥ AreFilled (grammar_of grammar.now) (config_of rows.old.items) ∥₁ }
+    requires filled { ∥ AreFilled (grammar_of grammar.now) (config_of rows.old.items) ∥₁ }
+    requires ordered { IsOrdered (config_of rows.old.items) }
+    requires apart { AreApart (config_of rows.old.items) }
     ensures answer { IfOk result (λ a. answer_of a ≡ answer (grammar_of grammar.now) (config_of rows.old.items) (Develop node.now number (map ground_of args.now))) }
     ensures rows { IfOk result (λ a. config_of rows.new.items ≡ after (grammar_of grammar.now) (config_of rows.old.items) (Develop node.now number (map ground_of args.now))) }
     ensures refused { IfOk result (λ a. (a ≡ Answer.Taken → ⊥) → rows.new.items ≡ rows.old.items) }
@@ -93,7 +98,9 @@ fn take(
 
 /// Answers a choice, and takes it where the answer is `Taken`. A refused choice and an error change nothing.
 pub fn choose(grammar: &Grammar, rows: &mut Vec<Row>, choice: &Choice) -> Result<Answer, AllocError>
-    requires { ∥ AreFilled (grammar_of grammar.now) (config_of rows.old.items) ∥₁ }
+    requires filled { ∥ AreFilled (grammar_of grammar.now) (config_of rows.old.items) ∥₁ }
+    requires ordered { IsOrdered (config_of rows.old.items) }
+    requires apart { AreApart (config_of rows.old.items) }
     ensures answer { IfOk result (λ a. answer_of a ≡ answer (grammar_of grammar.now) (config_of rows.old.items) (choice_of choice.now)) }
     ensures rows { IfOk result (λ a. config_of rows.new.items ≡ after (grammar_of grammar.now) (config_of rows.old.items) (choice_of choice.now)) }
     ensures refused { IfOk result (λ a. (a ≡ Answer.Taken → ⊥) → rows.new.items ≡ rows.old.items) }

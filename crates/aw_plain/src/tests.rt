@@ -1,4 +1,5 @@
 //! What needs memory or stack: a row is printed, and a deep value is copied and dropped.
+use crate::put::make_con;
 use crate::*;
 use aw_base::{Grammar, Node, Trail};
 use aw_list::Items;
@@ -31,12 +32,6 @@ fn prints_a_row_to_a_limit(rt: HostRuntime) -> Result<(), Fail> {
     let mut report = Report::new(alloc, 21);
     let printed = print_rows(alloc, &grammar, rows.as_slice(), &mut report);
     assert_eq!(rt; printed, Err(PrintFault::TooLarge));
-    let mut report = Report::new(alloc, 21);
-    let none = Plain::new(alloc, &grammar);
-    assert_eq!(rt;
-        print_rows(alloc, &grammar, none.rows(), &mut report),
-        Ok(())
-    );
     let mut report = Report::new(alloc, 22);
     assert_eq!(rt;
         print_rows(alloc, &grammar, rows.as_slice(), &mut report),
@@ -54,8 +49,9 @@ fn copies_and_drops_a_deep_value(rt: HostRuntime) -> Result<(), Fail> {
         let mut parts = Vec::new(alloc);
         parts.push(Tree::Num(1))?;
         parts.push(tree)?;
-        tree = Tree::Con(1, Items::from_vec(parts));
+        tree = make_con(1, parts)?;
     }
-    drop(copy_tree(alloc, &tree)?);
+    drop(copy_tree(&tree)?);
+    drop(tree);
     Ok(())
 }

@@ -1,6 +1,6 @@
 use Rattle.std.proofs.Common.{◌≡◌, ◌+◌, ◌++◌, map, drop}
 use Rattle.aw_term.specs.Configs.{child_rows as plain_child_rows}
-use Rattle.aw_base.specs.GrammarView.{child_of, rule_of}
+use Rattle.aw_grammar.specs.GrammarView.{child_of, rule_of}
 use Rattle.aw_plain.specs.TreeView.{values_of}
 use Rattle.aw_plain.specs.RowView.{config_of}
 use Rattle.aw_plain.proofs.child.child_rows.Given as goal

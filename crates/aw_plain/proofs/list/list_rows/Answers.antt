@@ -1,4 +1,4 @@
-use Rattle.aw_base.specs.GrammarOf.{grammar_of}
+use Rattle.aw_grammar.specs.GrammarOf.{grammar_of}
 use Rattle.aw_plain.proofs.ListLemmas.{filled_at}
 use Rattle.aw_plain.proofs.list.list_rows.Goals as goal
 

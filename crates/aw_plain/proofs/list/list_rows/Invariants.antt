@@ -1,7 +1,7 @@
 use Rattle.std.proofs.Common.{◌≡◌, ◌++◌, drop, map}
 use Rattle.aw_term.specs.Runs.{worklist}
-use Rattle.aw_base.specs.GrammarOf.{grammar_of}
-use Rattle.aw_base.specs.ChoiceView.{item_of}
+use Rattle.aw_grammar.specs.GrammarOf.{grammar_of}
+use Rattle.aw_choice.specs.ChoiceView.{item_of}
 use Rattle.aw_plain.specs.RowView.{config_of}
 use Rattle.aw_plain.proofs.list.list_rows.Given as goal
 

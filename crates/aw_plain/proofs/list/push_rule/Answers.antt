@@ -1,10 +1,10 @@
-use Rattle.std.proofs.Common.{rules, ◌≡◌, ◌∙◌, ◌+◌, ◌++◌, ◌∷◌, [], nat_eq, true, false, eq-eqb, sym, ap, slice_get, map, drop}
+use Rattle.std.proofs.Common.{rules, ◌≡◌, ◌∙◌, ◌+◌, ◌++◌, ◌∷◌, [], nat_eq, false, eq-eqb, sym, ap, slice_get, map, drop}
 use Rattle.std.proofs.lemmas.List.{length-map, map-append}
 use Rattle.aw_term.specs.Runs.{rule_items}
 use Rattle.aw_term.specs.WellFormed.{takes_of}
-use Rattle.aw_base.specs.GrammarView.{rule_of}
-use Rattle.aw_base.specs.GrammarOf.{grammar_of}
-use Rattle.aw_base.specs.ChoiceView.{item_of}
+use Rattle.aw_grammar.specs.GrammarView.{rule_of}
+use Rattle.aw_grammar.specs.GrammarOf.{grammar_of}
+use Rattle.aw_choice.specs.ChoiceView.{item_of}
 use Rattle.aw_plain.specs.RowView.{plain_row}
 use Rattle.aw_plain.specs.TreeView.{value_of}
 use Rattle.aw_plain.proofs.FitLemmas.{patterns_narrow, patterns_shallow, patterns_few, patterns_taken}

@@ -1,7 +1,7 @@
 use Rattle.std.proofs.Common.{◌≡◌, ◌++◌, drop, map}
 use Rattle.aw_term.specs.Runs.{rule_items}
-use Rattle.aw_base.specs.GrammarOf.{grammar_of}
-use Rattle.aw_base.specs.ChoiceView.{item_of}
+use Rattle.aw_grammar.specs.GrammarOf.{grammar_of}
+use Rattle.aw_choice.specs.ChoiceView.{item_of}
 use Rattle.aw_plain.specs.RowView.{plain_row}
 use Rattle.aw_plain.proofs.list.push_rules.Given as goal
 

@@ -2,39 +2,46 @@ use Rattle.std.proofs.Common.{◌≡◌, ◌+◌, ◌++◌, ◌∷◌, length, m
 use Rattle.aw_term.specs.Trees.{join}
 use Rattle.aw_term.specs.Matching.{Yes, and_then, match, match_parts}
 use Rattle.aw_term.specs.Views.{pattern_of}
-use Rattle.aw_base.specs.ChoiceView.{path_of}
+use Rattle.aw_choice.specs.ChoiceView.{path_of}
+use Rattle.std.specs.declared.vec.Vec.{Vec}
+use Rattle.std.specs.declared.alloc.Global.{Global}
+use Rattle.aw_plain.specs.declared.tree.Tree.{Tree}
 use Rattle.aw_plain.specs.TreeView.{value_of, values_of}
 use Rattle.aw_plain.specs.MatchView.{matched_of, behind}
 use Rattle.aw_plain.specs.declared.matching.Matched.{Matched}
 use Rattle.aw_plain.proofs.JobLemmas.{IfOk-weaken}
-use Rattle.aw_plain.proofs.MatchLemmas.{from, one_more, more_taken, narrow_at, symbols_at, nesting_at, con_match, con_long, behind_here, narrow_parts, few_parts, symbols_con, nesting_con}
+use Rattle.aw_plain.proofs.MatchLemmas.{from, one_more, more_taken, narrow_at, symbols_at, nesting_at, con_match, con_long, parts_of, behind_here, narrow_parts, few_parts, symbols_con, nesting_con}
 use Rattle.aw_plain.proofs.matching.+matching.Goals as goal
 
 pub match_at-returns-then-len : goal.match_at-returns-then-len
 match_at-returns-then-len t c =
-    let e : c.in-Con.c ≡ c.in-Con-tree.d = omega arith in
-    let l : length c.in-Con.parts ≡ length c.in-Con-tree.trees → ⊥ = λ h. omega (arith, h) in
-    behind_here _ ∙ ap (behind (path_of c.args.at.now)) (sym (con_long _ _ _ _ _ _ c.in-Con.is c.in-Con-tree.is e l))
+    let e : c.in-Con.c ≡ c.in-Con-tree.con = omega arith in
+    let us = c.in_ok-trees-in-Con-tree.trees in
+    let l : length c.in-Con.parts ≡ length us → ⊥ = λ h. omega (arith, h) in
+    let v = parts_of _ _ _ _ c.as_slice.result.now us c.in-Con-tree.is (c.as_slice.ensures.value ∙ ap (λ (ts : Vec Tree Global). ts.items) c.deref.ensures) c.in_ok-trees-in-Con-tree.ensures in
+    behind_here _ ∙ ap (behind (path_of c.args.at.now)) (sym (con_long _ _ _ us _ _ c.in-Con.is v e l))
 
 pub match_at-returns-else-len : goal.match_at-returns-else-len
 match_at-returns-else-len t c =
-    let e : c.in-Con.c ≡ c.in-Con-tree.d = omega arith in
-    let l : length c.in-Con.parts ≡ length c.in-Con-tree.trees = omega arith in
-    let h = ap (λ ps. match_parts 1 (join (map pattern_of ps)) (join (map value_of c.as_slice-in-Con-tree.result.now))) c.as_slice.ensures
-    ∙ ap (λ us. match_parts 1 (join (map pattern_of c.in-Con.parts)) (join (map value_of us))) c.as_slice-in-Con-tree.ensures
-    ∙ sym (con_match _ _ _ _ _ _ c.in-Con.is c.in-Con-tree.is e l) in
+    let e : c.in-Con.c ≡ c.in-Con-tree.con = omega arith in
+    let us = c.in_ok-trees-in-Con-tree.trees in
+    let l : length c.in-Con.parts ≡ length us = omega arith in
+    let v = parts_of _ _ _ _ c.as_slice.result.now us c.in-Con-tree.is (c.as_slice.ensures.value ∙ ap (λ (ts : Vec Tree Global). ts.items) c.deref.ensures) c.in_ok-trees-in-Con-tree.ensures in
+    let h = ap (λ ps. match_parts 1 (join (map pattern_of ps)) (join (map value_of c.as_slice-in-Con-tree-2.result.now))) c.as_slice-in-Con-tree.ensures
+    ∙ ap (λ us. match_parts 1 (join (map pattern_of c.in-Con.parts)) (join (map value_of us))) c.as_slice-in-Con-tree-2.ensures
+    ∙ sym (con_match _ _ _ us _ _ c.in-Con.is v e l) in
     IfOk-weaken _ _ (λ (m : Matched) w. w ∙ ap (behind (path_of c.args.at.now)) h) c.match_parts.result c.match_parts.ensures
 
 pub match_at-match_parts-requires : goal.match_at-match_parts-requires
 match_at-match_parts-requires t c = (
-  omega (arith, c.decreases, symbols_con c.as_slice.result.now _ _ _ c.as_slice.ensures c.in-Con.is),
+  omega (arith, c.decreases, symbols_con c.as_slice-in-Con-tree.result.now _ _ _ c.as_slice-in-Con-tree.ensures c.in-Con.is),
   (
-    narrow_parts _ _ _ _ c.as_slice.ensures c.in-Con.is c.requires.narrow,
+    narrow_parts _ _ _ _ c.as_slice-in-Con-tree.ensures c.in-Con.is c.requires.narrow,
     (
-      few_parts _ _ _ _ c.as_slice.ensures c.in-Con.is c.requires.narrow,
+      few_parts _ _ _ _ c.as_slice-in-Con-tree.ensures c.in-Con.is c.requires.narrow,
       (
-        omega (arith, ap length c.as_slice.ensures, ap length c.as_slice-in-Con-tree.ensures),
-        omega (arith, c.requires.shallow, nesting_con c.as_slice.result.now _ _ _ c.as_slice.ensures c.in-Con.is),
+        omega (arith, ap length c.as_slice-in-Con-tree.ensures, ap length c.as_slice-in-Con-tree-2.ensures),
+        omega (arith, c.requires.shallow, nesting_con c.as_slice-in-Con-tree.result.now _ _ _ c.as_slice-in-Con-tree.ensures c.in-Con.is),
       ),
     ),
   ),

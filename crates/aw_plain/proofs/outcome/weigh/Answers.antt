@@ -4,7 +4,7 @@ use Rattle.std.proofs.Math.Logic.{∥∥₁_elim}
 use Rattle.std.proofs.Math.Nat.{ℕ_set}
 use Rattle.aw_term.specs.Views.{ground_of}
 use Rattle.aw_term.specs.WellFormed.{takes_of}
-use Rattle.aw_base.specs.GrammarOf.{grammar_of}
+use Rattle.aw_grammar.specs.GrammarOf.{grammar_of}
 use Rattle.aw_plain.specs.declared.outcome.Outcome.{Outcome}
 use Rattle.aw_plain.specs.TreeView.{value_of}
 use Rattle.aw_plain.specs.RowView.{plain_row, config_of}

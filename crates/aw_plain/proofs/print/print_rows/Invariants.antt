@@ -1,6 +1,6 @@
 use Rattle.std.specs.Prelude.{Result, drop}
 use Rattle.aw_term.specs.Artifacts.{artifact_text}
-use Rattle.aw_base.specs.GrammarOf.{words_of}
+use Rattle.aw_grammar.specs.GrammarOf.{words_of}
 use Rattle.aw_out.specs.Report.{Bounded, Prints}
 use Rattle.aw_out.specs.declared.error.PrintFault.{PrintFault}
 use Rattle.aw_plain.specs.RowView.{config_of}

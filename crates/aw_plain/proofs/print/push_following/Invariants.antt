@@ -1,13 +1,13 @@
-use Rattle.std.proofs.Common.{◌≡◌, ◌+◌, ◌*◌, ◌≤◌, ◌++◌, map, drop, length}
+use Rattle.std.proofs.Common.{◌≡◌, ◌+◌, ◌*◌, ◌≤◌, ◌++◌, drop, length}
 use Rattle.aw_term.specs.Artifacts.{Words}
 use Rattle.aw_plain.specs.Places.{places_of_all}
-use Rattle.aw_plain.specs.Pieces.{text_of, following, pending, pieces_work}
+use Rattle.aw_plain.specs.Pieces.{texts_under, following, pending, pieces_work}
 use Rattle.aw_plain.proofs.print.push_following.Given as goal
 
 abbrev pub invariant-loop-k : goal.invariant-loop-k
 invariant-loop-k l = record {
   within : l.k ≤ length l.trees;
-  text : (w : Words) → pending w l.pieces.items ≡ following (map (text_of w) (drop l.k l.trees)) ++ pending w l.fn.pieces.items;
+  text : (w : Words) → pending w l.pieces.items ≡ following (texts_under w l.whole (drop l.k l.trees)) ++ pending w l.fn.pieces.items;
   work : pieces_work l.pieces.items ≡ pieces_work l.fn.pieces.items + 2 * places_of_all (drop l.k l.trees);
 }
 

@@ -1,4 +1,4 @@
-use Rattle.aw_base.specs.GrammarOf.{words_of}
+use Rattle.aw_grammar.specs.GrammarOf.{words_of}
 use Rattle.aw_plain.specs.Pieces.{pending}
 use Rattle.aw_plain.proofs.PrintLemmas.{OnOk-map}
 use Rattle.aw_plain.proofs.LineLemmas.{row_line}

@@ -1,7 +1,7 @@
 use Rattle.std.proofs.Common.{◌++◌, map, ap, sym, ◌∙◌}
 use Rattle.aw_term.specs.Artifacts.{state_text}
 use Rattle.aw_term.specs.Views.{ground_of}
-use Rattle.aw_base.specs.GrammarOf.{words_of}
+use Rattle.aw_grammar.specs.GrammarOf.{words_of}
 use Rattle.aw_plain.specs.RowView.{plain_state}
 use Rattle.aw_plain.specs.Pieces.{arguments, pending}
 use Rattle.aw_plain.proofs.PrintLemmas.{OnOk-map}

@@ -1,5 +1,6 @@
-use Rattle.std.proofs.Common.{◌≡◌, ◌-◌, ◌++◌, ◌∷◌, [], length, take, ap, ◌∙◌, arith}
-use Rattle.aw_plain.specs.declared.tree.Tree.{Con}
+use Rattle.std.proofs.Common.{◌≡◌, ◌-◌, ◌++◌, ◌∷◌, [], length, ap, ◌∙◌, arith}
+use Rattle.aw_term.specs.Trees.{Made, join}
+use Rattle.aw_term.specs.Trees as P
 use Rattle.aw_plain.specs.TreeView.{values_of}
 use Rattle.aw_plain.proofs.JobLemmas.{made_values}
 use Rattle.aw_plain.proofs.put.make.Goals as goal
@@ -8,7 +9,8 @@ pub returns : goal.returns
 returns c =
     let ts = c.args.values.now.items in
     let k = c.saturating_sub-at.result in
-    let con = c.args.con in
+    let t = c.in_ok-make_con.field-0 in
     let e : k ≡ length ts - c.args.n = omega (arith, c.saturating_sub-at.ensures, c.len.ensures, c.args.values.now.ok.0) in
-    ap values_of (c.in_ok-push.ensures.items ∙ ap (λ us. us ++ Con con c.from_vec.result ∷ []) c.in_ok-parts.ensures.items ∙ ap (λ us. take k ts ++ Con con us ∷ []) (c.from_vec.ensures ∙ c.in_ok-parts.ensures.tail))
-    ∙ made_values con c.args.n k ts e
+    let v = c.in_ok-make_con.ensures ∙ ap (λ us. Made (P.Con c.args.con) (join (values_of us))) c.in_ok-parts.ensures.tail in
+    ap values_of (c.in_ok-push.ensures.items ∙ ap (λ us. us ++ t ∷ []) c.in_ok-parts.ensures.items)
+    ∙ made_values c.args.con c.args.n k ts t e v
