@@ -1,5 +1,9 @@
-pub mod Replays
+pub mod Endings
 pub mod Printing
 pub mod Transcripts
 pub mod LineCounts
 pub mod Outputs
+pub mod Verdicts
+pub mod Undivideds
+pub mod OneOutputs
+pub mod Unreads

@@ -4,7 +4,7 @@ use Rattle.std.specs.List.{slice_split}
 use Rattle.std.proofs.lemmas.List.Splits.{length-slice_split}
 use Rattle.std.proofs.lemmas.List.Sums.{count_by-le-length}
 use Rattle.aw_lex.specs.Lines.{lines_of, without_empty_last}
-use Rattle.aw_base.specs.Declarations.{Declarations}
+use Rattle.aw_grammar.specs.Declarations.{Declarations}
 use Rattle.aw_spec.specs.Reading as S
 use Rattle.aw_spec.specs.Reading.{Spec, Draft, LineRead, Next, Fault, End, Reading, Good, Faulty, after_line}
 use Rattle.aw_sched.specs.Schedules as T

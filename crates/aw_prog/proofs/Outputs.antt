@@ -1,23 +1,25 @@
 -- What an input leads to, by what its specification and its schedule spell.
-use Rattle.std.proofs.Common.{◌≡◌, ℕ, List, [], length, map, drop, nat_lt, false, cond, codes, refl, sym, ap, ◌∙◌, Ok, Err, IfOk}
+use Rattle.std.proofs.Common.{◌≡◌, ℕ, ◌≤◌, ◌<◌, List, [], length, drop, Bool, true, false, nat_lt, MatchBool, codes, arith, refl, sym, ap, ◌∙◌, subst}
 use Rattle.std.proofs.lemmas.Simd.{map-map}
-use Rattle.std.specs.declared.result.Result.{Result}
+use Rattle.std.proofs.lemmas.Bool.Decides.{nat_tests}
 use Rattle.aw_lex.specs.Lines.{lines_of}
 use Rattle.aw_term.specs.Rules as P
 use Rattle.aw_term.specs.Artifacts.{Words}
-use Rattle.aw_base.specs.declared.grammar.Grammar.{Grammar}
-use Rattle.aw_base.specs.declared.rule.Rule.{Rule}
-use Rattle.aw_base.specs.GrammarOf.{grammar_of, words_of, declarations_of, entry}
-use Rattle.aw_base.specs.Declarations.{Declarations, Entry, grammar_in, words_in}
+use Rattle.aw_grammar.specs.declared.grammar.Grammar.{Grammar}
+use Rattle.aw_grammar.specs.GrammarOf.{grammar_of, words_of, declarations_of, entry}
+use Rattle.aw_grammar.specs.Declarations.{Declarations, Entry, grammar_in, words_in}
 use Rattle.aw_spec.specs.KindNames.{kind_name}
 use Rattle.aw_spec.specs.declared.fault.SpecKind.{SpecKind}
-use Rattle.aw_spec.specs.Reading.{Spec, Good, Faulty, specification}
+use Rattle.aw_spec.specs.Reading.{Spec, Reading, Good, Faulty, specification}
 use Rattle.aw_sched.specs.Events.{Event}
 use Rattle.aw_sched.specs.Schedules.{Events, read_lines}
-use Rattle.aw_prog.specs.declared.reply.Reply.{Reply}
+use Rattle.aw_prog.specs.declared.source.TheConstants.{INPUT_LIMIT}
+use Rattle.aw_prog.specs.declared.schedule.Telling.{Telling}
+use Rattle.aw_prog.specs.declared.schedule.Telling.TheVariants.{Replayed}
+use Rattle.aw_prog.specs.declared.reading.Job.{Job}
+use Rattle.aw_prog.specs.declared.reading.Job.TheVariants.{Replay}
 use Rattle.aw_prog.specs.Refusals.{at_line}
-use Rattle.aw_prog.specs.Transcript.{transcript}
-use Rattle.aw_prog.specs.Output.{Output, Writes, BadSpecification, by_schedule, by_roles, by_specification, output_of}
+use Rattle.aw_prog.specs.Output.{Output, PastInputLimit, BadSpecification, told, within_limit, by_schedule, IfAccepted, TellsSchedule, Makes, BySpecification, IsOutputOf}
 
 -- the names and the grammar that a grammar declares are its own
 pub words-declared : (g : Grammar) → words_in (declarations_of g) ≡ words_of g
@@ -26,26 +28,39 @@ words-declared g = ap (λ (rules : List (List ℕ)). record { roles = (words_of 
 pub grammar-declared : (g : Grammar) → grammar_in (declarations_of g) ≡ grammar_of g
 grammar-declared g = ap (λ (rules : List P.Rule). record { roles = (grammar_of g).roles; arities = (grammar_of g).arities; sorts = (grammar_of g).sorts; rules = rules }) (map-map (λ (e : Entry). e.rule) (entry g.sorts) g.rules)
 
--- one role, and a good schedule
-pub roles-good : (g : Grammar) (before : ℕ) (schedule : List (List ℕ)) (events : List Event) → nat_lt 1 (length g.roles) ≡ false → read_lines (declarations_of g) 1 schedule ≡ Events events →
-    by_roles (declarations_of g) before schedule ≡ Writes (transcript (words_of g) (grammar_of g) [] events)
-roles-good g before schedule events few good =
-    ap (λ b. cond b (BadSpecification (codes "roles")) (by_schedule (declarations_of g) before (read_lines (declarations_of g) 1 schedule))) few
-    ∙ ap (by_schedule (declarations_of g) before) good
-    ∙ ap (λ w. Writes (transcript w (grammar_in (declarations_of g)) [] events)) (words-declared g)
-    ∙ ap (λ h. Writes (transcript (words_of g) h [] events)) (grammar-declared g)
+-- a good schedule
+pub schedule-good : (telling : Telling) (g : Grammar) (before : ℕ) (schedule : List (List ℕ)) (events : List Event) → read_lines (declarations_of g) 1 schedule ≡ Events events →
+    by_schedule telling (declarations_of g) before (read_lines (declarations_of g) 1 schedule) ≡ within_limit (told telling (words_of g) (grammar_of g) events)
+schedule-good telling g before schedule events good =
+    ap (by_schedule telling (declarations_of g) before) good
+    ∙ ap (λ (w : Words). within_limit (told telling w (grammar_in (declarations_of g)) events)) (words-declared g)
+    ∙ ap (λ (h : P.Grammar). within_limit (told telling (words_of g) h events)) (grammar-declared g)
 
--- a good specification
-pub output-good : (input : List ℕ) (spec : Spec) (taken : ℕ) → specification (lines_of input) ≡ Good spec taken → output_of input ≡ by_roles spec.declared taken (drop taken (lines_of input))
-unfolding output_of
-output-good input spec taken good = ap (by_specification (lines_of input)) good
+fits : (limit n : ℕ) → n ≤ limit → nat_lt limit n ≡ false
+fits limit n le = grind (arith, nat_tests)
 
--- a faulty one
-pub output-faulty : (input : List ℕ) (line : ℕ) (kind : SpecKind) → specification (lines_of input) ≡ Faulty line kind → output_of input ≡ BadSpecification (at_line line (kind_name kind))
-unfolding output_of
-output-faulty input line kind faulty = ap (by_specification (lines_of input)) faulty
+past : (limit n : ℕ) → limit < n → nat_lt limit n ≡ true
+past limit n lt = grind (arith, nat_tests)
 
--- a reply by another name
-pub IfOk-same : {E : Type 0} (result : Result Reply E) (a b : Reply) → b ≡ a → IfOk result (λ reply. reply ≡ a) → IfOk result (λ reply. reply ≡ b)
-IfOk-same (Ok said) a b is holds = holds ∙ sym is
-IfOk-same (Err fault) a b is holds = tt
+-- an input within its limit, of which the specification is read
+pub output-read : (job : Job) (input : List ℕ) (reading : Reading) (output : Output) → length input ≤ INPUT_LIMIT → specification (lines_of input) ≡ reading → BySpecification job (lines_of input) reading output → IsOutputOf job input output
+unfolding IsOutputOf
+output-read job input reading output within is holds =
+    subst (λ b. MatchBool b (output ≡ PastInputLimit) (BySpecification job (lines_of input) (specification (lines_of input)) output)) (sym (fits INPUT_LIMIT (length input) within))
+    (subst (λ (r : Reading). BySpecification job (lines_of input) r output) (sym is) holds)
+
+-- an input past its limit
+pub output-past : (job : Job) (input : List ℕ) → INPUT_LIMIT < length input → IsOutputOf job input PastInputLimit
+unfolding IsOutputOf
+output-past job input lt =
+    subst (λ b. MatchBool b (PastInputLimit ≡ PastInputLimit) (BySpecification job (lines_of input) (specification (lines_of input)) PastInputLimit)) (sym (past INPUT_LIMIT (length input) lt)) refl
+
+-- a replay refuses more than one role, and else tells the schedule where the grammar is accepted
+pub many-roles : (d : Declarations) (before : ℕ) (schedule : List (List ℕ)) → 1 < length d.roles → Makes Replay d before schedule (BadSpecification (codes "roles"))
+many-roles d before schedule many =
+    subst (λ b. MatchBool b (BadSpecification (codes "roles") ≡ BadSpecification (codes "roles")) (IfAccepted d (TellsSchedule Replayed d before schedule) (BadSpecification (codes "roles"))))
+    (sym (past 1 (length d.roles) many)) refl
+
+pub few-roles : (d : Declarations) (before : ℕ) (schedule : List (List ℕ)) (output : Output) → length d.roles ≤ 1 → IfAccepted d (TellsSchedule Replayed d before schedule) output → Makes Replay d before schedule output
+few-roles d before schedule output few holds =
+    subst (λ b. MatchBool b (output ≡ BadSpecification (codes "roles")) (IfAccepted d (TellsSchedule Replayed d before schedule) output)) (sym (fits 1 (length d.roles) few)) holds

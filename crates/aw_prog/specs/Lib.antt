@@ -4,4 +4,5 @@ pub mod Refusals
 pub mod Transcript
 pub mod Output
 pub mod Replies
+pub mod Unread
 pub mod Laws

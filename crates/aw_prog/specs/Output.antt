@@ -1,32 +1,76 @@
--- What a replay writes for an input, where the specification has one role.
-use Rattle.std.specs.Prelude.{ℕ, ◌+◌, List, [], length, drop, codes, nat_lt, if◌then◌else◌}
+-- What an input leads to, for each command that reads it.
+use Rattle.std.specs.Prelude.{◌≡◌, ℕ, ◌+◌, List, [], length, drop, codes, nat_lt, if◌then◌else◌, Option, None, Some, MatchBool}
 use Rattle.aw_lex.specs.Lines.{lines_of}
-use Rattle.aw_base.specs.Declarations.{Declarations, grammar_in, words_in}
+use Rattle.aw_term.specs.Rules.{Grammar}
+use Rattle.aw_term.specs.Artifacts.{Words}
+use Rattle.aw_term.specs.Runs.{plain_text}
+use Rattle.aw_grammar.specs.Declarations.{Declarations, grammar_in, words_in}
+use Rattle.aw_accept.specs.declared.refused.Fault.{Fault}
+use Rattle.aw_accept.specs.Circular.{LeastFault}
+use Rattle.aw_told.specs.Told.{TellsAccepted, circle_text}
 use Rattle.aw_spec.specs.KindNames.{kind_name}
 use Rattle.aw_spec.specs.Reading.{Reading, Good, Faulty, specification}
+use Rattle.aw_sched.specs.Events.{Event}
 use Rattle.aw_sched.specs.Schedules.{Read, Events, FaultAt, read_lines}
+use Rattle.aw_prog.specs.declared.source.TheConstants.{INPUT_LIMIT, OUTPUT_LIMIT}
+use Rattle.aw_prog.specs.declared.schedule.Telling.{Telling}
+use Rattle.aw_prog.specs.declared.schedule.Telling.TheVariants.{Undivided, Replayed}
+use Rattle.aw_prog.specs.declared.reading.Job.{Job}
+use Rattle.aw_prog.specs.declared.reading.Job.TheVariants.{Check, Plain, Replay}
 use Rattle.aw_prog.specs.Refusals.{at_line, schedule_kind}
-use Rattle.aw_prog.specs.Transcript.{transcript}
+use Rattle.aw_prog.specs.Transcript.{choices_in, transcript}
 
--- What an input leads to: a text that is written, or what is wrong with its specification or with its schedule.
+-- a text that is written, or why none is
 pub data Output : Type 0 where
   Writes : (text : List ℕ) → Output
+  PastInputLimit : Output
   BadSpecification : (why : List ℕ) → Output
+  IsCircular : (why : List ℕ) → Output
   BadSchedule : (why : List ℕ) → Output
+  PastOutputLimit : Output
+
+-- an output that is too long is not written at all
+abbrev pub within_limit : List ℕ → Output
+within_limit text = if nat_lt OUTPUT_LIMIT (length text) then PastOutputLimit else Writes text
+
+-- what is written for events: choices alone, answered by the undivided run; or the lines of all
+abbrev pub told : Telling → Words → Grammar → List Event → List ℕ
+told Undivided w g events = plain_text w g (choices_in events)
+told Replayed w g events = transcript w g [] events
 
 -- the schedule stands behind so many lines, and its own lines are counted on from there
-abbrev pub by_schedule : Declarations → ℕ → Read → Output
-by_schedule d before (Events events) = Writes (transcript (words_in d) (grammar_in d) [] events)
-by_schedule d before (FaultAt line kind) = BadSchedule (at_line (before + line) (schedule_kind kind))
+abbrev pub by_schedule : Telling → Declarations → ℕ → Read → Output
+by_schedule telling d before (Events events) = within_limit (told telling (words_in d) (grammar_in d) events)
+by_schedule telling d before (FaultAt line kind) = BadSchedule (at_line (before + line) (schedule_kind kind))
 
--- More than one role is refused.
-abbrev pub by_roles : Declarations → ℕ → List (List ℕ) → Output
-by_roles d before schedule = if nat_lt 1 (length d.roles) then BadSpecification (codes "roles") else by_schedule d before (read_lines d 1 schedule)
+-- the least circle is told, and where there is none P says what comes
+abbrev pub ByFault : Words → Option Fault → (Output → Type 0) → Output → Type 0
+ByFault w None P output = P output
+ByFault w (Some fault) P output = output ≡ IsCircular (circle_text w fault)
 
-abbrev pub by_specification : List (List ℕ) → Reading → Output
-by_specification lines (Good spec taken) = by_roles spec.declared taken (drop taken lines)
-by_specification lines (Faulty line kind) = BadSpecification (at_line line (kind_name kind))
+abbrev pub IfAccepted : Declarations → (Output → Type 0) → Output → Type 0
+IfAccepted d P output = (found : Option Fault) × LeastFault (grammar_in d) found × ByFault (words_in d) found P output
 
--- the lines of an input: a specification, and then perhaps the line `schedule` and a schedule
-unfoldable pub output_of : List ℕ → Output
-output_of input = by_specification (lines_of input) (specification (lines_of input))
+-- the dependences are told
+abbrev pub TellsDependences : Declarations → Output → Type 0
+TellsDependences d output = (text : List ℕ) × TellsAccepted (words_in d) (grammar_in d) text × (output ≡ Writes text)
+
+-- the schedule that stands behind so many lines is told
+abbrev pub TellsSchedule : Telling → Declarations → ℕ → List (List ℕ) → Output → Type 0
+TellsSchedule telling d before schedule output = output ≡ by_schedule telling d before (read_lines d 1 schedule)
+
+-- What each job makes of these declarations, which take so many lines, and of the lines behind them. A replay refuses more than one role.
+abbrev pub Makes : Job → Declarations → ℕ → List (List ℕ) → Output → Type 0
+Makes Check d before schedule = IfAccepted d (TellsDependences d)
+Makes Plain d before schedule = IfAccepted d (TellsSchedule Undivided d before schedule)
+Makes Replay d before schedule = λ output.
+    MatchBool (nat_lt 1 (length d.roles)) (output ≡ BadSpecification (codes "roles")) (IfAccepted d (TellsSchedule Replayed d before schedule) output)
+
+abbrev pub BySpecification : Job → List (List ℕ) → Reading → Output → Type 0
+BySpecification job lines (Good spec taken) output = Makes job spec.declared taken (drop taken lines) output
+BySpecification job lines (Faulty line kind) output = output ≡ BadSpecification (at_line line (kind_name kind))
+
+-- The output of a job for an input: its lines are a specification, and then perhaps the line `schedule` and a schedule.
+unfoldable pub IsOutputOf : Job → List ℕ → Output → Type 0
+IsOutputOf job input output =
+    MatchBool (nat_lt INPUT_LIMIT (length input)) (output ≡ PastInputLimit) (BySpecification job (lines_of input) (specification (lines_of input)) output)

@@ -1,44 +1,59 @@
 -- What a run says to an input.
-use Rattle.std.specs.Prelude.{◌≡◌, ℕ, List, [], ◌++◌, length, Option, Some, None, codes, if◌then◌else◌, nat_lt, ◌≤◌, Bool, true, false}
+use Rattle.std.specs.Prelude.{◌≡◌, ℕ, List, [], ◌++◌, Option, Some, None, codes, Bool, true, false}
 use Rattle.aw_out.specs.Edge.{Gets}
 use Rattle.aw_out.specs.Wires.{Content}
+use Rattle.aw_grammar.specs.GrammarOf.{words_of}
+use Rattle.aw_accept.specs.declared.refused.Refused.{Refused}
+use Rattle.aw_accept.specs.declared.refused.Refused.TheVariants as refused
+use Rattle.aw_told.specs.Told.{circle_text}
 use Rattle.aw_prog.specs.declared.words.Command.{Command}
-use Rattle.aw_prog.specs.declared.words.Command.TheVariants.{Replay}
+use Rattle.aw_prog.specs.declared.words.Command.TheVariants.{Check, Plain, Replay}
+use Rattle.aw_prog.specs.declared.reading.Job.{Job}
+use Rattle.aw_prog.specs.declared.reading.Job.TheVariants as job
 use Rattle.aw_prog.specs.declared.reply.Reply.{Reply}
 use Rattle.aw_prog.specs.declared.reply.Status.{Status}
-use Rattle.aw_prog.specs.declared.reply.Status.TheVariants.{Done, Usage, BadSpec, BadSchedule as BadSched, TooLarge, TooLong}
-use Rattle.aw_prog.specs.declared.replay.TheConstants.{INPUT_LIMIT, OUTPUT_LIMIT}
-use Rattle.aw_prog.specs.Words.{command_of}
-use Rattle.aw_prog.specs.Output.{Output, Writes, BadSpecification, BadSchedule, output_of}
+use Rattle.aw_prog.specs.declared.reply.Status.TheVariants.{Done, Usage, BadSpec, Circular, BadSchedule as BadSched, TooLarge, TooLong}
+use Rattle.aw_prog.specs.Output.{Output, Writes, PastInputLimit, BadSpecification, IsCircular, BadSchedule, PastOutputLimit, IsOutputOf}
 
 -- a status, and what is written with it
 abbrev pub reply : Status → List ℕ → Reply
 reply status text = record { status = status; text = text }
 
--- The reply of a command that has this output. One that is too long is not written at all.
+-- the reply of a command that has this output
 abbrev pub reply_with : Output → Reply
+reply_with (Writes text) = reply Done text
+reply_with PastInputLimit = reply TooLong []
 reply_with (BadSpecification why) = reply BadSpec (codes "bad specification " ++ (why ++ codes "\n"))
+reply_with (IsCircular why) = reply Circular (codes "circular " ++ (why ++ codes "\n"))
 reply_with (BadSchedule why) = reply BadSched (codes "bad schedule " ++ (why ++ codes "\n"))
-reply_with (Writes text) = if nat_lt OUTPUT_LIMIT (length text) then reply TooLarge [] else reply Done text
+reply_with PastOutputLimit = reply TooLarge []
 
-abbrev pub reply_of_replay : List ℕ → Reply
-reply_of_replay input = if nat_lt INPUT_LIMIT (length input) then reply TooLong [] else reply_with (output_of input)
+-- the reply to a grammar that was not accepted; want of memory has none
+abbrev pub RefusesGrammar : Refused → Reply → Type 0
+RefusesGrammar (refused.Circular grammar rule occ) said = said ≡ reply_with (IsCircular (circle_text (words_of grammar) (record { rule = rule; occ = occ })))
+RefusesGrammar refused.NoMemory said = ⊥
+
+-- the reply is that of an output with P
+abbrev pub Replies : (Output → Type 0) → Reply → Type 0
+Replies P said = (output : Output) × P output × (said ≡ reply_with output)
 
 -- What a run of this command may say to this input, where the wire goes from the one content to the other.
 abbrev pub Says : Option Command → List ℕ → Option Content → Option Content → Reply → Type 0
 Says None input old new said = said ≡ reply Usage (codes "usage\n")
-Says (Some Replay) input old new said = said ≡ reply_of_replay input
+Says (Some Check) input old new said = Replies (IsOutputOf job.Check input) said
+Says (Some Plain) input old new said = Replies (IsOutputOf job.Plain input) said
+Says (Some Replay) input old new said = Replies (IsOutputOf job.Replay input) said
 
--- the status of a command that has this output
-abbrev pub status_with : Output → Status
-status_with (BadSpecification why) = BadSpec
-status_with (BadSchedule why) = BadSched
-status_with (Writes text) = if nat_lt OUTPUT_LIMIT (length text) then TooLarge else Done
+-- the status is that of an output with P
+abbrev pub Ends : (Output → Type 0) → Status → Type 0
+Ends P status = (output : Output) × P output × (status ≡ (reply_with output).status)
 
--- The status of a run of this command on this input, where nothing fails and memory suffices. The first that holds is told.
-abbrev pub status_of : Option Command → List ℕ → Status
-status_of None input = Usage
-status_of (Some Replay) input = if nat_lt INPUT_LIMIT (length input) then TooLong else status_with (output_of input)
+-- The status of a run of this command on this input, where nothing fails and memory suffices.
+abbrev pub EndsWith : Option Command → List ℕ → Status → Type 0
+EndsWith None input status = status ≡ Usage
+EndsWith (Some Check) input status = Ends (IsOutputOf job.Check input) status
+EndsWith (Some Plain) input status = Ends (IsOutputOf job.Plain input) status
+EndsWith (Some Replay) input status = Ends (IsOutputOf job.Replay input) status
 
 -- What the run may say to this input has P.
 abbrev pub SomeReply : Option Command → List ℕ → Option Content → Option Content → (Reply → Type 0) → Type 0
@@ -47,11 +62,15 @@ SomeReply command input old new P = (said : Reply) × Says command input old new
 -- whether a command reads the source
 abbrev pub reads : Option Command → Bool
 reads None = false
+reads (Some Check) = true
+reads (Some Plain) = true
 reads (Some Replay) = true
 
 -- whether a command uses the wire
 abbrev pub uses_wire : Option Command → Bool
 uses_wire None = false
+uses_wire (Some Check) = false
+uses_wire (Some Plain) = false
 uses_wire (Some Replay) = false
 
 -- where the source tells what is left, that input has P, and otherwise some input has
@@ -64,14 +83,17 @@ pub record Replied (said : Reply) (status : Status) (old new : Option (List ℕ)
   pub told : status ≡ said.status
   pub written : Gets old new said.text
 
--- the input gives a text to write, which has P
-abbrev pub WritesSome : Output → (List ℕ → Type 0) → Type 0
-WritesSome (BadSpecification why) P = ⊥
-WritesSome (BadSchedule why) P = ⊥
-WritesSome (Writes text) P = P text
+-- the job makes a text of the input, and that text has P
+abbrev pub WritesSome : Job → List ℕ → (List ℕ → Type 0) → Type 0
+WritesSome j input P = (text : List ℕ) × IsOutputOf j input (Writes text) × P text
 
--- The words are replay, the input is good and within its limit, and so is its output.
-pub record IsGoodReplay (words : List (List ℕ)) (input : List ℕ) : Type 0 where
-  pub command : command_of words ≡ Some Replay
-  pub input_fits : length input ≤ INPUT_LIMIT
-  pub good : WritesSome (output_of input) (λ text. length text ≤ OUTPUT_LIMIT)
+-- a job makes a text of the input: it is good, and both are within their limits
+abbrev pub HasText : Job → List ℕ → Type 0
+HasText j input = (text : List ℕ) × IsOutputOf j input (Writes text)
+
+-- the words are a command that makes a text of the input
+abbrev pub IsGood : Option Command → List ℕ → Type 0
+IsGood None input = ⊥
+IsGood (Some Check) input = HasText job.Check input
+IsGood (Some Plain) input = HasText job.Plain input
+IsGood (Some Replay) input = HasText job.Replay input

@@ -1,7 +1,7 @@
 -- How a run can end, and what each end says of it.
 use Rattle.std.specs.Prelude.{◌≡◌, ℕ, List}
 use Rattle.aw_prog.specs.declared.reply.Status.{Status}
-use Rattle.aw_prog.specs.declared.reply.Status.TheVariants.{Done, Usage, BadSpec, BadSchedule, TooLarge, ReadFault, WriteFault, NetFault, NoMemory, TooLong}
+use Rattle.aw_prog.specs.declared.reply.Status.TheVariants.{Done, Usage, BadSpec, Circular, BadSchedule, TooLarge, ReadFault, WriteFault, NetFault, NoMemory, TooLong}
 use Rattle.aw_prog.specs.declared.reply.Stop.{Stop}
 use Rattle.aw_prog.specs.declared.reply.Stop.TheVariants.{ReadFault as StopReadFault, NetFault as StopNetFault, NoMemory as StopNoMemory}
 
@@ -10,6 +10,7 @@ abbrev pub code_of : Status → ℕ
 code_of Done = 0
 code_of Usage = 2
 code_of BadSpec = 3
+code_of Circular = 4
 code_of BadSchedule = 5
 code_of TooLarge = 6
 code_of ReadFault = 7

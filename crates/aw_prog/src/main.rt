@@ -1,16 +1,20 @@
 //! The program: its words, its commands, and the top call.
 #![tactic(auto)]
 
+mod check;
 mod law;
+mod reading;
 mod refusals;
-mod replay;
 mod reply;
 mod run;
+mod schedule;
+mod source;
 mod transcript;
+mod undivided;
 mod words;
 
 use aw_out::{StdSink, StdSource, SureWire, Texts};
-pub use law::choices_are_told_undivided;
+pub use law::{choices_are_told_undivided, outputs_are_one};
 pub use reply::{Reply, Status};
 pub use run::run;
 use std::alloc::{AllocError, Global};
@@ -20,6 +24,8 @@ use std::process::ExitCode;
 use std::rt::Env;
 pub use words::{Command, Word};
 
+#[cfg(test)]
+mod cases;
 #[cfg(test)]
 mod tests;
 

@@ -1,15 +1,20 @@
 //! The lines that say why an input is refused.
 ghost use Rattle.std.specs.Prelude.{◌≡◌, ◌++◌, codes, OnOk, IfOk};
 ghost use Rattle.aw_spec.specs.KindNames.{kind_name};
-ghost use Rattle.aw_prog.specs.Output.{BadSpecification, BadSchedule};
+ghost use Rattle.aw_grammar.specs.GrammarOf.{words_of};
+ghost use Rattle.aw_told.specs.Told.{circle_text};
+ghost use Rattle.aw_prog.specs.Output.{BadSpecification, IsCircular, BadSchedule};
 ghost use Rattle.aw_prog.specs.Refusals.{schedule_kind, at_line};
-ghost use Rattle.aw_prog.specs.Replies.{reply_with};
+ghost use Rattle.aw_prog.specs.Replies.{reply_with, RefusesGrammar};
 
 use crate::reply::{Reply, Status};
+use aw_accept::{Fault, Refused};
+use aw_base::Grammar;
 use aw_list::Text;
 use aw_sched::SchedKind;
 use aw_spec::SpecKind;
 use aw_text::push_number;
+use aw_told::push_circle;
 use std::alloc::{AllocError, Global};
 
 /// The word by which a fault of a schedule is told.
@@ -55,6 +60,29 @@ pub fn too_many_roles(alloc: Global) -> Result<Reply, AllocError>
     ensures { IfOk result (λ reply. reply ≡ reply_with (BadSpecification (codes "roles"))) }
 {
     Reply::line(alloc, Status::BadSpec, b"bad specification roles\n")
+}
+
+/// The refusal of a specification in which a value depends on itself.
+fn circular(alloc: Global, g: &Grammar, fault: Fault) -> Result<Reply, AllocError>
+    ensures { IfOk result (λ reply. reply ≡ reply_with (IsCircular (circle_text (words_of g.now) fault))) }
+{
+    let mut text = Text::from_bytes(alloc, b"circular ")?;
+    push_circle(&mut text, g, fault)?;
+    text.push_bytes(b"\n")?;
+    Ok(Reply {
+        status: Status::Circular,
+        text,
+    })
+}
+
+/// The refusal of a grammar that was not accepted.
+pub fn not_accepted(alloc: Global, refused: Refused) -> Result<Reply, AllocError>
+    ensures { IfOk result (λ reply. RefusesGrammar refused reply) }
+{
+    match refused {
+        Refused::Circular { grammar, rule, occ } => circular(alloc, &grammar, Fault { rule, occ }),
+        Refused::NoMemory => Err(AllocError),
+    }
 }
 
 /// The refusal of a schedule with a faulty line, counted in the whole input.

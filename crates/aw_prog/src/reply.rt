@@ -14,6 +14,8 @@ pub enum Status {
     Usage,
     /// The input is no good specification.
     BadSpec,
+    /// A value of the specification depends on itself.
+    Circular,
     /// What stands behind the specification is no good schedule.
     BadSchedule,
     /// The output is longer than its limit.
@@ -39,6 +41,7 @@ impl Status {
             Status::Done => 0,
             Status::Usage => 2,
             Status::BadSpec => 3,
+            Status::Circular => 4,
             Status::BadSchedule => 5,
             Status::TooLarge => 6,
             Status::ReadFault => 7,

@@ -3,12 +3,12 @@ ghost use Rattle.std.specs.Prelude.{◌≡◌, ◌≤◌, ◌⊎◌, [], IfOk, I
 ghost use Rattle.aw_out.specs.Causes.{Rose};
 ghost use Rattle.aw_out.specs.Edge.{IsUsedUp, GivesSome, Gets, GetsPrefix};
 ghost use Rattle.aw_prog.specs.Words.{command_of};
-ghost use Rattle.aw_prog.specs.Output.{output_of};
 ghost use Rattle.aw_prog.specs.Statuses.{IsReply, IsPastReading, IsSilent};
-ghost use Rattle.aw_prog.specs.Replies.{ForInput, Replied, IsGoodReplay, Says, SomeReply, WritesSome, reads, status_of, uses_wire};
+ghost use Rattle.aw_prog.specs.Replies.{EndsWith, ForInput, IsGood, Replied, Says, SomeReply, WritesSome, reads, uses_wire};
 
-use crate::replay::{INPUT_LIMIT, replay};
+use crate::reading::{Job, reply_to_source};
 use crate::reply::{Reply, Status, Stop};
+use crate::source::INPUT_LIMIT;
 use crate::words::{Command, Word};
 use aw_out::{Sink, Source, Wire, write_all};
 use std::alloc::Global;
@@ -36,7 +36,9 @@ fn prepare<S: Source, W: Wire>(
 {
     match Command::from_words(words) {
         None => Ok(Reply::line(alloc, Status::Usage, b"usage\n")?),
-        Some(Command::Replay) => replay(alloc, src),
+        Some(Command::Check) => reply_to_source(alloc, Job::Check, src),
+        Some(Command::Plain) => reply_to_source(alloc, Job::Plain, src),
+        Some(Command::Replay) => reply_to_source(alloc, Job::Replay, src),
     }
 }
 
@@ -70,14 +72,18 @@ pub fn run<S: Source, K: Sink, W: Wire>(
         Replied said result (K.written out.old) (K.written out.new))) }
 
     // What is told of the words and of the bytes is told exactly by them.
-    ensures cause { IsReply result → ForInput (S.left src.old) (λ input. result ≡ status_of (command_of words.now) input) }
+    ensures cause { IsReply result → ForInput (S.left src.old) (λ input. EndsWith (command_of words.now) input result) }
 
-    // A replay that is done has written the whole output for its input.
+    // A command that is done has written the whole text that it makes of its input.
+    ensures check { command_of words.now ≡ Some Command.Check → result ≡ Status.Done → ForInput (S.left src.old)
+        (λ input. WritesSome Job.Check input (Gets (K.written out.old) (K.written out.new))) }
+    ensures plain { command_of words.now ≡ Some Command.Plain → result ≡ Status.Done → ForInput (S.left src.old)
+        (λ input. WritesSome Job.Plain input (Gets (K.written out.old) (K.written out.new))) }
     ensures replay { command_of words.now ≡ Some Command.Replay → result ≡ Status.Done → ForInput (S.left src.old)
-        (λ input. WritesSome (output_of input) (Gets (K.written out.old) (K.written out.new))) }
+        (λ input. WritesSome Job.Replay input (Gets (K.written out.old) (K.written out.new))) }
 
-    // A good replay is done, unless memory runs out, the source fails or the sink does.
-    ensures complete { IfSome (S.left src.old) (λ input. IsGoodReplay words.now input →
+    // A command with a good input is done, unless memory runs out, the source fails or the sink does.
+    ensures complete { IfSome (S.left src.old) (λ input. IsGood (command_of words.now) input →
         (result ≡ Status.Done) ⊎ (result ≡ Status.NoMemory) ⊎ (result ≡ Status.ReadFault) ⊎ (result ≡ Status.WriteFault)) }
 
     // The source failed before it gave too much, and only a command that reads tells of it.

@@ -1,110 +1,10 @@
 //! Whole runs over a source and a sink in memory.
+use crate::cases::*;
 use crate::{Status, Word, run};
 use aw_list::Text;
 use aw_out::{Calls, MemSink, MemSource, Sizes, SureWire, Texts};
 use std::alloc::{AllocError, Global};
 use std::test::Fail;
-
-const MEMO: &[u8] = b"role desk\n\
-    con memo 1\n\
-    sort task desk 0 0\n\
-    sort call desk 1 0\n\
-    start task\n\
-    rule note {t} : task()<> = call(memo(t))<>\n\
-    rule ring : call(memo(x))<>\n\
-    schedule\n\
-    start task 1\n\
-    choose task#1 note {\"back\"}\n\
-    choose task#1/note.1 ring\n";
-
-const MEMO_OUT: &[u8] = b"start task 1: taken\n\
-    choose task#1 note: taken\n\
-    choose task#1/note.1 ring: taken\n\
-    artifacts 2\n\
-    task#1 note {\"back\"} () <>\n\
-    task#1/note.1 ring {} (memo(\"back\")) <>\n";
-
-const MEMO_START: &[u8] = b"role desk\n\
-    con memo 1\n\
-    sort task desk 0 0\n\
-    sort call desk 1 0\n\
-    start task\n\
-    schedule\n\
-    start task 1\n";
-
-const MEMO_START_OUT: &[u8] = b"start task 1: taken\n\
-    artifacts 1\n\
-    task#1 open () <>\n";
-
-const MEMO_ODD: &[u8] = b"role desk\n\
-    con memo 1\n\
-    sort task desk 0 0\n\
-    sort call desk 1 0\n\
-    start task\n\
-    rule note {t} : task()<> = call(memo(t))<>\n\
-    rule ring : call(memo(x))<>\n\
-    rule odd : call(7)<>\n\
-    schedule\n\
-    start task 1\n\
-    start task 1\n\
-    choose task#1 note {\"back\"}\n\
-    choose task#1/note.1 odd\n\
-    choose task#1/note.1 note\n";
-
-const MEMO_ODD_OUT: &[u8] = b"start task 1: taken\n\
-    start task 1: known\n\
-    choose task#1 note: taken\n\
-    choose task#1/note.1 odd: mismatch 1\n\
-    choose task#1/note.1 note: wrong rule\n\
-    artifacts 2\n\
-    task#1 note {\"back\"} () <>\n\
-    task#1/note.1 open (memo(\"back\")) <>\n";
-
-const OWN_RESULT: &[u8] = b"role r\n\
-    con ok 0\n\
-    con two 2\n\
-    sort top r 0 1\n\
-    sort s r 1 2\n\
-    start top\n\
-    rule call : top()<two(y1, y2)> = s(y2)<y1, y2>\n\
-    rule body : s(x)<x, ok>\n\
-    schedule\n\
-    start top 1\n\
-    choose top#1 call\n\
-    choose top#1/call.1 body\n";
-
-const OWN_RESULT_OUT: &[u8] = b"start top 1: taken\n\
-    choose top#1 call: taken\n\
-    choose top#1/call.1 body: taken\n\
-    artifacts 2\n\
-    top#1 call {} () <two(ok, ok)>\n\
-    top#1/call.1 body {} (ok) <ok, ok>\n";
-
-const HOLE_FIRST: &[u8] = b"role r\n\
-    con ok 0\n\
-    sort top r 0 0\n\
-    sort p r 0 1\n\
-    sort q r 1 0\n\
-    start top\n\
-    rule two : top()<> = p()<y> ; q(y)<>\n\
-    rule make : p()<ok>\n\
-    rule take : q(ok)<>\n\
-    schedule\n\
-    start top 1\n\
-    choose top#1 two\n\
-    choose top#1/two.2 take\n\
-    choose top#1/two.1 make\n\
-    choose top#1/two.2 take\n";
-
-const HOLE_FIRST_OUT: &[u8] = b"start top 1: taken\n\
-    choose top#1 two: taken\n\
-    choose top#1/two.2 take: waits top#1/two.1:r1\n\
-    choose top#1/two.1 make: taken\n\
-    choose top#1/two.2 take: taken\n\
-    artifacts 3\n\
-    top#1 two {} () <>\n\
-    top#1/two.1 make {} () <ok>\n\
-    top#1/two.2 take {} (ok) <>\n";
 
 /// Runs the words on an input that is read in pieces, where some call of the source and some call of the sink fails.
 /// The status, and what was written.
@@ -148,11 +48,8 @@ fn replays_worked_cases(rt: HostRuntime) -> Result<(), Fail> {
             Status::BadSpec,
             b"bad specification line 1 form\n",
         ),
-        (
-            b"role a\nrole b\n",
-            Status::BadSpec,
-            b"bad specification roles\n",
-        ),
+        (CLINIC, Status::BadSpec, b"bad specification roles\n"),
+        (CIRCULAR, Status::Circular, b"circular loop at 1.in1\n"),
         (
             b"% none\nschedule\n\nstart a 1\n",
             Status::BadSchedule,
@@ -170,6 +67,64 @@ fn replays_worked_cases(rt: HostRuntime) -> Result<(), Fail> {
             assert_eq!(rt; got, status);
             assert_eq!(rt; text.as_slice(), want);
         }
+    }
+    Ok(())
+}
+
+// Events that are no choices are passed over, but read.
+#[test]
+fn tells_undivided_runs(rt: HostRuntime) -> Result<(), Fail> {
+    let alloc = rt.alloc();
+    for (input, status, want) in [
+        (CLINIC, Status::Done, CLINIC_OUT),
+        (TRIAL, Status::Done, b"artifacts 0\n".as_slice()),
+        (OWN_RESULT, Status::Done, OWN_RESULT_OUT),
+        (MEMO, Status::Done, MEMO_OUT),
+        (HOLE_FIRST, Status::Done, HOLE_FIRST_OUT),
+        (
+            CLINIC_BAD_NAME,
+            Status::BadSchedule,
+            b"bad schedule line 16 name\n",
+        ),
+        (
+            b"role r\nschedule\nlist q\n",
+            Status::BadSchedule,
+            b"bad schedule line 3 unknown\n",
+        ),
+        (CIRCULAR, Status::Circular, b"circular loop at 1.in1\n"),
+        (
+            b"role r\nsort t r 0 0\nsort s r 1 1\nrule loop : t()<> = s(y)<y>\nrule pass : s(x)<x>\nschedule\nstart\n",
+            Status::Circular,
+            b"circular loop at 1.in1\n",
+        ),
+    ] {
+        let (got, text) = outcome(alloc, &[b"plain"], input, 4096, NEVER, NEVER)?;
+        assert_eq!(rt; got, status);
+        assert_eq!(rt; text.as_slice(), want);
+    }
+    Ok(())
+}
+
+#[test]
+fn tells_dependences(rt: HostRuntime) -> Result<(), Fail> {
+    let alloc = rt.alloc();
+    for (input, status, want) in [
+        (OWN_RESULT, Status::Done, b"accepted\nio s 1 1\n".as_slice()),
+        (CIRCULAR, Status::Circular, b"circular loop at 1.in1\n"),
+        (NONCIRCULAR, Status::Done, b"accepted\n"),
+        (CLINIC, Status::Done, b"accepted\nio test 1 1\n"),
+        (TRIAL, Status::Done, TRIAL_OUT),
+        (WIDEST, Status::Done, WIDEST_OUT),
+        (
+            b"con a",
+            Status::BadSpec,
+            b"bad specification line 1 form\n",
+        ),
+        (b"schedule\nwhatever\n", Status::Done, b"accepted\n"),
+    ] {
+        let (got, text) = outcome(alloc, &[b"check"], input, 4096, NEVER, NEVER)?;
+        assert_eq!(rt; got, status);
+        assert_eq!(rt; text.as_slice(), want);
     }
     Ok(())
 }

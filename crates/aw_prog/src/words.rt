@@ -40,6 +40,10 @@ impl Word {
 /// What the program is asked to do.
 #[derive(Clone, Copy, Debug, PartialEq, Eq)]
 pub enum Command {
+    /// A specification is tried for circles, and its dependences are told.
+    Check,
+    /// The choices of the schedule behind a specification are told by the undivided run.
+    Plain,
     /// The schedule behind a specification is replayed.
     Replay,
 }
@@ -58,6 +62,12 @@ impl Command {
     fn from_word(word: &[u8]) -> Option<Command>
         ensures { result ≡ command_named word.now }
     {
+        if word == b"check".as_slice() {
+            return Some(Command::Check);
+        }
+        if word == b"plain".as_slice() {
+            return Some(Command::Plain);
+        }
         if word == b"replay".as_slice() {
             return Some(Command::Replay);
         }

@@ -1,6 +1,6 @@
 use Rattle.std.proofs.Common.{◌≡◌, [], drop, map}
 use Rattle.std.specs.declared.result.Result.{Result}
-use Rattle.aw_base.specs.GrammarOf.{grammar_of, words_of}
+use Rattle.aw_grammar.specs.GrammarOf.{grammar_of, words_of}
 use Rattle.aw_out.specs.declared.error.PrintFault.{PrintFault}
 use Rattle.aw_out.specs.Report.{Bounded, Prints}
 use Rattle.aw_sched.specs.Answers.{event_seen}

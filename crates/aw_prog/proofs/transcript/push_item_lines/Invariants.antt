@@ -1,7 +1,7 @@
 use Rattle.std.proofs.Common.{◌≡◌, ◌++◌, drop, map}
 use Rattle.aw_term.specs.Runs.{item_lines}
-use Rattle.aw_base.specs.ChoiceView.{item_of}
-use Rattle.aw_base.specs.GrammarOf.{words_of}
+use Rattle.aw_choice.specs.ChoiceView.{item_of}
+use Rattle.aw_grammar.specs.GrammarOf.{words_of}
 use Rattle.aw_prog.proofs.transcript.push_item_lines.Given as goal
 
 abbrev pub invariant-loop-item : goal.invariant-loop-item

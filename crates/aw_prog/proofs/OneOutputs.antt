@@ -1,0 +1,53 @@
+-- An input has one output for each job.
+use Rattle.std.proofs.Common.{◌≡◌, ℕ, List, length, drop, Bool, true, false, nat_lt, MatchBool, codes, Option, None, Some, refl, sym, ap, ◌∙◌, subst}
+use Rattle.aw_lex.specs.Lines.{lines_of}
+use Rattle.aw_term.specs.Artifacts.{Words}
+use Rattle.aw_grammar.specs.Declarations.{Declarations, grammar_in, words_in}
+use Rattle.aw_accept.specs.declared.refused.Fault.{Fault}
+use Rattle.aw_accept.specs.Circular.{LeastFault}
+use Rattle.aw_told.proofs.OneTold.{one-found, one-text}
+use Rattle.aw_spec.specs.Reading.{Reading, Good, Faulty, specification}
+use Rattle.aw_prog.specs.declared.source.TheConstants.{INPUT_LIMIT}
+use Rattle.aw_prog.specs.declared.schedule.Telling.TheVariants.{Undivided, Replayed}
+use Rattle.aw_prog.specs.declared.reading.Job.{Job}
+use Rattle.aw_prog.specs.declared.reading.Job.TheVariants.{Check, Plain, Replay}
+use Rattle.aw_prog.specs.Output.{Output, Writes, PastInputLimit, BadSpecification, ByFault, IfAccepted, TellsDependences, TellsSchedule, Makes, BySpecification, IsOutputOf}
+use Rattle.aw_prog.specs.Laws.{HasOneOutput}
+
+-- P holds of one output at most
+abbrev pub One : (Output → Type 0) → Type 0
+One P = (a b : Output) → P a → P b → a ≡ b
+
+by-same : (w : Words) (P : Output → Type 0) → One P → (found : Option Fault) → One (ByFault w found P)
+by-same w P one None a b x y = one a b x y
+by-same w P one (Some fault) a b x y = x ∙ sym y
+
+by-fault : (w : Words) (P : Output → Type 0) → One P → (found other : Option Fault) → found ≡ other → (a b : Output) → ByFault w found P a → ByFault w other P b → a ≡ b
+by-fault w P one found other is a b x y = by-same w P one found a b x (subst (λ (f : Option Fault). ByFault w f P b) (sym is) y)
+
+one-accepted : (d : Declarations) (P : Output → Type 0) → One P → One (IfAccepted d P)
+one-accepted d P one a b x y = by-fault (words_in d) P one x.0 y.0 (one-found (grammar_in d) x.0 y.0 x.1 y.1) a b x.2 y.2
+
+one-match : (test : Bool) (output : Output) (P : Output → Type 0) → One P → One (λ a. MatchBool test (a ≡ output) (P a))
+one-match true output P one a b x y = x ∙ sym y
+one-match false output P one a b x y = one a b x y
+
+one-dependences : (d : Declarations) → One (TellsDependences d)
+one-dependences d a b x y = x.2 ∙ ap Writes (one-text (words_in d) (grammar_in d) x.0 y.0 x.1 y.1) ∙ sym y.2
+
+one-made : (job : Job) (d : Declarations) (before : ℕ) (schedule : List (List ℕ)) → One (Makes job d before schedule)
+one-made Check d before schedule = one-accepted d (TellsDependences d) (one-dependences d)
+one-made Plain d before schedule = one-accepted d (TellsSchedule Undivided d before schedule) (λ a b x y. x ∙ sym y)
+one-made Replay d before schedule =
+    one-match (nat_lt 1 (length d.roles)) (BadSpecification (codes "roles")) (IfAccepted d (TellsSchedule Replayed d before schedule))
+    (one-accepted d (TellsSchedule Replayed d before schedule) (λ a b x y. x ∙ sym y))
+
+one-read : (job : Job) (lines : List (List ℕ)) (reading : Reading) → One (BySpecification job lines reading)
+one-read job lines (Good spec taken) = one-made job spec.declared taken (drop taken lines)
+one-read job lines (Faulty line kind) = λ a b x y. x ∙ sym y
+
+pub one-output : HasOneOutput
+unfolding IsOutputOf
+one-output job input =
+    one-match (nat_lt INPUT_LIMIT (length input)) PastInputLimit (BySpecification job (lines_of input) (specification (lines_of input)))
+    (one-read job (lines_of input) (specification (lines_of input)))
