@@ -1,0 +1,318 @@
+-- The lines of a well-formed specification lead from nothing to the specification.
+use Rattle.std.proofs.Common.{◌≡◌, ℕ, zero, suc, ◌<◌, ◌≤◌, nat_eq, nat_lt, nat_le, refl, sym, ap, ◌∙◌, subst, Bool, true, false, cond, not, ◌&&◌, ◌||◌, List, [], ◌∷◌, ◌++◌, length, map, Option, Some, None, option_and_then, slice_get, arith, append_assoc, length-append}
+use Rattle.std.proofs.lemmas.List.{map-append}
+use Rattle.std.proofs.lemmas.Bool.{eqb-true}
+use Rattle.std.specs.List.{list_any}
+use Rattle.aw_index.specs.Places.{place_of, or_else, stands}
+use Rattle.aw_term.specs.Rules as P
+use Rattle.aw_term.specs.Rules.{get}
+use Rattle.aw_term.specs.WellFormed.{Each, Later, Differ, RuleFits, SortFits}
+use Rattle.aw_grammar.specs.declared.rule.Con as decl
+use Rattle.aw_grammar.specs.declared.rule.Sort.{Sort}
+use Rattle.aw_grammar.specs.declared.raw.RawCon.{RawCon}
+use Rattle.aw_grammar.specs.declared.raw.RawSort.{RawSort}
+use Rattle.aw_grammar.specs.declared.fault.DeclKind.TheVariants.{Inherits}
+use Rattle.aw_grammar.specs.GrammarView.{sort_of, sorts_of}
+use Rattle.aw_grammar.specs.Declarations.{Entry, Declarations, con_names, sort_names, rule_names, grammar_in, with_role, with_con, with_sort, with_start, with_start_at, with_rule, entry_of}
+use Rattle.aw_grammar.specs.Kinds.{start_kind, start_kind_of, role_tests, con_tests, sort_tests}
+use Rattle.aw_grammar.proofs.RuleTold.{either_false}
+use Rattle.aw_face.specs.declared.faces.Using.{Using}
+use Rattle.aw_face.specs.declared.faces.FaceKind.{FaceKind}
+use Rattle.aw_face.specs.Faces.{is_offered, is_used, rule_fault, at_rule, rules_fault, face_fault}
+use Rattle.aw_spec.specs.declared.fault.SpecKind.TheVariants as kind
+use Rattle.aw_spec.specs.Lines.{RoleLine, StartLine, RuleLine}
+use Rattle.aw_spec.specs.Reading.{Spec, no_spec, On, Wrong, declaring, offering, using_sort, using_by, if_kept, keeping, says}
+use Rattle.aw_write.specs.SpecLines.{named_rule, con_line, sort_line, start_line, start_lines, offer_line, use_line}
+use Rattle.aw_grammar.specs.Variables.{VariablesFit}
+use Rattle.aw_write.specs.Writable.{VariablesNamed, AreApart}
+use Rattle.aw_write.proofs.Placed.{each_mid, place_again, number_again, stands_at, new_name, place_mid}
+use Rattle.aw_write.proofs.NamedRules.{no_kind, entry_again, no_fault}
+use Rattle.aw_write.proofs.Leading.{Through, through_none, through_line, through_same, all_through}
+
+-- what reading needs of declarations
+pub record Fine (d : Declarations) : Type 0 where
+  pub few_roles : length d.roles ≤ 64
+  pub few_cons : length d.cons ≤ 1024
+  pub few_sorts : length d.sorts ≤ 256
+  pub few_rules : length d.rules ≤ 1024
+  pub roles_differ : Differ d.roles
+  pub cons_differ : Differ (con_names d)
+  pub sorts_differ : Differ (sort_names d)
+  pub rules_differ : Differ (rule_names d)
+  pub arities : Each (λ (c : decl.Con). c.arity ≤ 8) d.cons
+  pub sorts : Each (λ (s : Sort). SortFits (length d.roles) (sort_of s)) d.sorts
+  pub rules : Each (λ (e : Entry). RuleFits (grammar_in d) e.rule) d.rules
+  pub variables : VariablesNamed d
+
+-- how many stand before one of some
+below_all : {A : Type 0} (all pre : List A) (x : A) (post : List A) (n : ℕ) → all ≡ pre ++ x ∷ post → length all ≤ n → length pre < n
+below_all all pre x post n e h = omega (arith, ap length e, length-append pre (x ∷ post))
+
+not_past : (m n : ℕ) → n < m → nat_le m n ≡ false
+not_past m n h = grind arith
+
+past : (m n : ℕ) → n ≤ m → nat_lt m n ≡ false
+past m n h = grind arith
+
+split_names : {A : Type 0} (name : A → List ℕ) (all pre : List A) (x : A) (post : List A) → all ≡ pre ++ x ∷ post → Differ (map name all) → stands (name x) (map name pre) ≡ false
+split_names name all pre x post e differ = new_name (map name pre) (name x) (map name post) (subst Differ (ap (map name) e ∙ map-append name pre (x ∷ post)) differ)
+
+-- roles
+
+abbrev pub with_roles : List (List ℕ) → Spec
+with_roles roles = record { declared = record { roles = roles; cons = []; sorts = []; rules = [] }; offers = []; uses = [] }
+
+role_said : (all pre : List (List ℕ)) (x : List ℕ) (post : List (List ℕ)) → length all ≤ 64 → Differ all → all ≡ pre ++ x ∷ post → says (with_roles pre) (RoleLine x) ≡ On (with_roles (pre ++ x ∷ []))
+role_said all pre x post few differ e =
+    let s = with_roles pre in
+    ap (λ k. declaring s k (with_role s.declared x))
+    (no_kind (role_tests s.declared x) (not_past 64 (length pre) (below_all all pre x post 64 e few), (new_name pre x post (subst Differ e differ), tt)))
+
+pub roles_lead : (roles : List (List ℕ)) → length roles ≤ 64 → Differ roles → Through 1 no_spec (map (λ name. RoleLine name) roles) (with_roles roles)
+roles_lead roles few differ = all_through 1 (λ name. RoleLine name) with_roles roles (λ x. refl) (λ pre x post e. role_said roles pre x post few differ e)
+
+-- constructors
+
+abbrev pub with_cons : List (List ℕ) → List decl.Con → Spec
+with_cons roles cons = record { declared = record { roles = roles; cons = cons; sorts = []; rules = [] }; offers = []; uses = [] }
+
+con_said : (roles : List (List ℕ)) (all pre : List decl.Con) (c : decl.Con) (post : List decl.Con) → length all ≤ 1024 → Differ (map (λ (k : decl.Con). k.name) all) → Each (λ (k : decl.Con). k.arity ≤ 8) all → all ≡ pre ++ c ∷ post →
+    says (with_cons roles pre) (con_line c) ≡ On (with_cons roles (pre ++ c ∷ []))
+con_said roles all pre c post few differ small e =
+    let s = with_cons roles pre in
+    let raw : RawCon = record { name = c.name; arity = c.arity } in
+    ap (λ k. declaring s k (with_con s.declared raw))
+    (no_kind (con_tests s.declared raw) (
+      either_false _ _ (not_past 1024 (length pre) (below_all all pre c post 1024 e few)) (past 8 c.arity (each_mid (λ (k : decl.Con). k.arity ≤ 8) pre c post (subst (Each (λ (k : decl.Con). k.arity ≤ 8)) e small))),
+      (split_names (λ (k : decl.Con). k.name) all pre c post e differ, tt),
+    ))
+
+pub cons_lead : (roles : List (List ℕ)) (cons : List decl.Con) → length cons ≤ 1024 → Differ (map (λ (k : decl.Con). k.name) cons) → Each (λ (k : decl.Con). k.arity ≤ 8) cons → Through 2 (with_roles roles) (map con_line cons) (with_cons roles cons)
+cons_lead roles cons few differ small = all_through 2 con_line (with_cons roles) cons (λ c. refl) (λ pre c post e. con_said roles cons pre c post few differ small e)
+
+-- sorts, which are no start sorts at first
+
+abbrev pub unstarted : Sort → Sort
+unstarted s = record s { start = false }
+
+abbrev pub with_sorts : List (List ℕ) → List decl.Con → List Sort → Spec
+with_sorts roles cons sorts = record { declared = record { roles = roles; cons = cons; sorts = sorts; rules = [] }; offers = []; uses = [] }
+
+names_unstarted : (sorts : List Sort) → map (λ (s : Sort). s.name) (map unstarted sorts) ≡ map (λ (s : Sort). s.name) sorts
+names_unstarted [] = refl
+names_unstarted (s ∷ sorts) = ap (λ ns. s.name ∷ ns) (names_unstarted sorts)
+
+length_unstarted : (sorts : List Sort) → length (map unstarted sorts) ≡ length sorts
+length_unstarted [] = refl
+length_unstarted (s ∷ sorts) = ap (λ n. suc n) (length_unstarted sorts)
+
+sort_said : (roles : List (List ℕ)) (cons : List decl.Con) (all pre : List Sort) (s : Sort) (post : List Sort) → Differ roles → length all ≤ 256 → Differ (map (λ (t : Sort). t.name) all) → Each (λ (t : Sort). SortFits (length roles) (sort_of t)) all → all ≡ pre ++ s ∷ post →
+    says (with_sorts roles cons (map unstarted pre)) (sort_line roles s) ≡ On (with_sorts roles cons (map unstarted (pre ++ s ∷ [])))
+sort_said roles cons all pre s post roles_differ few differ fit e =
+    let at = with_sorts roles cons (map unstarted pre) in
+    let raw : RawSort = record { name = s.name; role = get [] roles s.role; takes = s.takes; gives = s.gives } in
+    let fits = each_mid (λ (t : Sort). SortFits (length roles) (sort_of t)) pre s post (subst (Each (λ (t : Sort). SortFits (length roles) (sort_of t))) e fit) in
+    let few_before : length (map unstarted pre) < 256 = omega (arith, length_unstarted pre, below_all all pre s post 256 e few) in
+    ap (λ k. declaring at k (with_sort at.declared raw))
+    (no_kind (sort_tests at.declared raw) (
+      either_false _ _ (not_past 256 (length (map unstarted pre)) few_before) (either_false _ _ (past 8 s.takes fits.few_takes) (past 8 s.gives fits.few_gives)),
+      (
+        ap (stands s.name) (names_unstarted pre) ∙ split_names (λ (t : Sort). t.name) all pre s post e differ,
+        (ap not (stands_at roles s.role roles_differ fits.declared), tt),
+      ),
+    ))
+    ∙ ap (λ r. On (with_sorts roles cons (map unstarted pre ++ record { name = s.name; role = r; takes = s.takes; gives = s.gives; start = false } ∷ []))) (number_again roles s.role roles_differ fits.declared)
+    ∙ ap (λ ss. On (with_sorts roles cons ss)) (sym (map-append unstarted pre (s ∷ [])))
+
+pub sorts_lead : (roles : List (List ℕ)) (cons : List decl.Con) (sorts : List Sort) → Differ roles → length sorts ≤ 256 → Differ (map (λ (t : Sort). t.name) sorts) → Each (λ (t : Sort). SortFits (length roles) (sort_of t)) sorts →
+    Through 3 (with_cons roles cons) (map (sort_line roles) sorts) (with_sorts roles cons (map unstarted sorts))
+sorts_lead roles cons sorts roles_differ few differ fit =
+    all_through 3 (sort_line roles) (λ pre. with_sorts roles cons (map unstarted pre)) sorts (λ s. refl) (λ pre s post e. sort_said roles cons sorts pre s post roles_differ few differ fit e)
+
+-- starts
+
+abbrev partly : List (List ℕ) → List decl.Con → List Sort → List Sort → Spec
+partly roles cons done left = with_sorts roles cons (done ++ map unstarted left)
+
+get_mid : (pre : List Sort) (s : Sort) (post : List Sort) → slice_get (pre ++ s ∷ post) (length pre) ≡ Some s
+get_mid [] s post = refl
+get_mid (t ∷ pre) s post = get_mid pre s post
+
+started_mid : (pre : List Sort) (s : Sort) (post : List Sort) → with_start_at (pre ++ s ∷ post) (length pre) ≡ pre ++ record s { start = true } ∷ post
+started_mid [] s post = refl
+started_mid (t ∷ pre) s post = ap (λ ss. t ∷ ss) (started_mid pre s post)
+
+start_said : (roles : List (List ℕ)) (cons : List decl.Con) (done : List Sort) (s : Sort) (left : List Sort) → stands s.name (map (λ (t : Sort). t.name) done) ≡ false → s.takes ≡ 0 → s.start ≡ true →
+    says (partly roles cons done (s ∷ left)) (StartLine s.name) ≡ On (partly roles cons (done ++ s ∷ []) left)
+start_said roles cons done s left new none started =
+    let at = partly roles cons done (s ∷ left) in
+    let rest = map unstarted left in
+    let sorts = done ++ unstarted s ∷ rest in
+    let name = λ (t : Sort). t.name in
+    let placed : place_of s.name (map name sorts) ≡ Some (length done) =
+    ap (place_of s.name) (map-append name done (unstarted s ∷ rest)) ∙ place_mid (map name done) s.name (map name rest) new ∙ ap Some (length_names done) in
+    let kept : start_kind at.declared s.name ≡ None =
+    ap (λ o. start_kind_of (option_and_then (λ i. slice_get sorts i) o)) placed ∙ ap start_kind_of (get_mid done (unstarted s) rest) ∙ ap (λ n. cond (nat_lt 0 n) (Some Inherits) None) none in
+    ap (λ k. declaring at k (with_start at.declared s.name)) kept
+    ∙ ap (λ i. On (with_sorts roles cons (with_start_at sorts i))) (ap (or_else (length (map name sorts))) placed)
+    ∙ ap (λ ss. On (with_sorts roles cons ss)) (started_mid done (unstarted s) rest)
+    ∙ ap (λ b. On (with_sorts roles cons (done ++ record s { start = b } ∷ rest))) (sym started)
+    ∙ ap (λ ss. On (with_sorts roles cons ss)) (sym (append_assoc done (s ∷ []) rest))
+  where
+    length_names : (ss : List Sort) → length (map (λ (t : Sort). t.name) ss) ≡ length ss
+    length_names [] = refl
+    length_names (t ∷ ss) = ap (λ n. suc n) (length_names ss)
+
+start_leads : (roles : List (List ℕ)) (cons : List decl.Con) (done : List Sort) (s : Sort) (left : List Sort) → stands s.name (map (λ (t : Sort). t.name) done) ≡ false → SortFits (length roles) (sort_of s) → (b : Bool) → s.start ≡ b →
+    Through 4 (partly roles cons done (s ∷ left)) (cond b (StartLine s.name ∷ []) []) (partly roles cons (done ++ s ∷ []) left)
+start_leads roles cons done s left new fits true e =
+    through_line 4 (partly roles cons done (s ∷ left)) (partly roles cons (done ++ s ∷ []) left) (StartLine s.name) refl (start_said roles cons done s left new (fits.start e) e)
+start_leads roles cons done s left new fits false e =
+    subst (λ t. Through 4 (partly roles cons done (s ∷ left)) [] t) same (through_none 4 (partly roles cons done (s ∷ left)))
+  where
+    same : partly roles cons done (s ∷ left) ≡ partly roles cons (done ++ s ∷ []) left
+    same =
+        ap (λ b. with_sorts roles cons (done ++ record s { start = b } ∷ map unstarted left)) (sym e)
+        ∙ ap (λ ss. with_sorts roles cons ss) (sym (append_assoc done (s ∷ []) (map unstarted left)))
+
+pub starts_lead : (roles : List (List ℕ)) (cons : List decl.Con) (sorts : List Sort) → Differ (map (λ (t : Sort). t.name) sorts) → Each (λ (t : Sort). SortFits (length roles) (sort_of t)) sorts →
+    Through 4 (with_sorts roles cons (map unstarted sorts)) (start_lines sorts) (with_sorts roles cons sorts)
+starts_lead roles cons sorts differ fit = go [] sorts refl
+  where
+    go : (done left : List Sort) → sorts ≡ done ++ left → Through 4 (partly roles cons done left) (start_lines left) (with_sorts roles cons sorts)
+    go done [] e = subst (λ ss. Through 4 (partly roles cons done []) [] (with_sorts roles cons ss)) (sym e) (through_none 4 (partly roles cons done []))
+    go done (s ∷ left) e =
+        through_same 4 (partly roles cons done (s ∷ left)) (partly roles cons (done ++ s ∷ []) left) (with_sorts roles cons sorts) (start_line s) (start_lines left)
+        (start_leads roles cons done s left (split_names (λ (t : Sort). t.name) sorts done s left e differ) (each_mid (λ (t : Sort). SortFits (length roles) (sort_of t)) done s left (subst (Each (λ (t : Sort). SortFits (length roles) (sort_of t))) e fit)) s.start refl)
+        (go (done ++ s ∷ []) left (e ∙ sym (append_assoc done (s ∷ []) left)))
+
+-- offers
+
+abbrev pub with_offers : Declarations → List ℕ → Spec
+with_offers d offers = record { declared = record d { rules = [] }; offers = offers; uses = [] }
+
+-- a test that fails for each
+none_any : {A : Type 0} (p : A → Bool) (xs : List A) → Each (λ x. p x ≡ false) xs → list_any p xs ≡ false
+none_any p [] each = refl
+none_any p (x ∷ xs) each = ap (λ b. b || list_any p xs) each.0 ∙ none_any p xs each.1
+
+-- those before one are related to it
+before_mid : {A : Type 0} (R : A → A → Type 0) (pre : List A) (x : A) (post : List A) → Later R (pre ++ x ∷ post) → Each (λ a. R a x) pre
+before_mid R [] x post later = tt
+before_mid R (y ∷ pre) x post later = (each_mid (R y) pre x post later.0, before_mid R pre x post later.1)
+
+each_as : {A : Type 0} (P Q : A → Type 0) (xs : List A) → ((x : A) → P x → Q x) → Each P xs → Each Q xs
+each_as P Q [] f each = tt
+each_as P Q (x ∷ xs) f each = (f x each.0, each_as P Q xs f each.1)
+
+other_number : (m n : ℕ) → (m ≡ n → ⊥) → nat_eq m n ≡ false
+other_number m n h = by_test (nat_eq m n) refl
+  where
+    by_test : (t : Bool) → nat_eq m n ≡ t → nat_eq m n ≡ false
+    by_test true e = absurd (h (eqb-true m n e))
+    by_test false e = e
+
+named_below : (sorts : List Sort) (i : ℕ) → i < length sorts → i < length (map (λ (s : Sort). s.name) sorts)
+named_below [] i h = h
+named_below (s ∷ sorts) zero h = omega arith
+named_below (s ∷ sorts) (suc i) h = omega (arith, named_below sorts i (omega arith))
+
+offer_said : (d : Declarations) (all pre : List ℕ) (o : ℕ) (post : List ℕ) → Differ (sort_names d) → Each (λ sort. sort < length d.sorts) all → Later (λ a b. a ≡ b → ⊥) all → all ≡ pre ++ o ∷ post →
+    says (with_offers d pre) (offer_line (sort_names d) o) ≡ On (with_offers d (pre ++ o ∷ []))
+offer_said d all pre o post differ declared once e =
+    let s = with_offers d pre in
+    let less = each_mid (λ sort. sort < length d.sorts) pre o post (subst (Each (λ sort. sort < length d.sorts)) e declared) in
+    let new : is_offered o pre ≡ false = none_any (λ a. nat_eq a o) pre (each_as (λ a. a ≡ o → ⊥) (λ a. nat_eq a o ≡ false) pre (λ a h. other_number a o h) (before_mid (λ a b. a ≡ b → ⊥) pre o post (subst (Later (λ a b. a ≡ b → ⊥)) e once))) in
+    ap (offering s) (place_again (sort_names d) o differ (named_below d.sorts o less))
+    ∙ ap (λ b. cond b (Wrong kind.Double) (On (with_offers d (pre ++ o ∷ [])))) new
+
+pub offers_lead : (d : Declarations) (offers : List ℕ) → Differ (sort_names d) → Each (λ sort. sort < length d.sorts) offers → Later (λ a b. a ≡ b → ⊥) offers →
+    Through 5 (with_sorts d.roles d.cons d.sorts) (map (offer_line (sort_names d)) offers) (with_offers d offers)
+offers_lead d offers differ declared once = all_through 5 (offer_line (sort_names d)) (with_offers d) offers (λ o. refl) (λ pre o post e. offer_said d offers pre o post differ declared once e)
+
+-- uses
+
+abbrev pub with_uses : Declarations → List ℕ → List Using → Spec
+with_uses d offers uses = record { declared = record d { rules = [] }; offers = offers; uses = uses }
+
+abbrev IsDeclaredUse : Declarations → Using → Type 0
+IsDeclaredUse d u = (u.role < length d.roles) × (u.sort < length d.sorts)
+
+other_use : (u v : Using) → AreApart u v → (nat_eq u.role v.role && nat_eq u.sort v.sort) ≡ false
+other_use u v h = by_test (nat_eq u.role v.role) refl
+  where
+    by_test : (t : Bool) → nat_eq u.role v.role ≡ t → (nat_eq u.role v.role && nat_eq u.sort v.sort) ≡ false
+    by_test true e = ap (λ b. b && nat_eq u.sort v.sort) e ∙ other_number u.sort v.sort (h (eqb-true u.role v.role e))
+    by_test false e = ap (λ b. b && nat_eq u.sort v.sort) e
+
+use_said : (d : Declarations) (offers : List ℕ) (all pre : List Using) (u : Using) (post : List Using) → Differ d.roles → Differ (sort_names d) → Each (IsDeclaredUse d) all → Later AreApart all → all ≡ pre ++ u ∷ post →
+    says (with_uses d offers pre) (use_line d.roles (sort_names d) u) ≡ On (with_uses d offers (pre ++ u ∷ []))
+use_said d offers all pre u post roles_differ differ declared once e =
+    let s = with_uses d offers pre in
+    let less = each_mid (IsDeclaredUse d) pre u post (subst (Each (IsDeclaredUse d)) e declared) in
+    let new : is_used u.role u.sort pre ≡ false =
+    none_any (λ (v : Using). nat_eq v.role u.role && nat_eq v.sort u.sort) pre
+    (each_as (λ v. AreApart v u) (λ v. (nat_eq v.role u.role && nat_eq v.sort u.sort) ≡ false) pre (λ v h. other_use v u h) (before_mid AreApart pre u post (subst (Later AreApart) e once))) in
+    ap (λ o. using_by s o (place_of (get [] (sort_names d) u.sort) (sort_names d))) (place_again d.roles u.role roles_differ less.0)
+    ∙ ap (using_sort s u.role) (place_again (sort_names d) u.sort differ (named_below d.sorts u.sort less.1))
+    ∙ ap (λ b. cond b (Wrong kind.Double) (On (with_uses d offers (pre ++ u ∷ [])))) new
+
+pub uses_lead : (d : Declarations) (offers : List ℕ) (uses : List Using) → Differ d.roles → Differ (sort_names d) → Each (IsDeclaredUse d) uses → Later AreApart uses →
+    Through 6 (with_offers d offers) (map (use_line d.roles (sort_names d)) uses) (with_uses d offers uses)
+uses_lead d offers uses roles_differ differ declared once = all_through 6 (use_line d.roles (sort_names d)) (with_uses d offers) uses (λ u. refl) (λ pre u post e. use_said d offers uses pre u post roles_differ differ declared once e)
+
+-- rules
+
+abbrev pub with_rules : Spec → List Entry → Spec
+with_rules s rules = record s { declared = record s.declared { rules = rules } }
+
+-- no rule is at fault where none of all is
+no_rule_fault : (sorts : List P.Sort) (offers : List ℕ) (uses : List Using) (i : ℕ) (pre : List Entry) (e : Entry) (post : List Entry) → rules_fault sorts offers uses i (map (λ (x : Entry). x.rule) (pre ++ e ∷ post)) ≡ None → rule_fault sorts offers uses e.rule ≡ None
+no_rule_fault sorts offers uses i [] e post h = here (rule_fault sorts offers uses e.rule) h
+  where
+    here : (o : Option (ℕ × FaceKind)) → at_rule i o (rules_fault sorts offers uses (suc i) (map (λ (x : Entry). x.rule) post)) ≡ None → o ≡ None
+    here None k = refl
+    here (Some fault) k = cc
+no_rule_fault sorts offers uses i (x ∷ pre) e post h = no_rule_fault sorts offers uses (suc i) pre e post (later (rule_fault sorts offers uses x.rule) h)
+  where
+    later : (o : Option (ℕ × FaceKind)) → at_rule i o (rules_fault sorts offers uses (suc i) (map (λ (y : Entry). y.rule) (pre ++ e ∷ post))) ≡ None → rules_fault sorts offers uses (suc i) (map (λ (y : Entry). y.rule) (pre ++ e ∷ post)) ≡ None
+    later None k = k
+    later (Some fault) k = cc
+
+rule_said : (s : Spec) → Fine s.declared → face_fault (grammar_in s.declared) s.offers s.uses ≡ None → (pre : List Entry) (e : Entry) (post : List Entry) → s.declared.rules ≡ pre ++ e ∷ post →
+    says (with_rules s pre) (RuleLine (named_rule (con_names s.declared) (sort_names s.declared) e)) ≡ On (with_rules s (pre ++ e ∷ []))
+rule_said s fine kept pre e post all =
+    let d = s.declared in
+    let before = record d { rules = pre } in
+    let at = with_rules s pre in
+    let w = named_rule (con_names d) (sort_names d) e in
+    let fits_all = each_mid (λ (x : Entry). RuleFits (grammar_in d) x.rule) pre e post (subst (Each (λ (x : Entry). RuleFits (grammar_in d) x.rule)) all fine.rules) in
+    let fits : RuleFits (grammar_in before) e.rule = other_rules d pre e.rule fits_all in
+    let vars = each_mid (λ (x : Entry). VariablesFit (con_names d) x.vars x.rule) pre e post (subst (Each (λ (x : Entry). VariablesFit (con_names d) x.vars x.rule)) all fine.variables) in
+    let few : length pre < 1024 = below_all d.rules pre e post 1024 all fine.few_rules in
+    let new = split_names (λ (x : Entry). x.name) d.rules pre e post all fine.rules_differ in
+    let same : entry_of before w ≡ e = entry_again before e fine.cons_differ fine.sorts_differ fits vars in
+    let fault : rule_fault (sorts_of d.sorts) s.offers s.uses e.rule ≡ None = no_rule_fault (sorts_of d.sorts) s.offers s.uses 0 pre e post (ap (λ rs. rules_fault (sorts_of d.sorts) s.offers s.uses 0 (map (λ (x : Entry). x.rule) rs)) (sym all) ∙ kept) in
+    ap (λ k. keeping at w (declaring at k (with_rule before w))) (no_fault before e fine.cons_differ fine.sorts_differ fine.sorts fits vars few new)
+    ∙ ap (λ x. if_kept (with_rules s (pre ++ x ∷ [])) (rule_fault (sorts_of d.sorts) s.offers s.uses x.rule)) same
+    ∙ ap (if_kept (with_rules s (pre ++ e ∷ []))) fault
+  where
+    other_rules : (d : Declarations) (rules : List Entry) (r : P.Rule) → RuleFits (grammar_in d) r → RuleFits (grammar_in (record d { rules = rules })) r
+    other_rules d rules r f = record {
+      declared = f.declared;
+      takes = f.takes;
+      gives = f.gives;
+      few_params = f.few_params;
+      few_children = f.few_children;
+      few_variables = f.few_variables;
+      few_symbols = f.few_symbols;
+      numbered = f.numbered;
+      patterns = f.patterns;
+      results = f.results;
+      enter = f.enter;
+      children = each_as _ _ r.children (λ c h. record { declared = h.declared; takes = h.takes; gives = h.gives; terms = h.terms; enter = h.enter }) f.children;
+    }
+
+pub rules_lead : (s : Spec) → Fine s.declared → face_fault (grammar_in s.declared) s.offers s.uses ≡ None →
+    Through 7 (with_rules s []) (map (λ (e : Entry). RuleLine (named_rule (con_names s.declared) (sort_names s.declared) e)) s.declared.rules) (with_rules s s.declared.rules)
+rules_lead s fine kept = all_through 7 (λ (e : Entry). RuleLine (named_rule (con_names s.declared) (sort_names s.declared) e)) (with_rules s) s.declared.rules (λ e. refl) (λ pre e post all. rule_said s fine kept pre e post all)

@@ -1,0 +1,17 @@
+pub mod Declaring
+pub mod Formed
+pub mod Leading
+pub mod Lexing
+pub mod NamedRules
+pub mod NamedTerms
+pub mod Placed
+pub mod Programs
+pub mod Props
+pub mod Pushing
+pub mod PushingRules
+pub mod PushingTerms
+pub mod ReadFaces
+pub mod SaysTerms
+pub mod SaysTokens
+pub mod SpelledSpecs
+pub mod WrittenAgain

@@ -1,0 +1,68 @@
+-- Grammars and faces of the program, written and read.
+use Rattle.std.proofs.Common.{◌≡◌, ℕ, List, [], ◌∷◌, ◌++◌, map, length, append_assoc, refl, sym, ap, ◌∙◌, subst}
+use Rattle.std.specs.Prelude.{Result, Ok, Err, IfOk, IfErr}
+use Rattle.std.proofs.Math.Logic.{∥∥₁_elim}
+use Rattle.aw_lex.specs.Lines.{lines_of}
+use Rattle.aw_term.specs.WellFormed.{Each, IsWellFormed}
+use Rattle.aw_grammar.specs.declared.grammar.Grammar.{Grammar}
+use Rattle.aw_grammar.specs.Declarations.{Entry, grammar_in, words_in}
+use Rattle.aw_grammar.specs.declared.rule.Con.{Con}
+use Rattle.aw_grammar.specs.declared.rule.Sort.{Sort}
+use Rattle.aw_grammar.specs.declared.rule.Rule.{Rule}
+use Rattle.aw_grammar.specs.GrammarView.{rule_of}
+use Rattle.aw_grammar.specs.GrammarOf.{grammar_of, words_of, entry, declarations_of}
+use Rattle.aw_grammar.specs.Variables.{VariablesFit}
+use Rattle.aw_face.specs.declared.faces.Faces.{Faces}
+use Rattle.aw_spec.specs.declared.fault.SpecFault.{SpecFault}
+use Rattle.aw_spec.specs.declared.fault.SpecFault.TheVariants.{Bad, NoMemory}
+use Rattle.aw_spec.specs.declared.spec_text.SpecText.{SpecText}
+use Rattle.aw_spec.specs.Answers.{Spells}
+use Rattle.aw_spec.specs.Lines.{Line}
+use Rattle.aw_spec.specs.Reading.{Spec, Reading, Good, specification}
+use Rattle.aw_spec.specs.Views.{spec_of}
+use Rattle.aw_spec.proofs.Declared.{declared_grammar, declared_words}
+use Rattle.aw_write.specs.LineTexts.{text_of_lines}
+use Rattle.aw_write.specs.SpecLines.{spec_lines, written}
+use Rattle.aw_write.specs.Writable.{SmallNumbers, VariablesNamed, FacesFit}
+use Rattle.aw_write.proofs.Formed.{law}
+use Rattle.aw_write.proofs.Props.{formed_prop, named_prop}
+use Rattle.aw_write.proofs.Pushing.{lines_both}
+
+-- the grammar's declarations are well formed
+formed_of : (g : Grammar) → IsWellFormed (words_in (declarations_of g)) (grammar_in (declarations_of g))
+formed_of g =
+    let w = ∥∥₁_elim g.well_formed (formed_prop (words_of g) (grammar_of g)) (λ x. x) in
+    subst (λ x. IsWellFormed x (grammar_in (declarations_of g))) (declared_words g) (subst (IsWellFormed (words_of g)) (declared_grammar g) w)
+
+-- the variables of its rules have names
+each_named : (cons : List (List ℕ)) (sorts : List Sort) (rules : List Rule) → Each (λ (r : Rule). VariablesFit cons r.vars (rule_of sorts r)) rules → Each (λ (e : Entry). VariablesFit cons e.vars e.rule) (map (entry sorts) rules)
+each_named cons sorts [] each = tt
+each_named cons sorts (r ∷ rules) each = (each.0, each_named cons sorts rules each.1)
+
+variables_of : (g : Grammar) → VariablesNamed (declarations_of g)
+variables_of g =
+    each_named (map (λ (c : Con). c.name) g.cons) g.sorts g.rules (∥∥₁_elim g.variables_fit (named_prop g.cons g.sorts g.rules) (λ x. x))
+
+pub again : (g : Grammar) (f : Faces) → Each (λ (e : Entry). SmallNumbers e.rule) (declarations_of g).rules → FacesFit (spec_of g f) →
+    specification (lines_of (written (spec_of g f))) ≡ Good (spec_of g f) (length (spec_lines (spec_of g f)))
+again g f numbers faces = law (spec_of g f) (record { formed = formed_of g; numbers = numbers; variables = variables_of g; faces = faces })
+
+pub whole_text : (declared faces rules : List Line) (t0 t1 t2 t3 : List ℕ) → t0 ≡ [] → t1 ≡ t0 ++ text_of_lines declared → t2 ≡ t1 ++ text_of_lines faces → t3 ≡ t2 ++ text_of_lines rules → t3 ≡ text_of_lines (declared ++ (faces ++ rules))
+whole_text declared faces rules t0 t1 t2 t3 e0 e1 e2 e3 =
+    e3 ∙ ap (λ u. u ++ text_of_lines rules) (e2 ∙ ap (λ u. u ++ text_of_lines faces) (e1 ∙ ap (λ u. u ++ text_of_lines declared) e0))
+    ∙ append_assoc (text_of_lines declared) (text_of_lines faces) (text_of_lines rules)
+    ∙ ap (λ u. text_of_lines declared ++ u) (sym (lines_both faces rules))
+    ∙ sym (lines_both declared (faces ++ rules))
+
+-- what reading answers where the text spells a specification
+pub ok_read : (r : Result SpecText SpecFault) (reading : Reading) (s : Spec) (n : ℕ) → reading ≡ Good s n → Spells r reading → IfOk r (λ t. spec_of t.grammar t.faces ≡ s)
+ok_read (Ok t) reading s n e h = same (spec_of t.grammar t.faces) s t.lines n (sym h ∙ e)
+  where
+    same : (x y : Spec) (m k : ℕ) → Good x m ≡ Good y k → x ≡ y
+    same x y m k p = cc
+ok_read (Err f) reading s n e h = tt
+
+pub err_read : (r : Result SpecText SpecFault) (reading : Reading) (s : Spec) (n : ℕ) → reading ≡ Good s n → Spells r reading → IfErr r (λ f. f ≡ NoMemory)
+err_read (Ok t) reading s n e h = tt
+err_read (Err (Bad line kind)) reading s n e h = absurd cc
+err_read (Err NoMemory) reading s n e h = refl

@@ -1,0 +1,82 @@
+-- Texts that grow by children and by rules.
+use Rattle.std.proofs.Common.{◌≡◌, ℕ, zero, suc, ◌+◌, ◌≤◌, refl, sym, ap, ◌∙◌, subst, List, [], ◌∷◌, ◌++◌, codes, length, map, drop, slice_get, Option, Some, None, IfSome, Bor, append_assoc, append-nil, add-one, arith}
+use Rattle.std.proofs.lemmas.List.{length-map}
+use Rattle.std.proofs.Math.Logic.{∥∥₁_elim}
+use Rattle.std.specs.Coded.{le_prop}
+use Rattle.aw_term.specs.Rules as P
+use Rattle.aw_term.specs.WellFormed.{Each, RuleFits}
+use Rattle.aw_grammar.specs.declared.rule.Sort.{Sort}
+use Rattle.aw_grammar.specs.declared.rule.Rule.{Rule}
+use Rattle.aw_grammar.specs.GrammarOf.{entry}
+use Rattle.aw_grammar.specs.GrammarView.{child_of, rule_of}
+use Rattle.aw_grammar.specs.Declarations.{Entry}
+use Rattle.aw_grammar.specs.Written.{WrittenChild}
+use Rattle.aw_spec.specs.Lines.{Line, RuleLine}
+use Rattle.aw_write.specs.LineTexts.{child_text, children_behind, children_text, text_of_lines}
+use Rattle.aw_write.specs.SpecLines.{named_rule}
+use Rattle.aw_write.proofs.Pushing.{lines_both}
+
+-- children with a separator before the first
+abbrev pub separated_children : List ℕ → List WrittenChild → List ℕ
+separated_children separator [] = []
+separated_children separator (c ∷ cs) = separator ++ (child_text c ++ children_behind cs)
+
+equals_before : (cs : List WrittenChild) → separated_children (codes " = ") cs ≡ children_text cs
+equals_before [] = refl
+equals_before (c ∷ cs) = refl
+
+semicolon_before : (cs : List WrittenChild) → separated_children (codes " ; ") cs ≡ children_behind cs
+semicolon_before [] = refl
+semicolon_before (c ∷ cs) = refl
+
+pub few_children : (g : P.Grammar) (sorts : List Sort) (found : Option (Bor Rule)) → IfSome found (λ r. ∥ RuleFits g (rule_of sorts r.now) ∥₁) → IfSome found (λ r. length r.now.children ≤ 8)
+few_children g sorts None h = tt
+few_children g sorts (Some r) h = ∥∥₁_elim h le_prop (λ w. omega (arith, w.few_children, length-map r.now.children (child_of sorts)))
+
+-- the lines of some rules
+abbrev pub lines_of_rules : List (List ℕ) → List (List ℕ) → List Sort → List Rule → List Line
+lines_of_rules cons sort_names sorts rules = map (λ (e : Entry). RuleLine (named_rule cons sort_names e)) (map (entry sorts) rules)
+
+at_place : {A : Type 0} (xs : List A) (i : ℕ) (x : A) → slice_get xs i ≡ Some x → drop i xs ≡ x ∷ drop (suc i) xs
+at_place [] i x e = cc
+at_place (y ∷ ys) zero x e = first y x ys e
+  where
+    first : {A : Type 0} (y x : A) (ys : List A) → Some y ≡ Some x → y ∷ ys ≡ x ∷ ys
+    first y x ys e = let same : y ≡ x = cc in ap (λ z. z ∷ ys) same
+at_place (y ∷ ys) (suc i) x e = at_place ys i x e
+
+past_end : {A : Type 0} (xs : List A) (i : ℕ) → None ≡ slice_get xs i → drop i xs ≡ []
+past_end [] zero e = refl
+past_end [] (suc i) e = refl
+past_end (y ∷ ys) zero e = cc
+past_end (y ∷ ys) (suc i) e = past_end ys i e
+
+at_next : {A : Type 0} (xs : List A) (i : ℕ) (x : A) → slice_get xs i ≡ Some x → drop i xs ≡ x ∷ drop (i + 1) xs
+at_next xs i x e = at_place xs i x e ∙ ap (λ n. x ∷ drop n xs) (sym (add-one i))
+
+-- one rule more
+pub rules_go_on : (cons sort_names : List (List ℕ)) (sorts : List Sort) (rules : List Rule) (i : ℕ) (r : Rule) (text new all : List ℕ) → slice_get rules i ≡ Some r → new ≡ text ++ text_of_lines (RuleLine (named_rule cons sort_names (entry sorts r)) ∷ []) →
+    text ++ text_of_lines (lines_of_rules cons sort_names sorts (drop i rules)) ≡ all → new ++ text_of_lines (lines_of_rules cons sort_names sorts (drop (i + 1) rules)) ≡ all
+rules_go_on cons sort_names sorts rules i r text new all found n e =
+    let line = RuleLine (named_rule cons sort_names (entry sorts r)) in
+    let rest = lines_of_rules cons sort_names sorts (drop (i + 1) rules) in
+    ap (λ u. u ++ text_of_lines rest) n
+    ∙ append_assoc text (text_of_lines (line ∷ [])) (text_of_lines rest)
+    ∙ ap (λ u. text ++ u) (sym (lines_both (line ∷ []) rest))
+    ∙ ap (λ rs. text ++ text_of_lines (lines_of_rules cons sort_names sorts rs)) (sym (at_next rules i r found))
+    ∙ e
+
+pub rules_end : (cons sort_names : List (List ℕ)) (sorts : List Sort) (rules : List Rule) (i : ℕ) (text all : List ℕ) → None ≡ slice_get rules i → text ++ text_of_lines (lines_of_rules cons sort_names sorts (drop i rules)) ≡ all → text ≡ all
+rules_end cons sort_names sorts rules i text all none e = sym (append-nil text) ∙ ap (λ rs. text ++ text_of_lines (lines_of_rules cons sort_names sorts rs)) (sym (past_end rules i none)) ∙ e
+
+pub each_rule : (P : Entry → Type 0) (sorts : List Sort) (rules : List Rule) (i : ℕ) (r : Rule) → slice_get rules i ≡ Some r → P (entry sorts r) → Each P (map (entry sorts) (drop (i + 1) rules)) → Each P (map (entry sorts) (drop i rules))
+each_rule P sorts rules i r found here rest = subst (λ rs. Each P (map (entry sorts) rs)) (sym (at_next rules i r found)) (here, rest)
+
+pub each_past : (P : Entry → Type 0) (sorts : List Sort) (rules : List Rule) (i : ℕ) → None ≡ slice_get rules i → Each P (map (entry sorts) (drop i rules))
+each_past P sorts rules i none = subst (λ rs. Each P (map (entry sorts) rs)) (sym (past_end rules i none)) tt
+
+-- the parts of a rule's line, one behind the other
+pub rule_regroup : (t0 word name params colon sort opening patterns middle results closing children last : List ℕ) →
+    (((t0 ++ (word ++ (name ++ (params ++ (colon ++ sort))))) ++ (opening ++ (patterns ++ (middle ++ (results ++ closing))))) ++ children) ++ last
+    ≡ t0 ++ ((word ++ (name ++ (params ++ (colon ++ (sort ++ (opening ++ (patterns ++ (middle ++ (results ++ (closing ++ children)))))))))) ++ last)
+rule_regroup t0 word name params colon sort opening patterns middle results closing children last = simp append_assoc

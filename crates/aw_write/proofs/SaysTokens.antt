@@ -1,0 +1,97 @@
+-- Bytes that say lexemes, wherever in a line they stand, and hold no line feed.
+use Rattle.std.proofs.Common.{◌≡◌, ℕ, ◌+◌, ◌-◌, ◌<◌, ◌≤◌, ◌^◌, refl, sym, ◌∙◌, ap, subst, true, false, ◌==◌, ◌&&◌, not, List, [], ◌∷◌, ◌++◌, take, drop, length, arith, unwrap_or, Ok, append_assoc, append-nil, length-append}
+use Rattle.std.proofs.lemmas.List.Folds.{list_all-append}
+use Rattle.std.specs.Fmt.{decimal}
+use Rattle.aw_text.specs.Spelling.{is_name, is_content, quoted}
+use Rattle.aw_text.proofs.NodeNames.{lacks}
+use Rattle.aw_text.proofs.Numbers.{number_again}
+use Rattle.aw_text.proofs.Quotes.{unquoted_quoted}
+use Rattle.aw_lex.specs.declared.token.Token.{Token}
+use Rattle.aw_lex.specs.declared.token.TokenKind.{TokenKind}
+use Rattle.aw_lex.specs.declared.token.TokenKind.TheVariants as kinds
+use Rattle.aw_lex.specs.declared.front.Front.TheVariants as front
+use Rattle.aw_lex.specs.Tokens.{is_blank, is_mark, front_of, tokens_from, with_token}
+use Rattle.aw_lex.proofs.TokenSteps.{token_step}
+use Rattle.aw_form.specs.Lexemes.{Lexeme, Name, Number, Quoted, Mark, said, lexemes}
+use Rattle.aw_write.proofs.Lexing.{Ends, name_front, name_unbroken, some_name, number_front, number_unbroken, text_front, text_unbroken, mark_front}
+
+-- the tokens of these bytes, behind others in a line, and what they say
+abbrev Lexed : List ℕ → List Lexeme → List ℕ → Type 0
+Lexed bs ls before = (ts : List Token) × (tokens_from (length before) 0 bs ≡ Ok ts) × (lexemes (before ++ bs) ts ≡ ls)
+
+pub record Says (bs : List ℕ) (ls : List Lexeme) : Type 0 where
+  pub lexed : (before : List ℕ) → (ts : List Token) × (tokens_from (length before) 0 bs ≡ Ok ts) × (lexemes (before ++ bs) ts ≡ ls)
+  pub unbroken : lacks 10 bs ≡ true
+
+pub moved : (bs cs : List ℕ) (ls ks : List Lexeme) → bs ≡ cs → ls ≡ ks → Says cs ks → Says bs ls
+moved bs cs ls ks e f s = subst (λ x. Says x ls) (sym e) (subst (Says cs) (sym f) s)
+
+pub says_nothing : Says [] []
+says_nothing = record { lexed = λ before. ([], refl, refl); unbroken = refl }
+
+pub says_blank : (bs : List ℕ) (ls : List Lexeme) → Says bs ls → Says (32 ∷ bs) ls
+says_blank bs ls s = record {
+  lexed = λ before.
+      let more = s.lexed (before ++ 32 ∷ []) in
+      let at : length before + 1 ≡ length (before ++ 32 ∷ []) = omega (arith, length-append before (32 ∷ [])) in
+      (more.0, ap (λ n. tokens_from n 0 bs) at ∙ more.1, ap (λ line. lexemes line more.0) (sym (append_assoc before (32 ∷ []) bs)) ∙ more.2);
+  unbroken = s.unbroken;
+}
+
+drop_front : (w bs : List ℕ) → drop (length w) (w ++ bs) ≡ bs
+drop_front [] bs = refl
+drop_front (b ∷ w) bs = drop_front w bs
+
+take_front : (w bs : List ℕ) → take (length w) (w ++ bs) ≡ w
+take_front [] bs = refl
+take_front (b ∷ w) bs = ap (λ xs. b ∷ xs) (take_front w bs)
+
+slice_front : (before w bs : List ℕ) → take ((length before + length w) - length before) (drop (length before) (before ++ (w ++ bs))) ≡ w
+slice_front before w bs =
+    let size : (length before + length w) - length before ≡ length w = omega arith in
+    ap (λ xs. take ((length before + length w) - length before) xs) (drop_front before (w ++ bs)) ∙ ap (λ n. take n (w ++ bs)) size ∙ take_front w bs
+
+within : (w bs : List ℕ) → length w ≤ length (w ++ bs)
+within w bs = omega (arith, length-append w bs)
+
+says_token : (w bs : List ℕ) (kind : TokenKind) (l : Lexeme) (ls : List Lexeme) → 0 < length w → front_of (w ++ bs) ≡ front.Token kind (length w) → said kind w ≡ l → lacks 10 w ≡ true → Says bs ls → Says (w ++ bs) (l ∷ ls)
+says_token w bs kind l ls some found says whole s = record {
+  lexed = λ before.
+      let token : Token = record { kind = kind; start = length before; end = length before + length w } in
+      let more = s.lexed (before ++ w) in
+      let at : length before + length w ≡ length (before ++ w) = omega (arith, length-append before w) in (
+        token ∷ more.0,
+        token_step (length before) (length w) kind (w ++ bs) some (within w bs) found
+            ∙ ap (λ xs. with_token token (tokens_from (length before + length w) 0 xs)) (drop_front w bs)
+            ∙ ap (λ n. with_token token (tokens_from n 0 bs)) at
+            ∙ ap (with_token token) more.1,
+        ap (λ xs. said kind xs ∷ lexemes (before ++ (w ++ bs)) more.0) (slice_front before w bs)
+            ∙ ap (λ k. k ∷ lexemes (before ++ (w ++ bs)) more.0) says
+            ∙ ap (λ ks. l ∷ ks) (ap (λ line. lexemes line more.0) (sym (append_assoc before w bs)) ∙ more.2),
+      );
+  unbroken = list_all-append (λ x. not (x == 10)) w bs ∙ ap (λ t. t && lacks 10 bs) whole ∙ s.unbroken;
+}
+
+pub says_name : (n bs : List ℕ) (ls : List Lexeme) → is_name n ≡ true → Ends bs → Says bs ls → Says (n ++ bs) (Name n ∷ ls)
+says_name n bs ls h e s = says_token n bs kinds.Name (Name n) ls (some_name n h) (name_front n bs h e) refl (name_unbroken n h) s
+
+some_number : (ds : List ℕ) (n : ℕ) → front_of (ds ++ []) ≡ front.Token kinds.Number (length ds) → 0 < length ds
+some_number [] n h = cc
+some_number (d ∷ ds) n h = omega arith
+
+pub says_number : (n : ℕ) (bs : List ℕ) (ls : List Lexeme) → n < 2 ^ 64 → Ends bs → Says bs ls → Says (decimal n ++ bs) (Number n ∷ ls)
+says_number n bs ls h e s =
+    says_token (decimal n) bs kinds.Number (Number n) ls (some_number (decimal n) n (number_front n [] h tt)) (number_front n bs h e) (ap (λ o. Number (unwrap_or o 0)) (number_again n h)) (number_unbroken n h) s
+
+pub says_text : (t bs : List ℕ) (ls : List Lexeme) → is_content t ≡ true → Says bs ls → Says (quoted t ++ bs) (Quoted t ∷ ls)
+says_text t bs ls h s =
+    says_token (quoted t) bs kinds.Text (Quoted t) ls (omega arith) (text_front t bs h) (ap (λ o. Quoted (unwrap_or o [])) (unquoted_quoted t h)) (text_unbroken t h) s
+
+pub says_mark : (m : ℕ) (bs : List ℕ) (ls : List Lexeme) → is_blank m ≡ false → is_mark m ≡ true → not (m == 10) ≡ true → Says bs ls → Says (m ∷ bs) (Mark m ∷ ls)
+says_mark m bs ls h k u s = says_token (m ∷ []) bs (kinds.Mark m) (Mark m) ls (omega arith) (mark_front m bs h k) refl (ap (λ t. t && true) u) s
+
+pub says_last_name : (n : List ℕ) → is_name n ≡ true → Says n (Name n ∷ [])
+says_last_name n h = moved n (n ++ []) (Name n ∷ []) (Name n ∷ []) (sym (append-nil n)) refl (says_name n [] [] h tt says_nothing)
+
+pub says_last_number : (n : ℕ) → n < 2 ^ 64 → Says (decimal n) (Number n ∷ [])
+says_last_number n h = moved (decimal n) (decimal n ++ []) (Number n ∷ []) (Number n ∷ []) (sym (append-nil (decimal n))) refl (says_number n [] [] h tt says_nothing)

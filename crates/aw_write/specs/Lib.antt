@@ -1,0 +1,4 @@
+pub mod Laws
+pub mod LineTexts
+pub mod SpecLines
+pub mod Writable

@@ -1,0 +1,15 @@
+//! Specifications written again. `specs/SpecLines.antt` says which lines a specification has, and `specs/LineTexts.antt` how each is laid out.
+#![tactic(auto)]
+
+pub mod law;
+pub mod lines;
+pub mod names;
+pub mod rules;
+pub mod terms;
+pub mod write;
+
+pub use law::{read_again, read_fits, written_is_read};
+pub use write::write_spec;
+
+#[cfg(test)]
+mod tests;
