@@ -1,0 +1,66 @@
+-- The children of a taken rule, one after the other.
+use Rattle.std.proofs.Common.{◌≡◌, ℕ, zero, suc, ◌+◌, ◌<◌, ◌≤◌, List, [], ◌∷◌, ◌++◌, length, map, drop, get_or, refl, ap, sym, ◌∙◌, arith, append_assoc}
+use Rattle.std.proofs.lemmas.List.{at_drop_more, map-append}
+use Rattle.aw_term.specs.Names.{Node, Ref, below, result}
+use Rattle.aw_term.specs.Rules.{upto}
+use Rattle.aw_term.specs.Rules as R
+use Rattle.aw_term.specs.WellFormed.{symbols_of, child_symbols}
+use Rattle.aw_term.specs.Views.{term_of}
+use Rattle.aw_grammar.specs.declared.rule.Sort.{Sort}
+use Rattle.aw_grammar.specs.declared.rule.Child.{Child}
+use Rattle.aw_grammar.specs.GrammarView.{child_of}
+use Rattle.aw_apply.specs.Made.{Laid, lay_list, lay_children}
+use Rattle.aw_apply.specs.MadeView.{with_one, as_children}
+use Rattle.aw_apply.specs.declared.making.MadeChild.{MadeChild}
+use Rattle.aw_apply.proofs.LayLemmas.{joined, before, joined-one, lay_list-next}
+
+upto_end : (i n : ℕ) → upto i (suc n) ≡ upto i n ++ (i + n) ∷ []
+upto_end i zero = ap (λ k. k ∷ []) (omega arith)
+upto_end i (suc n) = ap (λ ks. i ∷ ks) (upto_end (suc i) n ∙ ap (λ k. upto (suc i) n ++ k ∷ []) (omega arith))
+
+-- one result more
+pub results_more : (n : Node) (old base : List Ref) (j : ℕ) → old ≡ base ++ map (result n) (upto 1 j) → old ++ result n (j + 1) ∷ [] ≡ base ++ map (result n) (upto 1 (j + 1))
+results_more n old base j e =
+    let step : j + 1 ≡ suc j = omega arith in
+    let last : 1 + j ≡ j + 1 = omega arith in
+    ap (λ xs. xs ++ result n (j + 1) ∷ []) e
+    ∙ append_assoc base (map (result n) (upto 1 j)) (result n (j + 1) ∷ [])
+    ∙ ap (λ xs. base ++ xs) (ap (λ m. map (result n) (upto 1 j) ++ result n m ∷ []) (sym last) ∙ sym (map-append (result n) (upto 1 j) ((1 + j) ∷ [])) ∙ ap (map (result n)) (sym (upto_end 1 j) ∙ ap (upto 1) (sym step)))
+
+-- the symbols of the children from a place on
+pub child_more : (sorts : List Sort) (cs : List Child) (i : ℕ) (x : Child) → i < length cs → x ≡ get_or cs i x → child_symbols (map (child_of sorts) (drop i cs)) ≡ symbols_of (map term_of x.args) + child_symbols (map (child_of sorts) (drop (i + 1) cs))
+child_more sorts cs i x l e = ap (λ ys. child_symbols (map (child_of sorts) ys)) (at_drop_more (λ ys. ys) cs i x l ∙ ap (λ y. y ∷ drop (i + 1) cs) (sym e))
+
+pub symbols_apart : (s t : List Sort) (cs : List Child) → child_symbols (map (child_of s) cs) ≡ child_symbols (map (child_of t) cs)
+symbols_apart s t [] = refl
+symbols_apart s t (c ∷ cs) = ap (λ m. symbols_of (map term_of c.args) + m) (symbols_apart s t cs)
+
+-- a child whose inherited values were laid down
+abbrev pub child_at : Node → Laid (List Ref) → Laid MadeChild
+child_at n l = record { roots = record { node = n; inherited = l.roots }; equations = l.equations; next = l.next }
+
+abbrev values_at : Node → (ℕ → Ref) → ℕ → Child → Laid (List Ref)
+values_at n f k c = lay_list n f k (map term_of c.args)
+
+children_more : (n : Node) (r : ℕ) (f : ℕ → Ref) (m k : ℕ) (sorts : List Sort) (cs : List Child) (i : ℕ) (x : Child) → i < length cs → x ≡ get_or cs i x →
+    as_children (lay_children n r f m k (map (child_of sorts) (drop i cs))) ≡ before (child_at (below n r m) (values_at n f k x)) (as_children (lay_children n r f (suc m) (values_at n f k x).next (map (child_of sorts) (drop (i + 1) cs))))
+children_more n r f m k sorts cs i x l e = ap (λ ys. as_children (lay_children n r f m k (map (child_of sorts) ys))) (at_drop_more (λ ys. ys) cs i x l ∙ ap (λ y. y ∷ drop (i + 1) cs) (sym e))
+
+-- one more child was laid down, and the rest follows it
+pub called_more : (n : Node) (r : ℕ) (f : ℕ → Ref) (m : ℕ) (sorts : List Sort) (cs : List Child) (i : ℕ) (x : Child) (a b : Laid (List MadeChild)) (one : Laid MadeChild) (whole : Laid (List MadeChild)) → i < length cs → x ≡ get_or cs i x →
+    one ≡ child_at (below n r m) (lay_list n f a.next (map term_of x.args)) → b ≡ with_one a one →
+    joined a (as_children (lay_children n r f m a.next (map (child_of sorts) (drop i cs)))) ≡ whole →
+    joined b (as_children (lay_children n r f (suc m) b.next (map (child_of sorts) (drop (i + 1) cs)))) ≡ whole
+called_more n r f m sorts cs i x a b one whole l e o p w =
+    let both : b ≡ with_one a (child_at (below n r m) (values_at n f a.next x)) = p ∙ ap (with_one a) o in
+    ap (λ (z : Laid (List MadeChild)). joined z (as_children (lay_children n r f (suc m) z.next (map (child_of sorts) (drop (i + 1) cs))))) both
+    ∙ joined-one a (child_at (below n r m) (values_at n f a.next x)) _
+    ∙ ap (joined a) (sym (children_more n r f m a.next sorts cs i x l e))
+    ∙ w
+
+pub called_next : (n : Node) (r : ℕ) (f : ℕ → Ref) (m : ℕ) (x : Child) (a b : Laid (List MadeChild)) (one : Laid MadeChild) → one ≡ child_at (below n r m) (lay_list n f a.next (map term_of x.args)) → b ≡ with_one a one → b.next ≤ a.next + symbols_of (map term_of x.args)
+called_next n r f m x a b one o p = omega (arith, ap (λ (z : Laid (List MadeChild)). z.next) p, ap (λ (z : Laid MadeChild). z.next) o, lay_list-next n f a.next (map term_of x.args))
+
+pub children-next : (n : Node) (r : ℕ) (f : ℕ → Ref) (m k : ℕ) (cs : List R.Child) → (lay_children n r f m k cs).next ≤ k + child_symbols cs
+children-next n r f m k [] = omega arith
+children-next n r f m k (c ∷ cs) = omega (arith, lay_list-next n f k c.args, children-next n r f (suc m) (lay_list n f k c.args).next cs)

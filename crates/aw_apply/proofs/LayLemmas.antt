@@ -1,0 +1,124 @@
+-- Laying down one thing after the other.
+use Rattle.std.proofs.Common.{◌≡◌, ℕ, zero, suc, ◌+◌, ◌<◌, ◌≤◌, List, [], ◌∷◌, ◌++◌, length, map, drop, get_or, refl, ap, sym, ◌∙◌, arith, append_assoc, append-nil}
+use Rattle.std.specs.Prelude.{Result, Ok, Err, IfOk}
+use Rattle.std.proofs.lemmas.List.{at_drop_more}
+use Rattle.aw_term.specs.Trees as P
+use Rattle.aw_term.specs.Trees.{Head, Tree, Leaf, Made, Trees, Nil, More, join}
+use Rattle.aw_term.specs.Names.{Node, Ref, part}
+use Rattle.aw_term.specs.Rules.{get}
+use Rattle.aw_term.specs.WellFormed.{symbols, all_symbols, symbols_of}
+use Rattle.aw_term.specs.Views.{ground_of, term_of}
+use Rattle.aw_term.specs.declared.term.Expr as expr
+use Rattle.aw_term.specs.declared.ground.Ground as grounds
+use Rattle.aw_term.proofs.ViewLemmas.{ground_con, term_con}
+use Rattle.aw_store.specs.Equations.{Body, Is, Equation}
+use Rattle.aw_apply.specs.Made.{Laid, lay, lays, lay_list}
+use Rattle.aw_apply.specs.MadeView.{with_one}
+
+-- these, and then those
+abbrev pub joined : {A : Type 0} → Laid (List A) → Laid (List A) → Laid (List A)
+joined a b = record { roots = a.roots ++ b.roots; equations = a.equations ++ b.equations; next = b.next }
+
+abbrev pub nothing_more : {A : Type 0} → ℕ → Laid (List A)
+nothing_more k = record { roots = []; equations = []; next = k }
+
+pub joined-none : {A : Type 0} (a : Laid (List A)) → joined a (nothing_more a.next) ≡ a
+joined-none a = let r = append-nil a.roots in let e = append-nil a.equations in λ i. record { roots = r i; equations = e i; next = a.next }
+
+abbrev pub before : {A : Type 0} → Laid A → Laid (List A) → Laid (List A)
+before x b = record { roots = x.roots ∷ b.roots; equations = x.equations ++ b.equations; next = b.next }
+
+pub joined-one : {A : Type 0} (a : Laid (List A)) (x : Laid A) (b : Laid (List A)) → joined (with_one a x) b ≡ joined a (before x b)
+joined-one a x b =
+    let r = append_assoc a.roots (x.roots ∷ []) b.roots in
+    let e = append_assoc a.equations x.equations b.equations in
+    λ i. record { roots = r i; equations = e i; next = b.next }
+
+pub lay_list-join : {L : Type 0} (n : Node) (f : L → Ref) (k : ℕ) (ts : List (Tree L)) → lays n f k (join ts) ≡ lay_list n f k ts
+lay_list-join n f k [] = refl
+lay_list-join n f k (t ∷ ts) = ap (before (lay n f k t)) (lay_list-join n f (lay n f k t).next ts)
+
+-- a lone symbol takes one part number, a leaf none
+mutual
+  pub lay-next : {L : Type 0} (n : Node) (f : L → Ref) (k : ℕ) (t : Tree L) → (lay n f k t).next ≤ k + symbols t
+  lay-next n f k (Leaf x) = omega arith
+  lay-next n f k (Made h ts) = omega (arith, lays-next n f (suc k) ts)
+
+  pub lays-next : {L : Type 0} (n : Node) (f : L → Ref) (k : ℕ) (ts : Trees L) → (lays n f k ts).next ≤ k + all_symbols ts
+  lays-next n f k Nil = omega arith
+  lays-next n f k (More t ts) = omega (arith, lay-next n f k t, lays-next n f (lay n f k t).next ts)
+
+pub lay_list-next : {L : Type 0} (n : Node) (f : L → Ref) (k : ℕ) (ts : List (Tree L)) → (lay_list n f k ts).next ≤ k + symbols_of ts
+lay_list-next n f k [] = omega arith
+lay_list-next n f k (t ∷ ts) = omega (arith, lay-next n f k t, lay_list-next n f (lay n f k t).next ts)
+
+pub symbols-join : {L : Type 0} (ts : List (Tree L)) → all_symbols (join ts) ≡ symbols_of ts
+symbols-join [] = refl
+symbols-join (t ∷ ts) = ap (λ n. symbols t + n) (symbols-join ts)
+
+-- the rest of a list of things, from a place on
+pub list_more : {X L : Type 0} (n : Node) (f : L → Ref) (g : X → Tree L) (xs : List X) (i : ℕ) (x : X) (k : ℕ) → i < length xs → x ≡ get_or xs i x → lay_list n f k (map g (drop i xs)) ≡ before (lay n f k (g x)) (lay_list n f (lay n f k (g x)).next (map g (drop (i + 1) xs)))
+list_more n f g xs i x k l e = ap (λ ys. lay_list n f k (map g ys)) (at_drop_more (λ ys. ys) xs i x l ∙ ap (λ y. y ∷ drop (i + 1) xs) (sym e))
+
+pub symbols_more : {X L : Type 0} (g : X → Tree L) (xs : List X) (i : ℕ) (x : X) → i < length xs → x ≡ get_or xs i x → symbols_of (map g (drop i xs)) ≡ symbols (g x) + symbols_of (map g (drop (i + 1) xs))
+symbols_more g xs i x l e = ap (λ ys. symbols_of (map g ys)) (at_drop_more (λ ys. ys) xs i x l ∙ ap (λ y. y ∷ drop (i + 1) xs) (sym e))
+
+-- one more was laid down, and the rest follows it
+pub laid_more : {X L : Type 0} (n : Node) (f : L → Ref) (g : X → Tree L) (xs : List X) (i : ℕ) (x : X) (a b : Laid (List Ref)) (one : Laid Ref) (whole : Laid (List Ref)) → i < length xs → x ≡ get_or xs i x →
+    one ≡ lay n f a.next (g x) → b ≡ with_one a one → joined a (lay_list n f a.next (map g (drop i xs))) ≡ whole → joined b (lay_list n f b.next (map g (drop (i + 1) xs))) ≡ whole
+laid_more n f g xs i x a b one whole l e o m w =
+    let both : b ≡ with_one a (lay n f a.next (g x)) = m ∙ ap (with_one a) o in
+    ap (λ z. joined z (lay_list n f z.next (map g (drop (i + 1) xs)))) both
+    ∙ joined-one a (lay n f a.next (g x)) _
+    ∙ ap (joined a) (sym (list_more n f g xs i x a.next l e))
+    ∙ w
+
+pub if_ok_to : {T E : Type 0} (r : Result T E) (a b : T) → a ≡ b → IfOk r (λ x. x ≡ a) → IfOk r (λ x. x ≡ b)
+if_ok_to (Ok x) a b e w = w ∙ e
+if_ok_to (Err x) a b e w = w
+
+pub symbols_within : {X L : Type 0} (g : X → Tree L) (xs : List X) (i : ℕ) (x : X) → i < length xs → x ≡ get_or xs i x → symbols (g x) ≤ symbols_of (map g xs)
+symbols_within g [] i x l e = absurd (omega (arith, l))
+symbols_within g (y ∷ ys) zero x l e = omega (arith, ap (λ z. symbols (g z)) e)
+symbols_within g (y ∷ ys) (suc i) x l e = omega (arith, symbols_within g ys i x (omega (arith, l)) e)
+
+-- a symbol over what was laid down for its parts
+abbrev pub head_over : Node → ℕ → Body → List Equation → ℕ → Laid Ref
+head_over n k body parts next = record { roots = part n k; equations = record { left = part n k; body = body } ∷ parts; next = next }
+
+pub symbol_laid : {L : Type 0} (n : Node) (f : L → Ref) (k : ℕ) (h : Head) (body : Body) (ts : List (Tree L)) (all : Laid (List Ref)) (t : Tree L) → all ≡ lay_list n f (k + 1) ts → body ≡ Is h all.roots → t ≡ Made h (join ts) →
+    head_over n k body all.equations all.next ≡ lay n f k t
+symbol_laid n f k h body ts all t ea eb et =
+    let one : k + 1 ≡ suc k = omega arith in
+    let same : all ≡ lays n f (suc k) (join ts) = ea ∙ ap (λ m. lay_list n f m ts) one ∙ sym (lay_list-join n f (suc k) ts) in
+    ap (λ b. head_over n k b all.equations all.next) eb
+    ∙ ap (λ (a : Laid (List Ref)). head_over n k (Is h a.roots) a.equations a.next) same
+    ∙ ap (lay n f k) (sym et)
+
+pub ground_term : (qs ps : List grounds.Ground) (g : grounds.Ground) (c : ℕ) → qs ≡ ps → g ≡ grounds.Con c ps → ground_of g ≡ Made (P.Con c) (join (map ground_of qs))
+ground_term qs ps g c e i = ap ground_of i ∙ ground_con c ps ∙ ap (λ zs. Made (P.Con c) (join (map ground_of zs))) (sym e)
+
+pub expr_term : (qs ps : List expr.Expr) (t : expr.Expr) (c : ℕ) → qs ≡ ps → t ≡ expr.Con c ps → term_of t ≡ Made (P.Con c) (join (map term_of qs))
+expr_term qs ps t c e i = ap term_of i ∙ term_con c ps ∙ ap (λ zs. Made (P.Con c) (join (map term_of zs))) (sym e)
+
+-- the symbols of a constructor
+pub symbols_over : {L : Type 0} (h : Head) (ts : List (Tree L)) (t : Tree L) → t ≡ Made h (join ts) → symbols t ≡ suc (symbols_of ts)
+symbols_over h ts t e = ap symbols e ∙ ap suc (symbols-join ts)
+
+-- the next part number after one more
+pub next_more : {L : Type 0} (n : Node) (f : L → Ref) (t : Tree L) (a b : Laid (List Ref)) (one : Laid Ref) → one ≡ lay n f a.next t → b ≡ with_one a one → b.next ≤ a.next + symbols t
+next_more n f t a b one o m = omega (arith, ap (λ (z : Laid (List Ref)). z.next) m, ap (λ (z : Laid Ref). z.next) o, lay-next n f a.next t)
+
+pub if_ok_view : {T E V : Type 0} (v : T → V) (r : Result T E) (a b : V) → a ≡ b → IfOk r (λ x. v x ≡ a) → IfOk r (λ x. v x ≡ b)
+if_ok_view v (Ok x) a b e w = w ∙ e
+if_ok_view v (Err x) a b e w = w
+
+pub got_at : {A : Type 0} (d : A) (xs : List A) (i : ℕ) (x : A) → i < length xs → x ≡ get_or xs i x → x ≡ get d xs i
+got_at d [] i x l e = absurd (omega (arith, l))
+got_at d (y ∷ ys) zero x l e = e
+got_at d (y ∷ ys) (suc i) x l e = got_at d ys i x (omega (arith, l)) e
+
+pub past_all : {A : Type 0} (d : A) (xs : List A) (i : ℕ) → length xs ≤ i → d ≡ get d xs i
+past_all d [] i l = refl
+past_all d (y ∷ ys) zero l = absurd (omega (arith, l))
+past_all d (y ∷ ys) (suc i) l = past_all d ys i (omega (arith, l))

@@ -1,0 +1,5 @@
+pub mod GuardLemmas
+pub mod LayLemmas
+pub mod ChildLemmas
+pub mod MakeLemmas
+pub mod RuleLemmas

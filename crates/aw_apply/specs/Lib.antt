@@ -1,0 +1,5 @@
+pub mod Guard
+pub mod Made
+pub mod Named
+pub mod GuardView
+pub mod MadeView

@@ -1,0 +1,148 @@
+//! The children of a taken rule: their results, their nodes, and their inherited references.
+ghost use Rattle.std.specs.Prelude.{◌≡◌, ◌<◌, ◌≤◌, ◌+◌, ◌++◌, ◌∷◌, [], List, IfOk, OnOk, length, map, slice_get};
+ghost use Rattle.aw_term.specs.Names.{below, result as result_ref};
+ghost use Rattle.aw_term.specs.Rules.{get, upto};
+ghost use Rattle.aw_term.specs.Choices.{gives_of};
+ghost use Rattle.aw_term.specs.WellFormed.{symbols_of, child_symbols};
+ghost use Rattle.aw_term.specs.Views.{term_of};
+ghost use Rattle.aw_grammar.specs.declared.rule.Sort.{Sort as SortValue};
+ghost use Rattle.aw_store.specs.EquationView.{equation_of};
+ghost use Rattle.aw_grammar.specs.GrammarView.{child_of, sorts_of};
+ghost use Rattle.aw_apply.specs.Made.{lay_list, lay_children as plain_children, child_refs as plain_refs, no_ref};
+ghost use Rattle.aw_apply.specs.MadeView.{as_children, called_of, with_one};
+
+use crate::laid::{LaidAll, append, lay_terms};
+use crate::making::MadeChild;
+use aw_base::{Child, Grammar};
+use aw_list::Items;
+use aw_name::{Node, Ref, Slot, Step, copy_node};
+use aw_store::Equation;
+use std::alloc::{AllocError, Global};
+
+/// How many results the nodes of a sort give.
+fn gives(g: &Grammar, sort: u16) -> u8
+    ensures { result ≡ gives_of (slice_get (sorts_of g.now.sorts) sort) }
+{
+    match g.sort(sort) {
+        Some(declared) => declared.gives,
+        None => 0,
+    }
+}
+
+/// The node of child k, from 1, of a rule at this node.
+fn child_node(node: &Node, rule: u16, k: u8) -> Result<Node, AllocError>
+    requires { length node.now.steps < 250 }
+    ensures { IfOk result (λ n. n ≡ below node.now rule k) }
+{
+    let mut below = copy_node(node)?;
+    below.steps.push(Step { rule, child: k })?;
+    Ok(below)
+}
+
+/// Adds the first results of a node.
+fn push_results(refs: &mut Vec<Ref>, node: &Node, results: u8) -> Result<(), AllocError>
+    ensures { OnOk result (refs.new.items ≡ refs.old.items ++ map (result_ref node.now) (upto 1 results)) }
+{
+    for j in 0..results {
+        refs.push(Ref {
+            node: copy_node(node)?,
+            slot: Slot::Result(u16::from(j) + 1),
+        })?;
+    }
+    Ok(())
+}
+
+/// Adds the results of a child.
+fn push_child_results(
+    refs: &mut Vec<Ref>,
+    g: &Grammar,
+    node: &Node,
+    rule: u16,
+    k: u8,
+    child: &Child,
+) -> Result<(), AllocError>
+    requires { length node.now.steps < 250 }
+    ensures { OnOk result (refs.new.items ≡ refs.old.items ++ map (result_ref (below node.now rule k)) (upto 1 (child_of g.now.sorts child.now).outs)) }
+{
+    let below = child_node(node, rule, k)?;
+    push_results(refs, &below, gives(g, child.sort))
+}
+
+/// Adds the results of a rule's children, in order.
+pub fn push_children_results(
+    refs: &mut Vec<Ref>,
+    g: &Grammar,
+    node: &Node,
+    rule: u16,
+    children: &[Child],
+) -> Result<(), AllocError>
+    requires few { length children.now ≤ 8 }
+    requires room { 0 < length children.now → length node.now.steps < 250 }
+    ensures { OnOk result (refs.new.items ≡ refs.old.items ++ plain_refs node.now rule 1 (map (child_of g.now.sorts) children.now)) }
+{
+    for i in 0..children.len() {
+        push_child_results(refs, g, node, rule, i as u8 + 1, &children[i])?;
+    }
+    Ok(())
+}
+
+/// Children that were laid down one after the other.
+#[derive(Debug, Drop)]
+pub struct Called {
+    pub children: Vec<MadeChild>,
+    pub equations: Vec<Equation>,
+    pub next: u16,
+}
+
+impl Called {
+    /// Nothing yet; the next part has this number.
+    fn new(alloc: Global, next: u16) -> Called
+        ensures { called_of result ≡ record { roots = []; equations = []; next = next } }
+    {
+        Called {
+            children: Vec::new(alloc),
+            equations: Vec::new(alloc),
+            next,
+        }
+    }
+
+    /// One more child, whose inherited values were laid down.
+    fn add(&mut self, node: Node, inherited: LaidAll) -> Result<(), AllocError>
+        ensures { OnOk result (called_of self.new ≡ with_one (called_of self.old) (record { roots = record { node = node; inherited = inherited.roots.items }; equations = map equation_of inherited.equations.items; next = inherited.next })) }
+    {
+        let LaidAll {
+            roots,
+            equations,
+            next,
+        } = inherited;
+        let inherited = Items::from_vec(roots);
+        self.children.push(MadeChild { node, inherited })?;
+        append(&mut self.equations, equations)?;
+        self.next = next;
+        Ok(())
+    }
+}
+
+/// The children of a rule with their inherited references, from part k on.
+pub fn lay_children(
+    alloc: Global,
+    node: &Node,
+    rule: u16,
+    refs: &[Ref],
+    k: u16,
+    children: &[Child],
+) -> Result<Called, AllocError>
+    requires few { length children.now ≤ 8 }
+    requires room { 0 < length children.now → length node.now.steps < 250 }
+    requires parts { (sorts : List SortValue) → k + child_symbols (map (child_of sorts) children.now) ≤ 65535 }
+    ensures { IfOk result (λ c. (sorts : List SortValue) → called_of c ≡ as_children (plain_children node.now rule (get (no_ref node.now) refs.now) 1 k (map (child_of sorts) children.now))) }
+{
+    let mut called = Called::new(alloc, k);
+    for i in 0..children.len() {
+        let below = child_node(node, rule, i as u8 + 1)?;
+        let next = called.next;
+        let args = children[i].args.as_slice();
+        called.add(below, lay_terms(alloc, node, refs, next, args)?)?;
+    }
+    Ok(called)
+}

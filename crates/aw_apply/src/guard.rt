@@ -1,0 +1,106 @@
+//! The guard of a rule: its patterns against the inherited references of a node.
+ghost use Rattle.std.specs.Prelude.{◌≡◌, ◌≤◌, ◌+◌, ◌<◌, List, All, map, length};
+ghost use Rattle.aw_term.specs.Trees.{join};
+ghost use Rattle.aw_term.specs.Names.{Ref};
+ghost use Rattle.aw_term.specs.WellFormed.{all_leaves, all_nesting};
+ghost use Rattle.aw_term.specs.Views.{pattern_of};
+ghost use Rattle.aw_apply.specs.Guard.{guard_all as plain_guard};
+ghost use Rattle.aw_apply.specs.Named.{AreNamed, as_named};
+ghost use Rattle.aw_apply.specs.GuardView.{guard_of};
+
+use crate::binding::Binding;
+use crate::guarding::{Step, guard_at};
+use crate::steps::Steps;
+use aw_base::{Path, Pattern, Place, Rule};
+use aw_store::Facts;
+use std::marker::Brand;
+use std::sync::ledger::{Blank, Ledger};
+
+/// What a guard gives: the slots that the variables of the patterns take; or the slot of a missing reference; or the
+/// place that differs; or the slot at a pattern's place from which a chase goes round.
+#[derive(Debug, Drop)]
+pub enum Guard {
+    Yes(Binding),
+    Waits(usize),
+    Differs(Place),
+    Circle(usize),
+}
+
+/// Patterns against slots, from the first attribute on.
+fn guard_all<F: Facts>(f: &F, patterns: &[Pattern], inherited: &[usize]) -> Guard
+    requires live { All (λ slot. slot < length (F.names f.now)) inherited.now }
+    requires same { length patterns.now ≡ length inherited.now }
+    requires few { length patterns.now ≤ 8 }
+    requires shallow { all_nesting (join (map pattern_of patterns.now)) ≤ 32 }
+    requires room { length (all_leaves (join (map pattern_of patterns.now))) ≤ 64 }
+    ensures { (rs : List Ref) → AreNamed (F.names f.now) inherited.now rs → guard_of (F.names f.now) result ≡ as_named (plain_guard (F.map f.now) 1 (map pattern_of patterns.now) rs) }
+{
+    let mut bound = Binding::new();
+    for i in 0..patterns.len() {
+        match guard_at(f, &patterns[i], inherited[i], &Path::new(), &mut bound) {
+            Step::Yes => {}
+            Step::Waits(slot) => return Guard::Waits(slot),
+            Step::Circle(slot) => return Guard::Circle(slot),
+            Step::Differs(path) => {
+                return Guard::Differs(Place {
+                    attribute: i as u8 + 1,
+                    path,
+                });
+            }
+        }
+    }
+    Guard::Yes(bound)
+}
+
+/// Matches the patterns of a rule with the inherited references of a node, each given by its slot. One call is one
+/// step. It takes no memory, and ends on every store.
+pub fn test_guard<F: Facts, L: Ledger>(
+    f: &F,
+    rule: &Rule,
+    inherited: &[usize],
+    steps: &mut Steps<L>,
+) -> Guard
+    requires live { All (λ slot. slot < length (F.names f.now)) inherited.now }
+    requires same { length rule.now.patterns ≡ length inherited.now }
+    requires few { length rule.now.patterns ≤ 8 }
+    requires shallow { all_nesting (join (map pattern_of rule.now.patterns)) ≤ 32 }
+    requires room { length (all_leaves (join (map pattern_of rule.now.patterns))) ≤ 64 }
+    ensures guard { (rs : List Ref) → AreNamed (F.names f.now) inherited.now rs → guard_of (F.names f.now) result ≡ as_named (plain_guard (F.map f.now) 1 (map pattern_of rule.now.patterns) rs) }
+    ensures step { steps.new ≡ steps.old + 1 }
+{
+    steps.tick();
+    guard_all(f, rule.patterns.as_slice(), inherited)
+}
+
+/// Tests a guard in a ledger of its own.
+fn guard_in_ledger<F: Facts, L: Ledger>(
+    f: &F,
+    rule: &Rule,
+    inherited: &[usize],
+    blank: Blank,
+) -> Guard
+    requires name { blank.name ≡ L.name }
+    requires parts { blank.parts ≡ L.parts }
+    requires some { 0 < L.parts }
+    requires live { All (λ slot. slot < length (F.names f.now)) inherited.now }
+    requires same { length rule.now.patterns ≡ length inherited.now }
+    requires few { length rule.now.patterns ≤ 8 }
+    requires shallow { all_nesting (join (map pattern_of rule.now.patterns)) ≤ 32 }
+    requires room { length (all_leaves (join (map pattern_of rule.now.patterns))) ≤ 64 }
+    ensures { (rs : List Ref) → AreNamed (F.names f.now) inherited.now rs → guard_of (F.names f.now) result ≡ as_named (plain_guard (F.map f.now) 1 (map pattern_of rule.now.patterns) rs) }
+{
+    let mut steps = Steps::<L>::new(blank);
+    test_guard(f, rule, inherited, &mut steps)
+}
+
+/// Tests a guard where nobody counts the tests: as `test_guard`, with a count of its own.
+pub fn guard_uncounted<F: Facts>(f: &F, rule: &Rule, inherited: &[usize]) -> Guard
+    requires live { All (λ slot. slot < length (F.names f.now)) inherited.now }
+    requires same { length rule.now.patterns ≡ length inherited.now }
+    requires few { length rule.now.patterns ≤ 8 }
+    requires shallow { all_nesting (join (map pattern_of rule.now.patterns)) ≤ 32 }
+    requires room { length (all_leaves (join (map pattern_of rule.now.patterns))) ≤ 64 }
+    ensures { (rs : List Ref) → AreNamed (F.names f.now) inherited.now rs → guard_of (F.names f.now) result ≡ as_named (plain_guard (F.map f.now) 1 (map pattern_of rule.now.patterns) rs) }
+{
+    guard_in_ledger::<F, Brand>(f, rule, inherited, Blank::new(1))
+}

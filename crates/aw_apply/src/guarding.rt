@@ -1,0 +1,154 @@
+//! One pattern against the equations of a store: the first place in depth-first order that does not match decides.
+ghost use Rattle.std.specs.Prelude.{◌≡◌, ◌≤◌, ◌+◌, ◌<◌, ℕ, List, true, Some, map, length, slice_get};
+ghost use Rattle.aw_term.specs.Trees.{Con, Made, join};
+ghost use Rattle.aw_term.specs.Names.{Ref};
+ghost use Rattle.aw_term.specs.Matching.{Yes, and_then};
+ghost use Rattle.aw_term.specs.WellFormed.{leaves, all_leaves, nesting, all_nesting};
+ghost use Rattle.aw_term.specs.Views.{head_of, pattern_of};
+ghost use Rattle.aw_choice.specs.ChoiceView.{path_of};
+ghost use Rattle.aw_store.specs.NamedRefs.{body_at, parts_at};
+ghost use Rattle.aw_apply.specs.Guard.{guard as plain_guard, guard_parts as plain_parts};
+ghost use Rattle.aw_apply.specs.Named.{names_at, as_named, behind, is_head};
+ghost use Rattle.aw_apply.specs.GuardView.{step_of};
+
+use crate::binding::Binding;
+use aw_base::{Lit, Path, Pattern};
+use aw_list::items::is_same_text;
+use aw_store::{Chase, Facts, Kind, chase};
+
+/// What matching one pattern gives; the variables have taken their slots.
+#[derive(Clone, Copy, Debug, PartialEq, Eq)]
+pub enum Step {
+    Yes,
+    Waits(usize),
+    Differs(Path),
+    Circle(usize),
+}
+
+/// Whether a number or a text stands at a slot.
+fn is_lit<F: Facts>(f: &F, lit: &Lit, slot: usize) -> bool
+    requires { slot < length (F.names f.now) }
+    ensures { result ≡ is_head (head_of lit.now) 0 (body_at (F.map f.now) (F.names f.now) slot) }
+{
+    match f.kind(slot) {
+        Kind::Num(n) => match lit {
+            Lit::Num(m) => *m == n,
+            Lit::Text(_) => false,
+        },
+        Kind::Text => match lit {
+            Lit::Num(_) => false,
+            Lit::Text(t) => is_same_text(t, f.text(slot)),
+        },
+        Kind::Con(_, _) | Kind::Same(_) | Kind::Missing => false,
+    }
+}
+
+/// Whether a constructor with so many parts stands at a slot.
+fn is_con<F: Facts>(f: &F, con: u16, parts: usize, slot: usize) -> bool
+    requires { slot < length (F.names f.now) }
+    ensures { result ≡ is_head (Con con) parts (body_at (F.map f.now) (F.names f.now) slot) }
+{
+    match f.kind(slot) {
+        Kind::Con(c, n) => c == con && usize::from(n) == parts,
+        Kind::Num(_) | Kind::Text | Kind::Same(_) | Kind::Missing => false,
+    }
+}
+
+/// A number or a text against a slot.
+fn guard_lit<F: Facts>(f: &F, lit: &Lit, slot: usize, at: &Path) -> Step
+    requires { slot < length (F.names f.now) }
+    ensures { (bound : List ℕ) (r : Ref) → slice_get (F.names f.now) slot ≡ Some r → step_of (F.names f.now) bound result ≡ and_then (Yes (names_at (F.names f.now) bound)) (behind (path_of at.now) (as_named (plain_guard (F.map f.now) (pattern_of (Pattern.Lit lit.now)) r))) }
+{
+    match chase(f, slot) {
+        Chase::Missing(end) => Step::Waits(end),
+        Chase::Circle(start) => Step::Circle(start),
+        Chase::Found(end) => {
+            if is_lit(f, lit, end) {
+                Step::Yes
+            } else {
+                Step::Differs(*at)
+            }
+        }
+    }
+}
+
+/// The parts of one constructor from left to right.
+#[cycle(guarding)]
+fn guard_parts<F: Facts>(
+    f: &F,
+    parts: &[Pattern],
+    slot: usize,
+    at: &Path,
+    bound: &mut Binding,
+) -> Step
+    requires same { length parts.now ≡ length (parts_at (F.map f.now) (F.names f.now) slot) }
+    requires few { length parts.now ≤ 8 }
+    requires shallow { at.now.len + all_nesting (join (map pattern_of parts.now)) ≤ 31 }
+    requires room { length bound.old + length (all_leaves (join (map pattern_of parts.now))) ≤ 64 }
+    ensures step { step_of (F.names f.now) bound.new result ≡ and_then (Yes (names_at (F.names f.now) bound.old)) (behind (path_of at.now) (as_named (plain_parts (F.map f.now) 1 (join (map pattern_of parts.now)) (parts_at (F.map f.now) (F.names f.now) slot)))) }
+    ensures room { length bound.new ≤ length bound.old + length (all_leaves (join (map pattern_of parts.now))) }
+{
+    for i in 0..parts.len() {
+        let mut here = *at;
+        here.push(i as u8 + 1);
+        match guard_at(f, &parts[i], f.child(slot, i as u8), &here, bound) {
+            Step::Yes => {}
+            other => return other,
+        }
+    }
+    Step::Yes
+}
+
+/// A constructor against a slot.
+#[cycle(guarding)]
+fn guard_con<F: Facts>(
+    f: &F,
+    con: u16,
+    parts: &[Pattern],
+    slot: usize,
+    at: &Path,
+    bound: &mut Binding,
+) -> Step
+    requires live { slot < length (F.names f.now) }
+    requires shallow { at.now.len + all_nesting (join (map pattern_of parts.now)) ≤ 31 }
+    requires room { length bound.old + length (all_leaves (join (map pattern_of parts.now))) ≤ 64 }
+    ensures step { (r : Ref) → slice_get (F.names f.now) slot ≡ Some r → step_of (F.names f.now) bound.new result ≡ and_then (Yes (names_at (F.names f.now) bound.old)) (behind (path_of at.now) (as_named (plain_guard (F.map f.now) (Made (Con con) (join (map pattern_of parts.now))) r))) }
+    ensures room { length bound.new ≤ length bound.old + length (all_leaves (join (map pattern_of parts.now))) }
+{
+    match chase(f, slot) {
+        Chase::Missing(open) => Step::Waits(open),
+        Chase::Circle(start) => Step::Circle(start),
+        Chase::Found(end) => {
+            if is_con(f, con, parts.len(), end) {
+                guard_parts(f, parts, end, at, bound)
+            } else {
+                Step::Differs(*at)
+            }
+        }
+    }
+}
+
+/// A pattern against the slot that stands at this path.
+#[cycle(guarding)]
+pub fn guard_at<F: Facts>(
+    f: &F,
+    pattern: &Pattern,
+    slot: usize,
+    at: &Path,
+    bound: &mut Binding,
+) -> Step
+    requires live { slot < length (F.names f.now) }
+    requires shallow { at.now.len + nesting (pattern_of pattern.now) ≤ 32 }
+    requires room { length bound.old + length (leaves (pattern_of pattern.now)) ≤ 64 }
+    ensures step { (r : Ref) → slice_get (F.names f.now) slot ≡ Some r → step_of (F.names f.now) bound.new result ≡ and_then (Yes (names_at (F.names f.now) bound.old)) (behind (path_of at.now) (as_named (plain_guard (F.map f.now) (pattern_of pattern.now) r))) }
+    ensures room { length bound.new ≤ length bound.old + length (leaves (pattern_of pattern.now)) }
+{
+    match pattern {
+        Pattern::Var(_) => {
+            bound.push(slot);
+            Step::Yes
+        }
+        Pattern::Lit(lit) => guard_lit(f, lit, slot, at),
+        Pattern::Con(con, parts) => guard_con(f, *con, parts.as_slice(), slot, at, bound),
+    }
+}

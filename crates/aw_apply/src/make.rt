@@ -1,0 +1,208 @@
+//! What a taken rule makes: by three groups of equations, with parts numbered from 1 over all of them.
+ghost use Rattle.std.specs.Prelude.{◌≡◌, ◌<◌, ◌≤◌, ◌+◌, ◌++◌, ◌∷◌, [], Some, List, IfOk, IsSome, length, map, slice_get};
+ghost use Rattle.aw_term.specs.Names.{result as result_ref};
+ghost use Rattle.aw_term.specs.Rules.{Rule as PlainRule, get};
+ghost use Rattle.aw_term.specs.WellFormed.{symbols, symbols_of, child_symbols};
+ghost use Rattle.aw_term.specs.Views.{ground_of, term_of};
+ghost use Rattle.aw_grammar.specs.declared.rule.Rule.{Rule as RuleValue};
+ghost use Rattle.aw_grammar.specs.GrammarView.{child_of, rule_of};
+ghost use Rattle.aw_grammar.specs.GrammarOf.{grammar_of};
+ghost use Rattle.aw_store.specs.EquationView.{equation_of};
+ghost use Rattle.aw_apply.specs.Made.{lay_result as plain_result, lay_results as plain_results, child_refs, no_ref, made as plain_made};
+ghost use Rattle.aw_apply.specs.MadeView.{as_child};
+
+use crate::children::{Called, lay_children, push_children_results};
+use crate::laid::{LaidAll, append, headed, lay_grounds, lay_terms, lit_body, ref_at};
+use crate::making::Made;
+use aw_base::{Expr, Grammar, Grounds, Rule};
+use aw_list::Items;
+use aw_name::{Node, Ref, Slot, copy_node, copy_ref};
+use aw_store::{Body, Equation, Refs};
+use std::alloc::{AllocError, Global};
+
+/// Equations of results, and the next part number.
+#[derive(Debug, Drop)]
+pub struct Given {
+    pub equations: Vec<Equation>,
+    pub next: u16,
+}
+
+/// Result j of a node.
+fn result_of(node: &Node, j: u8) -> Result<Ref, AllocError>
+    ensures { IfOk result (λ r. r ≡ result_ref node.now j) }
+{
+    Ok(Ref {
+        node: copy_node(node)?,
+        slot: Slot::Result(u16::from(j)),
+    })
+}
+
+/// The equation of result j, and those of its parts from part k on.
+fn lay_result(
+    alloc: Global,
+    node: &Node,
+    refs: &[Ref],
+    k: u16,
+    j: u8,
+    term: &Expr,
+) -> Result<Given, AllocError>
+    requires { k + symbols (term_of term.now) ≤ 65535 }
+    ensures equations { IfOk result (λ r. map equation_of r.equations.items ≡ (plain_result node.now (get (no_ref node.now) refs.now) k j (term_of term.now)).equations) }
+    ensures next { IfOk result (λ r. r.next ≡ (plain_result node.now (get (no_ref node.now) refs.now) k j (term_of term.now)).next) }
+{
+    let left = result_of(node, j)?;
+    match term {
+        Expr::Var(x) => {
+            let body = Body::Same(ref_at(node, refs, *x)?);
+            Ok(Given {
+                equations: headed(alloc, left, body, Vec::new(alloc))?,
+                next: k,
+            })
+        }
+        Expr::Lit(lit) => Ok(Given {
+            equations: headed(alloc, left, lit_body(alloc, lit)?, Vec::new(alloc))?,
+            next: k,
+        }),
+        Expr::Con(c, parts) => {
+            let all = lay_terms(alloc, node, refs, k, parts.as_slice())?;
+            let LaidAll {
+                roots,
+                equations,
+                next,
+            } = all;
+            let body = Body::Con(*c, Items::from_vec(roots));
+            Ok(Given {
+                equations: headed(alloc, left, body, equations)?,
+                next,
+            })
+        }
+    }
+}
+
+/// The equations of the results of a rule, with parts from k on.
+fn lay_results(
+    alloc: Global,
+    node: &Node,
+    refs: &[Ref],
+    k: u16,
+    results: &[Expr],
+) -> Result<Vec<Equation>, AllocError>
+    requires few { length results.now ≤ 8 }
+    requires parts { k + symbols_of (map term_of results.now) ≤ 65535 }
+    ensures { IfOk result (λ es. map equation_of es.items ≡ plain_results node.now (get (no_ref node.now) refs.now) k 1 (map term_of results.now)) }
+{
+    let mut equations = Vec::new(alloc);
+    let mut next = k;
+    for j in 0..results.len() {
+        let given = lay_result(alloc, node, refs, next, j as u8 + 1, &results[j])?;
+        let Given {
+            equations: more,
+            next: after,
+        } = given;
+        append(&mut equations, more)?;
+        next = after;
+    }
+    Ok(equations)
+}
+
+/// The references of a rule's variables by number: bound by its patterns, entered, and results of its children.
+fn variables(
+    alloc: Global,
+    g: &Grammar,
+    node: &Node,
+    number: u16,
+    rule: &Rule,
+    bound: &[Ref],
+    entered: Vec<Ref>,
+) -> Result<Vec<Ref>, AllocError>
+    requires few { length rule.now.children ≤ 8 }
+    requires room { 0 < length rule.now.children → length node.now.steps < 250 }
+    ensures { IfOk result (λ refs. refs.items ≡ bound.now ++ (entered.items ++ child_refs node.now number 1 (rule_of g.now.sorts rule.now).children)) }
+{
+    let mut refs = copy_refs(alloc, bound)?;
+    let mut entered = entered;
+    refs.append(&mut entered)?;
+    push_children_results(&mut refs, g, node, number, rule.children.as_slice())?;
+    Ok(refs)
+}
+
+/// Copies of references.
+fn copy_refs(alloc: Global, refs: &[Ref]) -> Result<Vec<Ref>, AllocError>
+    ensures { IfOk result (λ copies. copies.items ≡ refs.now) }
+{
+    let mut copies = Vec::new(alloc);
+    for r in refs {
+        copies.push(copy_ref(r)?)?;
+    }
+    Ok(copies)
+}
+
+/// What a rule makes at a node.
+fn made_by(
+    alloc: Global,
+    g: &Grammar,
+    node: &Node,
+    number: u16,
+    rule: &Rule,
+    args: &Grounds,
+    bound: &Refs,
+) -> Result<Made, AllocError>
+    requires few { length rule.now.children ≤ 8 }
+    requires gives { length rule.now.results ≤ 8 }
+    requires room { 0 < length rule.now.children → length node.now.steps < 250 }
+    requires entered { symbols_of (map ground_of args.now) ≤ 256 }
+    requires symbols { child_symbols (rule_of g.now.sorts rule.now).children + symbols_of (map term_of rule.now.results) ≤ 256 }
+    ensures equations { IfOk result (λ m. map equation_of m.equations ≡ (plain_made node.now number (rule_of g.now.sorts rule.now) (map ground_of args.now) bound.now).equations) }
+    ensures children { IfOk result (λ m. m.children ≡ map as_child (plain_made node.now number (rule_of g.now.sorts rule.now) (map ground_of args.now) bound.now).calls) }
+{
+    let LaidAll {
+        roots,
+        equations,
+        next,
+    } = lay_grounds(alloc, node, 1, args.as_slice())?;
+    let refs = variables(alloc, g, node, number, rule, bound.as_slice(), roots)?;
+    let called = lay_children(
+        alloc,
+        node,
+        number,
+        refs.as_slice(),
+        next,
+        rule.children.as_slice(),
+    )?;
+    let Called {
+        children,
+        equations: inherited,
+        next,
+    } = called;
+    let given = lay_results(alloc, node, refs.as_slice(), next, rule.results.as_slice())?;
+    let mut equations = equations;
+    append(&mut equations, inherited)?;
+    append(&mut equations, given)?;
+    Ok(Made {
+        equations: Items::from_vec(equations),
+        children: Items::from_vec(children),
+    })
+}
+
+/// What taking a rule on a node makes, where its patterns have bound these references. The equations of the arguments
+/// come first, then those of the children's inherited values, then those of the results; parts are numbered from 1 over
+/// all of them, each symbol before its parts.
+pub fn made(
+    alloc: Global,
+    g: &Grammar,
+    node: &Node,
+    rule: u16,
+    args: &Grounds,
+    bound: &Refs,
+) -> Result<Made, AllocError>
+    requires declared { IsSome (slice_get g.now.rules rule) }
+    requires room { (r : RuleValue) → slice_get g.now.rules rule ≡ Some r → 0 < length r.children → length node.now.steps < 250 }
+    requires entered { symbols_of (map ground_of args.now) ≤ 256 }
+    ensures equations { IfOk result (λ m. (r : PlainRule) → slice_get (grammar_of g.now).rules rule ≡ Some r → map equation_of m.equations ≡ (plain_made node.now rule r (map ground_of args.now) bound.now).equations) }
+    ensures children { IfOk result (λ m. (r : PlainRule) → slice_get (grammar_of g.now).rules rule ≡ Some r → m.children ≡ map as_child (plain_made node.now rule r (map ground_of args.now) bound.now).calls) }
+{
+    match g.rule(rule) {
+        Some(declared) => made_by(alloc, g, node, rule, declared, args, bound),
+        None => unreachable!(),
+    }
+}

@@ -1,0 +1,7 @@
+pub mod RefLemmas
+pub mod ChaseLemmas
+pub mod NameLemmas
+pub mod StoreLemmas
+pub mod BodyLemmas
+pub mod AddLemmas
+pub mod TextLemmas

@@ -1,0 +1,19 @@
+use Rattle.aw_store.proofs.NameLemmas.{grows_more, all_named-grown, all_named-take, is_named-at, is_named-grown, named_at, not_ok}
+use Rattle.aw_store.proofs.names.name_all.Goals as goal
+
+pub loop-r-preserved : goal.loop-r-preserved
+loop-r-preserved c =
+    let inv = c.loop-r.invariant in
+    let new = c.name_one.new.names.items in (
+      c.name_one.ensures.once,
+      grows_more _ _ _ inv.1 c.name_one.ensures.grows,
+      all_named-take new c.args.refs.now c.loop-r.r-index c.r-item.result c.loop-r-test.true c.r-item.is
+          (all_named-grown _ new _ c.name_one.ensures.grows inv.2)
+          (is_named-at new _ _ c.in_ok-name_one.ensures.slot),
+    )
+
+pub returns-in_err-name_one-clause-named : goal.returns-in_err-name_one-clause-named
+returns-in_err-name_one-clause-named c = λ w.
+    let inv = c.loop-r.invariant in
+    absurd (not_ok _ _ c.in_err-name_one.was
+    (c.name_one.ensures.named (is_named-grown _ _ _ inv.1 (named_at c.args.names.now.items c.args.refs.now c.loop-r.r-index c.r-item.result c.loop-r-test.true c.r-item.is w))))

@@ -1,0 +1,10 @@
+pub mod Refs
+pub mod Equations
+pub mod Chase
+pub mod Unfold
+pub mod EquationView
+pub mod NamedRefs
+pub mod StoreView
+pub mod ChaseView
+pub mod ListStore
+pub mod BodyTexts

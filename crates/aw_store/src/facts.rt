@@ -1,0 +1,129 @@
+//! Stores of equations, by what a contract can see of them.
+ghost use Rattle.std.specs.Prelude.{◌≡◌, ◌≤◌, ◌<◌, ◌++◌, List, Some, true, false, IfOk, OnOk, OnErr, IsOk, IsSome, MatchOption, Contains, length, map as list_map, slice_get};
+ghost use Rattle.aw_term.specs.Names.{Ref as RefName};
+ghost use Rattle.aw_store.specs.Equations.{Equation as PlainEquation, Map, mentions};
+ghost use Rattle.aw_store.specs.EquationView.{body_of, equation_of};
+ghost use Rattle.aw_store.specs.NamedRefs.{is_named, has_names, IsNamedOnce, Grows, body_at, parts_at, text_at};
+ghost use Rattle.aw_store.specs.StoreView.{IsKindOf, Adds, IsAddable, has_few, all_few};
+
+use crate::equation::{Body, Equation, Equations, Refs};
+use aw_list::Text;
+use aw_name::Ref;
+use std::alloc::AllocError;
+
+/// What stands at a slot.
+#[derive(Clone, Copy, Debug, PartialEq, Eq)]
+pub enum Kind {
+    /// The reference has no equation.
+    Missing,
+    /// It is the reference of another slot.
+    Same(usize),
+    /// A constructor, and how many parts it has.
+    Con(u16, u8),
+    Num(u64),
+    /// A text, which `text` gives.
+    Text,
+}
+
+/// What adding an equation comes to.
+#[derive(Debug, PartialEq, Eq, Drop)]
+pub enum Added {
+    /// The left side had no equation.
+    New,
+    /// It had this one.
+    Same,
+    /// It had another one, which stays.
+    Conflict { kept: Body, came: Body },
+}
+
+/// Where a chase ends.
+#[derive(Clone, Copy, Debug, PartialEq, Eq)]
+pub enum Chase {
+    /// At a slot with a constructor, a number or a text.
+    Found(usize),
+    /// At a slot whose reference has no equation.
+    Missing(usize),
+    /// Nowhere: it goes round. This is the slot where it started.
+    Circle(usize),
+}
+
+/// What is held under a name: the inherited references of a node, or the body of a reference.
+#[derive(Debug, PartialEq, Eq, Drop)]
+pub enum Content {
+    Inherited(Refs),
+    Body(Body),
+}
+
+/// A finite map from references to bodies, and a list of named references, which has each left side and each reference
+/// in a body. A slot is a place in that list; it never changes its name.
+pub trait Facts {
+    /// The equations, in the order in which they came.
+    ghost map: { Self → Map };
+
+    /// The named references, by slot.
+    ghost names: { Self → List RefName };
+
+    /// Equations for which memory was taken. It is no part of what stays the same where something is unchanged.
+    ghost ready: { Self → List PlainEquation };
+
+    /// The slot of a reference, or none where it is not named.
+    fn slot_of(&self, r: &Ref) -> Option<usize>
+        ensures { MatchOption result (is_named (names self.now) r.now ≡ false) (λ slot. slice_get (names self.now) slot ≡ Some r.now) };
+
+    /// What stands at a slot.
+    fn kind(&self, slot: usize) -> Kind
+        requires { slot < length (names self.now) }
+        ensures { IsKindOf (names self.now) (body_at (map self.now) (names self.now) slot) result };
+
+    /// The slot of part k, from 0, of the constructor at a slot.
+    fn child(&self, slot: usize, k: u8) -> usize
+        requires { k < length (parts_at (map self.now) (names self.now) slot) }
+        ensures { slice_get (names self.now) result ≡ slice_get (parts_at (map self.now) (names self.now) slot) k };
+
+    /// The reference of a slot.
+    fn name(&self, slot: usize) -> &Ref
+        requires { slot < length (names self.now) }
+        ensures { slice_get (names self.now) slot ≡ Some result.now };
+
+    /// The text at a slot where a text stands.
+    fn text(&self, slot: usize) -> &Text
+        requires { IsSome (text_at (map self.now) (names self.now) slot) }
+        ensures { text_at (map self.now) (names self.now) slot ≡ Some result.now };
+
+    /// How many equations there are.
+    fn count(&self) -> usize
+        ensures { result ≡ length (map self.now) };
+
+    /// The slot of a reference, which is named where it was not. An error changes nothing.
+    fn intern(&mut self, r: &Ref) -> Result<usize, AllocError>
+        ensures map { map self.new ≡ map self.old }
+        ensures names { Grows (names self.old) (names self.new) }
+        ensures slot { IfOk result (λ slot. slice_get (names self.new) slot ≡ Some r.now) }
+        ensures err { OnErr result (names self.new ≡ names self.old) };
+
+    /// Takes the memory for adding these equations, and may name references. A constructor has at most 8 references.
+    fn reserve(&mut self, es: &Equations) -> Result<(), AllocError>
+        requires { all_few (list_map equation_of es.now) ≡ true }
+        ensures map { map self.new ≡ map self.old }
+        ensures names { Grows (names self.old) (names self.new) }
+        ensures ready { OnOk result ((e : PlainEquation) → Contains (list_map equation_of es.now) e → Contains (ready self.new) e) };
+
+    /// Adds an equation where its left side has none. A constructor has at most 8 references. An error may have named
+    /// references. There is none for an equation that is ready, but where the left side has another one.
+    fn add(&mut self, e: Equation) -> Result<Added, AllocError>
+        requires { has_few (equation_of e) ≡ true }
+        ensures added { IfOk result (λ added. Adds (map self.old) e added (map self.new)) }
+        ensures err { OnErr result (map self.new ≡ map self.old) }
+        ensures names { Grows (names self.old) (names self.new) }
+        ensures ready { Contains (ready self.old) (equation_of e) → ready self.new ≡ ready self.old }
+        ensures sure { Contains (ready self.old) (equation_of e) → IsAddable (map self.old) (equation_of e) → IsOk result };
+
+    /// No reference is named twice.
+    ghost once: { (x : Self) → IsNamedOnce (names x) };
+
+    /// Each left side is named, and each reference in a body.
+    ghost all_named: { (x : Self) → has_names (names x) (map x) ≡ true };
+
+    /// Each constructor has at most 8 references.
+    ghost few: { (x : Self) → all_few (map x) ≡ true };
+}
