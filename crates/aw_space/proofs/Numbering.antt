@@ -1,0 +1,179 @@
+-- The equations of one choice have different left sides.
+use Rattle.std.proofs.Common.{◌≡◌, ℕ, suc, ◌+◌, ◌<◌, ◌≤◌, Bool, true, false, cond, List, [], ◌∷◌, ◌++◌, length, Option, Some, None, refl, sym, ap, ◌∙◌, subst, arith}
+use Rattle.std.specs.Prelude.{◌&&◌}
+use Rattle.aw_term.specs.Trees.{Never, Tree, Leaf, Made, Trees, Nil, More}
+use Rattle.aw_term.specs.Names.{Node, Ref, Slot, Result, Part, result, part}
+use Rattle.aw_term.specs.Rules.{Term, Ground, Child, Rule, get}
+use Rattle.aw_store.specs.Refs.{slot_eq, ref_eq}
+use Rattle.aw_store.specs.Equations.{Body, Same, Is, Equation, Map, find}
+use Rattle.aw_apply.specs.Made.{lay, lays, lay_list, lay_children, lay_result, lay_results, child_refs, made}
+use Rattle.aw_iograph.proofs.Members.{never}
+use Rattle.aw_term.specs.WellFormed.{Each, Later}
+use Rattle.aw_space.proofs.Lists.{each_in, later-append}
+use Rattle.aw_accept.proofs.ConfigLemmas.{node_eq-refl}
+use Rattle.aw_space.proofs.Chasing.{ref_eq-true}
+use Rattle.aw_accept.proofs.Pigeonholes.{each_mapped}
+use Rattle.aw_space.proofs.Substituting.{Holds}
+use Rattle.std.proofs.lemmas.Bool.{eq-eqb}
+
+slot_eq-refl : (s : Slot) → slot_eq s s ≡ true
+slot_eq-refl (Result j) = eq-eqb j j refl
+slot_eq-refl (Part k) = eq-eqb k k refl
+
+pub ref_eq-refl : (r : Ref) → ref_eq r r ≡ true
+ref_eq-refl r = let a = node_eq-refl r.node in let b = slot_eq-refl r.slot in λ i. a i && b i
+
+absent_cases : (b : Bool) (r : Ref) (e : Equation) (o : Option Body) → ref_eq r e.left ≡ b → (r ≡ e.left → Never) → cond b (Some e.body) o ≡ o
+absent_cases true r e o f n = never (n (ref_eq-true r e.left f))
+absent_cases false r e o f n = refl
+
+pub find-absent : (k : Map) (r : Ref) → Each (λ (e : Equation). r ≡ e.left → Never) k → find k r ≡ None
+find-absent [] r n = refl
+find-absent (e ∷ k) r n = absent_cases (ref_eq r e.left) r e (find k r) refl n.0 ∙ find-absent k r n.1
+
+append_cases : (b : Bool) (x : Option Body) (o p : Option Body) (y : Body) → (o ≡ Some y → p ≡ Some y) → cond b x o ≡ Some y → cond b x p ≡ Some y
+append_cases true x o p y f g = g
+append_cases false x o p y f g = f g
+
+pub find-left_more : (k es : Map) (r : Ref) (b : Body) → find k r ≡ Some b → find (k ++ es) r ≡ Some b
+find-left_more [] es r b f = absurd cc
+find-left_more (e ∷ k) es r b f = append_cases (ref_eq r e.left) (Some e.body) (find k r) (find (k ++ es) r) b (find-left_more k es r b) f
+
+right_cases : (b : Bool) (x : Body) (o p q : Option Body) → (o ≡ None → p ≡ q) → cond b (Some x) o ≡ None → cond b (Some x) p ≡ q
+right_cases true x o p q f g = absurd cc
+right_cases false x o p q f g = f g
+
+pub find-right_more : (k es : Map) (r : Ref) → find k r ≡ None → find (k ++ es) r ≡ find es r
+find-right_more [] es r f = refl
+find-right_more (e ∷ k) es r f = right_cases (ref_eq r e.left) e.body (find k r) (find (k ++ es) r) (find es r) (find-right_more k es r) f
+
+-- parts from a below b, results from c below d
+abbrev pub Covers : ℕ → ℕ → ℕ → ℕ → Slot → Type 0
+Covers a b c d (Part i) = (a ≤ i) × (i < b)
+Covers a b c d (Result j) = (c ≤ j) × (j < d)
+
+abbrev pub Lies : Node → ℕ → ℕ → ℕ → ℕ → Equation → Type 0
+Lies n a b c d e = (e.left.node ≡ n) × Covers a b c d e.left.slot
+
+-- it has different left sides, which lie there
+pub record Apart (n : Node) (a b c d : ℕ) (es : List Equation) : Type 0 where
+  pub lie : Each (Lies n a b c d) es
+  pub hold : Holds es es
+  pub differ : Later (λ (e f : Equation). e.left ≡ f.left → Never) es
+
+covers-wider : (a b c d a' b' c' d' : ℕ) → a' ≤ a → b ≤ b' → c' ≤ c → d ≤ d' → (s : Slot) → Covers a b c d s → Covers a' b' c' d' s
+covers-wider a b c d a' b' c' d' p q u v (Part i) h = (omega (arith, h.0), omega (arith, h.1))
+covers-wider a b c d a' b' c' d' p q u v (Result i) h = (omega (arith, h.0), omega (arith, h.1))
+
+covers-apart : (a b e c d f : ℕ) (s : Slot) → Covers a b c d s → Covers b e d f s → Never
+covers-apart a b e c d f (Part i) h g = absurd (omega (arith, h.1, g.0))
+covers-apart a b e c d f (Result j) h g = absurd (omega (arith, h.1, g.0))
+
+Each-append : {A : Type 0} (P : A → Type 0) (xs ys : List A) → Each P xs → Each P ys → Each P (xs ++ ys)
+Each-append P [] ys a b = b
+Each-append P (x ∷ xs) ys a b = (a.0, Each-append P xs ys a.1 b)
+
+Holds-wider : (k k' : Map) → ((r : Ref) (b : Body) → find k r ≡ Some b → find k' r ≡ Some b) → (es : List Equation) → Holds k es → Holds k' es
+Holds-wider k k' f [] h = tt
+Holds-wider k k' f (e ∷ es) h = (f e.left e.body h.0, Holds-wider k k' f es h.1)
+
+Holds-past : (k fs : Map) (es : List Equation) → Each (λ (e : Equation). find k e.left ≡ None) es → Holds fs es → Holds (k ++ fs) es
+Holds-past k fs [] n h = tt
+Holds-past k fs (e ∷ es) n h = (find-right_more k fs e.left n.0 ∙ h.0, Holds-past k fs es n.1 h.1)
+
+Holds-append : (k : Map) (es fs : List Equation) → Holds k es → Holds k fs → Holds k (es ++ fs)
+Holds-append k [] fs a b = b
+Holds-append k (e ∷ es) fs a b = (a.0, Holds-append k es fs a.1 b)
+
+absent_from : (n : Node) (a b e c d f : ℕ) (es : List Equation) (r : Ref) → Each (Lies n a b c d) es → Covers b e d f r.slot → Each (λ (e : Equation). r ≡ e.left → Never) es
+absent_from n a b e c d f [] r l h = tt
+absent_from n a b e c d f (x ∷ es) r l h = ((λ p. covers-apart a b e c d f r.slot (subst (λ (r : Ref). Covers a b c d r.slot) (sym p) l.0.1) h), absent_from n a b e c d f es r l.1 h)
+
+pub Apart-append : (n : Node) (a b e c d f : ℕ) (es fs : List Equation) → a ≤ b → b ≤ e → c ≤ d → d ≤ f → Apart n a b c d es → Apart n b e d f fs → Apart n a e c f (es ++ fs)
+Apart-append n a b e c d f es fs p q u v x y = record {
+  lie = Each-append (Lies n a e c f) es fs
+      (each_mapped (Lies n a b c d) (Lies n a e c f) (λ z h. (h.0, covers-wider a b c d a e c f (omega arith) (omega arith) (omega arith) (omega arith) z.left.slot h.1)) es x.lie)
+      (each_mapped (Lies n b e d f) (Lies n a e c f) (λ z h. (h.0, covers-wider b e d f a e c f (omega arith) (omega arith) (omega arith) (omega arith) z.left.slot h.1)) fs y.lie);
+  hold = Holds-append (es ++ fs) es fs
+      (Holds-wider es (es ++ fs) (find-left_more es fs) es x.hold)
+      (Holds-past es fs fs
+      (each_mapped (Lies n b e d f) (λ (z : Equation). find es z.left ≡ None) (λ z h. find-absent es z.left (absent_from n a b e c d f es z.left x.lie h.1)) fs y.lie)
+      y.hold);
+  differ = later-append (λ (e f : Equation). e.left ≡ f.left → Never) es fs x.differ y.differ
+      (λ u v i j q. let l = each_in (Lies n a b c d) es u x.lie i in let r = each_in (Lies n b e d f) fs v y.lie j in
+      covers-apart a b e c d f v.left.slot (subst (λ (r : Ref). Covers a b c d r.slot) q l.1) r.1);
+}
+
+one_apart : (n : Node) (a b c d : ℕ) (e : Equation) → Lies n a b c d e → Apart n a b c d (e ∷ [])
+one_apart n a b c d e l = record { lie = (l, tt); hold = (ap (λ b. cond b (Some e.body) None) (ref_eq-refl e.left), tt); differ = (tt, tt) }
+
+none_apart : (n : Node) (a c : ℕ) → Apart n a a c c []
+none_apart n a c = record { lie = tt; hold = tt; differ = tt }
+
+module _ {L : Type 0} (n : Node) (f : L → Ref) (c : ℕ) where
+  mutual
+    lay-apart : (t : Tree L) (i : ℕ) → (i ≤ (lay n f i t).next) × Apart n i (lay n f i t).next c c (lay n f i t).equations
+    lay-apart (Leaf x) i = (omega arith, none_apart n i c)
+    lay-apart (Made h ts) i =
+        let (le, a) = lays-apart ts (suc i) in (
+          omega (arith, le),
+          Apart-append n i (suc i) (lays n f (suc i) ts).next c c c (record { left = part n i; body = Is h (lays n f (suc i) ts).roots } ∷ []) (lays n f (suc i) ts).equations (omega arith) le (omega arith) (omega arith)
+              (one_apart n i (suc i) c c (record { left = part n i; body = Is h (lays n f (suc i) ts).roots }) (refl, (omega arith, omega arith))) a,
+        )
+
+    lays-apart : (ts : Trees L) (i : ℕ) → (i ≤ (lays n f i ts).next) × Apart n i (lays n f i ts).next c c (lays n f i ts).equations
+    lays-apart Nil i = (omega arith, none_apart n i c)
+    lays-apart (More t ts) i =
+        let (le, a) = lay-apart t i in
+        let (le', b) = lays-apart ts (lay n f i t).next in
+        (omega (arith, le, le'), Apart-append n i (lay n f i t).next (lays n f (lay n f i t).next ts).next c c c (lay n f i t).equations (lays n f (lay n f i t).next ts).equations le le' (omega arith) (omega arith) a b)
+
+  pub lay_list-apart : (ts : List (Tree L)) (i : ℕ) → (i ≤ (lay_list n f i ts).next) × Apart n i (lay_list n f i ts).next c c (lay_list n f i ts).equations
+  lay_list-apart [] i = (omega arith, none_apart n i c)
+  lay_list-apart (t ∷ ts) i =
+      let (le, a) = lay-apart t i in
+      let (le', b) = lay_list-apart ts (lay n f i t).next in
+      (omega (arith, le, le'), Apart-append n i (lay n f i t).next (lay_list n f (lay n f i t).next ts).next c c c (lay n f i t).equations (lay_list n f (lay n f i t).next ts).equations le le' (omega arith) (omega arith) a b)
+
+module _ (n : Node) (r : ℕ) (f : ℕ → Ref) where
+  lay_children-apart : (cs : List Child) (i k : ℕ) → (k ≤ (lay_children n r f i k cs).next) × Apart n k (lay_children n r f i k cs).next 1 1 (lay_children n r f i k cs).equations
+  lay_children-apart [] i k = (omega arith, none_apart n k 1)
+  lay_children-apart (d ∷ cs) i k =
+      let (le, a) = lay_list-apart n f 1 d.args k in
+      let (le', b) = lay_children-apart cs (suc i) (lay_list n f k d.args).next in
+      (omega (arith, le, le'), Apart-append n k (lay_list n f k d.args).next (lay_children n r f (suc i) (lay_list n f k d.args).next cs).next 1 1 1 (lay_list n f k d.args).equations (lay_children n r f (suc i) (lay_list n f k d.args).next cs).equations le le' (omega arith) (omega arith) a b)
+
+  lay_result-apart : (t : Term) (k j : ℕ) → (k ≤ (lay_result n f k j t).next) × Apart n k (lay_result n f k j t).next j (suc j) (lay_result n f k j t).equations
+  lay_result-apart (Leaf v) k j = (omega arith, one_apart n k k j (suc j) (record { left = result n j; body = Same (f v) }) (refl, (omega arith, omega arith)))
+  lay_result-apart (Made h ts) k j =
+      let (le, a) = lays-apart n f (suc j) ts k in (
+        le,
+        Apart-append n k k (lays n f k ts).next j (suc j) (suc j) (record { left = result n j; body = Is h (lays n f k ts).roots } ∷ []) (lays n f k ts).equations (omega arith) le (omega arith) (omega arith)
+            (one_apart n k k j (suc j) (record { left = result n j; body = Is h (lays n f k ts).roots }) (refl, (omega arith, omega arith))) a,
+      )
+
+  lay_results-apart : (ts : List Term) (k j : ℕ) → (e : ℕ) × (k ≤ e) × Apart n k e j (j + length ts) (lay_results n f k j ts)
+  lay_results-apart [] k j = let z : j ≡ j + 0 = omega arith in (k, omega arith, subst (λ d. Apart n k k j d []) z (none_apart n k j))
+  lay_results-apart (t ∷ ts) k j =
+      let (le, a) = lay_result-apart t k j in
+      let (e, le', b) = lay_results-apart ts (lay_result n f k j t).next (suc j) in
+      let z : suc j + length ts ≡ j + suc (length ts) = omega arith in (
+        e,
+        omega (arith, le, le'),
+        subst (λ d. Apart n k e j d (lay_results n f k j (t ∷ ts))) z
+            (Apart-append n k (lay_result n f k j t).next e j (suc j) (suc j + length ts) (lay_result n f k j t).equations (lay_results n f (lay_result n f k j t).next (suc j) ts) le le' (omega arith) (omega arith) a b),
+      )
+
+-- the equations of a choice
+pub made-apart : (n : Node) (ri : ℕ) (r : Rule) (args : List Ground) (bound : List Ref) → (e : ℕ) × Apart n 1 e 1 (1 + length r.results) (made n ri r args bound).equations
+made-apart n ri r args bound =
+    let a = lay_list n (λ x. elim x [ ]) 1 args in
+    let f = get (part n 0) (bound ++ (a.roots ++ child_refs n ri 1 r.children)) in
+    let c = lay_children n ri f 1 a.next r.children in
+    let (le, x) = lay_list-apart n (λ (x : Never). elim x [ ]) 1 args 1 in
+    let (le', y) = lay_children-apart n ri f r.children 1 a.next in
+    let (e, le'', z) = lay_results-apart n ri f r.results c.next 1 in (
+      e,
+      Apart-append n 1 a.next e 1 1 (1 + length r.results) a.equations (c.equations ++ lay_results n f c.next 1 r.results) le (omega (arith, le', le'')) (omega arith) (omega arith) x
+          (Apart-append n a.next c.next e 1 1 (1 + length r.results) c.equations (lay_results n f c.next 1 r.results) le' le'' (omega arith) (omega arith) y z),
+    )
