@@ -1,0 +1,12 @@
+use Rattle.std.proofs.Common.{sym, ap, ◌∙◌}
+use Rattle.std.proofs.lemmas.List.{map_push}
+use Rattle.aw_msg.specs.FrameView.{frame_of}
+use Rattle.aw_msg.specs.NextView.{answer_of}
+use Rattle.aw_msg.proofs.PieceLemmas.{was_ready}
+use Rattle.aw_msg.proofs.pieces.take_frame.Goals as goal
+
+pub returns-in_ok-push-in-Frame : goal.returns-in_ok-push-in-Frame
+returns-in_ok-push-in-Frame c =
+    let f = c.in-Frame.frame in
+    let r = was_ready c.args.reader.now (frame_of f) c.next.new.self (sym (ap answer_of c.in-Frame.is) ∙ c.in_ok-frame.ensures.answer) c.in_ok-frame.ensures.left in
+    (frame_of f, r.0, r.1, rw c.in_ok-push-in-Frame.ensures.items (map_push _ c.args.frames.now.items f))

@@ -1,0 +1,10 @@
+-- What a reader of requests answers, as the definitions speak of it.
+use Rattle.aw_msg.specs.Streams as plain
+use Rattle.aw_msg.specs.FrameView.{frame_of}
+use Rattle.aw_msg.specs.declared.frame_reader.Next.{Next}
+use Rattle.aw_msg.specs.declared.frame_reader.Next.TheVariants.{Frame, Need, Bad}
+
+abbrev pub answer_of : Next → plain.Next
+answer_of (Frame f) = plain.Ready (frame_of f)
+answer_of Need = plain.Need
+answer_of Bad = plain.Wrong

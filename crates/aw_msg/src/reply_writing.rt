@@ -1,0 +1,122 @@
+//! The bytes of replies.
+ghost use Rattle.std.specs.Prelude.{◌≡◌, ◌++◌, codes, flat_map, length, map, IfOk, OnOk};
+ghost use Rattle.aw_term.specs.Artifacts.{ref_text, listed};
+ghost use Rattle.aw_grammar.specs.GrammarOf.{words_of};
+ghost use Rattle.aw_msg.specs.Replies as spec;
+ghost use Rattle.aw_msg.specs.ReplyRanges.{ReplyInRange};
+
+use crate::reply::Answered;
+use crate::writing::add_message;
+use aw_base::{push_answer, push_item, push_ref};
+use aw_grammar::Grammar;
+use aw_list::Text;
+use aw_name::Ref;
+use aw_store::{Content, push_body};
+use aw_wire::writing::{add_byte, add_u64};
+use std::alloc::{AllocError, Global};
+
+fn add_following(text: &mut Text, g: &Grammar, refs: &[Ref]) -> Result<(), AllocError>
+    ensures { OnOk result (text.new ≡ text.old ++ flat_map (λ r. codes ", " ++ ref_text (words_of g.now) r) refs.now) }
+{
+    for r in refs {
+        text.push_bytes(b", ")?;
+        push_ref(text, g, r)?;
+    }
+    Ok(())
+}
+
+fn add_refs(text: &mut Text, g: &Grammar, refs: &[Ref]) -> Result<(), AllocError>
+    ensures { OnOk result (text.new ≡ text.old ++ listed (map (ref_text (words_of g.now)) refs.now)) }
+{
+    match refs {
+        [] => Ok(()),
+        [first, rest @ ..] => {
+            push_ref(text, g, first)?;
+            add_following(text, g, rest)
+        }
+    }
+}
+
+fn add_content(text: &mut Text, g: &Grammar, content: &Content) -> Result<(), AllocError>
+    ensures { OnOk result (text.new ≡ text.old ++ spec.content_text (words_of g.now) content.now) }
+{
+    match content {
+        Content::Inherited(refs) => {
+            text.push_bytes(b"(")?;
+            add_refs(text, g, refs.as_slice())?;
+            text.push_bytes(b")")
+        }
+        Content::Body(body) => push_body(text, g, body),
+    }
+}
+
+fn add_conflict(
+    text: &mut Text,
+    g: &Grammar,
+    kept: &Content,
+    came: &Content,
+) -> Result<(), AllocError>
+    ensures { OnOk result (text.new ≡ text.old ++ spec.conflict_text (words_of g.now) kept.now came.now) }
+{
+    text.push_bytes(b"kept ")?;
+    add_content(text, g, kept)?;
+    text.push_bytes(b" came ")?;
+    add_content(text, g, came)
+}
+
+fn kind_of(r: &Answered) -> u8
+    ensures { result ≡ spec.reply_kind r.now }
+{
+    match r {
+        Answered::New => 1,
+        Answered::Again => 2,
+        Answered::Conflict { .. } => 3,
+        Answered::NotMine => 4,
+        Answered::BadName => 5,
+        Answered::Answer(_) => 6,
+        Answered::Message(_) => 7,
+        Answered::TooLong => 8,
+        Answered::BadFrame => 9,
+        Answered::Nothing(_) => 10,
+        Answered::Item(_) => 11,
+    }
+}
+
+fn add_payload(text: &mut Text, g: &Grammar, r: &Answered) -> Result<(), AllocError>
+    requires { ReplyInRange r.now }
+    ensures { OnOk result (text.new ≡ text.old ++ spec.reply_payload (words_of g.now) r.now) }
+{
+    match r {
+        Answered::Conflict { kept, came } => add_conflict(text, g, kept, came),
+        Answered::Answer(answer) => push_answer(text, g, answer),
+        Answered::Message(m) => add_message(text, m),
+        Answered::Nothing(number) => add_u64(text, *number),
+        Answered::Item(item) => push_item(text, g, item),
+        Answered::New | Answered::Again | Answered::NotMine => Ok(()),
+        Answered::BadName | Answered::TooLong | Answered::BadFrame => Ok(()),
+    }
+}
+
+/// The length of a payload. One of more than 4 GiB is as if there were no memory for it.
+fn length_of(payload: &Text) -> Result<u32, AllocError>
+    ensures { IfOk result (λ n. n ≡ length payload.now) }
+{
+    match u32::try_from(payload.len()) {
+        Ok(length) => Ok(length),
+        Err(_) => Err(AllocError),
+    }
+}
+
+/// The bytes of a reply: its kind, the length of its payload, and the payload.
+pub fn reply_bytes(alloc: Global, g: &Grammar, r: &Answered) -> Result<Text, AllocError>
+    requires { ReplyInRange r.now }
+    ensures { IfOk result (λ text. text ≡ spec.spelled_reply (words_of g.now) r.now) }
+{
+    let mut payload = Text::new(alloc);
+    add_payload(&mut payload, g, r)?;
+    let mut text = Text::new(alloc);
+    add_byte(&mut text, kind_of(r))?;
+    text.push_bytes(&length_of(&payload)?.to_be_bytes())?;
+    text.push_bytes(payload.as_slice())?;
+    Ok(text)
+}

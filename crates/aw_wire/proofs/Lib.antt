@@ -1,0 +1,10 @@
+pub mod Contents
+pub mod Loop
+pub mod Turns
+pub mod Laws
+pub mod NameLaws
+pub mod GroundLaws
+pub mod ChoiceLaws
+pub mod Placing
+pub mod Adding
+pub mod GroundWriting

@@ -1,0 +1,7 @@
+use Rattle.aw_wire.specs.Names.{spelled_ref}
+use Rattle.aw_wire.proofs.Adding.{one_more}
+use Rattle.aw_wire.proofs.writing.add_each_ref.Goals as goal
+
+pub loop-reference-preserved : goal.loop-reference-preserved
+loop-reference-preserved c =
+    one_more spelled_ref c.args.refs.now c.loop-reference.reference-index c.reference-item.result c.args.text.now c.loop-reference.text c.add_ref.new.text c.loop-reference-test.true c.reference-item.is c.loop-reference.invariant c.in_ok-add_ref.ensures

@@ -1,0 +1,11 @@
+pub mod Bytes
+pub mod Choices
+pub mod Gives
+pub mod GroundHead
+pub mod Grounds
+pub mod Names
+pub mod OneSpelling
+pub mod Placed
+pub mod Ranges
+pub mod Reading
+pub mod Texts

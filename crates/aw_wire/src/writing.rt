@@ -1,0 +1,111 @@
+//! Writers of names and texts: each adds the one spelling of a value at the end of a text.
+ghost use Rattle.std.specs.Prelude.{◌≡◌, ◌≤◌, ◌<◌, ◌^◌, ◌++◌, ◌∷◌, [], length, OnOk, flat_map};
+ghost use Rattle.std.specs.Int.{w16, w64, to_be_bytes};
+ghost use Rattle.aw_wire.specs.Names.{spelled_step, spelled_node, spelled_slot, spelled_ref, spelled_refs};
+ghost use Rattle.aw_wire.specs.Texts.{spelled_text};
+
+use aw_list::Text;
+use aw_name::{Node, Ref, Slot, Step};
+use std::alloc::AllocError;
+
+/// Adds a byte.
+pub fn add_byte(text: &mut Text, byte: u8) -> Result<(), AllocError>
+    ensures { OnOk result (text.new ≡ text.old ++ byte ∷ []) }
+{
+    text.push_bytes(&[byte])
+}
+
+/// Adds a number of two bytes.
+pub fn add_u16(text: &mut Text, number: u16) -> Result<(), AllocError>
+    ensures { OnOk result (text.new ≡ text.old ++ to_be_bytes w16 number) }
+{
+    text.push_bytes(&number.to_be_bytes())
+}
+
+/// Adds a number of eight bytes.
+pub fn add_u64(text: &mut Text, number: u64) -> Result<(), AllocError>
+    ensures { OnOk result (text.new ≡ text.old ++ to_be_bytes w64 number) }
+{
+    text.push_bytes(&number.to_be_bytes())
+}
+
+fn add_step(text: &mut Text, step: &Step) -> Result<(), AllocError>
+    ensures { OnOk result (text.new ≡ text.old ++ spelled_step step.now) }
+{
+    add_u16(text, step.rule)?;
+    add_byte(text, step.child)
+}
+
+fn add_steps(text: &mut Text, steps: &[Step]) -> Result<(), AllocError>
+    ensures { OnOk result (text.new ≡ text.old ++ flat_map spelled_step steps.now) }
+{
+    for step in steps {
+        add_step(text, step)?;
+    }
+    Ok(())
+}
+
+/// Adds the name of a node.
+pub fn add_node(text: &mut Text, node: &Node) -> Result<(), AllocError>
+    ensures { OnOk result (text.new ≡ text.old ++ spelled_node node.now) }
+{
+    add_u16(text, node.start)?;
+    add_u64(text, node.case)?;
+    add_byte(text, node.steps.len() as u8)?;
+    add_steps(text, node.steps.as_slice())
+}
+
+fn add_slot(text: &mut Text, slot: Slot) -> Result<(), AllocError>
+    ensures { OnOk result (text.new ≡ text.old ++ spelled_slot slot) }
+{
+    match slot {
+        Slot::Result(number) => {
+            add_byte(text, 0)?;
+            add_u16(text, number)
+        }
+        Slot::Part(number) => {
+            add_byte(text, 1)?;
+            add_u16(text, number)
+        }
+    }
+}
+
+/// Adds a reference.
+pub fn add_ref(text: &mut Text, reference: &Ref) -> Result<(), AllocError>
+    ensures { OnOk result (text.new ≡ text.old ++ spelled_ref reference.now) }
+{
+    add_node(text, &reference.node)?;
+    add_slot(text, reference.slot)
+}
+
+fn add_each_ref(text: &mut Text, refs: &[Ref]) -> Result<(), AllocError>
+    ensures { OnOk result (text.new ≡ text.old ++ flat_map spelled_ref refs.now) }
+{
+    for reference in refs {
+        add_ref(text, reference)?;
+    }
+    Ok(())
+}
+
+/// Adds at most 8 references, behind their number.
+pub fn add_refs(text: &mut Text, refs: &[Ref]) -> Result<(), AllocError>
+    requires { length refs.now ≤ 8 }
+    ensures { OnOk result (text.new ≡ text.old ++ spelled_refs refs.now) }
+{
+    add_byte(text, refs.len() as u8)?;
+    add_each_ref(text, refs)
+}
+
+fn number_of(length: usize) -> u16
+    ensures { length < 2 ^ 16 → result ≡ length }
+{
+    length.min(65535) as u16
+}
+
+/// Adds a content of at most 65,535 bytes, behind its length.
+pub fn add_text(text: &mut Text, content: &[u8]) -> Result<(), AllocError>
+    ensures { length content.now < 2 ^ 16 → OnOk result (text.new ≡ text.old ++ spelled_text content.now) }
+{
+    add_u16(text, number_of(content.len()))?;
+    text.push_bytes(content)
+}
