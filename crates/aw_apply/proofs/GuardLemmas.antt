@@ -66,11 +66,6 @@ chased_missing k names slot end (Found h parts) w = elim w [ ]
 chased_missing k names slot end (Missing r) w = (r, refl, w)
 chased_missing k names slot end Round w = elim w [ ]
 
-pub chased_round : (k : Map) (names : List Ref) (slot start : ℕ) (x : Chased) → IsChasedTo k names slot x (answer.Circle start) → (x ≡ Round) × (start ≡ slot)
-chased_round k names slot start (Found h parts) w = elim w [ ]
-chased_round k names slot start (Missing r) w = elim w [ ]
-chased_round k names slot start Round w = (refl, w)
-
 pub chased_found : (k : Map) (names : List Ref) (slot end : ℕ) (x : Chased) → IsChasedTo k names slot x (answer.Found end) → (h : Head) × (parts : List Ref) × (x ≡ Found h parts) × (body_at k names end ≡ Some (Is h parts)) × (end < length names)
 chased_found k names slot end (Found h parts) w = (h, parts, refl, ap (option_and_then (find k)) w.1 ∙ w.2, slice_get_within names end w.0 w.1)
 chased_found k names slot end (Missing r) w = elim w [ ]
@@ -79,19 +74,6 @@ chased_found k names slot end Round w = elim w [ ]
 -- the end of a chase from a live slot is a live slot
 pub found_live : (k : Map) (names : List Ref) (slot end : ℕ) → slot < length names → ((r : Ref) → slice_get names slot ≡ Some r → IsChasedTo k names slot (chase k r) (answer.Found end)) → end < length names
 found_live k names slot end l w = let (r, e) = name_at names slot l in (chased_found k names slot end _ (w r e)).4
-
--- One look at the end of a chase
-pub end_missing : (k : Map) (names : List Ref) (slot end : ℕ) (bs : List (Option Ref)) (path : List ℕ) (x : Chased) (go : List Ref → Matched Ref Ref) (h : Head) (n : ℕ) (r : Ref) →
-    IsChasedTo k names slot x (answer.Missing end) → Waits (slice_get names end) ≡ and_then (Yes bs) (behind path (as_named (guard_end x go h n r)))
-end_missing k names slot end bs path x go h n r w =
-    let (q, e, f) = chased_missing k names slot end x w in
-    ap Waits f ∙ ap (λ y. and_then (Yes bs) (behind path (as_named (guard_end y go h n r)))) (sym e)
-
-pub end_round : (k : Map) (names : List Ref) (slot start : ℕ) (bs : List (Option Ref)) (path : List ℕ) (x : Chased) (go : List Ref → Matched Ref Ref) (h : Head) (n : ℕ) (r : Ref) →
-    IsChasedTo k names slot x (answer.Circle start) → slice_get names slot ≡ Some r → Circle (slice_get names start) ≡ and_then (Yes bs) (behind path (as_named (guard_end x go h n r)))
-end_round k names slot start bs path x go h n r w f =
-    let (e, same) = chased_round k names slot start x w in
-    ap Circle (ap (slice_get names) same ∙ f) ∙ ap (λ y. and_then (Yes bs) (behind path (as_named (guard_end y go h n r)))) (sym e)
 
 pub end_differs : (k : Map) (names : List Ref) (slot end : ℕ) (bs : List (Option Ref)) (path : List ℕ) (x : Chased) (go : List Ref → Matched Ref Ref) (h : Head) (n : ℕ) (r : Ref) →
     IsChasedTo k names slot x (answer.Found end) → is_head h n (body_at k names end) ≡ false → Differs path ≡ and_then (Yes bs) (behind path (as_named (guard_end x go h n r)))

@@ -1,5 +1,5 @@
 -- Laying down one thing after the other.
-use Rattle.std.proofs.Common.{◌≡◌, ℕ, zero, suc, ◌+◌, ◌<◌, ◌≤◌, List, [], ◌∷◌, ◌++◌, length, map, drop, get_or, refl, ap, sym, ◌∙◌, arith, append_assoc, append-nil}
+use Rattle.std.proofs.Common.{◌≡◌, ℕ, zero, suc, ◌+◌, ◌<◌, ◌≤◌, List, [], ◌∷◌, ◌++◌, length, map, drop, get_or, refl, ap, sym, ◌∙◌, arith, append_assoc}
 use Rattle.std.specs.Prelude.{Result, Ok, Err, IfOk}
 use Rattle.std.proofs.lemmas.List.{at_drop_more}
 use Rattle.aw_term.specs.Trees as P
@@ -18,12 +18,6 @@ use Rattle.aw_apply.specs.MadeView.{with_one}
 -- these, and then those
 abbrev pub joined : {A : Type 0} → Laid (List A) → Laid (List A) → Laid (List A)
 joined a b = record { roots = a.roots ++ b.roots; equations = a.equations ++ b.equations; next = b.next }
-
-abbrev pub nothing_more : {A : Type 0} → ℕ → Laid (List A)
-nothing_more k = record { roots = []; equations = []; next = k }
-
-pub joined-none : {A : Type 0} (a : Laid (List A)) → joined a (nothing_more a.next) ≡ a
-joined-none a = let r = append-nil a.roots in let e = append-nil a.equations in λ i. record { roots = r i; equations = e i; next = a.next }
 
 abbrev pub before : {A : Type 0} → Laid A → Laid (List A) → Laid (List A)
 before x b = record { roots = x.roots ∷ b.roots; equations = x.equations ++ b.equations; next = b.next }

@@ -1,43 +1,22 @@
 //! The children of a taken rule: their results, their nodes, and their inherited references.
-ghost use Rattle.std.specs.Prelude.{◌≡◌, ◌<◌, ◌≤◌, ◌+◌, ◌++◌, ◌∷◌, [], List, IfOk, OnOk, length, map, slice_get};
+ghost use Rattle.std.specs.Prelude.{◌≡◌, ◌<◌, ◌≤◌, ◌+◌, ◌++◌, ◌∷◌, [], List, IfOk, OnOk, length, map};
 ghost use Rattle.aw_term.specs.Names.{below, result as result_ref};
 ghost use Rattle.aw_term.specs.Rules.{get, upto};
-ghost use Rattle.aw_term.specs.Choices.{gives_of};
 ghost use Rattle.aw_term.specs.WellFormed.{symbols_of, child_symbols};
 ghost use Rattle.aw_term.specs.Views.{term_of};
 ghost use Rattle.aw_grammar.specs.declared.rule.Sort.{Sort as SortValue};
 ghost use Rattle.aw_store.specs.EquationView.{equation_of};
-ghost use Rattle.aw_grammar.specs.GrammarView.{child_of, sorts_of};
+ghost use Rattle.aw_grammar.specs.GrammarView.{child_of};
 ghost use Rattle.aw_apply.specs.Made.{lay_list, lay_children as plain_children, child_refs as plain_refs, no_ref};
 ghost use Rattle.aw_apply.specs.MadeView.{as_children, called_of, with_one};
 
 use crate::laid::{LaidAll, append, lay_terms};
 use crate::making::MadeChild;
-use aw_base::{Child, Grammar};
+use aw_base::{Child, Grammar, child_node};
 use aw_list::Items;
-use aw_name::{Node, Ref, Slot, Step, copy_node};
+use aw_name::{Node, Ref, Slot, copy_node};
 use aw_store::Equation;
 use std::alloc::{AllocError, Global};
-
-/// How many results the nodes of a sort give.
-fn gives(g: &Grammar, sort: u16) -> u8
-    ensures { result ≡ gives_of (slice_get (sorts_of g.now.sorts) sort) }
-{
-    match g.sort(sort) {
-        Some(declared) => declared.gives,
-        None => 0,
-    }
-}
-
-/// The node of child k, from 1, of a rule at this node.
-fn child_node(node: &Node, rule: u16, k: u8) -> Result<Node, AllocError>
-    requires { length node.now.steps < 250 }
-    ensures { IfOk result (λ n. n ≡ below node.now rule k) }
-{
-    let mut below = copy_node(node)?;
-    below.steps.push(Step { rule, child: k })?;
-    Ok(below)
-}
 
 /// Adds the first results of a node.
 fn push_results(refs: &mut Vec<Ref>, node: &Node, results: u8) -> Result<(), AllocError>
@@ -65,7 +44,7 @@ fn push_child_results(
     ensures { OnOk result (refs.new.items ≡ refs.old.items ++ map (result_ref (below node.now rule k)) (upto 1 (child_of g.now.sorts child.now).outs)) }
 {
     let below = child_node(node, rule, k)?;
-    push_results(refs, &below, gives(g, child.sort))
+    push_results(refs, &below, g.gives(child.sort))
 }
 
 /// Adds the results of a rule's children, in order.

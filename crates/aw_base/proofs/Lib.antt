@@ -3,3 +3,4 @@ pub mod ChildPlaces
 pub mod NamesAt
 pub mod NodeReads
 pub mod ValidNodes
+pub mod TextLemmas

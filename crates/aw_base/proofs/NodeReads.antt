@@ -1,47 +1,19 @@
 -- Which node a text names, by the parts of the text.
-use Rattle.std.proofs.Common.{◌≡◌, ℕ, ◌+◌, ◌≤◌, ◌<◌, refl, ap, ◌∙◌, Bool, true, false, cond, ◌==◌, List, [], ◌∷◌, length, Option, Some, None, is_some, option_map, option_and_then, slice_get, count_by, arith, nat_lt, IsSomeAnd}
+use Rattle.std.proofs.Common.{◌≡◌, ℕ, ◌+◌, ◌≤◌, ◌<◌, refl, ap, true, false, cond, ◌==◌, List, [], ◌∷◌, length, Option, Some, None, is_some, option_map, option_and_then, count_by, arith, nat_lt, IsSomeAnd}
 use Rattle.std.proofs.lemmas.Bool.Decides.{nat_tests}
 use Rattle.std.proofs.lemmas.List.Splits.{length-slice_split}
 use Rattle.aw_text.specs.Spelling.{parts, steps_of, step_of, name_from, start_of, parts_of_name}
 use Rattle.aw_term.specs.Names.{Step}
 use Rattle.aw_term.specs.Rules.{Grammar}
 use Rattle.aw_term.specs.Artifacts.{Words}
-use Rattle.aw_base.specs.NodeNames.{NoNodeName, TooLong, NotDeclared, steps_named, is_start, with_start, with_steps, with_parts}
+use Rattle.aw_base.specs.NodeNames.{NoNodeName, TooLong, steps_named, with_start, with_parts}
 use Rattle.aw_grammar.specs.Named.{number_named}
-use Rattle.aw_base.specs.NodeReading.{start_named, read_from}
 
 abbrev Parts : Type 0
 Parts = List ℕ × ℕ × List (List ℕ × ℕ)
 
--- the steps, where this is the rule of the first
-pub first_step : (w : Words) (rule : List ℕ) (child : ℕ) (trail : Option (List (List ℕ × ℕ))) (found : Option ℕ) → number_named w.rules rule ≡ found
-    → option_and_then (steps_named w) (option_map (λ more. (rule, child) ∷ more) trail)
-    ≡ option_and_then (λ (r : ℕ). let step : Step = record { rule = r; child = child } in option_map (λ more. step ∷ more) (option_and_then (steps_named w) trail)) found
-first_step w rule child None None e = refl
-first_step w rule child None (Some r) e = refl
-first_step w rule child (Some trail) found e =
-    ap (λ o. option_and_then (λ (r : ℕ). let step : Step = record { rule = r; child = child } in option_map (λ more. step ∷ more) (steps_named w trail)) o) e
-
-start_case : (g : Grammar) (case s : ℕ) (steps : Option (List Step)) (b : Bool) → cond b (with_steps g s case steps) NotDeclared ≡ read_from g case (cond b (Some s) None) steps
-start_case g case s steps true = refl
-start_case g case s steps false = refl
-
-start_read : (w : Words) (g : Grammar) (case : ℕ) (trail : List (List ℕ × ℕ)) (number : Option ℕ)
-    → with_start w g case trail number ≡ read_from g case (option_and_then (λ s. cond (is_start (slice_get g.sorts s)) (Some s) None) number) (steps_named w trail)
-start_read w g case trail None = refl
-start_read w g case trail (Some s) = start_case g case s (steps_named w trail) (is_start (slice_get g.sorts s))
-
 short : (n : ℕ) → n ≤ 250 → nat_lt 250 n ≡ false
 short n h = grind (arith, nat_tests)
-
-pub parts_read : (w : Words) (g : Grammar) (start : List ℕ) (case : ℕ) (trail : Option (List (List ℕ × ℕ)))
-    → IsSomeAnd (option_map (λ (t : List (List ℕ × ℕ)). let parts : Parts = (start, case, t) in parts) trail) (λ parts. length parts.2 ≤ 250)
-    → with_parts w g (option_map (λ (t : List (List ℕ × ℕ)). let parts : Parts = (start, case, t) in parts) trail)
-    ≡ read_from g case (start_named w g start) (option_and_then (steps_named w) trail)
-parts_read w g start case None h = absurd h
-parts_read w g start case (Some trail) h =
-    ap (λ b. cond b TooLong (with_start w g case trail (number_named w.sorts start))) (short (length trail) h)
-    ∙ start_read w g case trail (number_named w.sorts start)
 
 -- as many steps as parts
 length_steps : (ps : List (List ℕ)) (trail : List (List ℕ × ℕ)) → steps_of ps ≡ Some trail → length trail ≡ length ps

@@ -30,8 +30,3 @@ steps_behind w rest = option_and_then (steps_named w) (steps_of (parts_behind re
 -- all steps, where this is the first
 abbrev pub leads_on : Words → NamedStep → Option (List Step)
 leads_on w s = option_map (λ more. s.step ∷ more) (steps_behind w (option_copied s.more))
-
--- the node that begins at a sort and has these steps
-abbrev pub read_from : Grammar → ℕ → Option ℕ → Option (List Step) → NodeRead
-read_from g case None steps = NotDeclared
-read_from g case (Some s) steps = with_steps g s case steps

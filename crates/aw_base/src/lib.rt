@@ -18,9 +18,9 @@ pub use aw_name::{Node, Ref, Slot, Step, Trail};
 pub use aw_term::{Expr, Ground, Grounds, Lit, Pattern, Patterns, Terms};
 pub use aw_text::{content_ok, name_ok};
 pub use choice_fits::{args_ok, choice_ok, is_start};
-pub use names::{home_of, ref_ok, sort_of};
+pub use names::{child_node, home_of, ref_ok, sort_of};
 pub use read_node::{NameFault, parse_node};
 pub use texts::{
     answer_text, con_name, item_text, node_text, path_steps, push_answer, push_item, push_node,
-    push_ref, ref_text, role_name, rule_name, sort_name,
+    push_ref, push_refs, ref_text, role_name, rule_name, sort_name,
 };

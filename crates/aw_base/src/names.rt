@@ -1,5 +1,6 @@
-//! Which names of nodes and references are valid, and where a node is worked on. Nothing here takes memory.
-ghost use Rattle.std.specs.Prelude.{◌≡◌, List, map, option_map};
+//! Which names of nodes and references are valid, where a node is worked on, and the nodes of a rule's children.
+ghost use Rattle.std.specs.Prelude.{◌≡◌, ◌<◌, List, length, map, option_map, IfOk};
+ghost use Rattle.aw_term.specs.Names.{below};
 ghost use Rattle.aw_term.specs.Rules.{child_at, sort_of_step, sort_after, sort_of, home_of};
 ghost use Rattle.aw_grammar.specs.GrammarView.{child_of};
 ghost use Rattle.aw_grammar.specs.declared.rule.Sort.{Sort};
@@ -7,7 +8,8 @@ ghost use Rattle.aw_grammar.specs.GrammarOf.{grammar_of};
 ghost use Rattle.aw_base.specs.ChoiceFits.{slot_ok, ref_ok};
 
 use aw_grammar::{Children, Grammar};
-use aw_name::{Node, Ref, Slot, Step};
+use aw_name::{Node, Ref, Slot, Step, copy_node};
+use std::alloc::AllocError;
 
 /// The most parts of a node that a reference may speak of.
 pub const MOST_PARTS: u16 = 512;
@@ -54,6 +56,16 @@ pub fn sort_of(g: &Grammar, n: &Node) -> Option<u16>
     } else {
         None
     }
+}
+
+/// The node of a child, counted from 1, of a rule at this node.
+pub fn child_node(node: &Node, rule: u16, child: u8) -> Result<Node, AllocError>
+    requires { length node.now.steps < 250 }
+    ensures { IfOk result (λ n. n ≡ below node.now rule child) }
+{
+    let mut below = copy_node(node)?;
+    below.steps.push(Step { rule, child })?;
+    Ok(below)
 }
 
 /// The role at which a node is worked on; `None` exactly where its name is not valid.

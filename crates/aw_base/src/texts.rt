@@ -1,7 +1,7 @@
 //! Texts of names, references, answers and items of a worklist. A number that is not declared prints as an empty name.
-ghost use Rattle.std.specs.Prelude.{◌≡◌, ◌++◌, [], codes, decimal, flat_map, OnOk, OnErr, IfOk};
+ghost use Rattle.std.specs.Prelude.{◌≡◌, ◌++◌, [], codes, decimal, flat_map, map, OnOk, OnErr, IfOk};
 ghost use Rattle.aw_term.specs.Rules.{get};
-ghost use Rattle.aw_term.specs.Artifacts.{step_text, steps_text, node_text, slot_text, ref_text, place_text, answer_text, standing_text, item_text};
+ghost use Rattle.aw_term.specs.Artifacts.{step_text, steps_text, node_text, slot_text, ref_text, listed, place_text, answer_text, standing_text, item_text};
 ghost use Rattle.aw_grammar.specs.GrammarOf.{words_of};
 ghost use Rattle.aw_choice.specs.ChoiceView.{path_of, place_of, answer_of, refusal_of, item_of};
 
@@ -99,6 +99,28 @@ fn add_ref(text: &mut Text, g: &Grammar, r: &Ref) -> Result<(), AllocError>
 {
     add_node(text, g, &r.node)?;
     add_slot(text, r.slot)
+}
+
+fn add_following(text: &mut Text, g: &Grammar, refs: &[Ref]) -> Result<(), AllocError>
+    ensures { OnOk result (text.new ≡ text.old ++ flat_map (λ r. codes ", " ++ ref_text (words_of g.now) r) refs.now) }
+{
+    for r in refs {
+        text.push_bytes(b", ")?;
+        add_ref(text, g, r)?;
+    }
+    Ok(())
+}
+
+fn add_refs(text: &mut Text, g: &Grammar, refs: &[Ref]) -> Result<(), AllocError>
+    ensures { OnOk result (text.new ≡ text.old ++ listed (map (ref_text (words_of g.now)) refs.now)) }
+{
+    match refs {
+        [] => Ok(()),
+        [first, rest @ ..] => {
+            add_ref(text, g, first)?;
+            add_following(text, g, rest)
+        }
+    }
 }
 
 fn add_path(text: &mut Text, steps: &[u8]) -> Result<(), AllocError>
@@ -213,6 +235,16 @@ pub fn push_ref(text: &mut Text, g: &Grammar, r: &Ref) -> Result<(), AllocError>
     ensures err { OnErr result (text.new ≡ text.old) }
 {
     let added = ref_text(text.allocator(), g, r)?;
+    text.push_bytes(added.as_slice())
+}
+
+/// Adds references, a comma and a space between them. An error changes nothing.
+pub fn push_refs(text: &mut Text, g: &Grammar, refs: &[Ref]) -> Result<(), AllocError>
+    ensures ok { OnOk result (text.new ≡ text.old ++ listed (map (ref_text (words_of g.now)) refs.now)) }
+    ensures err { OnErr result (text.new ≡ text.old) }
+{
+    let mut added = Text::new(text.allocator());
+    add_refs(&mut added, g, refs)?;
     text.push_bytes(added.as_slice())
 }
 

@@ -1,6 +1,6 @@
 -- Stacks and rows of a reader of terms, seen through their views.
-use Rattle.std.specs.Prelude.{◌≡◌, ℕ, List, [], ◌∷◌, ◌++◌, map, reverse, true, cond, nat_eq, Option, Some, None, option_map, option_and_then}
-use Rattle.std.proofs.Common.{refl, sym, ap, ◌∙◌, append_assoc}
+use Rattle.std.specs.Prelude.{◌≡◌, ℕ, List, [], ◌∷◌, ◌++◌, map, reverse, true, cond, nat_eq, Option, None, option_map, option_and_then}
+use Rattle.std.proofs.Common.{sym, ap, ◌∙◌}
 use Rattle.std.proofs.lemmas.List.{reverse-append, map-append}
 use Rattle.aw_grammar.specs.declared.raw.RawTerm.{RawTerm}
 use Rattle.aw_grammar.specs.declared.raw.RawTerm as raw
@@ -35,13 +35,6 @@ behind names rest = option_map (λ more. names ++ more) rest
 
 abbrev first_then : Option (List ℕ) → Option (List (List ℕ)) → Option (List (List ℕ))
 first_then name rest = option_and_then (λ n. option_map (λ ns. n ∷ ns) rest) name
-
-one_more_name : (names : List (List ℕ)) (n : List ℕ) (rest : Option (List (List ℕ))) → behind names (first_then (Some n) rest) ≡ behind (names ++ n ∷ []) rest
-one_more_name names n None = refl
-one_more_name names n (Some ns) = ap Some (sym (append_assoc names (n ∷ []) ns))
-
-pub name_read : (names : List (List ℕ)) (t : Written) (n : List ℕ) (ts : List Written) → T.name_of t ≡ Some n → behind names (T.names_of (t ∷ ts)) ≡ behind (names ++ n ∷ []) (T.names_of ts)
-name_read names t n ts e = ap (λ o. behind names (first_then o (T.names_of ts))) e ∙ one_more_name names n (T.names_of ts)
 
 pub no_name : (names : List (List ℕ)) (t : Written) (ts : List Written) → T.name_of t ≡ None → behind names (T.names_of (t ∷ ts)) ≡ None
 no_name names t ts e = ap (λ o. behind names (first_then o (T.names_of ts))) e

@@ -14,24 +14,6 @@ use Rattle.aw_grammar.proofs.Growth.{each_push, differ_push, four_from, four_to}
 length_push : {A : Type 0} (xs : List A) (x : A) (n : ℕ) → length xs < n → length (xs ++ x ∷ []) ≤ n
 length_push xs x n less = omega (arith, length-append xs (x ∷ []))
 
--- nothing is declared
-pub well_formed_none : IsWellFormed (plain_words [] [] [] []) (plain_grammar [] [] [] [])
-well_formed_none = record {
-  roles = refl;
-  few_roles = omega arith;
-  few_cons = omega arith;
-  few_sorts = omega arith;
-  few_rules = omega arith;
-  names = tt;
-  roles_differ = tt;
-  cons_differ = tt;
-  sorts_differ = tt;
-  rules_differ = tt;
-  arities = tt;
-  sorts = tt;
-  rules = tt;
-}
-
 pub well_formed_role : (roles : List (List ℕ)) (cons : List Con) (name : List ℕ) → IsWellFormed (plain_words roles cons [] []) (plain_grammar roles cons [] []) → is_name name ≡ true → length roles < 64 → stands name roles ≡ false → IsWellFormed (plain_words (roles ++ name ∷ []) cons [] []) (plain_grammar (roles ++ name ∷ []) cons [] [])
 well_formed_role roles cons name w named few absent =
     let names = four_from (λ n. is_name n ≡ true) roles (map (λ (c : Con). c.name) cons) [] [] w.names in

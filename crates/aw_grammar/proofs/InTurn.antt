@@ -4,7 +4,6 @@ use Rattle.std.specs.Result.{IsErrAnd, IfOk}
 use Rattle.aw_term.specs.WellFormed.{IsWellFormed}
 use Rattle.aw_grammar.specs.declared.fault.DeclKind.{DeclKind}
 use Rattle.aw_grammar.specs.declared.fault.DeclPlace.{DeclPlace}
-use Rattle.aw_grammar.specs.declared.fault.AddFault.{AddFault}
 use Rattle.aw_grammar.specs.declared.fault.AddFault.TheVariants as add
 use Rattle.aw_grammar.specs.declared.fault.GrammarFault.{GrammarFault}
 use Rattle.aw_grammar.specs.declared.fault.GrammarFault.TheVariants as build
@@ -16,7 +15,7 @@ use Rattle.aw_grammar.specs.GrammarView.{rule_of}
 use Rattle.aw_grammar.specs.declared.grammar.Grammar.{Grammar}
 use Rattle.aw_grammar.specs.Declarations.{Entry, Declarations, with_role, with_con, with_sort, grammar_in, words_in}
 use Rattle.aw_grammar.specs.GrammarOf.{declarations_of, entry, grammar_of, words_of}
-use Rattle.aw_grammar.specs.Build.{Declaration, kind_of, declare, here_or, first_fault, declare_all, placed, is_spelled, AllSpelled, Added, BuiltOn, fault_at, roles_placed, cons_placed, sorts_placed}
+use Rattle.aw_grammar.specs.Build.{Declaration, kind_of, declare, here_or, first_fault, declare_all, placed, is_spelled, AllSpelled, BuiltOn, roles_placed, cons_placed, sorts_placed}
 
 suc_place : (n : ℕ) → n + 1 ≡ suc n
 suc_place n = omega arith
@@ -35,19 +34,6 @@ pub spelled_goes : {A : Type 0} (at : ℕ → DeclPlace) (wrap : A → Declarati
 spelled_goes at wrap i x rest left next each =
     let now = subst (λ xs. AllSpelled (placed at wrap i xs)) next each in
     (now.0, subst (λ n. AllSpelled (placed at wrap n rest)) (sym (suc_place i)) now.1)
-
--- a fault that is told here is the first
-pub stops_here : {A : Type 0} (at : ℕ → DeclPlace) (wrap : A → Declaration) (d old : Declarations) (i : ℕ) (x : A) (rest left : List A) (all : List (DeclPlace × Declaration)) (fault : AddFault) → left ≡ x ∷ rest → first_fault d (placed at wrap i left) ≡ first_fault old all → Added (kind_of d (wrap x)) (declare d (wrap x)) (Err fault) → BuiltOn old all (Err (fault_at (at i) fault))
-stops_here at wrap d old i x rest left all (add.Bad kind) next so_far told =
-    sym so_far ∙ ap (λ xs. first_fault d (placed at wrap i xs)) next ∙ ap (λ k. here_or (at i) k (first_fault (declare d (wrap x)) (placed at wrap (suc i) rest))) told
-stops_here at wrap d old i x rest left all add.NoMemory next so_far told = tt
-
--- where nothing is left, all is declared
-pub all_done : {A : Type 0} (at : ℕ → DeclPlace) (wrap : A → Declaration) (old : Declarations) (i : ℕ) (left : List A) (all : List (DeclPlace × Declaration)) (g : Grammar) → left ≡ [] → first_fault (declarations_of g) (placed at wrap i left) ≡ first_fault old all → declare_all (declarations_of g) (placed at wrap i left) ≡ declare_all old all → BuiltOn old all (Ok g)
-all_done at wrap old i left all g none fault declared = (
-  sym fault ∙ ap (λ xs. first_fault (declarations_of g) (placed at wrap i xs)) none,
-  sym (ap (λ xs. declare_all (declarations_of g) (placed at wrap i xs)) none) ∙ declared,
-)
 
 none_of_map : {A B : Type 0} (f : A → B) (xs : List A) → map f xs ≡ [] → xs ≡ []
 none_of_map f [] h = refl

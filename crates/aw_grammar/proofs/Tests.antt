@@ -31,9 +31,6 @@ or_last p q answer h e = e ∙ sym (ap (λ b. b || q) h)
 pub few_enough : (n : ℕ) → n ≤ 64 → nat_lt 64 n ≡ false
 few_enough n h = grind arith
 
-pub too_many : (n : ℕ) → 64 < n → nat_lt 64 n ≡ true
-too_many n h = grind arith
-
 pub entry_names : (sorts : List Sort) (rules : List Rule) → map (λ (e : Entry). e.name) (map (entry sorts) rules) ≡ map (λ (r : Rule). r.name) rules
 entry_names sorts [] = refl
 entry_names sorts (r ∷ rules) = ap (λ ns. r.name ∷ ns) (entry_names sorts rules)

@@ -33,7 +33,8 @@ ghost use Rattle.aw_term.specs.WellFormed.{IsWellFormed};
 impl Grammar {
     ghost use Rattle.aw_grammar.specs.GrammarView.{rule_of, sort_of};
     ghost use Rattle.aw_grammar.specs.GrammarOf.{grammar_of, words_of};
-    ghost use Rattle.aw_term.specs.WellFormed.{RuleFits, SortFits};
+    ghost use Rattle.aw_term.specs.Choices.{gives_of};
+    ghost use Rattle.aw_term.specs.WellFormed.{RuleFits, SortFits, takes_of};
 
     /// The rule with a number, from 0.
     pub fn rule(&self, number: u16) -> Option<&Rule>
@@ -49,6 +50,26 @@ impl Grammar {
         ensures fits { IfSome result (λ s. ∥ SortFits (grammar_of self.now).roles (sort_of s.now) ∥₁) }
     {
         self.sorts.get(usize::from(number))
+    }
+
+    /// How many values a sort inherits; 0 where it is not declared.
+    pub fn takes(&self, sort: u16) -> u8
+        ensures { result ≡ takes_of (slice_get (grammar_of self.now).sorts sort) }
+    {
+        match self.sort(sort) {
+            Some(declared) => declared.takes,
+            None => 0,
+        }
+    }
+
+    /// How many results a sort gives; 0 where it is not declared.
+    pub fn gives(&self, sort: u16) -> u8
+        ensures { result ≡ gives_of (slice_get (grammar_of self.now).sorts sort) }
+    {
+        match self.sort(sort) {
+            Some(declared) => declared.gives,
+            None => 0,
+        }
     }
 
     /// The constructor with a number, from 0.

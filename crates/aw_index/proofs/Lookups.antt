@@ -82,12 +82,5 @@ number_within x names h =
     let found = some_place x names h in
     subst (λ o. or_else (length names) o < length names) (sym found.1) (place_within x names found.0 found.1)
 
--- a place that is found is the number
-pub number_at : (x : List ℕ) (names : List (List ℕ)) (i : ℕ) → Some i ≡ place_of x names → i ≡ number_of x names
-number_at x names i h = ap (or_else (length names)) h
-
 pub is_placed : (x : List ℕ) (names : List (List ℕ)) (o : Option ℕ) → o ≡ place_of x names → stands x names ≡ true → is_some o ≡ true
 is_placed x names o e h = ap is_some e ∙ stands_is_placed x names ∙ h
-
-pub number_past : (x : List ℕ) (names : List (List ℕ)) → None ≡ place_of x names → length names ≡ number_of x names
-number_past x names h = ap (or_else (length names)) h

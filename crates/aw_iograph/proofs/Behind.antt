@@ -39,14 +39,8 @@ pub upto_step : {B : Type 0} (f : ℕ → B) (n m i j : ℕ) (done total : List 
 upto_step f n m i j done total lt at next e =
     ap (λ k. (done ++ f k ∷ []) ++ map f (upto j (m - (i + 1)))) (sym at) ∙ ap (λ k. (done ++ f n ∷ []) ++ map f (upto k (m - (i + 1)))) next ∙ append_assoc done (f n ∷ []) (map f (upto (suc n) (m - (i + 1)))) ∙ ap (λ ns. done ++ map f ns) (sym (upto_more n m i lt)) ∙ e
 
-pub upto_all : {B : Type 0} (f : ℕ → B) (n m i : ℕ) (done total : List B) → m ≤ i → done ++ map f (upto n (m - i)) ≡ total → done ≡ total
-upto_all f n m i done total le e = let none : m - i ≡ 0 = omega arith in sym (append_nil done) ∙ ap (λ k. done ++ map f (upto n k)) (sym none) ∙ e
-
 pub copies_step : {B : Type 0} (x : B) (m i : ℕ) (done total : List B) → i < m → done ++ replicate (m - i) x ≡ total → (done ++ x ∷ []) ++ replicate (m - (i + 1)) x ≡ total
 copies_step x m i done total lt e = let next : m - i ≡ suc (m - (i + 1)) = omega arith in append_assoc done (x ∷ []) (replicate (m - (i + 1)) x) ∙ ap (λ k. done ++ replicate k x) (sym next) ∙ e
-
-pub copies_all : {B : Type 0} (x : B) (m i : ℕ) (done total : List B) → m ≤ i → done ++ replicate (m - i) x ≡ total → done ≡ total
-copies_all x m i done total le e = let none : m - i ≡ 0 = omega arith in sym (append_nil done) ∙ ap (λ k. done ++ replicate k x) (sym none) ∙ e
 
 pub map_append : {A B : Type 0} (f : A → B) (xs ys : List A) → map f (xs ++ ys) ≡ map f xs ++ map f ys
 map_append f [] ys = refl

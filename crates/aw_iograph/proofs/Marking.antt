@@ -45,9 +45,6 @@ grown_set marks at lt e = record {
   fewer = λ on. set_fewer marks at lt e;
 }
 
-pub grown_not : (marks : List Bool) → Grown marks marks false
-grown_not marks = record { size = refl; kept = λ k e. e; same = λ off. refl; fewer = λ on. cc }
-
 pub set_same : (marks : List Bool) (at : ℕ) → get_or marks at false ≡ true → slice_set marks at true ≡ marks
 set_same [] at e = refl
 set_same (m ∷ ms) zero e = let same : true ≡ m = cc in ap (λ b. b ∷ ms) same

@@ -2,7 +2,6 @@
 ghost use Rattle.std.specs.Prelude.{◌≡◌, ◌∷◌, [], ◌++◌, ◌+◌, ◌<◌, ◌≤◌, ◌↔◌, map, length, replicate, Some, None, IfOk, OnOk, slice_get, option_and_then};
 ghost use Rattle.aw_term.specs.Rules as P;
 ghost use Rattle.aw_term.specs.Rules.{upto};
-ghost use Rattle.aw_term.specs.Choices.{gives_of};
 ghost use Rattle.aw_term.specs.WellFormed.{leaves, leaves_of};
 ghost use Rattle.aw_term.specs.Views.{pattern_of, term_of};
 ghost use Rattle.aw_grammar.specs.GrammarView.{rule_of, child_of};
@@ -82,23 +81,13 @@ fn enter_results(child: u8, count: u8, entries: &mut Entries) -> Result<(), Allo
     Ok(())
 }
 
-/// How many results a sort gives.
-fn gives(g: &Grammar, sort: u16) -> u8
-    ensures { result ≡ gives_of (slice_get (grammar_of g.now).sorts sort) }
-{
-    match g.sort(sort) {
-        Some(sort) => sort.gives,
-        None => 0,
-    }
-}
-
 /// The results of a rule's children enter.
 fn enter_children(g: &Grammar, children: &Children, entries: &mut Entries) -> Result<(), AllocError>
     requires { length children.now ≤ 8 }
     ensures { OnOk result (entries.new ≡ entries.old ++ child_entries 1 (map (child_of g.now.sorts) children.now)) }
 {
     for (k, child) in children.as_slice().iter().enumerate() {
-        enter_results((k + 1) as u8, gives(g, child.sort), entries)?;
+        enter_results((k + 1) as u8, g.gives(child.sort), entries)?;
     }
     Ok(())
 }

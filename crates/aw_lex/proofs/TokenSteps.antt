@@ -15,10 +15,6 @@ pub blank_step : (at : ℕ) (bs : List ℕ) → 0 < length bs → front_of bs �
 blank_step at [] h e = absurd (omega arith)
 blank_step at (b ∷ bs) h e = ap (λ f. tokens_at f at (λ passed. tokens_from (at + 1) passed bs)) e
 
-pub bad_step : (at : ℕ) (bs : List ℕ) → 0 < length bs → front_of bs ≡ front.Bad → tokens_from at 0 bs ≡ Err at
-bad_step at [] h e = absurd (omega arith)
-bad_step at (b ∷ bs) h e = ap (λ f. tokens_at f at (λ passed. tokens_from (at + 1) passed bs)) e
-
 pub token_step : (at len : ℕ) (kind : TokenKind) (bs : List ℕ) → 0 < len → len ≤ length bs → front_of bs ≡ front.Token kind len
     → tokens_from at 0 bs ≡ with_token (record { kind = kind; start = at; end = at + len }) (tokens_from (at + len) 0 (drop len bs))
 token_step at zero kind bs some h e = absurd (omega arith)
@@ -34,10 +30,6 @@ token_step at (suc k) kind (b ∷ bs) some h e =
 abbrev pub behind : List Token → Result (List Token) ℕ → Result (List Token) ℕ
 behind found (Ok more) = Ok (found ++ more)
 behind found (Err at) = Err at
-
-pub behind_none : (r : Result (List Token) ℕ) → behind [] r ≡ r
-behind_none (Ok more) = refl
-behind_none (Err at) = refl
 
 pub behind_one : (found : List Token) (token : Token) (r : Result (List Token) ℕ) → behind found (with_token token r) ≡ behind (found ++ token ∷ []) r
 behind_one found token (Ok more) = ap Ok (sym (append_assoc found (token ∷ []) more))

@@ -1,9 +1,7 @@
 -- Texts that are printed in parts.
-use Rattle.std.proofs.Common.{◌≡◌, ℕ, ◌+◌, ◌<◌, ◌∷◌, drop, get_or, List, [], ◌++◌, length, take, Ok, Err, sym, ◌∙◌, ap, append_assoc, append-nil, length-append, arith}
+use Rattle.std.proofs.Common.{◌≡◌, ℕ, ◌+◌, List, [], ◌++◌, length, take, Ok, Err, sym, ◌∙◌, ap, append_assoc, append-nil, length-append, arith}
 use Rattle.std.proofs.Math.Seq.{take-append-add}
-use Rattle.std.proofs.lemmas.List.{take-append-le, take-append-drop, take_more}
-use Rattle.std.proofs.lemmas.Grind.{flat_map-append}
-use Rattle.std.specs.List.{flat_map}
+use Rattle.std.proofs.lemmas.List.{take-append-le}
 use Rattle.std.specs.declared.result.Result.{Result}
 use Rattle.aw_out.specs.declared.error.PrintFault.{PrintFault}
 use Rattle.aw_out.specs.Report.{Bounded, printed, PrintsFront, Prints}
@@ -60,17 +58,3 @@ Prints-nothing report = record {
   too_large = λ e. absurd (cc e);
   front = tt;
 }
-
--- The texts of the first items were printed, and the text of the next one is.
-pub Prints-item : {X : Type 0} (text_of : X → List ℕ) (items : List X) (i : ℕ) (item : X) (old mid new : Bounded) (result : Result Unit PrintFault) → i < length items → item ≡ get_or items i item → Prints (flat_map text_of (take i items)) old mid (Ok tt) → Prints (text_of item) mid new result → Prints (flat_map text_of (take (i + 1) items)) old new result
-Prints-item text_of items i item old mid new result within here first next =
-    let e : flat_map text_of (take (i + 1) items) ≡ flat_map text_of (take i items) ++ text_of item =
-    rw (take_more items i item within, ← here, flat_map-append text_of (take i items) (item ∷ [])) (ap (λ t. flat_map text_of (take i items) ++ t) (append-nil (text_of item))) in
-    rw e (Prints-second _ _ _ _ _ _ first next)
-
--- The texts of the first items were printed, a call stopped within the text of the next one, and the later ones are not printed.
-pub Prints-item_stopped : {X : Type 0} (text_of : X → List ℕ) (items : List X) (i : ℕ) (item : X) (old mid new : Bounded) (fault : PrintFault) → i < length items → item ≡ get_or items i item → Prints (flat_map text_of (take i items)) old mid (Ok tt) → Prints (text_of item) mid new (Err fault) → Prints (flat_map text_of items) old new (Err fault)
-Prints-item_stopped text_of items i item old mid new fault within here first next =
-    let e : flat_map text_of items ≡ flat_map text_of (take (i + 1) items) ++ flat_map text_of (drop (i + 1) items) =
-    ap (flat_map text_of) (sym (take-append-drop (i + 1) items)) ∙ flat_map-append text_of (take (i + 1) items) (drop (i + 1) items) in
-    rw e (Prints-stopped _ _ _ _ _ (Prints-item text_of items i item old mid new (Err fault) within here first next))

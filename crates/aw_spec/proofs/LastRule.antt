@@ -1,12 +1,11 @@
 -- The last item of a list, and the rule that was declared last.
-use Rattle.std.proofs.Common.{◌≡◌, ℕ, zero, suc, ◌+◌, ◌<◌, ◌≤◌, refl, sym, ◌∙◌, ap, List, [], ◌∷◌, ◌++◌, map, length, slice_get, arith, Option, Some, None, length-append}
+use Rattle.std.proofs.Common.{◌≡◌, ℕ, zero, suc, ◌+◌, ◌≤◌, refl, sym, ◌∙◌, ap, List, [], ◌∷◌, ◌++◌, map, length, slice_get, arith, Option, Some, None, length-append}
 use Rattle.std.proofs.lemmas.List.{length-map}
 use Rattle.aw_term.specs.WellFormed.{RuleFits}
 use Rattle.aw_grammar.specs.declared.fault.DeclKind.{DeclKind}
 use Rattle.aw_grammar.specs.declared.rule.Sort.{Sort}
 use Rattle.aw_grammar.specs.declared.rule.Rule.{Rule}
-use Rattle.aw_grammar.specs.Declarations.{Entry, Declarations, entry_of, with_rule}
-use Rattle.aw_grammar.specs.GrammarOf.{entry}
+use Rattle.aw_grammar.specs.Declarations.{Declarations, entry_of, with_rule}
 use Rattle.aw_grammar.specs.GrammarView.{sorts_of, child_of, rule_of}
 use Rattle.aw_grammar.specs.Kinds.{rule_kind}
 use Rattle.aw_grammar.specs.Written.{WrittenRule}
@@ -33,9 +32,6 @@ at_last f (a ∷ b ∷ more) (c ∷ cs) y (suc i) x l e g = at_last f (b ∷ mor
   where
     behind : {B : Type 0} (p q : B) (ps qs : List B) → p ∷ ps ≡ q ∷ qs → ps ≡ qs
     behind p q ps qs e = cc
-
-pub some_rules : (sorts : List Sort) (rules : List Rule) (front : List Entry) (e : Entry) → map (entry sorts) rules ≡ front ++ e ∷ [] → 0 < length rules
-some_rules sorts rules front e h = omega (arith, ap length h, length-map rules (entry sorts), length-append front (e ∷ []))
 
 pub few_children : (sorts : List Sort) (r : Rule) → length (rule_of sorts r).children ≤ 8 → length r.children ≤ 8
 few_children sorts r h = omega (arith, h, length-map r.children (child_of sorts))

@@ -3,23 +3,13 @@ use Rattle.std.proofs.Common.{◌≡◌, ℕ, zero, suc, ◌+◌, ◌-◌, ◌�
 use Rattle.std.proofs.lemmas.List.{drop-drop}
 use Rattle.aw_text.specs.Spelling.{cut, with_front}
 use Rattle.aw_lex.specs.Lines.{first_line}
-use Rattle.aw_spec.specs.declared.fault.SpecKind.{SpecKind}
-use Rattle.aw_spec.specs.Reading.{Spec, Draft, LineRead, Next, Fault, End, Reading, Good, Faulty, read_line, after_line, read_lines}
+use Rattle.aw_spec.specs.Reading.{Draft, LineRead, Next, Reading, read_line, after_line, read_lines}
 
 one_read : (d : Draft) (n : ℕ) (line : List ℕ) (left lines : List (List ℕ)) (r : LineRead) → left ≡ line ∷ lines → read_line d line ≡ r → read_lines d n left ≡ after_line d (suc n) r (λ next. read_lines next (suc n) lines)
 one_read d n line left lines r e h = ap (read_lines d n) e ∙ ap (λ x. after_line d (suc n) x (λ next. read_lines next (suc n) lines)) h
 
 pub next_read : (d next : Draft) (n : ℕ) (line : List ℕ) (left lines : List (List ℕ)) → left ≡ line ∷ lines → read_line d line ≡ Next next → read_lines next (n + 1) lines ≡ read_lines d n left
 next_read d next n line left lines e h = ap (λ m. read_lines next m lines) (add-one n) ∙ sym (one_read d n line left lines (Next next) e h)
-
-pub fault_read : (d : Draft) (n : ℕ) (kind : SpecKind) (line : List ℕ) (left lines : List (List ℕ)) → left ≡ line ∷ lines → read_line d line ≡ Fault kind → read_lines d n left ≡ Faulty (n + 1) kind
-fault_read d n kind line left lines e h = one_read d n line left lines (Fault kind) e h ∙ ap (λ m. Faulty m kind) (sym (add-one n))
-
-pub end_read : (d : Draft) (s : Spec) (n : ℕ) (line : List ℕ) (left lines : List (List ℕ)) → left ≡ line ∷ lines → read_line d line ≡ End → s ≡ d.spec → read_lines d n left ≡ Good s (n + 1)
-end_read d s n line left lines e h same = one_read d n line left lines End e h ∙ ap (λ m. Good d.spec m) (sym (add-one n)) ∙ ap (λ t. Good t (n + 1)) (sym same)
-
-pub all_read : (d : Draft) (n : ℕ) (left : List (List ℕ)) → left ≡ [] → read_lines d n left ≡ Good d.spec n
-all_read d n left e = ap (read_lines d n) e
 
 pub one_dropped : (n : ℕ) (line : List ℕ) (left lines all : List (List ℕ)) → left ≡ line ∷ lines → left ≡ drop n all → lines ≡ drop (n + 1) all
 one_dropped n line left lines all e h = ap (drop 1) (sym e ∙ h) ∙ drop-drop 1 n all
@@ -42,9 +32,6 @@ by_length (suc k) (b ∷ bs) =
 
 pub behind_by_length : (rest text : List ℕ) → IsBehind rest text → drop (length text - length rest) text ≡ rest
 behind_by_length rest text h = ap (λ r. drop (length text - length r) text) h.1 ∙ by_length h.0 text ∙ sym h.1
-
-pub behind_not_longer : (rest text : List ℕ) → IsBehind rest text → length rest ≤ length text
-behind_not_longer rest text h = omega (arith, ap length h.1, shorter h.0 text)
 
 pub behind_both : (a b text : List ℕ) → IsBehind a b → IsBehind b text → IsBehind a text
 behind_both a b text h k = (k.0 + h.0, h.1 ∙ ap (drop h.0) k.1 ∙ drop-drop h.0 k.0 text)

@@ -73,10 +73,5 @@ one_more : (children : List WrittenChild) (c : WrittenChild) (rest : Option (Lis
 one_more children c None = refl
 one_more children c (Some more) = ap Some (sym (append_assoc children (c ∷ []) more))
 
-pub child_read : (children : List WrittenChild) (c : WrittenChild) (piece : List Lexeme) (others : List (List Lexeme)) → child_of piece ≡ Some c →
-    behind children (children_of (piece ∷ others)) ≡ behind (children ++ c ∷ []) (children_of others)
-child_read children c piece others e =
-    ap (λ (o : Option WrittenChild). behind children (o >>= (λ child. children_of others >>= (λ more. Some (child ∷ more))))) e ∙ one_more children c (children_of others)
-
 pub no_child : (children : List WrittenChild) (piece : List Lexeme) (others : List (List Lexeme)) → child_of piece ≡ None → behind children (children_of (piece ∷ others)) ≡ None
 no_child children piece others e = ap (λ (o : Option WrittenChild). behind children (o >>= (λ child. children_of others >>= (λ more. Some (child ∷ more))))) e

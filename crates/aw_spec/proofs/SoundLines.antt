@@ -36,14 +36,6 @@ name_sound (Node n ∷ ls) x s e = cc
 name_sound (Quoted n ∷ ls) x s e = cc
 name_sound (Mark n ∷ ls) x s e = cc
 
-number_sound : (ls : List Lexeme) (x : ℕ × List Lexeme) → AreSound ls → number ls ≡ Some x → AreSound x.1
-number_sound [] x s e = cc
-number_sound (Number n ∷ ls) x s e = subst (λ (y : ℕ × List Lexeme). AreSound y.1) (same_pair (n, ls) x e) s.1
-number_sound (Name n ∷ ls) x s e = cc
-number_sound (Node n ∷ ls) x s e = cc
-number_sound (Quoted n ∷ ls) x s e = cc
-number_sound (Mark n ∷ ls) x s e = cc
-
 if_mark : (b : Bool) (ls rest : List Lexeme) → cond b (Some ls) None ≡ Some rest → ls ≡ rest
 if_mark true ls rest e = cc
 if_mark false ls rest e = cc

@@ -1,12 +1,11 @@
 -- Two bodies with one view are one, and the derived test of bodies is exact.
-use Rattle.std.proofs.Common.{◌≡◌, Decides, refl, ap, ◌∙◌, sym}
+use Rattle.std.proofs.Common.{◌≡◌, Decides, refl, ap}
 use Rattle.std.specs.Cmp.Lexicographic.{pointwise_decides}
 use Rattle.std.proofs.lemmas.Bool.Decides.{Decides-eqb, Decides-and, Decides-like}
 use Rattle.aw_name.specs.contracts.node.RefPartialEq.TheImpl as reference
 use Rattle.aw_name.proofs.Equal.{ref_exact}
 use Rattle.aw_term.specs.Trees as T
 use Rattle.aw_store.specs.Equations as P
-use Rattle.aw_store.specs.EquationView.{body_of}
 use Rattle.aw_store.specs.declared.equation.Body.{Body}
 use Rattle.aw_store.specs.declared.equation.Body.TheVariants.{Same, Con, Num, Text}
 use Rattle.aw_store.specs.contracts.equation.BodyPartialEq.TheImpl as bodies
@@ -16,15 +15,6 @@ back (P.Same r) = Same r
 back (P.Is (T.Con c) parts) = Con c parts
 back (P.Is (T.Num n) parts) = Num n
 back (P.Is (T.Text t) parts) = Text t
-
-back_of : (b : Body) → back (body_of b) ≡ b
-back_of (Same r) = refl
-back_of (Con c parts) = refl
-back_of (Num n) = refl
-back_of (Text t) = refl
-
-pub body_of-same : (a b : Body) → body_of a ≡ body_of b → a ≡ b
-body_of-same a b e = sym (back_of a) ∙ ap back e ∙ back_of b
 
 pub body_exact : (a b : Body) → Decides ((bodies.ghosts).eq a b) (a ≡ b)
 body_exact (Same r) (Same s) = Decides-like _ (ap Same) (λ e. cc) (ref_exact r s ((reference.ghosts).eq r s) refl)

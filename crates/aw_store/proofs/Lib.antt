@@ -4,4 +4,3 @@ pub mod NameLemmas
 pub mod StoreLemmas
 pub mod BodyLemmas
 pub mod AddLemmas
-pub mod TextLemmas

@@ -1,5 +1,5 @@
 -- Lists of named references.
-use Rattle.std.proofs.Common.{◌≡◌, ℕ, zero, suc, ◌+◌, ◌<◌, Bool, true, false, List, [], ◌∷◌, ◌++◌, length, take, get_or, Some, refl, ap, sym, ◌∙◌, inl, inr, arith, append_assoc, append-nil}
+use Rattle.std.proofs.Common.{◌≡◌, ℕ, zero, suc, ◌+◌, ◌<◌, Bool, true, false, List, [], ◌∷◌, ◌++◌, length, take, get_or, Some, refl, ap, sym, ◌∙◌, inl, inr, arith, append_assoc}
 use Rattle.std.specs.Prelude.{slice_get, ◌⊎◌, ◌||◌, Result, Ok, Err, IsOk, OnOk}
 use Rattle.std.proofs.lemmas.List.{take_more}
 use Rattle.aw_term.specs.Names.{Ref}
@@ -14,13 +14,6 @@ true_or_false b e f = cc
 or_right : (a b : Bool) → b ≡ true → (a || b) ≡ true
 or_right true b e = refl
 or_right false b e = e
-
--- Growth
-pub grows_none : (ns : List Ref) → Grows ns ns
-grows_none ns = ([], sym (append-nil ns))
-
-pub grows_same : (ns ms : List Ref) → ms ≡ ns → Grows ns ms
-grows_same ns ms e = ([], e ∙ sym (append-nil ns))
 
 pub grows_more : (a b c : List Ref) → Grows a b → Grows b c → Grows a c
 grows_more a b c (m, e) (n, f) = (m ++ n, f ∙ ap (λ x. x ++ n) e ∙ append_assoc a m n)

@@ -1,40 +1,18 @@
 //! Texts of bodies. A number that is not declared prints as an empty name.
-ghost use Rattle.std.specs.Prelude.{◌≡◌, ◌++◌, [], codes, flat_map, map, OnOk, OnErr, IfOk};
+ghost use Rattle.std.specs.Prelude.{◌≡◌, ◌++◌, [], map, OnOk, OnErr, IfOk};
 ghost use Rattle.aw_term.specs.Rules.{get};
-ghost use Rattle.aw_term.specs.Artifacts.{ref_text, listed, with_parts};
+ghost use Rattle.aw_term.specs.Artifacts.{ref_text, with_parts};
 ghost use Rattle.aw_grammar.specs.GrammarOf.{words_of};
 ghost use Rattle.aw_store.specs.EquationView.{body_of};
 ghost use Rattle.aw_store.specs.BodyTexts.{body_text};
 
 use crate::equation::Body;
-use aw_base::{con_name, push_ref};
+use aw_base::{con_name, push_ref, push_refs};
 use aw_grammar::Grammar;
 use aw_list::Text;
 use aw_name::Ref;
 use aw_text::{push_number, push_quoted};
 use std::alloc::{AllocError, Global};
-
-fn add_following(text: &mut Text, g: &Grammar, refs: &[Ref]) -> Result<(), AllocError>
-    ensures { OnOk result (text.new ≡ text.old ++ flat_map (λ r. codes ", " ++ ref_text (words_of g.now) r) refs.now) }
-{
-    for r in refs {
-        text.push_bytes(b", ")?;
-        push_ref(text, g, r)?;
-    }
-    Ok(())
-}
-
-fn add_refs(text: &mut Text, g: &Grammar, refs: &[Ref]) -> Result<(), AllocError>
-    ensures { OnOk result (text.new ≡ text.old ++ listed (map (ref_text (words_of g.now)) refs.now)) }
-{
-    match refs {
-        [] => Ok(()),
-        [first, rest @ ..] => {
-            push_ref(text, g, first)?;
-            add_following(text, g, rest)
-        }
-    }
-}
 
 fn add_con(text: &mut Text, g: &Grammar, con: u16, parts: &[Ref]) -> Result<(), AllocError>
     ensures { OnOk result (text.new ≡ text.old ++ with_parts (get [] (words_of g.now).cons con) (map (ref_text (words_of g.now)) parts.now)) }
@@ -44,7 +22,7 @@ fn add_con(text: &mut Text, g: &Grammar, con: u16, parts: &[Ref]) -> Result<(), 
         return Ok(());
     }
     text.push_bytes(b"(")?;
-    add_refs(text, g, parts)?;
+    push_refs(text, g, parts)?;
     text.push_bytes(b")")
 }
 

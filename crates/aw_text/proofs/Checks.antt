@@ -9,6 +9,3 @@ both_true false b h = absurd cc
 
 pub long_is_false : (m n : ℕ) → 1024 < m → nat_le (m + n) 1024 ≡ false
 long_is_false m n h = grind (arith, nat_tests)
-
-pub short_is_true : (m : ℕ) → m ≤ 1024 → nat_le (m + 0) 1024 ≡ true
-short_is_true m h = grind (arith, nat_tests)

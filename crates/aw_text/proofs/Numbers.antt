@@ -25,9 +25,6 @@ value_at_end n i ds h = grind (arith, common_steps)
 pub value_one_more : (n i : ℕ) (ds : List ℕ) → i < length ds → value_after (n * 10 + (get_or ds i 0 - 48)) (drop (i + 1) ds) ≡ value_after n (drop i ds)
 value_one_more n i ds h = grind (arith, common_steps)
 
-pub word_again : (n m : ℕ) → if_word n ≡ Some m → if_word m ≡ Some m
-word_again n m e = grind (arith, nat_tests)
-
 pub word_is : (n m : ℕ) → if_word n ≡ Some m → n ≡ m
 word_is n m e = grind (arith, nat_tests)
 

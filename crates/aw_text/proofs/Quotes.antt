@@ -1,9 +1,9 @@
 -- A text between quotes, byte by byte.
-use Rattle.std.proofs.Common.{◌≡◌, ℕ, ◌+◌, ◌≤◌, ◌<◌, refl, sym, ◌∙◌, ap, Bool, true, false, cond, List, [], ◌∷◌, ◌++◌, length, arith, Option, Some, None, option_map, option_and_then, nat_le, ◌==◌, suc, subst, inl, inr, ◌&&◌, ◌||◌, not, IfSome, IfOk, Result, Ok, Err, flat_map, append_assoc, append-nil, length-append}
+use Rattle.std.proofs.Common.{◌≡◌, ℕ, ◌+◌, ◌<◌, refl, sym, ◌∙◌, ap, Bool, true, false, cond, List, [], ◌∷◌, ◌++◌, length, arith, Option, Some, None, option_map, option_and_then, nat_le, ◌==◌, suc, subst, inl, inr, ◌&&◌, ◌||◌, not, IfSome, IfOk, Result, Ok, Err, flat_map, append_assoc, length-append}
 use Rattle.std.proofs.lemmas.Bool.Decides.{nat_tests, eqb_tells}
 use Rattle.std.specs.List.{list_all}
 use Rattle.aw_text.specs.Spelling.{with_front, content_before_quote, text_behind_quote, whole, unquoted, quoted, spelled, escaped, stands_for_itself, is_content, is_content_byte}
-use Rattle.aw_text.proofs.Checks.{both_true, long_is_false, short_is_true}
+use Rattle.aw_text.proofs.Checks.{both_true, long_is_false}
 
 -- what follows the closing quote, where k bytes of the content stand before
 abbrev pub end_after : ℕ → Option (List ℕ × List ℕ) → Option (List ℕ)
@@ -25,9 +25,6 @@ end_one_more k b (Some text) = ap (λ n. cond (nat_le n 1024) (Some text.1) None
 pub end_too_long : (k : ℕ) (o : Option (List ℕ × List ℕ)) → 1024 < k → end_after k o ≡ None
 end_too_long k None h = refl
 end_too_long k (Some text) h = grind (arith, nat_tests)
-
-pub end_here : (k : ℕ) (rest : List ℕ) → k ≤ 1024 → end_after k (Some ([], rest)) ≡ Some rest
-end_here k rest h = grind (arith, nat_tests)
 
 -- The same where the content is kept.
 abbrev pub whole_after : List ℕ → Option (List ℕ × List ℕ) → Option (List ℕ)
@@ -51,10 +48,6 @@ whole_one_more front b (Some text) =
 pub whole_too_long : (front : List ℕ) (o : Option (List ℕ × List ℕ)) → 1024 < length front → whole_after front o ≡ None
 whole_too_long front None h = refl
 whole_too_long front (Some text) h = ap (λ t. cond t (whole (front ++ text.0, text.1)) None) (long_is_false (length front) (length text.0) h)
-
-pub whole_here : (front rest : List ℕ) → length front ≤ 1024 → whole_after front (Some ([], rest)) ≡ whole (front, rest)
-whole_here front rest h =
-    ap (λ t. cond t (whole (front ++ [], rest)) None) (short_is_true (length front) h) ∙ ap (λ xs. whole (xs, rest)) (append-nil front)
 
 -- What is printed is read again.
 pub plain_piece : (b : ℕ) (rest : List ℕ) → (b == 34) ≡ false → (b == 92) ≡ false → stands_for_itself b ≡ true
