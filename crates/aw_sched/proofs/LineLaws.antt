@@ -1,10 +1,9 @@
 -- What a line gives, where its names were looked up.
-use Rattle.std.proofs.Common.{◌≡◌, ℕ, ◌<◌, refl, sym, ap, ◌∙◌, Bool, true, false, ◌&&◌, ◌||◌, not, cond, List, [], ◌∷◌, map, length, Option, Some, None, is_some, slice_get, arith}
+use Rattle.std.proofs.Common.{◌≡◌, ℕ, ◌<◌, refl, sym, ap, ◌∙◌, Bool, true, false, ◌&&◌, ◌||◌, not, cond, List, [], ◌∷◌, map, length, Option, Some, None, slice_get, arith}
 use Rattle.std.specs.Prelude.{Err, is_none}
 use Rattle.std.proofs.lemmas.List.{length-map}
 use Rattle.aw_index.specs.Places.{number_of, stands}
 use Rattle.aw_term.specs.Names.{Node}
-use Rattle.aw_term.specs.Rules.{sort_of}
 use Rattle.aw_term.specs.Choices.{Start, Develop}
 use Rattle.aw_term.specs.Views.{ground_of}
 use Rattle.aw_term.specs.declared.ground.Ground.{Ground}
@@ -18,7 +17,7 @@ use Rattle.aw_grammar.specs.GrammarOf.{grammar_of, words_of, declarations_of}
 use Rattle.aw_grammar.specs.Declarations.{grammar_in, words_in, con_names, rule_names}
 use Rattle.aw_base.specs.NodeNames.{node_named, is_start}
 use Rattle.aw_grammar.specs.Named.{number_named}
-use Rattle.aw_base.specs.ChoiceFits.{args_ok, choice_ok}
+use Rattle.aw_base.specs.ChoiceFits.{args_ok}
 use Rattle.aw_sched.specs.Lines.{StartLine, ChooseLine, ListLine}
 use Rattle.aw_sched.specs.Events as P
 use Rattle.aw_sched.specs.Events.{first_kind, event_of, line_kind, is_long, args_are_past, args_unknown, ground_named, node_or_none}
@@ -78,11 +77,6 @@ three p u a = first_kind ((p, Limit) ∷ (u, Unknown) ∷ (a, Arity) ∷ [])
 abbrev four : Bool → Bool → Bool → Bool → Bool → Option SchedKind
 four p l u a m = first_kind ((p || l, Limit) ∷ (u, Unknown) ∷ (a, Arity) ∷ (m, Name) ∷ [])
 
-four_long : (p l u a m : Bool) → l ≡ true → four p l u a m ≡ Some Limit
-four_long true l u a m e = refl
-four_long false true u a m e = refl
-four_long false false u a m e = cc
-
 four_args : (p l u a m : Bool) (k : SchedKind) → l ≡ false → three p u a ≡ Some k → four p l u a m ≡ Some k
 four_args true l u a m k e h = h
 four_args false true u a m k e h = cc
@@ -105,10 +99,6 @@ unknown_of g rule args = not (stands rule (rule_names (declarations_of g))) || a
 
 abbrev misfit_of : Grammar → List Written → Bool
 misfit_of g args = not (all_have_arities g.cons args)
-
-pub choose_long : (g : Grammar) (n rule : List ℕ) (args : List Written) → is_long n ≡ true → line_kind (declarations_of g) (ChooseLine n rule args) ≡ Some Limit
-choose_long g n rule args e =
-    four_long (args_are_past args) (is_long n) (unknown_of g rule args) (misfit_of g args) (is_none (node_named (words_in (declarations_of g)) (grammar_in (declarations_of g)) n)) e
 
 pub choose_fault : (g : Grammar) (n rule : List ℕ) (args : List Written) (event : P.Event) (fault : LineFault) → is_long n ≡ false
     → GivesArgs (declarations_of g) (grammar_of g) rule args (Err fault) → GivesEvent (line_kind (declarations_of g) (ChooseLine n rule args)) event (Err fault)
@@ -142,23 +132,11 @@ all_three true true false e f h = cc
 all_three true false c e f h = cc
 all_three false b c e f h = cc
 
-pub choose_fits : (g : Grammar) (rule : List ℕ) (args : List Written) (node : Node) (i : ℕ) (found : List Ground) → is_some (sort_of (grammar_of g) node) ≡ true
-    → AreFound (declarations_of g) (grammar_of g) rule args i found → choice_ok (grammar_of g) (Develop node i (map ground_of found)) ≡ true
-choose_fits g rule args node i found e a =
-    all_three (is_some (sort_of (grammar_of g) node)) (is_some (slice_get (grammar_of g).rules i)) (args_ok (grammar_of g) (map ground_of found)) e a.declared a.fit
-
--- the arguments
-past_kind : (p u a : Bool) → p ≡ true → three p u a ≡ Some Limit
-past_kind p u a e = ap (λ b. three b u a) e
-
 unknown_kind : (p u a : Bool) → p ≡ false → u ≡ true → three p u a ≡ Some Unknown
 unknown_kind p u a e f = ap (λ b. three b u a) e ∙ ap (λ b. three false b a) f
 
 last_kind : (p u a : Bool) → p ≡ false → u ≡ false → three p u a ≡ cond a (Some Arity) None
 last_kind p u a e f = ap (λ b. three b u a) e ∙ ap (λ b. three false b a) f
-
-pub args_past : (g : Grammar) (rule : List ℕ) (args : List Written) → args_are_past args ≡ true → args_kind (declarations_of g) rule args ≡ Some Limit
-args_past g rule args e = past_kind (args_are_past args) (unknown_of g rule args) (misfit_of g args) e
 
 rule_stands : (g : Grammar) (rule : List ℕ) (b : Bool) → stands rule (words_of g).rules ≡ b → stands rule (rule_names (declarations_of g)) ≡ b
 rule_stands g rule b e = ap (stands rule) (rule_names_same g.sorts g.rules) ∙ e

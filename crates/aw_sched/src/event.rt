@@ -14,4 +14,5 @@ pub enum Event {
     List(u16),
 }
 
+/// What a schedule asks for, in its order.
 pub type Events = Items<Event>;

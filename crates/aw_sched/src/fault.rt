@@ -20,6 +20,26 @@ pub enum SchedKind {
     Name,
 }
 
+impl SchedKind {
+    ghost use Rattle.std.specs.Prelude.{◌≡◌};
+    ghost use Rattle.aw_sched.specs.KindNames.{kind_name};
+
+    /// The word by which the kind is told.
+    pub fn name(self) -> &'static [u8]
+        ensures { result.now ≡ kind_name self }
+    {
+        match self {
+            SchedKind::Token => b"token",
+            SchedKind::Form => b"form",
+            SchedKind::Limit => b"limit",
+            SchedKind::Unknown => b"unknown",
+            SchedKind::Arity => b"arity",
+            SchedKind::NotStart => b"notstart",
+            SchedKind::Name => b"name",
+        }
+    }
+}
+
 /// Why a schedule is not read. Lines are counted from 1.
 #[derive(Clone, Copy, Debug, PartialEq, Eq)]
 pub enum SchedFault {

@@ -5,7 +5,7 @@
 
 use aw_list::Text;
 use aw_out::{StdSink, StdSource, read_all, write_all};
-use aw_sched::{SchedFault, SchedKind, read_schedule};
+use aw_sched::{SchedFault, read_schedule};
 use aw_spec::{SpecFault, SpecText, read_spec};
 use aw_text::push_number;
 use bstr::ByteSlice;
@@ -17,18 +17,6 @@ const MARK: &[u8] = b"=== ";
 
 /// The most bytes of a table.
 const LIMIT: usize = 16_777_216;
-
-fn schedule_word(kind: SchedKind) -> &'static [u8] {
-    match kind {
-        SchedKind::Token => b"token",
-        SchedKind::Form => b"form",
-        SchedKind::Limit => b"limit",
-        SchedKind::Unknown => b"unknown",
-        SchedKind::Arity => b"arity",
-        SchedKind::NotStart => b"notstart",
-        SchedKind::Name => b"name",
-    }
-}
 
 /// Adds `schedule line 3 form`.
 fn push_place(told: &mut Text, what: &[u8], line: u64, kind: &[u8]) -> Result<(), AllocError> {
@@ -52,7 +40,7 @@ fn push_schedule_verdict(
             told,
             b"schedule",
             line.saturating_add(spec.lines),
-            schedule_word(kind),
+            kind.name(),
         ),
         Err(SchedFault::NoMemory) => Err(AllocError),
     }
