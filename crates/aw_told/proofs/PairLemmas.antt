@@ -1,5 +1,5 @@
 -- The test of a pair tells whether the relation has it.
-use Rattle.std.proofs.Common.{◌≡◌, ◌↔◌, ℕ, ◌<◌, ◌≤◌, Bool, true, false, ◌&&◌, IsTrue, Option, None, Some, nat_lt, nat_le, slice_get, refl, sym, ap, ◌∙◌, arith, List, Ok, Err, IfOk}
+use Rattle.std.proofs.Common.{◌≡◌, ◌↔◌, ℕ, ◌<◌, ◌≤◌, Bool, true, false, ◌&&◌, IsTrue, Option, None, Some, nat_lt, nat_le, slice_get, refl, ap, ◌∙◌, arith, List, Ok, Err, IfOk}
 use Rattle.std.specs.declared.result.Result.{Result}
 use Rattle.std.proofs.lemmas.Bool.Decides.{nat_tests}
 use Rattle.aw_grammar.specs.declared.grammar.Grammar.{Grammar}
@@ -43,15 +43,6 @@ pair-test io s i j = (
   (λ has.
       join _ _ (number-test i has.inherited.counted has.inherited.few) (join _ _ (number-test j has.result.counted has.result.few) (ap is_set has.marked))),
 )
-
-same-tests : (a b : Bool) → (a ≡ true → b ≡ true) → (b ≡ true → a ≡ true) → a ≡ b
-same-tests true b there back = sym (there refl)
-same-tests false true there back = back refl
-same-tests false false there back = refl
-
--- what another test tells of the pair is the same
-pub pair-same : (io : Io) (s i j : ℕ) (told : Bool) → IsTrue told ↔ Has io s i j → told ≡ has_pair io s i j
-pair-same io s i j told says = same-tests told (has_pair io s i j) (λ e. (pair-test io s i j).1 (says.0 e)) (λ e. says.1 ((pair-test io s i j).0 e))
 
 -- the text of a relation that is that of the grammar tells it
 pub tells : {E : Type 0} (result : Result (List ℕ) E) (g : Grammar) (io : Io) (h : Grammar) (jo : Io) → IsRelation g io → h ≡ g → jo ≡ io → IfOk result (λ text. text ≡ accepted_text (has_pair jo) (words_of h) (grammar_of h)) → IfOk result (λ text. TellsAccepted (words_of g) (grammar_of g) text)

@@ -1,5 +1,5 @@
 //! Where a grammar is circular.
-ghost use Rattle.std.specs.Prelude.{◌≡◌, ◌++◌, OnOk};
+ghost use Rattle.std.specs.Prelude.{◌≡◌, ◌++◌, OnOk, OnErr, IfOk};
 ghost use Rattle.aw_grammar.specs.GrammarOf.{words_of};
 ghost use Rattle.aw_told.specs.Told.{side_text, occ_text, circle_text};
 
@@ -9,7 +9,7 @@ use aw_grammar::Grammar;
 use aw_iograph::Occ;
 use aw_list::Text;
 use aw_text::push_number;
-use std::alloc::AllocError;
+use std::alloc::{AllocError, Global};
 
 /// The word for results, or for inherited values.
 fn side(is_result: bool) -> &'static [u8]
@@ -28,11 +28,21 @@ fn push_occ(text: &mut Text, occ: Occ) -> Result<(), AllocError>
     push_number(text, u64::from(occ.number))
 }
 
-/// Adds `loop at 1.in1`: a rule, and an occurrence in it that depends on itself.
-pub fn push_circle(text: &mut Text, g: &Grammar, fault: Fault) -> Result<(), AllocError>
-    ensures { OnOk result (text.new ≡ text.old ++ circle_text (words_of g.now) fault) }
+/// `loop at 1.in1`: a rule, and an occurrence in it that depends on itself.
+fn circle_text(alloc: Global, g: &Grammar, fault: Fault) -> Result<Text, AllocError>
+    ensures { IfOk result (λ text. text ≡ circle_text (words_of g.now) fault) }
 {
-    text.push_bytes(rule_name(g, fault.rule))?;
+    let mut text = Text::from_bytes(alloc, rule_name(g, fault.rule))?;
     text.push_bytes(b" at ")?;
-    push_occ(text, fault.occ)
+    push_occ(&mut text, fault.occ)?;
+    Ok(text)
+}
+
+/// Adds `loop at 1.in1`: a rule, and an occurrence in it that depends on itself. An error changes nothing.
+pub fn push_circle(text: &mut Text, g: &Grammar, fault: Fault) -> Result<(), AllocError>
+    ensures ok { OnOk result (text.new ≡ text.old ++ circle_text (words_of g.now) fault) }
+    ensures err { OnErr result (text.new ≡ text.old) }
+{
+    let added = circle_text(text.allocator(), g, fault)?;
+    text.push_bytes(added.as_slice())
 }

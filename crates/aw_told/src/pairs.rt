@@ -1,7 +1,5 @@
 //! The dependence relations of an accepted grammar, a line for each pair.
-ghost use Rattle.std.specs.Prelude.{◌≡◌, ◌++◌, length, slice_get, OnOk, IfOk};
-ghost use Rattle.aw_term.specs.Choices.{gives_of};
-ghost use Rattle.aw_term.specs.WellFormed.{takes_of};
+ghost use Rattle.std.specs.Prelude.{◌≡◌, ◌++◌, length, OnOk, IfOk};
 ghost use Rattle.aw_grammar.specs.GrammarOf.{grammar_of, words_of};
 ghost use Rattle.aw_accept.specs.Circular.{IsRelation};
 ghost use Rattle.aw_told.specs.Told.{pair_line, pair_lines, value_lines, sort_lines, lines_of_sort, accepted_text, TellsAccepted};
@@ -80,26 +78,6 @@ fn push_values(
     Ok(())
 }
 
-/// How many values a sort inherits.
-fn takes(g: &Grammar, sort: u16) -> u8
-    ensures { result ≡ takes_of (slice_get (grammar_of g.now).sorts sort) }
-{
-    match g.sort(sort) {
-        Some(sort) => sort.takes,
-        None => 0,
-    }
-}
-
-/// How many results a sort gives.
-fn gives(g: &Grammar, sort: u16) -> u8
-    ensures { result ≡ gives_of (slice_get (grammar_of g.now).sorts sort) }
-{
-    match g.sort(sort) {
-        Some(sort) => sort.gives,
-        None => 0,
-    }
-}
-
 /// Adds the lines of a sort.
 fn push_sort(text: &mut Text, g: &Grammar, io: &Io, sort: u16) -> Result<(), AllocError>
     ensures { OnOk result (text.new ≡ text.old ++ lines_of_sort (has_pair io.now) (words_of g.now) (grammar_of g.now) sort) }
@@ -109,8 +87,8 @@ fn push_sort(text: &mut Text, g: &Grammar, io: &Io, sort: u16) -> Result<(), All
         io,
         sort,
         sort_name(g, sort),
-        takes(g, sort),
-        gives(g, sort),
+        g.takes(sort),
+        g.gives(sort),
     )
 }
 
