@@ -1,5 +1,5 @@
 -- Rows that are changed in their places.
-use Rattle.std.proofs.Common.{◌≡◌, ℕ, zero, suc, ◌+◌, ◌<◌, ◌≤◌, List, [], ◌∷◌, ◌++◌, map, length, take, drop, set, get_or, Bool, true, false, cond, ap, sym, ◌∙◌, refl, arith}
+use Rattle.std.proofs.Common.{◌≡◌, ℕ, zero, suc, ◌+◌, ◌<◌, List, [], ◌∷◌, ◌++◌, map, length, take, drop, set, get_or, Bool, true, false, cond, ap, sym, ◌∙◌, refl, arith}
 use Rattle.std.proofs.lemmas.List.{map-set, length-map}
 use Rattle.aw_term.specs.Names.{Node, node_lt}
 use Rattle.aw_term.specs.Rules.{Value, Ground, Rule}
@@ -41,16 +41,6 @@ change_some f rows xs x q l g e w =
 pub change_none : (f : Q.Row → Q.Row) (rows : List Row) (xs : List Change) (i : ℕ) (q : Row) → i < length rows → q ≡ get_or rows i q → plain_row q ≡ f (plain_row q) → IsChangedTo f rows xs i → IsChangedTo f rows xs (i + 1)
 change_none f rows xs i q l g e w =
     w ∙ same_more f (config_of rows) i (i + 1) (plain_row q) (omega arith) (omega (arith, l, length-map rows plain_row)) (plain_at rows i q g) e
-
--- nothing is left where the last place is passed
-pub all_changed : (f : Q.Row → Q.Row) (rows : List Row) (xs : List Change) (i : ℕ) → length rows ≤ i → IsChangedTo f rows xs i → config_of (changed rows xs) ≡ map f (config_of rows)
-all_changed f rows xs i l w = w ∙ whole f (config_of rows) i (omega (arith, l, length-map rows plain_row))
-  where
-    whole : {A : Type 0} (f : A → A) (c : List A) (i : ℕ) → length c ≤ i → map f (take i c) ++ drop i c ≡ map f c
-    whole f [] zero l = refl
-    whole f [] (suc i) l = refl
-    whole f (x ∷ xs) zero l = absurd (omega (arith, l))
-    whole f (x ∷ xs) (suc i) l = ap (λ ys. f x ∷ ys) (whole f xs i (omega (arith, l)))
 
 -- rounds over all rows are rounds over each
 rounds_map : {A : Type 0} (m : ℕ) (f : A → A) (xs : List A) → rounds m (map f) xs ≡ map (rounds m f) xs

@@ -72,19 +72,6 @@ bind_marked f t c w ts e m =
     let v : value_of t ≡ value_under true (Con c true ts) = ap value_of (e ∙ ap (λ w. Con c w ts) m) ∙ value_con false c true ts ∙ sym (value_con true c true ts) in
     v ∙ sym (bind_whole f (Con c true ts)) ∙ sym (ap (bind f) v)
 
-pub last_value : (f : Ref → Value) (js : List Job) (ts us : List Tree) (t : Tree) (v : Value) → js ≡ [] → ts ≡ us ++ t ∷ [] → finish f js (values_of ts) ≡ v ∷ [] → value_of t ≡ v
-last_value f js ts us t v a b e =
-    let h : values_of us ++ value_of t ∷ [] ≡ [] ++ v ∷ [] = sym (map-append value_of us (t ∷ [])) ∙ sym (ap values_of b) ∙ sym (ap (λ ks. finish f ks (values_of ts)) a) ∙ e in
-    last_same (values_of us) [] (value_of t) v h
-  where
-    last_same : {A : Type 0} (xs ys : List A) (x y : A) → xs ++ x ∷ [] ≡ ys ++ y ∷ [] → x ≡ y
-    last_same [] [] x y e = cc
-    last_same [] (z ∷ []) x y e = absurd cc
-    last_same [] (z ∷ w ∷ ys) x y e = absurd cc
-    last_same (z ∷ []) [] x y e = absurd cc
-    last_same (z ∷ w ∷ xs) [] x y e = absurd cc
-    last_same (z ∷ xs) (w ∷ ys) x y e = last_same xs ys x y cc
-
 pub got_at : (ts : List Tree) (i : ℕ) (t : Tree) → i < length ts → t ≡ get_or ts i t → value_of t ≡ get nothing (values_of ts) i
 got_at [] i t l e = absurd (omega arith)
 got_at (u ∷ ts) zero t l e = ap value_of e

@@ -1,10 +1,8 @@
 -- Items of a worklist, one rule after the other.
-use Rattle.std.proofs.Common.{◌≡◌, ℕ, zero, suc, ◌+◌, ◌≤◌, ◌<◌, true, false, nat_eq, List, [], ◌∷◌, ◌++◌, length, drop, Some, None, slice_get, option_map, ap, ◌∙◌, refl, arith, append_assoc, add-one, get_or}
-use Rattle.std.proofs.lemmas.List.{length-map}
+use Rattle.std.proofs.Common.{◌≡◌, ℕ, zero, suc, ◌+◌, ◌<◌, true, false, nat_eq, List, [], ◌∷◌, ◌++◌, length, drop, Some, None, slice_get, option_map, ap, ◌∙◌, refl, append_assoc, add-one, get_or}
 use Rattle.std.proofs.lemmas.Option.{slice_get-map, slice_get_read}
 use Rattle.std.proofs.Math.Nat.{ℕ_set}
 use Rattle.std.proofs.Math.Logic.{∥∥₁_elim}
-use Rattle.std.specs.Coded.{le_prop}
 use Rattle.aw_term.specs.Rules as P
 use Rattle.aw_term.specs.Configs as Q
 use Rattle.aw_term.specs.Artifacts.{Item}
@@ -55,7 +53,3 @@ rule_passed q n rules rule items here other = rw (add-one n, from_here rules n r
 pub rule_past : (q : Q.Row) (n : ℕ) (rules : List P.Rule) (items : List Item) → slice_get rules n ≡ None →
     items ++ rule_items q (n + 1) (drop (n + 1) rules) ≡ items ++ rule_items q n (drop n rules)
 rule_past q n rules items past = rw (add-one n, (none_here rules n past).0, (none_here rules n past).1) refl
-
--- the numbers of rules fit sixteen bits
-pub rules_few : (g : Grammar) → length g.rules ≤ 1024
-rules_few g = ∥∥₁_elim g.well_formed le_prop (λ w. omega (arith, w.few_rules, length-map g.rules (λ (r : Rule). r.name)))

@@ -145,6 +145,3 @@ nesting_at (q ∷ ps) (suc i) p l e = omega (arith, nesting_at ps i p (omega (ar
 positive : {A : Type 0} (t : P.Tree A) → 0 < nesting t
 positive (Leaf r) = omega arith
 positive (Made h ts) = omega arith
-
-pub nesting_positive : (p : Pattern) → 0 < nesting (pattern_of p)
-nesting_positive p = positive (pattern_of p)

@@ -1,6 +1,6 @@
 -- Printing values on a stack.
 use Rattle.std.proofs.Common.{◌≡◌, ℕ, ◌+◌, ◌-◌, ◌<◌, ◌≤◌, List, [], ◌∷◌, ◌++◌, map, length, take, drop, get_or, codes, sym, ap, ◌∙◌, refl, arith, append_assoc, append-nil, subst}
-use Rattle.std.specs.Prelude.{Bool, Result, Ok, Err, IfErr, OnOk}
+use Rattle.std.specs.Prelude.{Bool, Result, Ok, Err, IfErr}
 use Rattle.std.proofs.lemmas.List.{at_drop_more, take_all}
 use Rattle.std.specs.declared.vec.Vec.{Vec}
 use Rattle.std.specs.declared.rc.Rc.{Rc}
@@ -19,8 +19,7 @@ use Rattle.aw_plain.proofs.ViewLemmas.{value_parts}
 use Rattle.aw_plain.proofs.Counts.{symbols_under}
 use Rattle.aw_out.specs.Report.{Bounded, Prints}
 use Rattle.aw_out.specs.declared.error.PrintFault.{PrintFault}
-use Rattle.aw_out.specs.declared.error.PrintFault.TheVariants.{NoMemory, TooLarge}
-use Rattle.aw_out.proofs.Printing.{Prints-second, printed-nil}
+use Rattle.aw_out.proofs.Printing.{Prints-second}
 
 pub pending_push : (w : Words) (ps : List Piece) (p : Piece) → pending w (ps ++ p ∷ []) ≡ piece_text w p ++ pending w ps
 pending_push w [] p = sym (append-nil (piece_text w p))
@@ -72,10 +71,6 @@ opened w u c m ts ps rest e i some =
     ∙ sym (append_assoc name (codes "(") (inner ++ (codes ")" ++ rest)))
     ∙ ap (λ us. us ++ (inner ++ (codes ")" ++ rest))) (sym (opening_some w u c m ts ps e i some))
 
-pub OnOk-map : {A E : Type 0} {P Q : Type 0} (r : Result A E) → (P → Q) → OnOk r P → OnOk r Q
-OnOk-map (Ok x) f p = f p
-OnOk-map (Err e) f p = tt
-
 pub all_behind : {A : Type 0} (ts : List A) → take (length ts - 1) (drop 1 ts) ≡ drop 1 ts
 all_behind [] = refl
 all_behind (t ∷ ts) = take_all (length (t ∷ ts) - 1) ts (omega arith)
@@ -95,14 +90,6 @@ following_more w m ts i k t ek lt et =
 -- a copy of a part has as many places
 pub places_copied : (m : Bool) (t u : Tree) → value_of u ≡ value_under m t → places u ≡ places t
 places_copied m t u e = ap symbols e ∙ symbols_under m t
-
--- nothing is printed where memory is missing
-pub Prints-untouched : (text : List ℕ) (report : Bounded) (fault : PrintFault) → fault ≡ NoMemory → Prints text report report (Err fault)
-Prints-untouched text report fault e = record {
-  ok = tt;
-  too_large = λ f. let same : fault ≡ TooLarge = cc in let no : NoMemory ≡ TooLarge = sym e ∙ same in absurd cc;
-  front = (0, omega arith, sym (printed-nil report));
-}
 
 -- a piece is gathered behind others
 pub gathered : (w : Words) (old text : List ℕ) (p : Piece) (before after : List Piece) → text ≡ old ++ piece_opening w p → piece_text w p ++ pending w before ≡ piece_opening w p ++ pending w after → text ++ pending w after ≡ old ++ (piece_text w p ++ pending w before)

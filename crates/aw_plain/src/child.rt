@@ -1,11 +1,9 @@
 //! The children of a taken rule: their nodes, their results and their rows.
-ghost use Rattle.std.specs.Prelude.{◌≡◌, ◌<◌, ◌≤◌, ◌++◌, ◌∷◌, [], IfOk, OnOk, length, map, slice_get};
+ghost use Rattle.std.specs.Prelude.{◌≡◌, ◌<◌, ◌≤◌, ◌++◌, ◌∷◌, [], IfOk, OnOk, length, map};
 ghost use Rattle.aw_term.specs.Names.{below};
 ghost use Rattle.aw_term.specs.Configs.{holes as plain_holes, child_rows as plain_child_rows, env as plain_env};
-ghost use Rattle.aw_term.specs.Choices.{gives_of};
 ghost use Rattle.aw_term.specs.Views.{ground_of};
 ghost use Rattle.aw_grammar.specs.GrammarView.{child_of, rule_of};
-ghost use Rattle.aw_grammar.specs.GrammarOf.{grammar_of};
 ghost use Rattle.aw_plain.specs.TreeView.{values_of};
 ghost use Rattle.aw_plain.specs.RowView.{plain_row, config_of};
 
@@ -13,29 +11,9 @@ use crate::fill::{fill_all, holes, lift_all};
 use crate::matching::append;
 use crate::row::{Row, State};
 use crate::tree::{Tree, Trees};
-use aw_base::{Child, Grammar, Ground, Rule};
-use aw_name::{Node, Step, copy_node};
+use aw_base::{Child, Grammar, Ground, Rule, child_node};
+use aw_name::Node;
 use std::alloc::{AllocError, Global};
-
-/// How many results the nodes of a sort give.
-pub fn gives(grammar: &Grammar, sort: u16) -> u8
-    ensures { result ≡ gives_of (slice_get (grammar_of grammar.now).sorts sort) }
-{
-    match grammar.sort(sort) {
-        Some(declared) => declared.gives,
-        None => 0,
-    }
-}
-
-/// The node of a child, counted from 1, of a rule at this node.
-fn child_node(node: &Node, rule: u16, child: u8) -> Result<Node, AllocError>
-    requires { length node.now.steps < 250 }
-    ensures { IfOk result (λ n. n ≡ below node.now rule child) }
-{
-    let mut below = copy_node(node)?;
-    below.steps.push(Step { rule, child })?;
-    Ok(below)
-}
 
 /// Adds the results of a child, counted from 1.
 fn push_child_holes(
@@ -51,7 +29,7 @@ fn push_child_holes(
     ensures { OnOk result (values_of env.new.items ≡ values_of env.old.items ++ plain_holes (below node.now rule k) (child_of grammar.now.sorts child.now).outs) }
 {
     let below = child_node(node, rule, k)?;
-    append(env, holes(alloc, &below, gives(grammar, child.sort))?)
+    append(env, holes(alloc, &below, grammar.gives(child.sort))?)
 }
 
 /// The values of a rule's variables by number: bound by its patterns, entered, and results of its children.
@@ -99,7 +77,7 @@ fn child_row(
     ensures { IfOk result (λ row. plain_row row ∷ [] ≡ plain_child_rows node.now rule (values_of env.now) k (child_of grammar.now.sorts child.now ∷ [])) }
 {
     let below = child_node(node, rule, k)?;
-    let results = holes(alloc, &below, gives(grammar, child.sort))?;
+    let results = holes(alloc, &below, grammar.gives(child.sort))?;
     Ok(Row {
         node: below,
         sort: child.sort,

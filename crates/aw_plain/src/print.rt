@@ -123,57 +123,56 @@ fn begin_piece<'t>(
     text: &mut Text,
     grammar: &Grammar,
     pieces: &mut Vec<Piece<'t>>,
-    piece: Piece<'t>,
+    piece: &Piece<'t>,
 ) -> Result<(), AllocError>
-    ensures opening { OnOk result (text.new ≡ text.old ++ piece_opening (words_of grammar.now) piece.entry) }
-    ensures text { OnOk result ((w : Words) → piece_text w piece.entry ++ pending w pieces.old.items ≡ piece_opening w piece.entry ++ pending w pieces.new.items) }
-    ensures work { OnOk result (pieces_work pieces.new.items < piece_work piece.entry + pieces_work pieces.old.items) }
+    ensures opening { OnOk result (text.new ≡ text.old ++ piece_opening (words_of grammar.now) piece.now) }
+    ensures text { OnOk result ((w : Words) → piece_text w piece.now ++ pending w pieces.old.items ≡ piece_opening w piece.now ++ pending w pieces.new.items) }
+    ensures work { OnOk result (pieces_work pieces.new.items < piece_work piece.now + pieces_work pieces.old.items) }
 {
     match piece {
         Piece::First(tree) => {
-            push_opening(text, grammar, &tree)?;
-            push_parts(pieces, &tree)?;
+            push_opening(text, grammar, tree)?;
+            push_parts(pieces, tree)
         }
         Piece::Next(tree) => {
             text.push_bytes(b", ")?;
-            push_opening(text, grammar, &tree)?;
-            push_parts(pieces, &tree)?;
+            push_opening(text, grammar, tree)?;
+            push_parts(pieces, tree)
         }
-        Piece::Bytes(bytes) => text.push_bytes(bytes)?,
+        Piece::Bytes(bytes) => text.push_bytes(bytes),
     }
-    Ok(())
 }
 
 /// So many bytes are gathered before they are added to the report.
 const GATHERED: usize = 4096;
 
-/// Adds what was gathered to the report, where it is long. What stays gathered comes back.
-fn add_gathered(alloc: Global, text: Text, report: &mut Report) -> Result<Text, PrintFault>
-    ensures ok { IfOk result (λ left. (more : List ℕ) → Continues (text ++ more) report.old (left ++ more) report.new) }
-    ensures err { IfErr result (λ fault. Prints text report.old report.new (Err fault)) }
+/// Adds what was gathered to the report, where it is long.
+fn add_gathered(text: &mut Text, report: &mut Report) -> Result<(), PrintFault>
+    ensures ok { OnOk result ((more : List ℕ) → Continues (text.old ++ more) report.old (text.new ++ more) report.new) }
+    ensures err { IfErr result (λ fault. Prints text.old report.old report.new (Err fault)) }
 {
     if text.len() < GATHERED {
-        return Ok(text);
+        return Ok(());
     }
     report.push(text.as_slice())?;
-    Ok(Text::new(alloc))
+    *text = Text::new(text.allocator());
+    Ok(())
 }
 
-/// Prints a piece up to its first part, behind what was gathered. Its parts are noted, and what is gathered now comes back.
+/// Prints a piece up to its first part, behind what was gathered. Its parts are noted.
 fn print_piece<'t>(
-    alloc: Global,
     grammar: &Grammar,
     pieces: &mut Vec<Piece<'t>>,
-    piece: Piece<'t>,
-    mut text: Text,
+    piece: &Piece<'t>,
+    text: &mut Text,
     report: &mut Report,
-) -> Result<Text, PrintFault>
-    ensures ok { IfOk result (λ left. Continues (text ++ (piece_text (words_of grammar.now) piece.entry ++ pending (words_of grammar.now) pieces.old.items)) report.old (left ++ pending (words_of grammar.now) pieces.new.items) report.new) }
-    ensures err { IfErr result (λ fault. Prints (text ++ (piece_text (words_of grammar.now) piece.entry ++ pending (words_of grammar.now) pieces.old.items)) report.old report.new (Err fault)) }
-    ensures work { OnOk result (pieces_work pieces.new.items < piece_work piece.entry + pieces_work pieces.old.items) }
+) -> Result<(), PrintFault>
+    ensures ok { OnOk result (Continues (text.old ++ (piece_text (words_of grammar.now) piece.now ++ pending (words_of grammar.now) pieces.old.items)) report.old (text.new ++ pending (words_of grammar.now) pieces.new.items) report.new) }
+    ensures err { IfErr result (λ fault. Prints (text.old ++ (piece_text (words_of grammar.now) piece.now ++ pending (words_of grammar.now) pieces.old.items)) report.old report.new (Err fault)) }
+    ensures work { OnOk result (pieces_work pieces.new.items < piece_work piece.now + pieces_work pieces.old.items) }
 {
-    begin_piece(&mut text, grammar, pieces, piece)?;
-    add_gathered(alloc, text, report)
+    begin_piece(text, grammar, pieces, piece)?;
+    add_gathered(text, report)
 }
 
 /// Prints all pieces, the last one first.
@@ -187,7 +186,7 @@ fn print_pieces(
 {
     let mut text = Text::new(alloc);
     while let Some(piece) = pieces.pop() {
-        text = print_piece(alloc, grammar, &mut pieces, piece, text, report)?;
+        print_piece(grammar, &mut pieces, &piece, &mut text, report)?;
     }
     report.push(text.as_slice())
 }

@@ -10,7 +10,6 @@ ghost use Rattle.aw_plain.specs.Filled.{AreFilled};
 ghost use Rattle.aw_plain.specs.Ordered.{IsOrdered};
 ghost use Rattle.aw_plain.specs.Cases.{AreApart};
 
-use crate::child::gives;
 use crate::develop::develop;
 use crate::fill::holes;
 use crate::outcome::{Outcome, weigh};
@@ -36,7 +35,7 @@ fn start_row(alloc: Global, grammar: &Grammar, sort: u16, case: u64) -> Result<R
     ensures { IfOk result (λ row. plain_row row ≡ plain_start_row (grammar_of grammar.now) sort case) }
 {
     let node = root(alloc, sort, case);
-    let results = holes(alloc, &node, gives(grammar, sort))?;
+    let results = holes(alloc, &node, grammar.gives(sort))?;
     Ok(Row {
         node,
         sort,

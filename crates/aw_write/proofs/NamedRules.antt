@@ -114,9 +114,6 @@ used_terms_enter : (cons : List decl.Con) (vars : List (List ℕ)) (ts : List Te
     all_stand (leaves_of (all_resolved (names_in cons) (map (named (names_in cons) vars) ts))) vars ≡ true
 used_terms_enter cons vars ts differ below terms = ap (λ ns. all_stand ns vars) terms.leaves ∙ all_stand_at vars (leaves_of ts) differ below
 
-few_of_all : (all here rest left : ℕ) → here + rest ≤ left → here ≤ left
-few_of_all all here rest left h = omega arith
-
 children_well : (g : P.Grammar) (cons : List decl.Con) (sorts : List Sort) (vars left : List (List ℕ)) → g.arities ≡ arities_in cons → g.sorts ≡ sorts_of sorts → Ground cons sorts vars → (cs : List P.Child) → Each (ChildFits g (length vars)) cs → outs_of cs ≤ length left → ChildrenWell cons sorts vars left cs
 children_well g cons sorts vars left ga gs on [] fits enough = record { known = refl; arities = refl; enter = refl; depth = omega arith; symbols = refl; stand = refl; fit = refl; back = refl; outs = refl }
 children_well g cons sorts vars left ga gs on (c ∷ cs) fits enough =

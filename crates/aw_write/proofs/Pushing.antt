@@ -1,9 +1,7 @@
 -- Texts that grow by one item after the other.
-use Rattle.std.proofs.Common.{◌≡◌, ℕ, ◌+◌, ◌<◌, ◌≤◌, zero, suc, refl, sym, ap, ◌∙◌, subst, arith, add-one, List, [], ◌∷◌, ◌++◌, codes, length, map, take, drop, min, get_or, append_assoc, append-nil}
-use Rattle.std.specs.Prelude.{Result, Ok, Err, OnOk}
-use Rattle.std.proofs.lemmas.List.{at_drop_more, at_drop_all}
+use Rattle.std.proofs.Common.{◌≡◌, ℕ, ◌+◌, ◌<◌, ◌≤◌, zero, suc, refl, sym, ap, ◌∙◌, subst, arith, add-one, List, [], ◌∷◌, ◌++◌, codes, length, map, take, drop, min, get_or, append_assoc}
 use Rattle.aw_term.specs.WellFormed.{Each}
-use Rattle.aw_grammar.specs.Written.{Written, Writtens, Empty, Then, side_by_side}
+use Rattle.aw_grammar.specs.Written.{Writtens, Empty, Then}
 use Rattle.aw_spec.specs.Lines.{Line}
 use Rattle.aw_write.specs.LineTexts.{term_text, parts_text, parts_behind, line_text, text_of_lines}
 
@@ -16,34 +14,6 @@ none_before : (ts : Writtens) → separated [] ts ≡ parts_text ts
 none_before Empty = refl
 none_before (Then t ts) = refl
 
-comma_before : (ts : Writtens) → separated (codes ", ") ts ≡ parts_behind ts
-comma_before Empty = refl
-comma_before (Then t ts) = refl
-
--- before the first item
-pub terms_begin : {A : Type 0} (F : List A → List Written) (xs : List A) (text separator : List ℕ) → separator ≡ [] → text ++ separated separator (side_by_side (F (drop 0 xs))) ≡ text ++ parts_text (side_by_side (F xs))
-terms_begin F xs text separator e = ap (λ s. text ++ separated s (side_by_side (F xs))) e ∙ ap (λ u. text ++ u) (none_before (side_by_side (F xs)))
-
--- one item
-pub terms_go_on : {A : Type 0} (F : List A → List Written) (write : A → Written) → ((x : A) (ys : List A) → F (x ∷ ys) ≡ write x ∷ F ys) → (xs : List A) (i : ℕ) (x : A) (text separator mid new comma all : List ℕ) →
-    i < length xs → x ≡ get_or xs i x → mid ≡ text ++ separator → new ≡ mid ++ term_text (write x) → comma ≡ codes ", " → text ++ separated separator (side_by_side (F (drop i xs))) ≡ all →
-    new ++ separated comma (side_by_side (F (drop (i + 1) xs))) ≡ all
-terms_go_on F write cons xs i x text separator mid new comma all less is m n c e =
-    let rest = side_by_side (F (drop (i + 1) xs)) in
-    let here : F (drop i xs) ≡ write x ∷ F (drop (i + 1) xs) = at_drop_more F xs i x less ∙ ap (λ y. F (y ∷ drop (i + 1) xs)) (sym is) ∙ cons x (drop (i + 1) xs) in
-    ap (λ s. new ++ separated s rest) c
-    ∙ ap (λ u. new ++ u) (comma_before rest)
-    ∙ ap (λ u. u ++ parts_behind rest) (n ∙ ap (λ u. u ++ term_text (write x)) m)
-    ∙ append_assoc (text ++ separator) (term_text (write x)) (parts_behind rest)
-    ∙ append_assoc text separator (term_text (write x) ++ parts_behind rest)
-    ∙ ap (λ ts. text ++ separated separator (side_by_side ts)) (sym here)
-    ∙ e
-
--- behind the last item
-pub terms_end : {A : Type 0} (F : List A → List Written) → F [] ≡ [] → (xs : List A) (i : ℕ) (text separator all : List ℕ) → length xs ≤ i → text ++ separated separator (side_by_side (F (drop i xs))) ≡ all → text ≡ all
-terms_end F none xs i text separator all past e =
-    sym (append-nil text) ∙ ap (λ ts. text ++ separated separator (side_by_side ts)) (sym (at_drop_all F xs i past ∙ none)) ∙ e
-
 -- lines
 
 pub lines_both : (xs ys : List Line) → text_of_lines (xs ++ ys) ≡ text_of_lines xs ++ text_of_lines ys
@@ -51,21 +21,6 @@ lines_both [] ys = refl
 lines_both (x ∷ xs) ys =
     ap (λ u. line_text x ++ (codes "\n" ++ u)) (lines_both xs ys)
     ∙ sym (append_assoc (line_text x) (codes "\n" ++ text_of_lines xs) (text_of_lines ys))
-
--- what is left of some items comes behind one more
-pub lines_go_on : {A : Type 0} (F : List A → List Line) (line : A → List Line) → ((x : A) (ys : List A) → F (x ∷ ys) ≡ line x ++ F ys) → (xs : List A) (i : ℕ) (x : A) (text new all : List ℕ) →
-    i < length xs → x ≡ get_or xs i x → new ≡ text ++ text_of_lines (line x) → text ++ text_of_lines (F (drop i xs)) ≡ all → new ++ text_of_lines (F (drop (i + 1) xs)) ≡ all
-lines_go_on F line cons xs i x text new all less is n e =
-    let rest = F (drop (i + 1) xs) in
-    let here : F (drop i xs) ≡ line x ++ rest = at_drop_more F xs i x less ∙ ap (λ y. F (y ∷ drop (i + 1) xs)) (sym is) ∙ cons x (drop (i + 1) xs) in
-    ap (λ u. u ++ text_of_lines rest) n
-    ∙ append_assoc text (text_of_lines (line x)) (text_of_lines rest)
-    ∙ ap (λ u. text ++ u) (sym (lines_both (line x) rest))
-    ∙ ap (λ ls. text ++ text_of_lines ls) (sym here)
-    ∙ e
-
-pub lines_end : {A : Type 0} (F : List A → List Line) → F [] ≡ [] → (xs : List A) (i : ℕ) (text all : List ℕ) → length xs ≤ i → text ++ text_of_lines (F (drop i xs)) ≡ all → text ≡ all
-lines_end F none xs i text all past e = sym (append-nil text) ∙ ap (λ ls. text ++ text_of_lines ls) (sym (at_drop_all F xs i past ∙ none)) ∙ e
 
 each_behind : {A B : Type 0} (f : A → B) (P : B → Type 0) (xs : List A) (i : ℕ) (x : A) → i < length xs → x ≡ get_or xs i x → P (f x) → Each P (map f (drop (suc i) xs)) → Each P (map f (drop i xs))
 each_behind f P [] i x less is here rest = absurd (omega arith)
@@ -98,11 +53,6 @@ drop_min zero (suc n) (x ∷ xs) e = absurd (omega arith)
 drop_min (suc k) zero xs e = absurd (omega arith)
 drop_min (suc k) (suc n) [] e = refl
 drop_min (suc k) (suc n) (x ∷ xs) e = drop_min k n xs (omega arith)
-
--- what an Ok says, it says of what follows
-pub on_ok : {A E P Q : Type 0} (r : Result A E) → (P → Q) → OnOk r P → OnOk r Q
-on_ok (Ok x) f h = f h
-on_ok (Err e) f h = tt
 
 pub two_added : (xs ys : List Line) (t0 t1 t2 : List ℕ) → t1 ≡ t0 ++ text_of_lines xs → t2 ≡ t1 ++ text_of_lines ys → t2 ≡ t0 ++ text_of_lines (xs ++ ys)
 two_added xs ys t0 t1 t2 e1 e2 =

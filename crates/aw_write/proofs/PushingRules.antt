@@ -1,5 +1,5 @@
 -- Texts that grow by children and by rules.
-use Rattle.std.proofs.Common.{◌≡◌, ℕ, zero, suc, ◌+◌, ◌≤◌, refl, sym, ap, ◌∙◌, subst, List, [], ◌∷◌, ◌++◌, codes, length, map, drop, slice_get, Option, Some, None, IfSome, Bor, append_assoc, append-nil, add-one, arith}
+use Rattle.std.proofs.Common.{◌≡◌, ℕ, zero, suc, ◌+◌, ◌≤◌, refl, sym, ap, ◌∙◌, subst, List, [], ◌∷◌, ◌++◌, length, map, drop, slice_get, Option, Some, None, IfSome, Bor, append_assoc, append-nil, add-one, arith}
 use Rattle.std.proofs.lemmas.List.{length-map}
 use Rattle.std.proofs.Math.Logic.{∥∥₁_elim}
 use Rattle.std.specs.Coded.{le_prop}
@@ -12,7 +12,7 @@ use Rattle.aw_grammar.specs.GrammarView.{child_of, rule_of}
 use Rattle.aw_grammar.specs.Declarations.{Entry}
 use Rattle.aw_grammar.specs.Written.{WrittenChild}
 use Rattle.aw_spec.specs.Lines.{Line, RuleLine}
-use Rattle.aw_write.specs.LineTexts.{child_text, children_behind, children_text, text_of_lines}
+use Rattle.aw_write.specs.LineTexts.{child_text, children_behind, text_of_lines}
 use Rattle.aw_write.specs.SpecLines.{named_rule}
 use Rattle.aw_write.proofs.Pushing.{lines_both}
 
@@ -20,14 +20,6 @@ use Rattle.aw_write.proofs.Pushing.{lines_both}
 abbrev pub separated_children : List ℕ → List WrittenChild → List ℕ
 separated_children separator [] = []
 separated_children separator (c ∷ cs) = separator ++ (child_text c ++ children_behind cs)
-
-equals_before : (cs : List WrittenChild) → separated_children (codes " = ") cs ≡ children_text cs
-equals_before [] = refl
-equals_before (c ∷ cs) = refl
-
-semicolon_before : (cs : List WrittenChild) → separated_children (codes " ; ") cs ≡ children_behind cs
-semicolon_before [] = refl
-semicolon_before (c ∷ cs) = refl
 
 pub few_children : (g : P.Grammar) (sorts : List Sort) (found : Option (Bor Rule)) → IfSome found (λ r. ∥ RuleFits g (rule_of sorts r.now) ∥₁) → IfSome found (λ r. length r.now.children ≤ 8)
 few_children g sorts None h = tt
@@ -74,9 +66,3 @@ each_rule P sorts rules i r found here rest = subst (λ rs. Each P (map (entry s
 
 pub each_past : (P : Entry → Type 0) (sorts : List Sort) (rules : List Rule) (i : ℕ) → None ≡ slice_get rules i → Each P (map (entry sorts) (drop i rules))
 each_past P sorts rules i none = subst (λ rs. Each P (map (entry sorts) rs)) (sym (past_end rules i none)) tt
-
--- the parts of a rule's line, one behind the other
-pub rule_regroup : (t0 word name params colon sort opening patterns middle results closing children last : List ℕ) →
-    (((t0 ++ (word ++ (name ++ (params ++ (colon ++ sort))))) ++ (opening ++ (patterns ++ (middle ++ (results ++ closing))))) ++ children) ++ last
-    ≡ t0 ++ ((word ++ (name ++ (params ++ (colon ++ (sort ++ (opening ++ (patterns ++ (middle ++ (results ++ (closing ++ children)))))))))) ++ last)
-rule_regroup t0 word name params colon sort opening patterns middle results closing children last = simp append_assoc

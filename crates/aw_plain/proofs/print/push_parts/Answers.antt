@@ -1,4 +1,5 @@
 use Rattle.std.proofs.Common.{◌≡◌, refl, true, false, ◌++◌, ap, sym, ◌∙◌, arith}
+use Rattle.std.proofs.lemmas.Result.{on_ok_weaker}
 use Rattle.std.specs.declared.vec.Vec.{Vec}
 use Rattle.std.specs.declared.alloc.Global.{Global}
 use Rattle.aw_plain.specs.declared.tree.Tree.{Tree}
@@ -7,7 +8,7 @@ use Rattle.aw_plain.specs.TreeView.{value_of}
 use Rattle.aw_plain.specs.Places.{places_of_all}
 use Rattle.aw_plain.specs.Pieces.{opening, texts_under, pending, pieces_work}
 use Rattle.aw_plain.proofs.Counts.{places_made}
-use Rattle.aw_plain.proofs.PrintLemmas.{pending_push, work_more, text_none, opened, OnOk-map}
+use Rattle.aw_plain.proofs.PrintLemmas.{pending_push, work_more, text_none, opened}
 use Rattle.aw_plain.proofs.print.push_parts.Goals as goal
 
 pub returns-then-are_none-clause-text : goal.returns-then-are_none-clause-text
@@ -19,7 +20,7 @@ pub returns-in_ok-push-in-Con-clause-text : goal.returns-in_ok-push-in-Con-claus
 returns-in_ok-push-in-Con-clause-text c =
     let first = c.as_slice.ensures.value ∙ ap (λ (ts : Vec Tree Global). ts.items) c.deref.ensures in
     let held = c.as_slice-in-Con.ensures.value ∙ ap (λ (ts : Vec Tree Global). ts.items) c.deref-in-Con.ensures in
-    OnOk-map c.push_listed.result (λ e w.
+    on_ok_weaker c.push_listed.result (λ e w.
     let old = pending w c.args.pieces.now.items in
     let start = opening w (value_of c.args.tree.now) in
     opened w _ _ _ _ _ old c.in-Con.is held (λ e. let no : false ≡ true = c.if-are_none.ensures.1 (first ∙ sym held ∙ e) in absurd cc)
@@ -29,4 +30,4 @@ returns-in_ok-push-in-Con-clause-text c =
 pub returns-in_ok-push-in-Con-clause-work : goal.returns-in_ok-push-in-Con-clause-work
 returns-in_ok-push-in-Con-clause-work c =
     let held = c.as_slice-in-Con.ensures.value ∙ ap (λ (ts : Vec Tree Global). ts.items) c.deref-in-Con.ensures in
-    OnOk-map c.push_listed.result (λ e. omega (arith, e, ap pieces_work c.in_ok-push-in-Con.ensures.items, work_more, ap places_of_all held, places_made _ _ _ _ c.in-Con.is)) c.push_listed.ensures.work
+    on_ok_weaker c.push_listed.result (λ e. omega (arith, e, ap pieces_work c.in_ok-push-in-Con.ensures.items, work_more, ap places_of_all held, places_made _ _ _ _ c.in-Con.is)) c.push_listed.ensures.work
