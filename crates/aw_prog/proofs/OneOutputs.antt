@@ -1,17 +1,16 @@
 -- An input has one output for each job.
-use Rattle.std.proofs.Common.{◌≡◌, ℕ, List, length, drop, Bool, true, false, nat_lt, MatchBool, codes, Option, None, Some, refl, sym, ap, ◌∙◌, subst}
+use Rattle.std.proofs.Common.{◌≡◌, ℕ, List, length, drop, Bool, true, false, nat_lt, MatchBool, Option, None, Some, sym, ap, ◌∙◌, subst}
 use Rattle.aw_lex.specs.Lines.{lines_of}
 use Rattle.aw_term.specs.Artifacts.{Words}
 use Rattle.aw_grammar.specs.Declarations.{Declarations, grammar_in, words_in}
 use Rattle.aw_accept.specs.declared.refused.Fault.{Fault}
-use Rattle.aw_accept.specs.Circular.{LeastFault}
 use Rattle.aw_told.proofs.OneTold.{one-found, one-text}
 use Rattle.aw_spec.specs.Reading.{Reading, Good, Faulty, specification}
 use Rattle.aw_prog.specs.declared.source.TheConstants.{INPUT_LIMIT}
 use Rattle.aw_prog.specs.declared.schedule.Telling.TheVariants.{Undivided, Replayed}
 use Rattle.aw_prog.specs.declared.reading.Job.{Job}
 use Rattle.aw_prog.specs.declared.reading.Job.TheVariants.{Check, Plain, Replay}
-use Rattle.aw_prog.specs.Output.{Output, Writes, PastInputLimit, BadSpecification, ByFault, IfAccepted, TellsDependences, TellsSchedule, Makes, BySpecification, IsOutputOf}
+use Rattle.aw_prog.specs.Output.{Output, Writes, PastInputLimit, ByFault, IfAccepted, TellsDependences, TellsSchedule, Makes, BySpecification, IsOutputOf}
 use Rattle.aw_prog.specs.Laws.{HasOneOutput}
 
 -- P holds of one output at most
@@ -38,9 +37,7 @@ one-dependences d a b x y = x.2 ∙ ap Writes (one-text (words_in d) (grammar_in
 one-made : (job : Job) (d : Declarations) (before : ℕ) (schedule : List (List ℕ)) → One (Makes job d before schedule)
 one-made Check d before schedule = one-accepted d (TellsDependences d) (one-dependences d)
 one-made Plain d before schedule = one-accepted d (TellsSchedule Undivided d before schedule) (λ a b x y. x ∙ sym y)
-one-made Replay d before schedule =
-    one-match (nat_lt 1 (length d.roles)) (BadSpecification (codes "roles")) (IfAccepted d (TellsSchedule Replayed d before schedule))
-    (one-accepted d (TellsSchedule Replayed d before schedule) (λ a b x y. x ∙ sym y))
+one-made Replay d before schedule = one-accepted d (TellsSchedule Replayed d before schedule) (λ a b x y. x ∙ sym y)
 
 one-read : (job : Job) (lines : List (List ℕ)) (reading : Reading) → One (BySpecification job lines reading)
 one-read job lines (Good spec taken) = one-made job spec.declared taken (drop taken lines)

@@ -1,5 +1,5 @@
 -- What an input leads to, by what its specification and its schedule spell.
-use Rattle.std.proofs.Common.{◌≡◌, ℕ, ◌≤◌, ◌<◌, List, [], length, drop, Bool, true, false, nat_lt, MatchBool, codes, arith, refl, sym, ap, ◌∙◌, subst}
+use Rattle.std.proofs.Common.{◌≡◌, ℕ, ◌≤◌, ◌<◌, List, length, true, false, nat_lt, MatchBool, arith, refl, sym, ap, ◌∙◌, subst}
 use Rattle.std.proofs.lemmas.Simd.{map-map}
 use Rattle.std.proofs.lemmas.Bool.Decides.{nat_tests}
 use Rattle.aw_lex.specs.Lines.{lines_of}
@@ -7,19 +7,14 @@ use Rattle.aw_term.specs.Rules as P
 use Rattle.aw_term.specs.Artifacts.{Words}
 use Rattle.aw_grammar.specs.declared.grammar.Grammar.{Grammar}
 use Rattle.aw_grammar.specs.GrammarOf.{grammar_of, words_of, declarations_of, entry}
-use Rattle.aw_grammar.specs.Declarations.{Declarations, Entry, grammar_in, words_in}
-use Rattle.aw_spec.specs.KindNames.{kind_name}
-use Rattle.aw_spec.specs.declared.fault.SpecKind.{SpecKind}
-use Rattle.aw_spec.specs.Reading.{Spec, Reading, Good, Faulty, specification}
+use Rattle.aw_grammar.specs.Declarations.{Entry, grammar_in, words_in}
+use Rattle.aw_spec.specs.Reading.{Reading, specification}
 use Rattle.aw_sched.specs.Events.{Event}
 use Rattle.aw_sched.specs.Schedules.{Events, read_lines}
 use Rattle.aw_prog.specs.declared.source.TheConstants.{INPUT_LIMIT}
 use Rattle.aw_prog.specs.declared.schedule.Telling.{Telling}
-use Rattle.aw_prog.specs.declared.schedule.Telling.TheVariants.{Replayed}
 use Rattle.aw_prog.specs.declared.reading.Job.{Job}
-use Rattle.aw_prog.specs.declared.reading.Job.TheVariants.{Replay}
-use Rattle.aw_prog.specs.Refusals.{at_line}
-use Rattle.aw_prog.specs.Output.{Output, PastInputLimit, BadSpecification, told, within_limit, by_schedule, IfAccepted, TellsSchedule, Makes, BySpecification, IsOutputOf}
+use Rattle.aw_prog.specs.Output.{Output, PastInputLimit, by_events, by_schedule, BySpecification, IsOutputOf}
 
 -- the names and the grammar that a grammar declares are its own
 pub words-declared : (g : Grammar) → words_in (declarations_of g) ≡ words_of g
@@ -30,11 +25,11 @@ grammar-declared g = ap (λ (rules : List P.Rule). record { roles = (grammar_of 
 
 -- a good schedule
 pub schedule-good : (telling : Telling) (g : Grammar) (before : ℕ) (schedule : List (List ℕ)) (events : List Event) → read_lines (declarations_of g) 1 schedule ≡ Events events →
-    by_schedule telling (declarations_of g) before (read_lines (declarations_of g) 1 schedule) ≡ within_limit (told telling (words_of g) (grammar_of g) events)
+    by_schedule telling (declarations_of g) before (read_lines (declarations_of g) 1 schedule) ≡ by_events telling (words_of g) (grammar_of g) events
 schedule-good telling g before schedule events good =
     ap (by_schedule telling (declarations_of g) before) good
-    ∙ ap (λ (w : Words). within_limit (told telling w (grammar_in (declarations_of g)) events)) (words-declared g)
-    ∙ ap (λ (h : P.Grammar). within_limit (told telling (words_of g) h events)) (grammar-declared g)
+    ∙ ap (λ (w : Words). by_events telling w (grammar_in (declarations_of g)) events) (words-declared g)
+    ∙ ap (λ (h : P.Grammar). by_events telling (words_of g) h events) (grammar-declared g)
 
 fits : (limit n : ℕ) → n ≤ limit → nat_lt limit n ≡ false
 fits limit n le = grind (arith, nat_tests)
@@ -54,13 +49,3 @@ pub output-past : (job : Job) (input : List ℕ) → INPUT_LIMIT < length input 
 unfolding IsOutputOf
 output-past job input lt =
     subst (λ b. MatchBool b (PastInputLimit ≡ PastInputLimit) (BySpecification job (lines_of input) (specification (lines_of input)) PastInputLimit)) (sym (past INPUT_LIMIT (length input) lt)) refl
-
--- a replay refuses more than one role, and else tells the schedule where the grammar is accepted
-pub many-roles : (d : Declarations) (before : ℕ) (schedule : List (List ℕ)) → 1 < length d.roles → Makes Replay d before schedule (BadSpecification (codes "roles"))
-many-roles d before schedule many =
-    subst (λ b. MatchBool b (BadSpecification (codes "roles") ≡ BadSpecification (codes "roles")) (IfAccepted d (TellsSchedule Replayed d before schedule) (BadSpecification (codes "roles"))))
-    (sym (past 1 (length d.roles) many)) refl
-
-pub few-roles : (d : Declarations) (before : ℕ) (schedule : List (List ℕ)) (output : Output) → length d.roles ≤ 1 → IfAccepted d (TellsSchedule Replayed d before schedule) output → Makes Replay d before schedule output
-few-roles d before schedule output few holds =
-    subst (λ b. MatchBool b (output ≡ BadSpecification (codes "roles")) (IfAccepted d (TellsSchedule Replayed d before schedule) output)) (sym (fits 1 (length d.roles) few)) holds

@@ -17,7 +17,8 @@ use Rattle.aw_told.specs.Told.{TellsAccepted, circle_text}
 use Rattle.aw_spec.specs.KindNames.{kind_name}
 use Rattle.aw_spec.specs.declared.fault.SpecKind.{SpecKind}
 use Rattle.aw_sched.specs.declared.fault.SchedKind.{SchedKind}
-use Rattle.aw_prog.specs.Refusals.{at_line, schedule_kind}
+use Rattle.aw_sched.specs.KindNames.{kind_name as schedule_kind}
+use Rattle.aw_prog.specs.Refusals.{at_line}
 use Rattle.aw_prog.specs.declared.reply.Reply.{Reply}
 use Rattle.aw_prog.specs.declared.reply.Status.TheVariants.{Done}
 use Rattle.aw_sched.specs.Schedules.{read_lines}

@@ -1,5 +1,5 @@
 -- What an input leads to, for each command that reads it.
-use Rattle.std.specs.Prelude.{◌≡◌, ℕ, ◌+◌, List, [], length, drop, codes, nat_lt, if◌then◌else◌, Option, None, Some, MatchBool}
+use Rattle.std.specs.Prelude.{◌≡◌, ℕ, ◌+◌, Bool, false, List, [], length, drop, codes, nat_lt, if◌then◌else◌, Option, None, Some, MatchBool}
 use Rattle.aw_lex.specs.Lines.{lines_of}
 use Rattle.aw_term.specs.Rules.{Grammar}
 use Rattle.aw_term.specs.Artifacts.{Words}
@@ -17,7 +17,8 @@ use Rattle.aw_prog.specs.declared.schedule.Telling.{Telling}
 use Rattle.aw_prog.specs.declared.schedule.Telling.TheVariants.{Undivided, Replayed}
 use Rattle.aw_prog.specs.declared.reading.Job.{Job}
 use Rattle.aw_prog.specs.declared.reading.Job.TheVariants.{Check, Plain, Replay}
-use Rattle.aw_prog.specs.Refusals.{at_line, schedule_kind}
+use Rattle.aw_sched.specs.KindNames.{kind_name as schedule_kind}
+use Rattle.aw_prog.specs.Refusals.{at_line}
 use Rattle.aw_prog.specs.Transcript.{choices_in, transcript}
 
 -- a text that is written, or why none is
@@ -38,9 +39,18 @@ abbrev pub told : Telling → Words → Grammar → List Event → List ℕ
 told Undivided w g events = plain_text w g (choices_in events)
 told Replayed w g events = transcript w g [] events
 
+-- whether so many roles are more than are told: a replay knows no messages yet, and so it tells one role alone
+abbrev pub refuses_roles : Telling → ℕ → Bool
+refuses_roles Undivided count = false
+refuses_roles Replayed count = nat_lt 1 count
+
+-- the events are told, or there are too many roles
+abbrev pub by_events : Telling → Words → Grammar → List Event → Output
+by_events telling w g events = if refuses_roles telling g.roles then BadSpecification (codes "roles") else within_limit (told telling w g events)
+
 -- the schedule stands behind so many lines, and its own lines are counted on from there
 abbrev pub by_schedule : Telling → Declarations → ℕ → Read → Output
-by_schedule telling d before (Events events) = within_limit (told telling (words_in d) (grammar_in d) events)
+by_schedule telling d before (Events events) = by_events telling (words_in d) (grammar_in d) events
 by_schedule telling d before (FaultAt line kind) = BadSchedule (at_line (before + line) (schedule_kind kind))
 
 -- the least circle is told, and where there is none P says what comes
@@ -59,12 +69,11 @@ TellsDependences d output = (text : List ℕ) × TellsAccepted (words_in d) (gra
 abbrev pub TellsSchedule : Telling → Declarations → ℕ → List (List ℕ) → Output → Type 0
 TellsSchedule telling d before schedule output = output ≡ by_schedule telling d before (read_lines d 1 schedule)
 
--- What each job makes of these declarations, which take so many lines, and of the lines behind them. A replay refuses more than one role.
+-- What each job makes of these declarations, which take so many lines, and of the lines behind them.
 abbrev pub Makes : Job → Declarations → ℕ → List (List ℕ) → Output → Type 0
 Makes Check d before schedule = IfAccepted d (TellsDependences d)
 Makes Plain d before schedule = IfAccepted d (TellsSchedule Undivided d before schedule)
-Makes Replay d before schedule = λ output.
-    MatchBool (nat_lt 1 (length d.roles)) (output ≡ BadSpecification (codes "roles")) (IfAccepted d (TellsSchedule Replayed d before schedule) output)
+Makes Replay d before schedule = IfAccepted d (TellsSchedule Replayed d before schedule)
 
 abbrev pub BySpecification : Job → List (List ℕ) → Reading → Output → Type 0
 BySpecification job lines (Good spec taken) output = Makes job spec.declared taken (drop taken lines) output

@@ -177,6 +177,24 @@ pub const CLINIC_BAD_NAME: &[u8] = b"role clinic\n\
     schedule\n\
     choose visit#1/skip.1 skip\n";
 
+/// A start of the first case past the largest.
+pub const CLINIC_CASE_TOO_LARGE: &[u8] = b"role clinic\n\
+    role lab\n\
+    con blood 1\n\
+    con report 2\n\
+    con found 2\n\
+    con none 0\n\
+    sort visit clinic 0 1\n\
+    sort test lab 1 1\n\
+    start visit\n\
+    offer test\n\
+    use clinic test\n\
+    rule admit {who} : visit()<report(who, r)> = test(blood(who))<r>\n\
+    rule analyse {v} : test(blood(w))<found(w, v)>\n\
+    rule skip : test(x)<none>\n\
+    schedule\n\
+    start visit 18446744073709551616\n";
+
 /// Four roles, with results of results.
 pub const TRIAL: &[u8] = b"role front\n\
     role lab\n\

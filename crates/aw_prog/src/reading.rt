@@ -9,7 +9,7 @@ ghost use Rattle.aw_prog.specs.Statuses.{IsReply, IsSilent, IsPastReading};
 ghost use Rattle.aw_prog.specs.Replies.{ForInput, Replies};
 
 use crate::check::check;
-use crate::refusals::{bad_specification, too_many_roles};
+use crate::refusals::bad_specification;
 use crate::reply::{Reply, Stop};
 use crate::schedule::{Telling, tell_schedule};
 use crate::source::{INPUT_LIMIT, unread};
@@ -29,22 +29,6 @@ pub enum Job {
     Replay,
 }
 
-/// The replay of a specification of one role; more are refused.
-fn replay(
-    alloc: Global,
-    grammar: Grammar,
-    before: u64,
-    schedule: &[u8],
-) -> Result<Reply, AllocError>
-    requires { before + length (lines_of schedule.now) < 2 ^ 64 }
-    ensures { IfOk result (λ reply. Replies (Makes Job.Replay (declarations_of grammar) before (lines_of schedule.now)) reply) }
-{
-    if grammar.roles.len() > 1 {
-        return too_many_roles(alloc);
-    }
-    tell_schedule(alloc, Telling::Replayed, grammar, before, schedule)
-}
-
 /// The reply to a good specification of so many lines, and to what stands behind it.
 fn reply_to_specification(
     alloc: Global,
@@ -59,7 +43,7 @@ fn reply_to_specification(
     match job {
         Job::Check => check(alloc, grammar),
         Job::Plain => tell_schedule(alloc, Telling::Undivided, grammar, before, schedule),
-        Job::Replay => replay(alloc, grammar, before, schedule),
+        Job::Replay => tell_schedule(alloc, Telling::Replayed, grammar, before, schedule),
     }
 }
 

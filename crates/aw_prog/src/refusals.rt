@@ -4,7 +4,8 @@ ghost use Rattle.aw_spec.specs.KindNames.{kind_name};
 ghost use Rattle.aw_grammar.specs.GrammarOf.{words_of};
 ghost use Rattle.aw_told.specs.Told.{circle_text};
 ghost use Rattle.aw_prog.specs.Output.{BadSpecification, IsCircular, BadSchedule};
-ghost use Rattle.aw_prog.specs.Refusals.{schedule_kind, at_line};
+ghost use Rattle.aw_sched.specs.KindNames.{kind_name as schedule_kind};
+ghost use Rattle.aw_prog.specs.Refusals.{at_line};
 ghost use Rattle.aw_prog.specs.Replies.{reply_with, RefusesGrammar};
 
 use crate::reply::{Reply, Status};
@@ -16,21 +17,6 @@ use aw_spec::SpecKind;
 use aw_text::push_number;
 use aw_told::push_circle;
 use std::alloc::{AllocError, Global};
-
-/// The word by which a fault of a schedule is told.
-fn schedule_word(kind: SchedKind) -> &'static [u8]
-    ensures { result.now ≡ schedule_kind kind }
-{
-    match kind {
-        SchedKind::Token => b"token",
-        SchedKind::Form => b"form",
-        SchedKind::Limit => b"limit",
-        SchedKind::Unknown => b"unknown",
-        SchedKind::Arity => b"arity",
-        SchedKind::NotStart => b"notstart",
-        SchedKind::Name => b"name",
-    }
-}
 
 /// Adds `line 3 form`.
 fn push_place(text: &mut Text, line: u64, kind: &[u8]) -> Result<(), AllocError>
@@ -90,7 +76,7 @@ pub fn bad_schedule(alloc: Global, line: u64, kind: SchedKind) -> Result<Reply, 
     ensures { IfOk result (λ reply. reply ≡ reply_with (BadSchedule (at_line line (schedule_kind kind)))) }
 {
     let mut text = Text::from_bytes(alloc, b"bad schedule ")?;
-    push_place(&mut text, line, schedule_word(kind))?;
+    push_place(&mut text, line, kind.name())?;
     text.push_bytes(b"\n")?;
     Ok(Reply {
         status: Status::BadSchedule,

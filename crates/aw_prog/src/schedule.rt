@@ -6,10 +6,10 @@ ghost use Rattle.aw_grammar.specs.GrammarOf.{grammar_of, words_of, declarations_
 ghost use Rattle.aw_out.specs.Report.{Prints};
 ghost use Rattle.aw_sched.specs.Answers.{event_seen, MayCome};
 ghost use Rattle.aw_sched.specs.Schedules.{read_lines};
-ghost use Rattle.aw_prog.specs.Output.{IfAccepted, TellsSchedule, by_schedule, told, within_limit};
+ghost use Rattle.aw_prog.specs.Output.{IfAccepted, TellsSchedule, by_events, by_schedule, refuses_roles, told, within_limit};
 ghost use Rattle.aw_prog.specs.Replies.{Replies, reply_with};
 
-use crate::refusals::{bad_schedule, not_accepted};
+use crate::refusals::{bad_schedule, not_accepted, too_many_roles};
 use crate::reply::{Reply, Status};
 use crate::source::OUTPUT_LIMIT;
 use crate::transcript::print_transcript;
@@ -28,6 +28,18 @@ pub enum Telling {
     Undivided,
     /// Each event.
     Replayed,
+}
+
+impl Telling {
+    /// Whether so many roles are more than are told. Messages between roles are not told yet.
+    fn refuses_roles(self, count: usize) -> bool
+        ensures { result ≡ refuses_roles self count }
+    {
+        match self {
+            Telling::Undivided => false,
+            Telling::Replayed => count > 1,
+        }
+    }
 }
 
 /// Prints what is told of events.
@@ -49,8 +61,8 @@ fn print_told(
     }
 }
 
-/// The reply to a good input with these events.
-fn reply_to_events(
+/// The reply to a good input with these events, where its roles are told.
+fn tell_events(
     alloc: Global,
     telling: Telling,
     accepted: &Accepted,
@@ -68,6 +80,22 @@ fn reply_to_events(
         Err(PrintFault::TooLarge) => Ok(Reply::silent(alloc, Status::TooLarge)),
         Err(PrintFault::NoMemory) => Err(AllocError),
     }
+}
+
+/// The reply to a good input with these events.
+fn reply_to_events(
+    alloc: Global,
+    telling: Telling,
+    accepted: &Accepted,
+    events: &[Event],
+) -> Result<Reply, AllocError>
+    requires { Each (MayCome (grammar_of accepted.now.grammar)) events.now }
+    ensures { IfOk result (λ reply. reply ≡ reply_with (by_events telling (words_of accepted.now.grammar) (grammar_of accepted.now.grammar) (map event_seen events.now))) }
+{
+    if telling.refuses_roles(accepted.grammar().roles.len()) {
+        return too_many_roles(alloc);
+    }
+    tell_events(alloc, telling, accepted, events)
 }
 
 /// The reply to an accepted specification of so many lines, and to the schedule behind it.

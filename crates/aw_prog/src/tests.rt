@@ -49,6 +49,21 @@ fn replays_worked_cases(rt: HostRuntime) -> Result<(), Fail> {
             b"bad specification line 1 form\n",
         ),
         (CLINIC, Status::BadSpec, b"bad specification roles\n"),
+        (
+            CLINIC_BAD_NAME,
+            Status::BadSchedule,
+            b"bad schedule line 16 name\n",
+        ),
+        (
+            CLINIC_CASE_TOO_LARGE,
+            Status::BadSchedule,
+            b"bad schedule line 16 token\n",
+        ),
+        (
+            b"role r\nrole q\nsort t r 0 0\nsort s r 1 1\nrule loop : t()<> = s(y)<y>\nrule pass : s(x)<x>\nschedule\nstart\n",
+            Status::Circular,
+            b"circular loop at 1.in1\n",
+        ),
         (CIRCULAR, Status::Circular, b"circular loop at 1.in1\n"),
         (
             b"% none\nschedule\n\nstart a 1\n",

@@ -3,7 +3,8 @@ use Rattle.aw_lex.specs.Lines.{lines_of}
 use Rattle.aw_grammar.specs.GrammarOf.{declarations_of}
 use Rattle.aw_sched.specs.Answers.{event_seen}
 use Rattle.aw_sched.specs.Schedules.{Events, FaultAt, read_lines}
-use Rattle.aw_prog.specs.Refusals.{at_line, schedule_kind}
+use Rattle.aw_sched.specs.KindNames.{kind_name as schedule_kind}
+use Rattle.aw_prog.specs.Refusals.{at_line}
 use Rattle.aw_prog.specs.Output.{BadSchedule, by_schedule}
 use Rattle.aw_prog.specs.Replies.{reply_with}
 use Rattle.aw_prog.proofs.LineCounts.{schedule-within}
