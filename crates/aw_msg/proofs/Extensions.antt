@@ -1,129 +1,15 @@
--- What was read, or cannot be read, stays so where more bytes follow.
-use Rattle.std.proofs.Common.{◌≡◌, ℕ, suc, ◌<◌, ◌≤◌, Bool, true, false, cond, ltb, List, [], ◌∷◌, ◌++◌, length, take, drop, Option, None, Some, Result, Ok, Err, refl, sym, ap, subst, ◌∙◌, arith, ◌⊎◌, inl, inr}
-use Rattle.std.proofs.lemmas.Bool.{ltb-false, le-ltb}
+-- What was read of frames, or cannot be read, stays so where more bytes follow.
+use Rattle.std.proofs.Common.{◌≡◌, ℕ, suc, ◌<◌, ◌≤◌, Bool, true, false, cond, ltb, List, [], ◌∷◌, ◌++◌, length, take, drop, Option, None, Some, Result, Ok, Err, refl, sym, ap, subst, ◌∙◌, arith}
+use Rattle.std.proofs.lemmas.Bool.{ltb-false}
 use Rattle.std.proofs.lemmas.List.{take-append-le, drop-append-le, length-append, length-drop}
-use Rattle.std.specs.Int.{Width, w32, byte_len, from_be_bytes}
-use Rattle.aw_wire.specs.Reading.{Fault, Short, Bad, Reader, ◌>>=◌, byte, number, such_that}
+use Rattle.std.specs.Int.{w32}
+use Rattle.aw_wire.specs.Reading.{Fault, Short, Bad, Reader, byte, number, such_that}
 use Rattle.aw_wire.specs.Names.{is_from_1_to}
-use Rattle.aw_wire.proofs.Laws.{bind_ok, guard_ok, rule_ok}
+use Rattle.aw_wire.proofs.Laws.{bind_ok, rule_ok}
+use Rattle.aw_wire.proofs.Extending.{Extends, still_long, byte_shorter, byte_extends, number_extends, such_that_extends, next, next_extends, via}
 use Rattle.aw_msg.specs.Frames.{Frame, payload, has_length, known, payload_at, frame}
 use Rattle.aw_msg.specs.Pieces.{Yields, IsBad, HasEnded, Splits}
-use Rattle.aw_msg.proofs.FrameLaws.{pair_is, known_is, long_is}
-
-record Extends {A : Type 0} (read : Reader A) : Type 0 where
-  ok : (bytes : List ℕ) (x : A) (rest more : List ℕ) → read bytes ≡ Ok (x, rest) → read (bytes ++ more) ≡ Ok (x, rest ++ more)
-  bad : (bytes more : List ℕ) (left : ℕ) → read bytes ≡ Err (Bad left) → (k : ℕ) × (read (bytes ++ more) ≡ Err (Bad k))
-  shorter : (bytes : List ℕ) (x : A) (rest : List ℕ) → read bytes ≡ Ok (x, rest) → length rest ≤ length bytes
-
-ok_pair : {A : Type 0} (x y : A × List ℕ) (e : Fault) → cond {A = Result (A × List ℕ) Fault} true (Ok x) (Err e) ≡ Ok y → x ≡ y
-ok_pair x y e h = pair_is x y h
-
-byte_ok : (bytes : List ℕ) (x : ℕ) (rest more : List ℕ) → byte bytes ≡ Ok (x, rest) → byte (bytes ++ more) ≡ Ok (x, rest ++ more)
-byte_ok [] x rest more e = absurd cc
-byte_ok (b ∷ bytes) x rest more e = ap (λ (p : ℕ × List ℕ). Ok (p.0, p.1 ++ more)) (ok_pair (b, bytes) (x, rest) Short e)
-
-byte_bad : (bytes more : List ℕ) (left : ℕ) → byte bytes ≡ Err (Bad left) → (k : ℕ) × (byte (bytes ++ more) ≡ Err (Bad k))
-byte_bad [] more left e = absurd cc
-byte_bad (b ∷ bytes) more left e = absurd cc
-
-pub byte_shorter : (bytes : List ℕ) (x : ℕ) (rest : List ℕ) → byte bytes ≡ Ok (x, rest) → suc (length rest) ≡ length bytes
-byte_shorter [] x rest e = absurd cc
-byte_shorter (b ∷ bytes) x rest e = ap (λ (p : ℕ × List ℕ). suc (length p.1)) (sym (ok_pair (b, bytes) (x, rest) Short e))
-
-byte_extends : Extends byte
-byte_extends = record { ok = byte_ok; bad = byte_bad; shorter = λ bytes x rest e. let h = byte_shorter bytes x rest e in omega arith }
-
-short_or_ok : {A : Type 0} (b : Bool) (x : A × List ℕ) (left : ℕ) → cond b (Err Short) (Ok x) ≡ Err (Bad left) → ⊥
-short_or_ok true x left e = absurd cc
-short_or_ok false x left e = absurd cc
-
--- a front of n bytes is the same in more bytes
-still_long : (n : ℕ) (bytes more : List ℕ) → n ≤ length bytes → ltb (length (bytes ++ more)) n ≡ false
-still_long n bytes more le = le-ltb _ _ (omega (arith, length-append bytes more))
-
-number_ok : (w : Width) (bytes : List ℕ) (x : ℕ) (rest more : List ℕ) → number w bytes ≡ Ok (x, rest) → number w (bytes ++ more) ≡ Ok (x, rest ++ more)
-number_ok w bytes x rest more e =
-    let k = byte_len w in
-    let g = guard_ok (ltb (length bytes) k) Short (from_be_bytes w (take k bytes), drop k bytes) (x, rest) e in
-    let long : k ≤ length bytes = ltb-false _ _ g.0 in
-    rw (still_long k bytes more long, take-append-le k bytes more long, drop-append-le k bytes more long) (ap (λ (p : ℕ × List ℕ). Ok (p.0, p.1 ++ more)) g.1)
-
-number_shorter : (w : Width) (bytes : List ℕ) (x : ℕ) (rest : List ℕ) → number w bytes ≡ Ok (x, rest) → length rest ≤ length bytes
-number_shorter w bytes x rest e =
-    let k = byte_len w in
-    let g = guard_ok (ltb (length bytes) k) Short (from_be_bytes w (take k bytes), drop k bytes) (x, rest) e in
-    subst (λ (t : List ℕ). length t ≤ length bytes) (ap (λ (p : ℕ × List ℕ). p.1) g.1) (omega (arith, length-drop k bytes))
-
-number_extends : (w : Width) → Extends (number w)
-number_extends w = record {
-  ok = number_ok w;
-  bad = λ bytes more left e. absurd (short_or_ok (ltb (length bytes) (byte_len w)) (from_be_bytes w (take (byte_len w) bytes), drop (byte_len w) bytes) left e);
-  shorter = number_shorter w;
-}
-
-abbrev fault_of : (A : Type 0) → Fault → Result A Fault
-fault_of A d = Err d
-
-bind_bad : {A B : Type 0} (r : Result A Fault) (f : A → Result B Fault) (left : ℕ) → (r >>= f) ≡ Err (Bad left) → (r ≡ Err (Bad left)) ⊎ ((x : A) × (r ≡ Ok x) × (f x ≡ Err (Bad left)))
-bind_bad {A} {B} (Ok x) f left e = inr (x, refl, e)
-bind_bad {A} {B} (Err d) f left e = inl (same d left e)
-  where
-    same : (d : Fault) (left : ℕ) → fault_of B d ≡ fault_of B (Bad left) → fault_of A d ≡ fault_of A (Bad left)
-    same d left e = ap (λ f. fault_of A f) (inside d (Bad left) e)
-      where
-        inside : (d f : Fault) → fault_of B d ≡ fault_of B f → d ≡ f
-        inside d f e = cc
-
-rule_bad : {A : Type 0} (b : Bool) (x : A × List ℕ) (d : Fault) (left : ℕ) → cond b (Ok x) (Err d) ≡ Err (Bad left) → b ≡ false
-rule_bad true x d left e = absurd cc
-rule_bad false x d left e = refl
-
-such_that_ok : {A : Type 0} {r : Reader A} (rule : A → Bool) (h : Extends r) (bytes : List ℕ) (x : A) (rest more : List ℕ) → such_that rule r bytes ≡ Ok (x, rest) → such_that rule r (bytes ++ more) ≡ Ok (x, rest ++ more)
-such_that_ok {A} {r} rule h bytes x rest more e =
-    let a = bind_ok (r bytes) (λ y. cond (rule y.0) (Ok y) (Err (Bad (length bytes)))) (x, rest) e in
-    let g = rule_ok (rule a.0.0) (Bad (length bytes)) a.0 (x, rest) a.2 in
-    rw (h.ok bytes a.0.0 a.0.1 more a.1, g.0) (ap (λ (p : A × List ℕ). Ok (p.0, p.1 ++ more)) g.1)
-
-such_that_bad : {A : Type 0} {r : Reader A} (rule : A → Bool) (h : Extends r) (bytes more : List ℕ) (left : ℕ) → such_that rule r bytes ≡ Err (Bad left) → (k : ℕ) × (such_that rule r (bytes ++ more) ≡ Err (Bad k))
-such_that_bad {A} {r} rule h bytes more left e =
-    elim (bind_bad (r bytes) (λ y. cond (rule y.0) (Ok y) (Err (Bad (length bytes)))) left e) [
-      | inl f ↦ let k = h.bad bytes more left f in (k.0, ap (λ z. z >>= λ y. cond (rule y.0) (Ok y) (Err (Bad (length (bytes ++ more))))) k.1)
-      | inr t ↦ (length (bytes ++ more), rw (h.ok bytes t.0.0 t.0.1 more t.1, rule_bad (rule t.0.0) t.0 (Bad (length bytes)) left t.2) refl)
-    ]
-
-such_that_shorter : {A : Type 0} {r : Reader A} (rule : A → Bool) (h : Extends r) (bytes : List ℕ) (x : A) (rest : List ℕ) → such_that rule r bytes ≡ Ok (x, rest) → length rest ≤ length bytes
-such_that_shorter {A} {r} rule h bytes x rest e =
-    let a = bind_ok (r bytes) (λ y. cond (rule y.0) (Ok y) (Err (Bad (length bytes)))) (x, rest) e in
-    let g = rule_ok (rule a.0.0) (Bad (length bytes)) a.0 (x, rest) a.2 in
-    subst (λ (p : A × List ℕ). length p.1 ≤ length bytes) g.1 (h.shorter bytes a.0.0 a.0.1 a.1)
-
-such_that_extends : {A : Type 0} {r : Reader A} (rule : A → Bool) → Extends r → Extends (such_that rule r)
-such_that_extends rule h = record { ok = such_that_ok rule h; bad = such_that_bad rule h; shorter = such_that_shorter rule h }
-
-abbrev next : {A B : Type 0} → Reader A → (A → Reader B) → Reader B
-next first second bytes = first bytes >>= λ x. second x.0 x.1
-
-next_ok : {A B : Type 0} {r : Reader A} {s : A → Reader B} (h : Extends r) (k : (x : A) → Extends (s x)) (bytes : List ℕ) (x : B) (rest more : List ℕ) → next r s bytes ≡ Ok (x, rest) → next r s (bytes ++ more) ≡ Ok (x, rest ++ more)
-next_ok {A} {B} {r} {s} h k bytes x rest more e =
-    let a = bind_ok (r bytes) (λ y. s y.0 y.1) (x, rest) e in
-    ap (λ z. z >>= λ y. s y.0 y.1) (h.ok bytes a.0.0 a.0.1 more a.1) ∙ (k a.0.0).ok a.0.1 x rest more a.2
-
-next_bad : {A B : Type 0} {r : Reader A} {s : A → Reader B} (h : Extends r) (k : (x : A) → Extends (s x)) (bytes more : List ℕ) (left : ℕ) → next r s bytes ≡ Err (Bad left) → (n : ℕ) × (next r s (bytes ++ more) ≡ Err (Bad n))
-next_bad {A} {B} {r} {s} h k bytes more left e =
-    elim (bind_bad (r bytes) (λ y. s y.0 y.1) left e) [
-      | inl f ↦ let n = h.bad bytes more left f in (n.0, ap (λ z. z >>= λ y. s y.0 y.1) n.1)
-      | inr t ↦ let n = (k t.0.0).bad t.0.1 more left t.2 in (n.0, ap (λ z. z >>= λ y. s y.0 y.1) (h.ok bytes t.0.0 t.0.1 more t.1) ∙ n.1)
-    ]
-
-next_shorter : {A B : Type 0} {r : Reader A} {s : A → Reader B} (h : Extends r) (k : (x : A) → Extends (s x)) (bytes : List ℕ) (x : B) (rest : List ℕ) → next r s bytes ≡ Ok (x, rest) → length rest ≤ length bytes
-next_shorter {A} {B} {r} {s} h k bytes x rest e =
-    let a = bind_ok (r bytes) (λ y. s y.0 y.1) (x, rest) e in
-    let one = h.shorter bytes a.0.0 a.0.1 a.1 in
-    let two = (k a.0.0).shorter a.0.1 x rest a.2 in
-    omega arith
-
-next_extends : {A B : Type 0} {r : Reader A} {s : A → Reader B} → Extends r → ((x : A) → Extends (s x)) → Extends (next r s)
-next_extends h k = record { ok = next_ok h k; bad = next_bad h k; shorter = next_shorter h k }
+use Rattle.aw_msg.proofs.FrameLaws.{known_is, long_is}
 
 -- ---- payloads and frames
 
@@ -164,15 +50,11 @@ behind_kind kind = next (such_that (has_length kind) (number w32)) (payload_at k
 behind_kind_extends : (kind : ℕ) → Extends (behind_kind kind)
 behind_kind_extends kind = next_extends (such_that_extends (has_length kind) (number_extends w32)) (payload_extends kind)
 
-frame_extends : Extends (next (such_that (is_from_1_to 4) byte) behind_kind)
-frame_extends = next_extends (such_that_extends (is_from_1_to 4) byte_extends) behind_kind_extends
-
-pub frame_ok : (bytes : List ℕ) (f : Frame) (rest more : List ℕ) → frame bytes ≡ Ok (f, rest) → frame (bytes ++ more) ≡ Ok (f, rest ++ more)
+pub frame_extends : Extends frame
 unfolding frame
-frame_ok bytes f rest more e = frame_extends.ok bytes f rest more e
+frame_extends = via (λ bytes. refl) (next_extends (such_that_extends (is_from_1_to 4) byte_extends) behind_kind_extends)
 
 pub frame_bad : (bytes more : List ℕ) → IsBad (frame bytes) → IsBad (frame (bytes ++ more))
-unfolding frame
 frame_bad bytes more h = frame_extends.bad bytes more h.0 h.1
 
 -- a frame has bytes
@@ -191,7 +73,7 @@ frame_shorter bytes f rest e =
 
 pub yields_more : (bytes : List ℕ) (fs : List Frame) (rest more : List ℕ) → Yields bytes fs rest → Yields (bytes ++ more) fs (rest ++ more)
 yields_more bytes [] rest more h = ap (λ t. t ++ more) h
-yields_more bytes (f ∷ fs) rest more h = (h.0 ++ more, frame_ok bytes f h.0 more h.1, yields_more h.0 fs rest more h.2)
+yields_more bytes (f ∷ fs) rest more h = (h.0 ++ more, frame_extends.ok bytes f h.0 more h.1, yields_more h.0 fs rest more h.2)
 
 pub yields_one : (bytes : List ℕ) (fs : List Frame) (rest : List ℕ) (f : Frame) (behind : List ℕ) → Yields bytes fs rest → frame rest ≡ Ok (f, behind) → Yields bytes (fs ++ f ∷ []) behind
 yields_one bytes [] rest f behind h e = (behind, ap frame h ∙ e, refl)
@@ -205,6 +87,9 @@ pub ended_sound : (failed : Bool) (bytes : List ℕ) → HasEnded failed bytes �
 ended_sound failed bytes h e = subst (λ b. HasEnded b bytes) e h
 
 -- ---- one way to split
+
+abbrev fault_of : (A : Type 0) → Fault → Result A Fault
+fault_of A d = Err d
 
 abbrev read : Frame × List ℕ → Result (Frame × List ℕ) Fault
 read x = Ok x

@@ -40,12 +40,6 @@ each_adds spelled P k (x ∷ xs) bound h =
     sums : (n m k : ℕ) → n ≤ k + m * k → n ≤ suc m * k
     sums n m k e = grind arith
 
-times_most : (n m k : ℕ) → n ≤ m → n * k ≤ m * k
-times_most n m k e = grind arith
-
-step_length : (s : Step) → length (spelled_step s) ≡ 3
-step_length s = refl
-
 node_short : (n : Node) → NodeInRange n → length (spelled_node n) ≤ 761
 node_short n h =
     let steps : length (flat_map spelled_step n.steps) ≤ length n.steps * 3 = each_adds spelled_step (λ s. Unit {0}) 3 n.steps (λ s u. equal 3) (all n.steps) in

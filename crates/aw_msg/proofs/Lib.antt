@@ -4,4 +4,4 @@ pub mod MessageLaws
 pub mod StreamLemmas
 pub mod Extensions
 pub mod PieceLemmas
-pub mod Cuts
+pub mod MessageExtends

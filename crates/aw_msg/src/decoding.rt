@@ -1,7 +1,7 @@
 //! The message at the front of some bytes.
 ghost use Rattle.std.specs.Prelude.{◌≡◌};
 ghost use Rattle.aw_wire.specs.Placed.{placed, Decodes, Finds, IsFound};
-ghost use Rattle.aw_wire.specs.OneSpelling.{ReadsSpelled, SpelledIfRead, NoneBeginsAnother};
+ghost use Rattle.aw_wire.specs.OneSpelling.{ReadsSpelled, SpelledIfRead, NoneBeginsAnother, CutIsShort};
 ghost use Rattle.aw_msg.specs.Messages.{message, spelled_message, MessageSized, MessageInRange};
 
 use crate::message::Message;
@@ -37,4 +37,6 @@ pub fn messages_have_one_spelling()
     ensures again { ReadsSpelled message spelled_message MessageSized MessageInRange }
     ensures spelled { SpelledIfRead message spelled_message MessageSized MessageInRange }
     ensures apart { NoneBeginsAnother spelled_message MessageSized MessageInRange }
+    // What is cut short needs more bytes.
+    ensures cut { CutIsShort message spelled_message MessageSized MessageInRange }
 {}

@@ -1,8 +1,6 @@
 //! Each request has one spelling.
-ghost use Rattle.std.specs.Prelude.{◌≡◌, ◌≢◌, List, ℕ, [], ◌++◌, Err};
-ghost use Rattle.aw_wire.specs.Reading.{Short};
-ghost use Rattle.aw_wire.specs.OneSpelling.{ReadsSpelled, SpelledIfRead, NoneBeginsAnother};
-ghost use Rattle.aw_msg.specs.Frames.{Frame, frame, spelled_frame, FrameSized, FrameInRange};
+ghost use Rattle.aw_wire.specs.OneSpelling.{ReadsSpelled, SpelledIfRead, NoneBeginsAnother, CutIsShort};
+ghost use Rattle.aw_msg.specs.Frames.{frame, spelled_frame, FrameSized, FrameInRange};
 
 /// Requests are read as they are spelled, and no spelling begins another one.
 pub fn frames_have_one_spelling()
@@ -10,5 +8,5 @@ pub fn frames_have_one_spelling()
     ensures spelled { SpelledIfRead frame spelled_frame FrameSized FrameInRange }
     ensures apart { NoneBeginsAnother spelled_frame FrameSized FrameInRange }
     // What is cut short needs more bytes.
-    ensures cut { (f : Frame) (bytes more : List ℕ) → FrameSized f → FrameInRange f → spelled_frame f ≡ bytes ++ more → more ≢ [] → frame bytes ≡ Err Short }
+    ensures cut { CutIsShort frame spelled_frame FrameSized FrameInRange }
 {}

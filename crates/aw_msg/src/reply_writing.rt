@@ -1,41 +1,17 @@
 //! The bytes of replies.
-ghost use Rattle.std.specs.Prelude.{◌≡◌, ◌++◌, codes, flat_map, length, map, IfOk, OnOk};
-ghost use Rattle.aw_term.specs.Artifacts.{ref_text, listed};
+ghost use Rattle.std.specs.Prelude.{◌≡◌, ◌++◌, length, IfOk, OnOk};
 ghost use Rattle.aw_grammar.specs.GrammarOf.{words_of};
 ghost use Rattle.aw_msg.specs.Replies as spec;
 ghost use Rattle.aw_msg.specs.ReplyRanges.{ReplyInRange};
 
 use crate::reply::Answered;
 use crate::writing::add_message;
-use aw_base::{push_answer, push_item, push_ref};
+use aw_base::{push_answer, push_item, push_refs};
 use aw_grammar::Grammar;
 use aw_list::Text;
-use aw_name::Ref;
 use aw_store::{Content, push_body};
 use aw_wire::writing::{add_byte, add_u64};
 use std::alloc::{AllocError, Global};
-
-fn add_following(text: &mut Text, g: &Grammar, refs: &[Ref]) -> Result<(), AllocError>
-    ensures { OnOk result (text.new ≡ text.old ++ flat_map (λ r. codes ", " ++ ref_text (words_of g.now) r) refs.now) }
-{
-    for r in refs {
-        text.push_bytes(b", ")?;
-        push_ref(text, g, r)?;
-    }
-    Ok(())
-}
-
-fn add_refs(text: &mut Text, g: &Grammar, refs: &[Ref]) -> Result<(), AllocError>
-    ensures { OnOk result (text.new ≡ text.old ++ listed (map (ref_text (words_of g.now)) refs.now)) }
-{
-    match refs {
-        [] => Ok(()),
-        [first, rest @ ..] => {
-            push_ref(text, g, first)?;
-            add_following(text, g, rest)
-        }
-    }
-}
 
 fn add_content(text: &mut Text, g: &Grammar, content: &Content) -> Result<(), AllocError>
     ensures { OnOk result (text.new ≡ text.old ++ spec.content_text (words_of g.now) content.now) }
@@ -43,7 +19,7 @@ fn add_content(text: &mut Text, g: &Grammar, content: &Content) -> Result<(), Al
     match content {
         Content::Inherited(refs) => {
             text.push_bytes(b"(")?;
-            add_refs(text, g, refs.as_slice())?;
+            push_refs(text, g, refs.as_slice())?;
             text.push_bytes(b")")
         }
         Content::Body(body) => push_body(text, g, body),

@@ -8,3 +8,6 @@ pub mod ChoiceLaws
 pub mod Placing
 pub mod Adding
 pub mod GroundWriting
+pub mod Extending
+pub mod ReadersExtend
+pub mod Cuts

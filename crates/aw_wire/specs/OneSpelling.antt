@@ -1,7 +1,7 @@
 -- Reading and spelling belong together, and each value has one spelling.
-use Rattle.std.specs.Prelude.{◌≡◌, ℕ, List, ◌++◌, Ok}
+use Rattle.std.specs.Prelude.{◌≡◌, ◌≢◌, ℕ, List, [], ◌++◌, Ok, Err}
 use Rattle.aw_wire.specs.Bytes.{AreBytes}
-use Rattle.aw_wire.specs.Reading.{Reader}
+use Rattle.aw_wire.specs.Reading.{Short, Reader}
 
 -- what is spelled is read, whatever follows
 abbrev pub ReadsSpelled : {A : Type 0} → Reader A → (A → List ℕ) → (A → Type 0) → (A → Type 0) → Type 0
@@ -15,3 +15,7 @@ SpelledIfRead {A} read spelled Sized InRange = (bytes : List ℕ) (x : A) (rest 
 abbrev pub NoneBeginsAnother : {A : Type 0} → (A → List ℕ) → (A → Type 0) → (A → Type 0) → Type 0
 NoneBeginsAnother {A} spelled Sized InRange =
     (x y : A) (rest more : List ℕ) → Sized x → InRange x → Sized y → InRange y → spelled x ++ rest ≡ spelled y ++ more → (x ≡ y) × (rest ≡ more)
+
+-- where something of a spelling is cut off, more bytes are needed
+abbrev pub CutIsShort : {A : Type 0} → Reader A → (A → List ℕ) → (A → Type 0) → (A → Type 0) → Type 0
+CutIsShort {A} read spelled Sized InRange = (x : A) (bytes more : List ℕ) → Sized x → InRange x → spelled x ≡ bytes ++ more → more ≢ [] → read bytes ≡ Err Short

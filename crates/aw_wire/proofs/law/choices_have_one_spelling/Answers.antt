@@ -1,5 +1,7 @@
 use Rattle.aw_wire.proofs.Laws.{reads_spelled, spelled_if_read, none_begins_another}
 use Rattle.aw_wire.proofs.ChoiceLaws.{choice_law}
+use Rattle.aw_wire.proofs.Cuts.{cut_short}
+use Rattle.aw_wire.proofs.ReadersExtend.{choice_extends}
 use Rattle.aw_wire.proofs.law.choices_have_one_spelling.Goals as goal
 
 pub returns-clause-again : goal.returns-clause-again
@@ -10,3 +12,6 @@ returns-clause-spelled c = spelled_if_read choice_law
 
 pub returns-clause-apart : goal.returns-clause-apart
 returns-clause-apart c = none_begins_another choice_law
+
+pub returns-clause-cut : goal.returns-clause-cut
+returns-clause-cut c = cut_short choice_law choice_extends
