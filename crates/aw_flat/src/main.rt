@@ -1,0 +1,62 @@
+//! A table of cases over flat equations. Each entry has a specification and then lines: the starts and choices of a
+//! schedule, and `equation LEFT = BODY`, `node NAME (REFERENCES)` and `chase REFERENCE`, which put equations and nodes
+//! there by hand. What stands in `stdout` was written by hand and, where a case has hundreds of lines, by a script that
+//! knows nothing of the program; nothing in it comes from the program.
+#![tactic(auto)]
+
+mod case;
+mod typed;
+mod weigh;
+
+use aw_list::Text;
+use aw_out::{StdSink, StdSource, read_all, write_all};
+use aw_spec::read_spec;
+use bstr::ByteSlice;
+use case::Case;
+use std::alloc::{AllocError, Global};
+use std::process::ExitCode;
+
+/// What stands in front of an entry's name.
+const MARK: &[u8] = b"=== ";
+
+/// The most bytes of a table.
+const LIMIT: usize = 16_777_216;
+
+/// Adds the lines of an entry.
+fn push_entry(alloc: Global, told: &mut Text, name: &[u8], input: &[u8]) -> Result<(), AllocError> {
+    told.push_bytes(MARK)?;
+    told.push_bytes(name)?;
+    told.push_bytes(b"\n")?;
+    let Ok(spec) = read_spec(alloc, input) else {
+        return told.push_bytes(b"not read\n");
+    };
+    let mut case = Case::new(alloc, &spec.grammar);
+    for line in (&input[spec.rest..]).lines() {
+        case.push_line(line)?;
+    }
+    told.push_bytes(case.told())
+}
+
+/// The lines of all entries. What stands before the first mark is none.
+fn table(alloc: Global, text: &[u8]) -> Result<Text, AllocError> {
+    let mut told = Text::new(alloc);
+    for entry in text.split_str(MARK) {
+        if let Some((name, input)) = entry.split_once_str(b"\n") {
+            push_entry(alloc, &mut told, name, input)?;
+        }
+    }
+    Ok(told)
+}
+
+fn main(rt: HostRuntime) -> ExitCode {
+    let Ok(text) = read_all(rt.alloc(), &mut StdSource::new(&rt), LIMIT) else {
+        return ExitCode::from(7);
+    };
+    let Ok(told) = table(rt.alloc(), text.as_slice()) else {
+        return ExitCode::from(10);
+    };
+    match write_all(&mut StdSink::new(&rt), told.as_slice()) {
+        Ok(()) => ExitCode::SUCCESS,
+        Err(_) => ExitCode::from(8),
+    }
+}
