@@ -1,0 +1,80 @@
+//! How many requests of each kind a session has.
+use crate::fault::TableFault;
+use aw_list::Text;
+use aw_msg::{Frame, FrameReader, Next};
+use aw_text::push_number;
+use std::alloc::{AllocError, Global};
+
+/// How many requests of each kind came, and whether the last answer was `Bad`.
+#[derive(Clone, Copy, Debug, PartialEq, Eq)]
+struct Counts {
+    pushes: u64,
+    choices: u64,
+    pulls: u64,
+    lists: u64,
+    failed: bool,
+}
+
+impl Counts {
+    fn add(&mut self, frame: &Frame) {
+        match frame {
+            Frame::Push(_) => self.pushes = self.pushes.saturating_add(1),
+            Frame::Choose(_) => self.choices = self.choices.saturating_add(1),
+            Frame::Pull(_) => self.pulls = self.pulls.saturating_add(1),
+            Frame::List(_) => self.lists = self.lists.saturating_add(1),
+        }
+    }
+}
+
+/// Counts the requests that are there; there are at most as many as bytes.
+fn add_requests(
+    counts: &mut Counts,
+    reader: &mut FrameReader,
+    most: usize,
+) -> Result<(), AllocError> {
+    for _ in 0..=most {
+        match reader.next()? {
+            Next::Frame(frame) => counts.add(&frame),
+            Next::Need => return Ok(()),
+            Next::Bad => {
+                counts.failed = true;
+                return Ok(());
+            }
+        }
+    }
+    Ok(())
+}
+
+fn counted(alloc: Global, bytes: &[u8], size: usize) -> Result<Counts, AllocError> {
+    let mut reader = FrameReader::new(alloc);
+    let mut counts = Counts {
+        pushes: 0,
+        choices: 0,
+        pulls: 0,
+        lists: 0,
+        failed: false,
+    };
+    for piece in bytes.chunks(size.max(1)) {
+        reader.feed(piece)?;
+        add_requests(&mut counts, &mut reader, bytes.len())?;
+    }
+    Ok(counts)
+}
+
+fn push_count(told: &mut Text, word: &[u8], count: u64) -> Result<(), AllocError> {
+    told.push_bytes(word)?;
+    push_number(told, count)?;
+    told.push_bytes(b"\n")
+}
+
+/// How many requests of each kind a session has that comes in pieces of this size, and the last answer.
+pub fn push_counts(alloc: Global, bytes: &[u8], size: usize) -> Result<Text, TableFault> {
+    let counts = counted(alloc, bytes, size)?;
+    let mut told = Text::new(alloc);
+    push_count(&mut told, b"pushes ", counts.pushes)?;
+    push_count(&mut told, b"choices ", counts.choices)?;
+    push_count(&mut told, b"pulls ", counts.pulls)?;
+    push_count(&mut told, b"lists ", counts.lists)?;
+    told.push_bytes(if counts.failed { b"bad\n" } else { b"need\n" })?;
+    Ok(told)
+}

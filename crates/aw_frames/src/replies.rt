@@ -1,0 +1,161 @@
+//! Replies that are named in words, as bytes. Nodes, references and messages in them are given by their bytes.
+ghost use Rattle.std.specs.Prelude.{IfOk};
+ghost use Rattle.aw_msg.specs.ReplyRanges.{ReplyInRange};
+
+use crate::fault::TableFault;
+use crate::table::bytes_of;
+use aw_base::{Answer, Grammar, Item};
+use aw_choice::Standing;
+use aw_list::Text;
+use aw_msg::reading::body_at;
+use aw_msg::{Answered, decode, reply_bytes};
+use aw_name::Ref;
+use aw_store::Content;
+use aw_text::number_value;
+use aw_wire::{node_at, ref_at, refs_at};
+use bstr::ByteSlice;
+use std::alloc::Global;
+
+/// The first word of some text, and what stands behind the blank.
+fn first_word(text: &[u8]) -> (&[u8], &[u8]) {
+    text.split_once_str(b" ").unwrap_or((text, b""))
+}
+
+fn reference_of(alloc: Global, digits: &[u8]) -> Result<Ref, TableFault> {
+    let bytes = bytes_of(alloc, digits)?;
+    let (reference, _) = ref_at(alloc, &bytes)?;
+    Ok(reference)
+}
+
+/// A list of references as `(..)`, or else a body.
+fn content_of(alloc: Global, word: &[u8], digits: &[u8]) -> Result<Content, TableFault> {
+    let bytes = bytes_of(alloc, digits)?;
+    if word == b"lists".as_slice() {
+        let (refs, _) = refs_at(alloc, &bytes)?;
+        return Ok(Content::Inherited(refs));
+    }
+    let (body, _) = body_at(alloc, &bytes)?;
+    Ok(Content::Body(body))
+}
+
+/// `bodies KEPT CAME` or `lists KEPT CAME`.
+fn conflict_of(alloc: Global, text: &[u8]) -> Result<Answered, TableFault>
+    ensures { IfOk result (λ reply. ReplyInRange reply) }
+{
+    let (word, rest) = first_word(text);
+    let (kept, came) = first_word(rest);
+    Ok(Answered::Conflict {
+        kept: content_of(alloc, word, kept)?,
+        came: content_of(alloc, word, came)?,
+    })
+}
+
+/// `taken`, `waits REFERENCE` or `circle REFERENCE`.
+fn answer_of(alloc: Global, text: &[u8]) -> Result<Answer, TableFault> {
+    let (word, rest) = first_word(text);
+    if word == b"taken".as_slice() {
+        return Ok(Answer::Taken);
+    }
+    if word == b"waits".as_slice() {
+        return Ok(Answer::Waits(reference_of(alloc, rest)?));
+    }
+    if word == b"circle".as_slice() {
+        return Ok(Answer::Circle(reference_of(alloc, rest)?));
+    }
+    Err(TableFault::Unreadable)
+}
+
+/// `ready`, `waits REFERENCE` or `circle REFERENCE`.
+fn state_of(alloc: Global, text: &[u8]) -> Result<Standing, TableFault> {
+    let (word, rest) = first_word(text);
+    if word == b"ready".as_slice() {
+        return Ok(Standing::Ready);
+    }
+    if word == b"waits".as_slice() {
+        return Ok(Standing::Waits(reference_of(alloc, rest)?));
+    }
+    if word == b"circle".as_slice() {
+        return Ok(Standing::Circle(reference_of(alloc, rest)?));
+    }
+    Err(TableFault::Unreadable)
+}
+
+fn number_of(digits: &[u8]) -> Result<u64, TableFault> {
+    number_value(digits).ok_or(TableFault::Unreadable)
+}
+
+/// `NODE RULE STATE`.
+fn item_of(alloc: Global, text: &[u8]) -> Result<Item, TableFault> {
+    let (digits, rest) = first_word(text);
+    let (rule, rest) = first_word(rest);
+    let bytes = bytes_of(alloc, digits)?;
+    let (node, _) = node_at(alloc, &bytes)?;
+    let Ok(rule) = u16::try_from(number_of(rule)?) else {
+        return Err(TableFault::Unreadable);
+    };
+    Ok(Item {
+        node,
+        rule,
+        state: state_of(alloc, rest)?,
+    })
+}
+
+/// A reply without fields.
+fn plain_reply(line: &[u8]) -> Result<Answered, TableFault>
+    ensures { IfOk result (λ reply. ReplyInRange reply) }
+{
+    if line == b"new".as_slice() {
+        Ok(Answered::New)
+    } else if line == b"again".as_slice() {
+        Ok(Answered::Again)
+    } else if line == b"not mine".as_slice() {
+        Ok(Answered::NotMine)
+    } else if line == b"bad name".as_slice() {
+        Ok(Answered::BadName)
+    } else if line == b"too long".as_slice() {
+        Ok(Answered::TooLong)
+    } else if line == b"bad frame".as_slice() {
+        Ok(Answered::BadFrame)
+    } else {
+        Err(TableFault::Unreadable)
+    }
+}
+
+/// The reply that a line names.
+fn reply_of(alloc: Global, line: &[u8]) -> Result<Answered, TableFault>
+    ensures { IfOk result (λ reply. ReplyInRange reply) }
+{
+    let (word, rest) = first_word(line);
+    if word == b"conflict".as_slice() {
+        return conflict_of(alloc, rest);
+    }
+    if word == b"answer".as_slice() {
+        return Ok(Answered::Answer(answer_of(alloc, rest)?));
+    }
+    if word == b"message".as_slice() {
+        let (message, _) = decode(alloc, &bytes_of(alloc, rest)?)?;
+        return Ok(Answered::Message(message));
+    }
+    if word == b"none".as_slice() {
+        return Ok(Answered::Nothing(number_of(rest)?));
+    }
+    if word == b"item".as_slice() {
+        return Ok(Answered::Item(item_of(alloc, rest)?));
+    }
+    plain_reply(line)
+}
+
+/// Adds the bytes of the replies that the lines name, in hexadecimal.
+pub fn push_replies(
+    alloc: Global,
+    told: &mut Text,
+    g: &Grammar,
+    lines: &[u8],
+) -> Result<(), TableFault> {
+    for line in lines.lines() {
+        let bytes = reply_bytes(alloc, g, &reply_of(alloc, line)?)?;
+        told.push_bytes(hex::encode(alloc, bytes.as_slice())?.as_bytes())?;
+    }
+    told.push_bytes(b"\n")?;
+    Ok(())
+}

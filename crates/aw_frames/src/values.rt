@@ -1,0 +1,60 @@
+//! What stands at the front of some bytes, and that it is written again as it was read.
+use crate::fault::TableFault;
+use crate::fields::{push_choice, push_message};
+use aw_list::Text;
+use aw_msg::{MsgFault, decode, decode_choice, encode, encode_choice};
+use aw_text::push_number;
+use std::alloc::{AllocError, Global};
+
+/// Adds the number of bytes that were taken, and whether what was read is written as these bytes.
+fn push_taken(
+    told: &mut Text,
+    bytes: &[u8],
+    count: usize,
+    written: &Text,
+) -> Result<(), AllocError> {
+    push_number(told, count as u64)?;
+    if bytes.get(..count) == Some(written.as_slice()) {
+        told.push_bytes(b" bytes: ")
+    } else {
+        told.push_bytes(b" bytes, written otherwise: ")
+    }
+}
+
+fn push_fault(told: &mut Text, fault: MsgFault) -> Result<(), TableFault> {
+    match fault {
+        MsgFault::Short => told.push_bytes(b"short")?,
+        MsgFault::Bad { at } => {
+            told.push_bytes(b"bad at ")?;
+            push_number(told, at as u64)?;
+        }
+        MsgFault::NoMemory => return Err(TableFault::NoMemory),
+    }
+    Ok(())
+}
+
+/// Adds the message at the front of some bytes, or the fault.
+pub fn push_decoded(alloc: Global, told: &mut Text, bytes: &[u8]) -> Result<(), TableFault> {
+    match decode(alloc, bytes) {
+        Ok((message, count)) => {
+            push_taken(told, bytes, count, &encode(alloc, &message)?)?;
+            push_message(told, &message)?;
+        }
+        Err(fault) => push_fault(told, fault)?,
+    }
+    told.push_bytes(b"\n")?;
+    Ok(())
+}
+
+/// Adds the choice at the front of some bytes, or the fault.
+pub fn push_decoded_choice(alloc: Global, told: &mut Text, bytes: &[u8]) -> Result<(), TableFault> {
+    match decode_choice(alloc, bytes) {
+        Ok((choice, count)) => {
+            push_taken(told, bytes, count, &encode_choice(alloc, &choice)?)?;
+            push_choice(told, &choice)?;
+        }
+        Err(fault) => push_fault(told, fault)?,
+    }
+    told.push_bytes(b"\n")?;
+    Ok(())
+}
