@@ -1,0 +1,5 @@
+role desk
+con ok 0
+sort task desk 0 0
+sort call desk 0 1
+rule note : task()<> = call()<ok>

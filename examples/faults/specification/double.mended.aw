@@ -1,0 +1,2 @@
+role desk
+role lab

@@ -1,0 +1,1 @@
+roles desk

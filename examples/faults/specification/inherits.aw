@@ -1,0 +1,3 @@
+role desk
+sort task desk 1 0
+start task

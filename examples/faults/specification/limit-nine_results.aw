@@ -1,0 +1,2 @@
+role desk
+sort task desk 0 9

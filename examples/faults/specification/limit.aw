@@ -1,0 +1,1 @@
+con wide 9

@@ -1,0 +1,3 @@
+role desk
+sort task desk 0 1
+rule note : task()<x>

@@ -1,0 +1,5 @@
+role clinic
+role lab
+sort visit clinic 0 0
+sort test lab 0 0
+rule admit : visit()<> = test()<>

@@ -1,0 +1,6 @@
+role clinic
+role lab
+sort visit clinic 0 0
+sort test lab 0 0
+offer test
+rule admit : visit()<> = test()<>

@@ -1,0 +1,2 @@
+con memo 1
+role desk

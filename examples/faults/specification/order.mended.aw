@@ -1,0 +1,2 @@
+role desk
+con memo 1

@@ -1,0 +1,1 @@
+con memo -1

@@ -1,0 +1,3 @@
+role desk
+sort call desk 2 0
+rule same : call(x, x)<>

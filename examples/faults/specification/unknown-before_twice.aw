@@ -1,0 +1,2 @@
+role desk
+rule same : call(x, x)<>

@@ -1,0 +1,3 @@
+role desk
+sort call desk 1 0
+rule ring : call(memo(x))<>

@@ -1,0 +1,1 @@
+sort task desk 0 0
