@@ -73,13 +73,8 @@ def main():
     for path in paths:
         for command in ("check", "plain"):
             counts, wrong = change(binary, path, command, arguments.every)
-            faults += len(wrong)
-            told = ", ".join("%d: %d" % pair for pair in sorted(counts.items()))
-            print("%s %s, %d runs: %s" % (command, os.path.basename(path), sum(counts.values()), told), flush=True)
-            for line in wrong[:20]:
-                print("  " + line)
-    print("%d runs differ" % faults)
-    sys.exit(1 if faults else 0)
+            faults += cuts.tell("%s %s" % (command, os.path.basename(path)), sum(counts.values()), counts, wrong)
+    cuts.finish(faults)
 
 
 if __name__ == "__main__":

@@ -90,6 +90,20 @@ def cut(binary, path, command):
     return cutting.status, len(cutting.data) + 1, counts, wrong
 
 
+def tell(what, runs, counts, wrong):
+    """Prints how often each answer came, and the first answers that differ. How many differ."""
+    print("%s, %d runs: %s" % (what, runs, ", ".join("%s: %d" % pair for pair in sorted(counts.items()))), flush=True)
+    for line in wrong[:20]:
+        print("  " + line)
+    return len(wrong)
+
+
+def finish(faults):
+    """Ends with 1 where an answer differed."""
+    print("%d runs differ" % faults)
+    sys.exit(1 if faults else 0)
+
+
 def main():
     binary = os.path.abspath(sys.argv[1])
     paths = sys.argv[2:] or [os.path.join(HERE, "..", "examples", name) for name in EXAMPLES]
@@ -97,13 +111,8 @@ def main():
     for path in paths:
         for command in ("check", "plain", "replay"):
             status, runs, counts, wrong = cut(binary, path, command)
-            faults += len(wrong)
-            told = ", ".join("%s: %d" % pair for pair in sorted(counts.items()))
-            print("%s %s (whole: %d), %d runs: %s" % (command, os.path.basename(path), status, runs, told), flush=True)
-            for line in wrong[:20]:
-                print("  " + line)
-    print("%d runs differ" % faults)
-    sys.exit(1 if faults else 0)
+            faults += tell("%s %s (whole: %d)" % (command, os.path.basename(path), status), runs, counts, wrong)
+    finish(faults)
 
 
 if __name__ == "__main__":

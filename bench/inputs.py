@@ -84,14 +84,19 @@ TREE = text(["role desk", "con leaf 0", "con pair 2", "sort task desk 0 1", "sta
              "rule stop : task()<leaf>", "schedule", "start task 1"])
 
 
-def tree(count):
-    """A balanced tree of so many forks in one case, each fork before those below it."""
+def forks(count):
+    """The choices that fork a task and those below it, level by level."""
     names, lines = ["task#1"], []
     for number in range(count):
         node = names[number]
         lines.append("choose %s fork" % node)
         names += [node + "/fork.1", node + "/fork.2"]
-    return TREE + text(lines)
+    return text(lines)
+
+
+def tree(count):
+    """A balanced tree of so many forks in one case, each fork before those below it."""
+    return TREE + forks(count)
 
 
 SILENT_TREE = text(["role desk", "sort task desk 0 0", "start task",
@@ -100,12 +105,7 @@ SILENT_TREE = text(["role desk", "sort task desk 0 0", "start task",
 
 def silent_tree(count):
     """The same tree where no task gives a result."""
-    names, lines = ["task#1"], []
-    for number in range(count):
-        node = names[number]
-        lines.append("choose %s fork" % node)
-        names += [node + "/fork.1", node + "/fork.2"]
-    return SILENT_TREE + text(lines)
+    return SILENT_TREE + forks(count)
 
 
 # Values.

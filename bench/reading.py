@@ -459,20 +459,21 @@ def refusal(data, command, one_role):
         if word == "schedule":
             events = number
             break
-    if one_role and command == "replay" and len(spec.roles) > 1:
-        return 3, "bad specification roles"
     found = circle(spec)
     if found:
         return 4, found
-    if command == "check" or events is None:
+    if command == "check":
         return 0, None
-    for number, line in enumerate(lines[events:], events + 1):
+    behind = len(lines) if events is None else events
+    for number, line in enumerate(lines[behind:], behind + 1):
         if is_passed_over(line):
             continue
         try:
             check_event(spec, tokens(line))
         except Bad as fault:
             return 5, "bad schedule line %d %s" % (number, fault)
+    if one_role and command == "replay" and len(spec.roles) > 1:
+        return 3, "bad specification roles"
     return 0, None
 
 
