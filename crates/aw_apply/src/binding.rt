@@ -21,8 +21,6 @@ impl Model for Binding {
 }
 
 impl Binding {
-    pub const MOST: usize = 64;
-
     /// No slots.
     pub fn new() -> Binding
         ensures { result ≡ [] }

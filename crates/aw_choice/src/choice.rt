@@ -87,10 +87,15 @@ pub enum Answer {
 /// How a rule stands at an open node, its arguments aside.
 #[derive(Debug, Clone, PartialEq, Eq, Drop)]
 pub enum Standing {
+    /// A choice of it would be taken.
     Ready,
+    /// The guard needs a value that has not come.
     Waits(Ref),
+    /// The guard does not match at this place.
     Differs(Place),
+    /// The guard meets equations that lead back to themselves.
     Circle(Ref),
+    /// A child's name would have more than 250 steps.
     TooDeep,
 }
 
@@ -102,6 +107,7 @@ pub struct Item {
     pub state: Standing,
 }
 
+/// Each open node of a role with each rule of its sort, in order.
 pub type Worklist = Items<Item>;
 
 ghost use Rattle.std.specs.Prelude.{◌≡◌, ◌≤◌, ◌<◌, ℕ, slice_index};

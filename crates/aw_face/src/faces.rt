@@ -9,6 +9,7 @@ pub struct Using {
     pub sort: u16,
 }
 
+/// Which role uses which sort, in the order of the specification.
 pub type Usings = Items<Using>;
 
 /// The sorts that are offered, and which role uses which sort.

@@ -1,4 +1,8 @@
 //! Declarations as they are written: names that are not looked up yet.
+ghost use Rattle.std.specs.Prelude.{◌<◌, ◌≤◌, ◌+◌, map, vec_len, vec_capacity};
+ghost use Rattle.aw_grammar.specs.Written.{written_of};
+ghost use Rattle.aw_grammar.specs.Terms.{symbols_in_all};
+
 use crate::rule::Names;
 use aw_list::{Items, Text};
 use aw_term::Lit;
@@ -10,6 +14,7 @@ pub struct RawCon {
     pub arity: u64,
 }
 
+/// Written constructors, in order.
 pub type RawCons = Items<RawCon>;
 
 /// A written sort.
@@ -21,6 +26,7 @@ pub struct RawSort {
     pub gives: u64,
 }
 
+/// Written sorts, in order.
 pub type RawSorts = Items<RawSort>;
 
 /// A written term. A bare word is a constructor where one of that name is declared, and else a variable; a constructor
@@ -32,8 +38,28 @@ pub enum RawTerm {
     Lit(Lit),
 }
 
+/// The list to be emptied next: these parts, which have room for one more, with the rest of the list that was open hung in
+/// front of them as a term. What is empty never hangs, so each list is turned once.
+fn hang_rest(name: Text, mut parts: Vec<RawTerm>, rest: Vec<RawTerm>) -> Vec<RawTerm>
+    requires { vec_len parts < vec_capacity parts }
+    ensures { symbols_in_all (map written_of result.items) ≤ symbols_in_all (map written_of parts.items) + symbols_in_all (map written_of rest.items) + 1 }
+{
+    if rest.is_empty() {
+        rest.destroy_empty();
+        return parts;
+    }
+    if parts.is_empty() {
+        parts.destroy_empty();
+        return rest;
+    }
+    match parts.insert(0, RawTerm::Apply(name, Items::from_vec(rest))) {
+        Ok(()) => parts,
+        Err(_) => unreachable!(),
+    }
+}
+
 /// A term may be as deep as a text is long, so this takes no memory and no stack: what is left of a list that is being
-/// emptied hangs, as a term, at the front of the one below it. What is empty never hangs, so each list is turned once.
+/// emptied hangs in front of the one below it.
 impl Drop for RawTerm {
     fn drop(mut self) {
         let mut open: Option<Vec<RawTerm>> = None;
@@ -47,20 +73,7 @@ impl Drop for RawTerm {
                         None => parts.destroy_empty(),
                         Some(last) => {
                             if let Some(rest) = open {
-                                if rest.is_empty() {
-                                    rest.destroy_empty();
-                                } else if parts.is_empty() {
-                                    parts.destroy_empty();
-                                    parts = rest;
-                                } else {
-                                    match parts.insert(
-                                        0,
-                                        RawTerm::Apply(name, Items::from_vec(rest)),
-                                    ) {
-                                        Ok(()) => {}
-                                        Err(_) => unreachable!(),
-                                    }
-                                }
+                                parts = hang_rest(name, parts, rest);
                             }
                             open = Some(parts);
                             self = last;
@@ -77,12 +90,7 @@ impl Drop for RawTerm {
                         return;
                     }
                     Some(last) => {
-                        if parts.is_empty() {
-                            parts.destroy_empty();
-                            open = None;
-                        } else {
-                            open = Some(parts);
-                        }
+                        open = Some(parts);
                         self = last;
                     }
                 },
@@ -91,6 +99,7 @@ impl Drop for RawTerm {
     }
 }
 
+/// Written terms, in order.
 pub type RawTerms = Items<RawTerm>;
 
 /// A written subtask.
@@ -101,6 +110,7 @@ pub struct RawChild {
     pub results: Names,
 }
 
+/// The written subtasks of a rule, in order.
 pub type RawChildren = Items<RawChild>;
 
 /// A written rule.
@@ -114,6 +124,7 @@ pub struct RawRule {
     pub children: RawChildren,
 }
 
+/// Written rules, in order.
 pub type RawRules = Items<RawRule>;
 
 /// All declarations of a specification.

@@ -15,6 +15,7 @@ pub struct Con {
     pub arity: u8,
 }
 
+/// Constructors, in the order of the specification.
 pub type Cons = Items<Con>;
 
 /// A kind of task: the role that works on it, how many values it inherits and gives, and whether a case may begin with it.
@@ -27,6 +28,7 @@ pub struct Sort {
     pub start: bool,
 }
 
+/// Sorts, in the order of the specification.
 pub type Sorts = Items<Sort>;
 
 /// A subtask of a rule. Its results are as many as its sort gives.
@@ -36,6 +38,7 @@ pub struct Child {
     pub args: Terms,
 }
 
+/// The subtasks of a rule, in order.
 pub type Children = Items<Child>;
 
 /// A way to develop a node of a sort.
@@ -52,4 +55,5 @@ pub struct Rule {
     pub children: Children,
 }
 
+/// Rules, in the order of the specification.
 pub type Rules = Items<Rule>;

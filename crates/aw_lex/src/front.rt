@@ -9,12 +9,15 @@ use aw_text::{is_node_name, name_ok, number_value, text_end};
 /// What stands at the front of bytes.
 #[derive(Clone, Copy, Debug)]
 pub enum Front {
+    /// A blank, which is one byte.
     Blank,
     /// A token, and how many bytes it has.
     Token(TokenKind, usize),
+    /// Anything else, as a text without its end.
     Bad,
 }
 
+/// Whether a byte stands between tokens and is none: a space, a tab or a carriage return.
 pub fn is_blank(byte: u8) -> bool
     ensures { result ≡ is_blank byte }
 {

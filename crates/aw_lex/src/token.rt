@@ -6,9 +6,12 @@ use crate::front::{Front, front_of};
 use aw_list::Items;
 use std::alloc::{AllocFailed, Global};
 
+/// What a token is.
 #[derive(Clone, Copy, Debug, PartialEq, Eq)]
 pub enum TokenKind {
+    /// A word of a role, a constructor, a sort, a rule or a variable, or a keyword.
     Name,
+    /// A number in decimal digits.
     Number,
     /// The name of a node.
     Node,
@@ -26,6 +29,7 @@ pub struct Token {
     pub end: usize,
 }
 
+/// The tokens of a line, in order.
 pub type Tokens = Items<Token>;
 
 /// Why a line has no tokens.
@@ -33,6 +37,7 @@ pub type Tokens = Items<Token>;
 pub enum LexFault {
     /// The place of the first byte of the first item that is no token.
     Bad { at: usize },
+    /// There is no memory for the tokens.
     NoMemory,
 }
 

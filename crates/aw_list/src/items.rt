@@ -32,6 +32,7 @@ impl<T> Model for Items<T> {
 }
 
 impl<T> Items<T> {
+    /// An empty row. It takes no memory yet.
     pub fn new(alloc: Global) -> Items<T>
         ensures { result ≡ [] }
     {
@@ -40,12 +41,14 @@ impl<T> Items<T> {
         }
     }
 
+    /// The same items, taken over with their memory.
     pub fn from_vec(items: Vec<T>) -> Items<T>
         ensures { result ≡ items.items }
     {
         Items { items }
     }
 
+    /// The same items, handed back with their memory.
     pub fn into_vec(self) -> Vec<T>
         ensures { result.items ≡ self }
     {
@@ -53,28 +56,33 @@ impl<T> Items<T> {
         items
     }
 
+    /// The items, lent.
     pub fn as_slice(&self) -> &[T]
         ensures { result.now ≡ self.now }
     {
         self.items.as_slice()
     }
 
+    /// Where the items take their memory from.
     pub fn allocator(&self) -> Global {
         *self.items.allocator()
     }
 
+    /// How many items there are.
     pub fn len(&self) -> usize
         ensures { result ≡ length self.now }
     {
         self.items.len()
     }
 
+    /// Whether there is no item.
     pub fn is_empty(&self) -> bool
         ensures { IsTrue result ↔ (self.now ≡ []) }
     {
         self.items.is_empty()
     }
 
+    /// The item at a place, from 0; `None` past the last.
     pub fn get(&self, at: usize) -> Option<&T>
         ensures value { option_copied result ≡ slice_get self.now at }
         ensures within { OnSome result (at < length self.now) }
@@ -82,7 +90,7 @@ impl<T> Items<T> {
         self.items.get(at)
     }
 
-    /// The item at a place.
+    /// The item at a place, from 0, which has to be there.
     pub fn at(&self, i: usize) -> &T
         requires { i < length self.now }
         ensures { slice_get self.now i ≡ Some result.now }
@@ -90,6 +98,7 @@ impl<T> Items<T> {
         &self.items[i]
     }
 
+    /// Takes the last item away and gives it; `None` where there is none.
     pub fn pop(&mut self) -> Option<T>
         ensures { MatchOption result ((self.old ≡ []) × (self.new ≡ [])) (λ last. self.old ≡ self.new ++ last ∷ []) }
     {
@@ -98,6 +107,7 @@ impl<T> Items<T> {
 }
 
 impl<T> Items<T> {
+    /// Adds an item at the end. An error changes nothing and hands the item back: there is no memory for it.
     pub fn push(&mut self, item: T) -> Result<(), AllocFailed<T>>
         ensures ok { OnOk result (self.new ≡ self.old ++ item ∷ []) }
         ensures err { OnErr result (self.new ≡ self.old) }

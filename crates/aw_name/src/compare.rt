@@ -28,7 +28,6 @@ pub fn is_same_node(a: &Node, b: &Node) -> bool
 }
 
 /// Whether two references are one.
-
 pub fn is_same_ref(a: &Ref, b: &Ref) -> bool
     ensures { IsTrue result ↔ (a.now ≡ b.now) }
 {

@@ -163,22 +163,31 @@ fn refuses_other_words(rt: HostRuntime) -> Result<(), Fail> {
     Ok(())
 }
 
-// The memo case is read in 40 bytes a call and written in 10.
+// Inputs are read in 40 bytes a call, and what is told of them is written in 10.
 #[test]
 fn tells_each_failed_call(rt: HostRuntime) -> Result<(), Fail> {
     let alloc = rt.alloc();
-    let reads = MEMO.len().div_ceil(40) + 1;
-    for call in 0..reads {
-        let (status, text) = outcome(alloc, &[b"replay"], MEMO, 40, call, NEVER)?;
-        assert_eq!(rt; status, Status::ReadFault, "read {call}");
-        assert!(rt; text.is_empty(), "read {call}");
-    }
-    let writes = MEMO_OUT.len().div_ceil(10);
-    for call in 0..writes {
-        let (status, text) = outcome(alloc, &[b"replay"], MEMO, 40, NEVER, call)?;
-        assert_eq!(rt; status, Status::WriteFault, "write {call}");
-        let (front, _) = MEMO_OUT.split_at(10 * call);
-        assert_eq!(rt; text.as_slice(), front, "write {call}");
+    for (input, told) in [
+        (MEMO, MEMO_OUT),
+        (OWN_RESULT, OWN_RESULT_OUT),
+        (
+            b"con a".as_slice(),
+            b"bad specification line 1 form\n".as_slice(),
+        ),
+    ] {
+        let reads = input.len().div_ceil(40) + 1;
+        for call in 0..reads {
+            let (status, text) = outcome(alloc, &[b"replay"], input, 40, call, NEVER)?;
+            assert_eq!(rt; status, Status::ReadFault, "read {call}");
+            assert!(rt; text.is_empty(), "read {call}");
+        }
+        let writes = told.len().div_ceil(10);
+        for call in 0..writes {
+            let (status, text) = outcome(alloc, &[b"replay"], input, 40, NEVER, call)?;
+            assert_eq!(rt; status, Status::WriteFault, "write {call}");
+            let (front, _) = told.split_at(10 * call);
+            assert_eq!(rt; text.as_slice(), front, "write {call}");
+        }
     }
     Ok(())
 }

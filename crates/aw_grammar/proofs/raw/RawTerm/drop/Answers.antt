@@ -2,13 +2,12 @@ use Rattle.std.proofs.Common.{◌≡◌, ◌+◌, ◌≤◌, ◌∷◌, [], ◌+
 use Rattle.std.specs.declared.vec.Vec.{Vec}
 use Rattle.std.specs.declared.alloc.Global.{Global}
 use Rattle.aw_grammar.specs.declared.raw.RawTerm.{RawTerm}
-use Rattle.aw_grammar.specs.declared.raw.RawTerm as raw
 use Rattle.aw_grammar.specs.Written.{written_of}
 use Rattle.aw_grammar.specs.Terms.{symbols_in}
 use Rattle.aw_grammar.proofs.TermLemmas.{symbols_apply}
-use Rattle.aw_grammar.proofs.Emptying.{symbols_left, symbols_open, left_append, left_insert, some_symbols, falls_hand, falls_all}
+use Rattle.aw_grammar.proofs.Emptying.{symbols_left, symbols_open, left_append, some_symbols, falls_hand, falls_all}
 use Rattle.aw_grammar.proofs.raw.RawTerm.drop.Goals as goal
-use Rattle.aw_grammar.proofs.raw.RawTerm.drop.Goals.{in-Some-open+else-is_empty+else-is_empty-2+in-Ok, in-Some-open+else-is_empty+then-is_empty-2, in-Some-open+then-is_empty, in_default}
+use Rattle.aw_grammar.proofs.raw.RawTerm.drop.Goals.{in-Some-open, in_default}
 
 pub loop-self-smaller-in-Some : goal.loop-self-smaller-in-Some
 loop-self-smaller-in-Some c =
@@ -18,9 +17,7 @@ loop-self-smaller-in-Some c =
     let split : symbols_left (kids ++ c.in-Some.last ∷ []) ≡ symbols_left kids + (symbols_in (written_of c.in-Some.last) + 0) = left_append kids (c.in-Some.last ∷ []) in
     let hung : symbols_left c.match-open.parts.items ≤ symbols_left kids + symbols_open c.loop-self.open + 1 =
     elim c.match-open.branch [
-      | in-Some-open+else-is_empty+else-is_empty-2+in-Ok w ↦ omega (arith, ap (λ (v : Vec RawTerm Global). symbols_left v.items) w.parts-is, ap symbols_left w.in-Ok.ensures.items, left_insert kids (raw.Apply c.in-Apply.name w.from_vec.result), symbols_apply c.in-Apply.name w.from_vec.result, ap symbols_left w.from_vec.ensures, ap symbols_open w.in-Some-open.is)
-      | in-Some-open+else-is_empty+then-is_empty-2 w ↦ omega (arith, ap (λ (v : Vec RawTerm Global). symbols_left v.items) w.parts-is, ap symbols_open w.in-Some-open.is)
-      | in-Some-open+then-is_empty w ↦ omega (arith, ap (λ (v : Vec RawTerm Global). symbols_left v.items) w.parts-is)
+      | in-Some-open w ↦ omega (arith, ap (λ (v : Vec RawTerm Global). symbols_left v.items) w.parts-is, w.hang_rest-parts.ensures, ap symbols_open w.in-Some-open.is)
       | in_default w ↦ omega (arith, ap (λ (v : Vec RawTerm Global). symbols_left v.items) w.parts-is)
     ] in
     falls_hand _ _ _ _ (omega (arith, whole, split, hung)) (omega (arith, whole, split))
