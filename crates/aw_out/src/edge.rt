@@ -1,9 +1,9 @@
 //! What the program reads from and writes to, by what a contract can see of it.
 //!
-//! Each object counts its faults, and a call answers that it failed only where this count rose in
-//! the call. An object in memory tells the bytes that are left or were written; a real one does
-//! not. Where they are told, a call that failed moved none.
-ghost use Rattle.std.specs.Prelude.{◌≡◌, ◌≤◌, ◌<◌, ◌↔◌, ℕ, List, Bool, true, length};
+//! Each object counts its faults: where a call answers that it failed the count rose in the call, and
+//! after any other answer it stands as before. An object in memory tells the bytes that are left or
+//! were written; a real one does not. Where they are told, a call that failed moved none.
+ghost use Rattle.std.specs.Prelude.{◌≡◌, ◌≢◌, ◌≤◌, ◌<◌, ◌↔◌, ℕ, List, Bool, true, length};
 ghost use Rattle.std.specs.declared.option.Option.{Option};
 ghost use Rattle.aw_out.specs.Causes.{Rose};
 ghost use Rattle.aw_out.specs.Wires.{Content, Both, Arrives, Dials, ReadsInSession, WritesInSession};
@@ -42,7 +42,8 @@ pub trait Source {
         ensures bytes { Gives (left self.old) (left self.new) (given result buf.new) }
         ensures end { result ≡ Got.End → IsUsedUp (left self.old) }
         ensures never_falls { faults self.old ≤ faults self.new }
-        ensures cause { result ≡ Got.Failed → Rose (faults self.old) (faults self.new) };
+        ensures cause { result ≡ Got.Failed → Rose (faults self.old) (faults self.new) }
+        ensures kept { result ≢ Got.Failed → faults self.new ≡ faults self.old };
 }
 
 /// Where bytes go.
@@ -59,7 +60,8 @@ pub trait Sink {
         ensures count { FitsBytes result b.now }
         ensures bytes { Gets (written self.old) (written self.new) (taken result b.now) }
         ensures never_falls { faults self.old ≤ faults self.new }
-        ensures cause { result ≡ Put.Failed → Rose (faults self.old) (faults self.new) };
+        ensures cause { result ≡ Put.Failed → Rose (faults self.old) (faults self.new) }
+        ensures kept { result ≢ Put.Failed → faults self.new ≡ faults self.old };
 }
 
 /// What waiting for the next session answers.
@@ -101,7 +103,9 @@ pub trait Wire {
         ensures never_falls { faults self.old ≤ faults self.new }
         ensures openings_never_fall { failed_openings self.old ≤ failed_openings self.new }
         ensures cause { result ≡ Arrival.Failed → Rose (faults self.old) (faults self.new) }
-        ensures opening_cause { result ≡ Arrival.Failed → Rose (failed_openings self.old) (failed_openings self.new) };
+        ensures opening_cause { result ≡ Arrival.Failed → Rose (failed_openings self.old) (failed_openings self.new) }
+        ensures kept { result ≢ Arrival.Failed → faults self.new ≡ faults self.old }
+        ensures openings_kept { result ≢ Arrival.Failed → failed_openings self.new ≡ failed_openings self.old };
 
     /// Ends the session before, and opens one with this role.
     fn dial(&mut self, role: u16) -> Dialed
@@ -111,7 +115,9 @@ pub trait Wire {
         ensures never_falls { faults self.old ≤ faults self.new }
         ensures openings_never_fall { failed_openings self.old ≤ failed_openings self.new }
         ensures cause { result ≡ Dialed.Failed → Rose (faults self.old) (faults self.new) }
-        ensures opening_cause { result ≡ Dialed.Failed → Rose (failed_openings self.old) (failed_openings self.new) };
+        ensures opening_cause { result ≡ Dialed.Failed → Rose (failed_openings self.old) (failed_openings self.new) }
+        ensures kept { result ≢ Dialed.Failed → faults self.new ≡ faults self.old }
+        ensures openings_kept { result ≢ Dialed.Failed → failed_openings self.new ≡ failed_openings self.old };
 
     /// Reads some bytes of the open session into the buffer, which has room for at least one.
     fn read(&mut self, buf: &mut [u8]) -> Got
@@ -122,7 +128,8 @@ pub trait Wire {
         ensures content { Both (ReadsInSession result buf.new) (content self.old) (content self.new) }
         ensures never_falls { faults self.old ≤ faults self.new }
         ensures same_openings { failed_openings self.new ≡ failed_openings self.old }
-        ensures cause { result ≡ Got.Failed → Rose (faults self.old) (faults self.new) };
+        ensures cause { result ≡ Got.Failed → Rose (faults self.old) (faults self.new) }
+        ensures kept { result ≢ Got.Failed → faults self.new ≡ faults self.old };
 
     /// Writes a front part of the bytes, of which there is at least one, in the open session.
     fn write(&mut self, b: &[u8]) -> Put
@@ -133,5 +140,6 @@ pub trait Wire {
         ensures content { Both (WritesInSession result b.now) (content self.old) (content self.new) }
         ensures never_falls { faults self.old ≤ faults self.new }
         ensures same_openings { failed_openings self.new ≡ failed_openings self.old }
-        ensures cause { result ≡ Put.Failed → Rose (faults self.old) (faults self.new) };
+        ensures cause { result ≡ Put.Failed → Rose (faults self.old) (faults self.new) }
+        ensures kept { result ≢ Put.Failed → faults self.new ≡ faults self.old };
 }

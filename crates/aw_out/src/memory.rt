@@ -1,6 +1,6 @@
 //! Sources and sinks in memory: they tell their bytes, move them in pieces, and fail where they
 //! are told to.
-ghost use Rattle.std.specs.Prelude.{◌≡◌, ◌≤◌, ◌<◌, [], Some, length, IfOk};
+ghost use Rattle.std.specs.Prelude.{◌≡◌, ◌≢◌, ◌≤◌, ◌<◌, [], Some, length, IfOk};
 ghost use Rattle.aw_out.specs.Edge.{FitsBuffer, FitsBytes, Gives, given};
 ghost use Rattle.aw_out.specs.Reads.{answer_of};
 ghost use Rattle.aw_out.specs.Memory.{read_answer, after_read, write_answer, after_write};
@@ -55,6 +55,7 @@ impl Source for MemSource {
         ensures bytes { Gives (Some self.old.left) (Some self.new.left) (given result buf.new) }
         ensures count { FitsBuffer result buf.new }
         ensures never_falls { self.old.faults ≤ self.new.faults }
+        ensures kept { result ≢ Got.Failed → self.new.faults ≡ self.old.faults }
     {
         let Some(piece) = self.script.begin() else {
             self.script.fail();
@@ -124,6 +125,7 @@ impl Sink for MemSink {
         ensures after { self.new ≡ after_write self.old b.now result }
         ensures count { FitsBytes result b.now }
         ensures never_falls { self.old.faults ≤ self.new.faults }
+        ensures kept { result ≢ Put.Failed → self.new.faults ≡ self.old.faults }
     {
         let Some(piece) = self.script.begin() else {
             self.script.fail();

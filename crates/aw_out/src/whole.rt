@@ -24,7 +24,9 @@ pub fn read_all<S: Source>(alloc: Global, src: &mut S, limit: usize) -> Result<T
     ensures otherwise { result ≢ Err ReadError.TooLong →
         GivesSome (S.left src.old) (S.left src.new) (λ bytes. length bytes ≤ limit) }
 
+    // A read failed where a fault is told, and nowhere else.
     ensures fault { result ≡ Err ReadError.ReadFault → Rose (S.faults src.old) (S.faults src.new) }
+    ensures kept { result ≢ Err ReadError.ReadFault → S.faults src.new ≡ S.faults src.old }
     ensures never_falls { S.faults src.old ≤ S.faults src.new }
 {
     let mut text = Text::new(alloc);
@@ -47,7 +49,9 @@ pub fn read_all<S: Source>(alloc: Global, src: &mut S, limit: usize) -> Result<T
 pub fn write_all<K: Sink>(out: &mut K, b: &[u8]) -> Result<(), WriteError>
     ensures all { OnOk result (Gets (K.written out.old) (K.written out.new) b.now) }
     ensures prefix { OnErr result (GetsPrefix (K.written out.old) (K.written out.new) b.now) }
+    // A write failed where a fault is told, and nowhere else.
     ensures fault { OnErr result (Rose (K.faults out.old) (K.faults out.new)) }
+    ensures kept { OnOk result (K.faults out.new ≡ K.faults out.old) }
     ensures never_falls { K.faults out.old ≤ K.faults out.new }
 
     // The sink is left alone where there is nothing to write.

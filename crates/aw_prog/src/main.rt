@@ -29,7 +29,7 @@ mod cases;
 #[cfg(test)]
 mod tests;
 
-/// The words after the program's name. What is no text counts as no word.
+/// The words after the program's name. Where one of them is no text there are none, which counts as wrong words.
 fn read_words<R: Env + AllocGlobal>(rt: &R) -> Result<Vec<Word>, AllocError> {
     let mut words = Vec::new(rt.alloc());
     let args = match env::args(rt) {

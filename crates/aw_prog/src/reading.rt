@@ -70,6 +70,7 @@ pub fn reply_to_source<S: Source>(alloc: Global, job: Job, src: &mut S) -> Resul
     ensures silent { IfOk result (λ reply. IsSilent reply.status → reply.text ≡ []) }
     ensures end { IfOk result (λ reply. IsPastReading reply.status → IsUsedUp (S.left src.new)) }
     ensures cause { result ≡ Err Stop.ReadFault → Rose (S.faults src.old) (S.faults src.new) }
+    ensures kept { result ≢ Err Stop.ReadFault → S.faults src.new ≡ S.faults src.old }
     ensures read_before { result ≡ Err Stop.ReadFault → GivesSome (S.left src.old) (S.left src.new) (λ bytes. length bytes ≤ INPUT_LIMIT) }
     ensures no_net_fault { result ≢ Err Stop.NetFault }
     ensures never_falls { S.faults src.old ≤ S.faults src.new }

@@ -1,5 +1,5 @@
 //! The top call.
-ghost use Rattle.std.specs.Prelude.{◌≡◌, ◌≤◌, ◌⊎◌, [], IfOk, IfSome, Some, false, true, length};
+ghost use Rattle.std.specs.Prelude.{◌≡◌, ◌≢◌, ◌≤◌, ◌⊎◌, [], IfOk, IfSome, Some, false, true, length};
 ghost use Rattle.aw_out.specs.Causes.{Rose};
 ghost use Rattle.aw_out.specs.Edge.{IsUsedUp, GivesSome, Gets, GetsPrefix};
 ghost use Rattle.aw_prog.specs.Words.{command_of};
@@ -28,6 +28,7 @@ fn prepare<S: Source, W: Wire>(
     ensures untouched { reads (command_of words.now) ≡ false → src.new ≡ src.old }
     ensures no_wire { uses_wire (command_of words.now) ≡ false → wire.new ≡ wire.old }
     ensures cause { result ≡ Err Stop.ReadFault → Rose (S.faults src.old) (S.faults src.new) }
+    ensures kept { result ≢ Err Stop.ReadFault → S.faults src.new ≡ S.faults src.old }
     ensures read_before { result ≡ Err Stop.ReadFault → GivesSome (S.left src.old) (S.left src.new) (λ bytes. length bytes ≤ INPUT_LIMIT) }
     ensures read_command { result ≡ Err Stop.ReadFault → reads (command_of words.now) ≡ true }
     ensures net_cause { result ≡ Err Stop.NetFault → Rose (W.failed_openings wire.old) (W.failed_openings wire.new) }
@@ -50,6 +51,7 @@ fn deliver<K: Sink>(out: &mut K, reply: &Reply) -> Status
     ensures whole { IsReply result → Gets (K.written out.old) (K.written out.new) reply.now.text }
     ensures prefix { result ≡ Status.WriteFault → GetsPrefix (K.written out.old) (K.written out.new) reply.now.text }
     ensures cause { result ≡ Status.WriteFault → Rose (K.faults out.old) (K.faults out.new) }
+    ensures kept { result ≢ Status.WriteFault → K.faults out.new ≡ K.faults out.old }
     ensures never_falls { K.faults out.old ≤ K.faults out.new }
 {
     match write_all(out, reply.text.as_slice()) {
@@ -107,6 +109,9 @@ pub fn run<S: Source, K: Sink, W: Wire>(
     ensures net_fault { result ≡ Status.NetFault → Rose (W.failed_openings wire.old) (W.failed_openings wire.new) }
     ensures net_command { result ≡ Status.NetFault → uses_wire (command_of words.now) ≡ true }
 
+    // Each read that fails is told, and so is each write; after any other answer none has failed.
+    ensures source_kept { result ≢ Status.ReadFault → S.faults src.new ≡ S.faults src.old }
+    ensures sink_kept { result ≢ Status.WriteFault → K.faults out.new ≡ K.faults out.old }
     ensures source_count { S.faults src.old ≤ S.faults src.new }
     ensures sink_count { K.faults out.old ≤ K.faults out.new }
 {

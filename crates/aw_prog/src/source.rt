@@ -1,4 +1,4 @@
-//! Reading the source, and the limits on what is read and written.
+//! The limits on what is read and written, and what is said of a source that was not read to its end.
 ghost use Rattle.std.specs.Prelude.{◌≡◌};
 ghost use Rattle.aw_prog.specs.Unread.{unread_gives};
 
@@ -11,6 +11,11 @@ pub const INPUT_LIMIT: usize = 16_777_216;
 
 /// The most bytes of an output.
 pub const OUTPUT_LIMIT: usize = 67_108_864;
+
+// The definitions cite both constants by name.
+const _: () = prove!(INPUT_LIMIT == 16_777_216);
+
+const _: () = prove!(OUTPUT_LIMIT == 67_108_864);
 
 /// What is said of a source that was not read to its end.
 pub fn unread(alloc: Global, error: ReadError) -> Result<Reply, Stop>

@@ -1,7 +1,7 @@
 //! Names of nodes, as `visit#1/admit.1`: a start sort, the number of a case, and steps of a rule and a child.
 ghost use Rattle.std.specs.Prelude.{◌≡◌, ◌<◌, ◌∷◌, ℕ, List, Some, IsTrue, length, is_some, option_map, option_and_then, option_copied, IfSome};
 ghost use Rattle.aw_text.specs.Spelling.{start_of, step_of, steps_of, child_of, parts, parts_behind, parts_of_name, node_name, has_spelling, spelled_name};
-ghost use Rattle.aw_text.specs.NodeParts.{begins, leads};
+ghost use Rattle.aw_text.specs.NodeParts.{begins, leads, start_in, step_in, behind_first};
 
 use crate::cut::cut_at;
 use crate::name::name_ok;
@@ -65,18 +65,24 @@ fn step_of(part: &[u8]) -> Option<(&[u8], u8)>
     Some((rule, child))
 }
 
-/// The start of a node name; `None` where the bytes begin no node name.
+/// The start of a node name; `None` where the bytes before the first slash are no start and case. What stands behind the
+/// slash is not looked at.
 pub fn node_start(name: &[u8]) -> Option<NodeStart<'_>>
-    ensures { parts_of_name name.now ≡ option_and_then begins result }
+    ensures value { parts_of_name name.now ≡ option_and_then begins result }
+    ensures first { option_map (λ s. (s.start.now, s.case)) result ≡ start_in (parts name.now) }
+    ensures behind { IfSome result (λ s. parts_behind (option_copied s.steps) ≡ behind_first (parts name.now)) }
 {
     let (part, steps) = first_part(name);
     let (start, case) = start_of(part)?;
     Some(NodeStart { start, case, steps })
 }
 
-/// The first step of those that `node_start` or an earlier step left.
+/// The first step of those that `node_start` or an earlier step left; `None` where the bytes before the next slash are no
+/// step. What stands behind the slash is not looked at.
 pub fn next_step(steps: &[u8]) -> Option<StepPart<'_>>
     ensures value { steps_of (parts steps.now) ≡ option_and_then leads result }
+    ensures first { option_map (λ s. (s.rule.now, s.child)) result ≡ step_in (parts steps.now) }
+    ensures behind { IfSome result (λ s. parts_behind (option_copied s.more) ≡ behind_first (parts steps.now)) }
     ensures shorter { IfSome result (λ s. IfSome s.more (λ more. length more.now < length steps.now)) }
 {
     let (part, more) = first_part(steps);

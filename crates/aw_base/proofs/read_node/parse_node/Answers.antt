@@ -12,5 +12,5 @@ returns-then-slash_count-gt-MOST-clause-read c =
 
 pub node_of-requires : goal.node_of-requires
 node_of-requires c =
-    short_name c.args.text.now (begins c.in-Some.name) c.in-Some.ensures
-    (ap is_some (sym c.in-Some.ensures) ∙ sym c.is_node_name.ensures ∙ c.if-not-is_node_name.false) (omega arith)
+    short_name c.args.text.now (begins c.in-Some.name) c.in-Some.ensures.value
+    (ap is_some (sym c.in-Some.ensures.value) ∙ sym c.is_node_name.ensures ∙ c.if-not-is_node_name.false) (omega arith)

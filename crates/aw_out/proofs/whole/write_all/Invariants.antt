@@ -6,7 +6,7 @@ abbrev pub invariant-loop-done : goal.invariant-loop-done
 invariant-loop-done g l = record {
   in_range : l.done ≤ length l.b;
   written : Gets (g.K.Sink.written l.fn.out) (g.K.Sink.written l.out) (take l.done l.b);
-  later : g.K.Sink.faults l.fn.out ≤ g.K.Sink.faults l.out;
+  kept : g.K.Sink.faults l.out ≡ g.K.Sink.faults l.fn.out;
   untouched : l.done ≡ 0 → l.out ≡ l.fn.out;
 }
 
