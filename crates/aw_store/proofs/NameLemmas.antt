@@ -1,11 +1,11 @@
 -- Lists of named references.
 use Rattle.std.proofs.Common.{◌≡◌, ℕ, zero, suc, ◌+◌, ◌<◌, Bool, true, false, List, [], ◌∷◌, ◌++◌, length, take, get_or, Some, refl, ap, sym, ◌∙◌, inl, inr, arith, append_assoc}
-use Rattle.std.specs.Prelude.{slice_get, ◌⊎◌, ◌||◌, Result, Ok, Err, IsOk, OnOk}
+use Rattle.std.specs.Prelude.{slice_get, ◌⊎◌, ◌||◌, if◌then◌else◌, Result, Ok, Err, IsOk, OnOk}
 use Rattle.std.proofs.lemmas.List.{take_more}
 use Rattle.aw_term.specs.Names.{Ref}
 use Rattle.aw_store.specs.Refs.{ref_eq}
 use Rattle.aw_store.specs.Equations.{Equation, Map, mentions}
-use Rattle.aw_store.specs.NamedRefs.{is_named, all_named, has_names_of, has_names, IsNamedOnce, Grows}
+use Rattle.aw_store.specs.NamedRefs.{is_named, all_named, has_names_of, has_names, with_name, IsNamedOnce, Grows}
 use Rattle.aw_store.proofs.RefLemmas.{both, and_true, ref_eq-self}
 
 pub true_or_false : (b : Bool) → b ≡ true → b ≡ false → ⊥
@@ -105,3 +105,7 @@ not_ok (Err x) e p w = cc
 pub names_both : {T E : Type 0} (r : Result T E) (ns : List Ref) (e : Equation) → is_named ns e.left ≡ true → OnOk r (all_named ns (mentions e.body) ≡ true) → OnOk r (has_names_of ns e ≡ true)
 names_both (Ok x) ns e a w = and_true _ _ a w
 names_both (Err x) ns e a w = w
+
+-- a name that is there is not named again
+pub with_name-named : (ns : List Ref) (r : Ref) → is_named ns r ≡ true → ns ≡ with_name ns r
+with_name-named ns r w = ap (λ b. if b then ns else ns ++ r ∷ []) (sym w)

@@ -1,5 +1,5 @@
 -- The references that a store has named, each by its place in one list: its slot.
-use Rattle.std.specs.Prelude.{◌≡◌, ℕ, Bool, true, false, ◌&&◌, ◌||◌, List, [], ◌∷◌, ◌++◌, Option, Some, None, slice_get, option_and_then}
+use Rattle.std.specs.Prelude.{◌≡◌, ℕ, Bool, true, false, ◌&&◌, ◌||◌, if◌then◌else◌, List, [], ◌∷◌, ◌++◌, Option, Some, None, slice_get, option_and_then}
 use Rattle.aw_term.specs.Trees.{Con, Text}
 use Rattle.aw_term.specs.Names.{Ref}
 use Rattle.aw_store.specs.Refs.{ref_eq}
@@ -28,6 +28,10 @@ IsNamedOnce names = (i j : ℕ) (r : Ref) → slice_get names i ≡ Some r → s
 -- more names may have come; a slot keeps its name
 abbrev pub Grows : List Ref → List Ref → Type 0
 Grows old new = (more : List Ref) × (new ≡ old ++ more)
+
+-- the names with this one among them, at the end where it was not
+abbrev pub with_name : List Ref → Ref → List Ref
+with_name names r = if is_named names r then names else names ++ r ∷ []
 
 -- the body of the reference at a slot, where it has an equation
 abbrev pub body_at : Map → List Ref → ℕ → Option Body

@@ -1,4 +1,4 @@
--- References: whether two are one, and which comes first.
+-- When two references are one.
 use Rattle.std.specs.Prelude.{Bool, false, ◌&&◌, nat_eq}
 use Rattle.aw_term.specs.Names.{Slot, Result, Part, Ref, node_eq}
 

@@ -1,5 +1,5 @@
 //! Adding to the three lists of a store: its equations, its names, and the equations for which memory was taken.
-ghost use Rattle.std.specs.Prelude.{◌≡◌, ◌≢◌, ◌≤◌, ◌+◌, ◌++◌, ◌∷◌, [], Some, None, true, false, IfOk, OnOk, OnErr, IsOk, Contains, map, is_none, vec_len, vec_capacity, if◌then◌else◌};
+ghost use Rattle.std.specs.Prelude.{◌≡◌, ◌≢◌, ◌≤◌, ◌+◌, ◌++◌, ◌∷◌, [], Some, None, true, false, IfOk, OnOk, OnErr, IsOk, IsSome, Contains, map, is_none, vec_len, vec_capacity, if◌then◌else◌};
 ghost use Rattle.aw_store.specs.Equations.{find, mentions};
 ghost use Rattle.aw_store.specs.EquationView.{body_of, equation_of};
 ghost use Rattle.aw_store.specs.NamedRefs.{all_named, has_names, has_names_of, IsNamedOnce, Grows};
@@ -56,7 +56,7 @@ fn name_equations(names: &mut Vec<Ref>, es: &[Equation]) -> Result<(), AllocErro
     Ok(())
 }
 
-/// Takes the memory for adding some equations, and names their references.
+/// Takes the memory for adding some equations, and names their references. An error may have named some of them.
 pub fn reserve_in(
     equations: &mut Vec<Equation>,
     names: &mut Vec<Ref>,
@@ -78,7 +78,7 @@ pub fn reserve_in(
     Ok(())
 }
 
-/// An equation whose left side has this body.
+/// What adding a body comes to, where the left side has one. An error is for want of memory to copy that one.
 fn compare(kept: &Body, came: Body) -> Result<Added, AllocError>
     ensures added { IfOk result (Compares kept.now came) }
     ensures same { kept.now ≡ came → IsOk result }
@@ -92,7 +92,7 @@ fn compare(kept: &Body, came: Body) -> Result<Added, AllocError>
     })
 }
 
-/// Lets the ready equations go, where none of them has this left side.
+/// Lets all ready equations go, where none of them has this left side.
 fn keep_ready(ready: &mut Vec<Equation>, left: &Ref)
     ensures { ready.new.items ≡ (if is_none (find (map equation_of ready.old.items) left.now) then [] else ready.old.items) }
 {
@@ -101,7 +101,7 @@ fn keep_ready(ready: &mut Vec<Equation>, left: &Ref)
     }
 }
 
-/// Adds an equation whose left side has none.
+/// Adds an equation whose left side has none. An error may have named references, and let the ready equations go.
 fn add_new(
     equations: &mut Vec<Equation>,
     names: &mut Vec<Ref>,
@@ -126,7 +126,8 @@ fn add_new(
     Ok(())
 }
 
-/// Adds an equation where its left side has none.
+/// Adds an equation where its left side has none; where it has one, nothing changes, also on an error. Else an error may
+/// have named references, and let the ready equations go.
 pub fn add_to(
     equations: &mut Vec<Equation>,
     names: &mut Vec<Ref>,
@@ -141,6 +142,8 @@ pub fn add_to(
     ensures grows { Grows names.old.items names.new.items }
     ensures added { IfOk result (λ added. Adds (map equation_of equations.old.items) e added (map equation_of equations.new.items)) }
     ensures err { OnErr result (equations.new.items ≡ equations.old.items) }
+    ensures kept_names { IsSome (find (map equation_of equations.old.items) e.left) → names.new.items ≡ names.old.items }
+    ensures kept_ready { IsSome (find (map equation_of equations.old.items) e.left) → ready.new.items ≡ ready.old.items }
     ensures ready { Contains (map equation_of ready.old.items) (equation_of e) → ready.new.items ≡ ready.old.items }
     ensures sure { Contains (map equation_of ready.old.items) (equation_of e) → IsAddable (map equation_of equations.old.items) (equation_of e) → IsOk result }
 {

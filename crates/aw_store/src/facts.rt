@@ -1,9 +1,9 @@
 //! Stores of equations, by what a contract can see of them.
 ghost use Rattle.std.specs.Prelude.{◌≡◌, ◌≤◌, ◌<◌, ◌++◌, List, Some, true, false, IfOk, OnOk, OnErr, IsOk, IsSome, MatchOption, Contains, length, map as list_map, slice_get};
 ghost use Rattle.aw_term.specs.Names.{Ref as RefName};
-ghost use Rattle.aw_store.specs.Equations.{Equation as PlainEquation, Map, mentions};
+ghost use Rattle.aw_store.specs.Equations.{Equation as PlainEquation, Map, find, mentions};
 ghost use Rattle.aw_store.specs.EquationView.{body_of, equation_of};
-ghost use Rattle.aw_store.specs.NamedRefs.{is_named, has_names, IsNamedOnce, Grows, body_at, parts_at, text_at};
+ghost use Rattle.aw_store.specs.NamedRefs.{is_named, has_names, with_name, IsNamedOnce, Grows, body_at, parts_at, text_at};
 ghost use Rattle.aw_store.specs.StoreView.{IsKindOf, Adds, IsAddable, has_few, all_few};
 
 use crate::equation::{Body, Equation, Equations, Refs};
@@ -63,7 +63,7 @@ pub trait Facts {
     /// The named references, by slot.
     ghost names: { Self → List RefName };
 
-    /// Equations for which memory was taken. It is no part of what stays the same where something is unchanged.
+    /// Equations for which memory was taken. A call whose clauses say nothing of them may let them go.
     ghost ready: { Self → List PlainEquation };
 
     /// The slot of a reference, or none where it is not named.
@@ -94,27 +94,35 @@ pub trait Facts {
     fn count(&self) -> usize
         ensures { result ≡ length (map self.now) };
 
-    /// The slot of a reference, which is named where it was not. An error changes nothing.
+    /// The slot of a reference, which is named, at the end, where it was not. One that is named gets no error. An error
+    /// changes neither the equations nor the names.
     fn intern(&mut self, r: &Ref) -> Result<usize, AllocError>
         ensures map { map self.new ≡ map self.old }
         ensures names { Grows (names self.old) (names self.new) }
+        ensures ok { OnOk result (names self.new ≡ with_name (names self.old) r.now) }
         ensures slot { IfOk result (λ slot. slice_get (names self.new) slot ≡ Some r.now) }
-        ensures err { OnErr result (names self.new ≡ names self.old) };
+        ensures err { OnErr result (names self.new ≡ names self.old) }
+        ensures named { is_named (names self.old) r.now ≡ true → IsOk result };
 
     /// Takes the memory for adding these equations, and may name references. A constructor has at most 8 references.
+    /// An error leaves the equations as they were, may have named references, and leaves any equations ready, or none.
     fn reserve(&mut self, es: &Equations) -> Result<(), AllocError>
         requires { all_few (list_map equation_of es.now) ≡ true }
         ensures map { map self.new ≡ map self.old }
         ensures names { Grows (names self.old) (names self.new) }
         ensures ready { OnOk result ((e : PlainEquation) → Contains (list_map equation_of es.now) e → Contains (ready self.new) e) };
 
-    /// Adds an equation where its left side has none. A constructor has at most 8 references. An error may have named
-    /// references. There is none for an equation that is ready, but where the left side has another one.
+    /// Adds an equation where its left side has none. A constructor has at most 8 references. Where the left side has an
+    /// equation, nothing changes, neither names nor what is ready, also on an error. Else an error leaves the equations
+    /// as they were, and may have named references. There is no error for an equation that is ready, but where the left
+    /// side has another one.
     fn add(&mut self, e: Equation) -> Result<Added, AllocError>
         requires { has_few (equation_of e) ≡ true }
         ensures added { IfOk result (λ added. Adds (map self.old) e added (map self.new)) }
         ensures err { OnErr result (map self.new ≡ map self.old) }
         ensures names { Grows (names self.old) (names self.new) }
+        ensures kept_names { IsSome (find (map self.old) e.left) → names self.new ≡ names self.old }
+        ensures kept_ready { IsSome (find (map self.old) e.left) → ready self.new ≡ ready self.old }
         ensures ready { Contains (ready self.old) (equation_of e) → ready self.new ≡ ready self.old }
         ensures sure { Contains (ready self.old) (equation_of e) → IsAddable (map self.old) (equation_of e) → IsOk result };
 

@@ -23,10 +23,11 @@ pub struct ListFacts {
 }
 
 impl ListFacts {
-    /// No equations, and no names. It takes no memory.
+    /// No equations, no names, and nothing ready. It takes no memory.
     pub fn new(alloc: Global) -> ListFacts
-        ensures equations { result.equations.items ≡ [] }
-        ensures names { result.names.items ≡ [] }
+        ensures map { ⟦<ListFacts as Facts>⟧.map result ≡ [] }
+        ensures names { ⟦<ListFacts as Facts>⟧.names result ≡ [] }
+        ensures ready { ⟦<ListFacts as Facts>⟧.ready result ≡ [] }
     {
         ListFacts {
             equations: Vec::new(alloc),

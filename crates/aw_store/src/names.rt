@@ -1,7 +1,7 @@
 //! Lists of named references, which are scanned.
-ghost use Rattle.std.specs.Prelude.{◌≡◌, ◌<◌, Some, true, false, IfOk, OnOk, OnErr, IsOk, MatchOption, length, slice_get};
+ghost use Rattle.std.specs.Prelude.{◌≡◌, ◌<◌, ◌++◌, ◌∷◌, [], Some, true, false, IfOk, OnOk, OnErr, IsOk, MatchOption, length, slice_get};
 ghost use Rattle.aw_store.specs.Refs.{ref_eq};
-ghost use Rattle.aw_store.specs.NamedRefs.{is_named, all_named, IsNamedOnce, Grows};
+ghost use Rattle.aw_store.specs.NamedRefs.{is_named, all_named, with_name, IsNamedOnce, Grows};
 
 use aw_name::{Ref, copy_ref, is_same_ref};
 use std::alloc::AllocError;
@@ -36,12 +36,13 @@ pub fn place_of(names: &[Ref], r: &Ref) -> usize
     }
 }
 
-/// Names a reference that is not named, at the end.
+/// Names a reference that is not named, at the end. An error changes nothing.
 fn name_new(names: &mut Vec<Ref>, r: &Ref) -> Result<usize, AllocError>
     requires once { IsNamedOnce names.old.items }
     requires fresh { is_named names.old.items r.now ≡ false }
     ensures once { IsNamedOnce names.new.items }
     ensures grows { Grows names.old.items names.new.items }
+    ensures ok { OnOk result (names.new.items ≡ names.old.items ++ r.now ∷ []) }
     ensures slot { IfOk result (λ slot. slice_get names.new.items slot ≡ Some r.now) }
     ensures err { OnErr result (names.new.items ≡ names.old.items) }
 {
@@ -50,11 +51,12 @@ fn name_new(names: &mut Vec<Ref>, r: &Ref) -> Result<usize, AllocError>
     Ok(slot)
 }
 
-/// Names a reference at the end, where it is not named.
+/// Names a reference at the end, where it is not named. One that is named gets no error, and an error changes nothing.
 pub fn name_one(names: &mut Vec<Ref>, r: &Ref) -> Result<usize, AllocError>
     requires { IsNamedOnce names.old.items }
     ensures once { IsNamedOnce names.new.items }
     ensures grows { Grows names.old.items names.new.items }
+    ensures ok { OnOk result (names.new.items ≡ with_name names.old.items r.now) }
     ensures slot { IfOk result (λ slot. slice_get names.new.items slot ≡ Some r.now) }
     ensures err { OnErr result (names.new.items ≡ names.old.items) }
     ensures named { is_named names.old.items r.now ≡ true → IsOk result }
@@ -65,7 +67,7 @@ pub fn name_one(names: &mut Vec<Ref>, r: &Ref) -> Result<usize, AllocError>
     }
 }
 
-/// Names each of the references.
+/// Names each of the references. An error may have named some.
 pub fn name_all(names: &mut Vec<Ref>, refs: &[Ref]) -> Result<(), AllocError>
     requires { IsNamedOnce names.old.items }
     ensures once { IsNamedOnce names.new.items }
