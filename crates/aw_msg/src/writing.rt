@@ -1,5 +1,6 @@
 //! Writers of messages.
-ghost use Rattle.std.specs.Prelude.{◌≡◌, ◌++◌, OnOk, IfOk};
+ghost use Rattle.std.specs.Prelude.{◌≡◌, ◌++◌, OnOk, OnErr, IfOk};
+ghost use Rattle.std.specs.Io.{StartsWith};
 ghost use Rattle.aw_msg.specs.Messages.{spelled_body, spelled_kind, spelled_message, BodyInRange, KindInRange, MessageInRange};
 
 use crate::message::{Message, MsgKind};
@@ -11,7 +12,8 @@ use std::alloc::{AllocError, Global};
 
 fn add_body(text: &mut Text, body: &Body) -> Result<(), AllocError>
     requires { BodyInRange body.now }
-    ensures { OnOk result (text.new ≡ text.old ++ spelled_body body.now) }
+    ensures ok { OnOk result (text.new ≡ text.old ++ spelled_body body.now) }
+    ensures err { OnErr result (StartsWith text.new text.old) }
 {
     match body {
         Body::Same(reference) => {
@@ -36,7 +38,8 @@ fn add_body(text: &mut Text, body: &Body) -> Result<(), AllocError>
 
 fn add_kind(text: &mut Text, kind: &MsgKind) -> Result<(), AllocError>
     requires { KindInRange kind.now }
-    ensures { OnOk result (text.new ≡ text.old ++ spelled_kind kind.now) }
+    ensures ok { OnOk result (text.new ≡ text.old ++ spelled_kind kind.now) }
+    ensures err { OnErr result (StartsWith text.new text.old) }
 {
     match kind {
         MsgKind::Call { node, inherited } => {
@@ -57,10 +60,11 @@ fn add_kind(text: &mut Text, kind: &MsgKind) -> Result<(), AllocError>
     }
 }
 
-/// Adds a message at the end of a text.
+/// Adds a message at the end of a text. After an error what stood in the text still stands at its front.
 pub fn add_message(text: &mut Text, m: &Message) -> Result<(), AllocError>
     requires { MessageInRange m.now }
-    ensures { OnOk result (text.new ≡ text.old ++ spelled_message m.now) }
+    ensures ok { OnOk result (text.new ≡ text.old ++ spelled_message m.now) }
+    ensures err { OnErr result (StartsWith text.new text.old) }
 {
     add_byte(text, 1)?;
     add_u16(text, m.to)?;

@@ -1,5 +1,6 @@
 //! Writers of arguments and choices.
-ghost use Rattle.std.specs.Prelude.{◌≡◌, ◌≤◌, ◌<◌, ◌++◌, IfOk, OnOk, flat_map, map};
+ghost use Rattle.std.specs.Prelude.{◌≡◌, ◌≤◌, ◌<◌, ◌++◌, IfOk, OnOk, OnErr, flat_map, map};
+ghost use Rattle.std.specs.Io.{StartsWith};
 ghost use Rattle.aw_term.specs.WellFormed.{Each};
 ghost use Rattle.aw_term.specs.Views.{ground_of};
 ghost use Rattle.aw_choice.specs.ChoiceView.{choice_of};
@@ -19,10 +20,11 @@ fn count_of(number: usize) -> u8
     number.min(255) as u8
 }
 
-/// Adds an argument.
+/// Adds an argument. After an error what stood in the text still stands at its front.
 #[cycle(writing)]
 fn add_ground(text: &mut Text, ground: &Ground) -> Result<(), AllocError>
-    ensures { HeadsInRange (ground_of ground.now) → OnOk result (text.new ≡ text.old ++ spelled_ground (ground_of ground.now)) }
+    ensures ok { HeadsInRange (ground_of ground.now) → OnOk result (text.new ≡ text.old ++ spelled_ground (ground_of ground.now)) }
+    ensures kept { StartsWith text.new text.old }
 {
     match ground {
         Ground::Con(con, parts) => {
@@ -44,7 +46,8 @@ fn add_ground(text: &mut Text, ground: &Ground) -> Result<(), AllocError>
 
 #[cycle(writing)]
 fn add_each(text: &mut Text, grounds: &[Ground]) -> Result<(), AllocError>
-    ensures { Each HeadsInRange (map ground_of grounds.now) → OnOk result (text.new ≡ text.old ++ flat_map spelled_ground (map ground_of grounds.now)) }
+    ensures ok { Each HeadsInRange (map ground_of grounds.now) → OnOk result (text.new ≡ text.old ++ flat_map spelled_ground (map ground_of grounds.now)) }
+    ensures kept { StartsWith text.new text.old }
 {
     for ground in grounds {
         add_ground(text, ground)?;
@@ -54,16 +57,18 @@ fn add_each(text: &mut Text, grounds: &[Ground]) -> Result<(), AllocError>
 
 fn add_grounds(text: &mut Text, grounds: &Grounds) -> Result<(), AllocError>
     requires { GroundsInRange (map ground_of grounds.now) }
-    ensures { OnOk result (text.new ≡ text.old ++ spelled_grounds (map ground_of grounds.now)) }
+    ensures ok { OnOk result (text.new ≡ text.old ++ spelled_grounds (map ground_of grounds.now)) }
+    ensures err { OnErr result (StartsWith text.new text.old) }
 {
     add_byte(text, count_of(grounds.len()))?;
     add_each(text, grounds.as_slice())
 }
 
-/// Adds a choice.
+/// Adds a choice. After an error what stood in the text still stands at its front.
 pub fn add_choice(text: &mut Text, choice: &Choice) -> Result<(), AllocError>
     requires { ChoiceInRange (choice_of choice.now) }
-    ensures { OnOk result (text.new ≡ text.old ++ spelled_choice (choice_of choice.now)) }
+    ensures ok { OnOk result (text.new ≡ text.old ++ spelled_choice (choice_of choice.now)) }
+    ensures err { OnErr result (StartsWith text.new text.old) }
 {
     match choice {
         Choice::Start { sort, case } => {

@@ -1,5 +1,6 @@
 //! Writers of names and texts: each adds the one spelling of a value at the end of a text.
-ghost use Rattle.std.specs.Prelude.{◌≡◌, ◌≤◌, ◌<◌, ◌^◌, ◌++◌, ◌∷◌, [], length, OnOk, flat_map};
+ghost use Rattle.std.specs.Prelude.{◌≡◌, ◌≤◌, ◌++◌, ◌∷◌, [], length, IfOk, OnOk, OnErr, flat_map};
+ghost use Rattle.std.specs.Io.{StartsWith};
 ghost use Rattle.std.specs.Int.{w16, w64, to_be_bytes};
 ghost use Rattle.aw_wire.specs.Names.{spelled_step, spelled_node, spelled_slot, spelled_ref, spelled_refs};
 ghost use Rattle.aw_wire.specs.Texts.{spelled_text};
@@ -8,36 +9,41 @@ use aw_list::Text;
 use aw_name::{Node, Ref, Slot, Step};
 use std::alloc::AllocError;
 
-/// Adds a byte.
+/// Adds a byte. After an error the text is as it was.
 pub fn add_byte(text: &mut Text, byte: u8) -> Result<(), AllocError>
-    ensures { OnOk result (text.new ≡ text.old ++ byte ∷ []) }
+    ensures ok { OnOk result (text.new ≡ text.old ++ byte ∷ []) }
+    ensures err { OnErr result (text.new ≡ text.old) }
 {
     text.push_bytes(&[byte])
 }
 
-/// Adds a number of two bytes.
+/// Adds a number of two bytes. After an error the text is as it was.
 pub fn add_u16(text: &mut Text, number: u16) -> Result<(), AllocError>
-    ensures { OnOk result (text.new ≡ text.old ++ to_be_bytes w16 number) }
+    ensures ok { OnOk result (text.new ≡ text.old ++ to_be_bytes w16 number) }
+    ensures err { OnErr result (text.new ≡ text.old) }
 {
     text.push_bytes(&number.to_be_bytes())
 }
 
-/// Adds a number of eight bytes.
+/// Adds a number of eight bytes. After an error the text is as it was.
 pub fn add_u64(text: &mut Text, number: u64) -> Result<(), AllocError>
-    ensures { OnOk result (text.new ≡ text.old ++ to_be_bytes w64 number) }
+    ensures ok { OnOk result (text.new ≡ text.old ++ to_be_bytes w64 number) }
+    ensures err { OnErr result (text.new ≡ text.old) }
 {
     text.push_bytes(&number.to_be_bytes())
 }
 
 fn add_step(text: &mut Text, step: &Step) -> Result<(), AllocError>
-    ensures { OnOk result (text.new ≡ text.old ++ spelled_step step.now) }
+    ensures ok { OnOk result (text.new ≡ text.old ++ spelled_step step.now) }
+    ensures err { OnErr result (StartsWith text.new text.old) }
 {
     add_u16(text, step.rule)?;
     add_byte(text, step.child)
 }
 
 fn add_steps(text: &mut Text, steps: &[Step]) -> Result<(), AllocError>
-    ensures { OnOk result (text.new ≡ text.old ++ flat_map spelled_step steps.now) }
+    ensures ok { OnOk result (text.new ≡ text.old ++ flat_map spelled_step steps.now) }
+    ensures err { OnErr result (StartsWith text.new text.old) }
 {
     for step in steps {
         add_step(text, step)?;
@@ -45,9 +51,10 @@ fn add_steps(text: &mut Text, steps: &[Step]) -> Result<(), AllocError>
     Ok(())
 }
 
-/// Adds the name of a node.
+/// Adds the name of a node. After an error what stood in the text still stands at its front.
 pub fn add_node(text: &mut Text, node: &Node) -> Result<(), AllocError>
-    ensures { OnOk result (text.new ≡ text.old ++ spelled_node node.now) }
+    ensures ok { OnOk result (text.new ≡ text.old ++ spelled_node node.now) }
+    ensures err { OnErr result (StartsWith text.new text.old) }
 {
     add_u16(text, node.start)?;
     add_u64(text, node.case)?;
@@ -56,7 +63,8 @@ pub fn add_node(text: &mut Text, node: &Node) -> Result<(), AllocError>
 }
 
 fn add_slot(text: &mut Text, slot: Slot) -> Result<(), AllocError>
-    ensures { OnOk result (text.new ≡ text.old ++ spelled_slot slot) }
+    ensures ok { OnOk result (text.new ≡ text.old ++ spelled_slot slot) }
+    ensures err { OnErr result (StartsWith text.new text.old) }
 {
     match slot {
         Slot::Result(number) => {
@@ -70,16 +78,18 @@ fn add_slot(text: &mut Text, slot: Slot) -> Result<(), AllocError>
     }
 }
 
-/// Adds a reference.
+/// Adds a reference. After an error what stood in the text still stands at its front.
 pub fn add_ref(text: &mut Text, reference: &Ref) -> Result<(), AllocError>
-    ensures { OnOk result (text.new ≡ text.old ++ spelled_ref reference.now) }
+    ensures ok { OnOk result (text.new ≡ text.old ++ spelled_ref reference.now) }
+    ensures err { OnErr result (StartsWith text.new text.old) }
 {
     add_node(text, &reference.node)?;
     add_slot(text, reference.slot)
 }
 
 fn add_each_ref(text: &mut Text, refs: &[Ref]) -> Result<(), AllocError>
-    ensures { OnOk result (text.new ≡ text.old ++ flat_map spelled_ref refs.now) }
+    ensures ok { OnOk result (text.new ≡ text.old ++ flat_map spelled_ref refs.now) }
+    ensures err { OnErr result (StartsWith text.new text.old) }
 {
     for reference in refs {
         add_ref(text, reference)?;
@@ -87,25 +97,32 @@ fn add_each_ref(text: &mut Text, refs: &[Ref]) -> Result<(), AllocError>
     Ok(())
 }
 
-/// Adds at most 8 references, behind their number.
+/// Adds at most 8 references, behind their number. After an error what stood in the text still stands at its front.
 pub fn add_refs(text: &mut Text, refs: &[Ref]) -> Result<(), AllocError>
     requires { length refs.now ≤ 8 }
-    ensures { OnOk result (text.new ≡ text.old ++ spelled_refs refs.now) }
+    ensures ok { OnOk result (text.new ≡ text.old ++ spelled_refs refs.now) }
+    ensures err { OnErr result (StartsWith text.new text.old) }
 {
     add_byte(text, refs.len() as u8)?;
     add_each_ref(text, refs)
 }
 
-fn number_of(length: usize) -> u16
-    ensures { length < 2 ^ 16 → result ≡ length }
+/// The length of a content. One of more than 65,535 bytes is as if there were no memory for it.
+fn length_of(content: &[u8]) -> Result<u16, AllocError>
+    ensures { IfOk result (λ n. n ≡ length content.now) }
 {
-    length.min(65535) as u16
+    match u16::try_from(content.len()) {
+        Ok(length) => Ok(length),
+        Err(_) => Err(AllocError),
+    }
 }
 
-/// Adds a content of at most 65,535 bytes, behind its length.
+/// Adds a content, behind its length. One of more than 65,535 bytes is as if there were no memory for it.
+/// After an error what stood in the text still stands at its front.
 pub fn add_text(text: &mut Text, content: &[u8]) -> Result<(), AllocError>
-    ensures { length content.now < 2 ^ 16 → OnOk result (text.new ≡ text.old ++ spelled_text content.now) }
+    ensures ok { OnOk result (text.new ≡ text.old ++ spelled_text content.now) }
+    ensures err { OnErr result (StartsWith text.new text.old) }
 {
-    add_u16(text, number_of(content.len()))?;
+    add_u16(text, length_of(content)?)?;
     text.push_bytes(content)
 }

@@ -1,24 +1,41 @@
 use Rattle.std.proofs.Common.{◌++◌, sym, ap, subst, ◌∙◌, arith}
+use Rattle.std.proofs.Transfers.{starts_with_trans}
 use Rattle.std.proofs.lemmas.List.{take_all}
 use Rattle.std.specs.List.{flat_map}
 use Rattle.aw_term.specs.Views.{ground_of}
 use Rattle.aw_wire.specs.Grounds.{spelled_ground}
 use Rattle.aw_wire.specs.Ranges.{HeadsInRange}
 use Rattle.aw_wire.proofs.Adding.{one_more, of_seen, each_at}
+use Rattle.aw_wire.proofs.Fronts.{behind, in_both}
 use Rattle.aw_wire.proofs.GroundWriting.{con_added}
 use Rattle.aw_wire.proofs.ground_writing.+writing.Goals as goal
 
-pub add_ground-returns-in_ok-add_byte-in-Con-2 : goal.add_ground-returns-in_ok-add_byte-in-Con-2
-add_ground-returns-in_ok-add_byte-in-Con-2 t c =
+pub add_ground-returns-in_ok-add_byte-in-Con-2-clause-ok : goal.add_ground-returns-in_ok-add_byte-in-Con-2-clause-ok
+add_ground-returns-in_ok-add_byte-in-Con-2-clause-ok t c =
     con_added c.add_each.result c.args.ground.now c.in-Con.con c.in-Con.parts c.as_slice.result.now c.len.result c.count_of.result c.args.text.now c.add_byte.new.text c.add_u16.new.text c.add_byte-in-Con.new.text c.add_each.new.text
-    c.in-Con.is c.as_slice.ensures c.len.ensures c.count_of.ensures c.in_ok-add_byte-in-Con.ensures c.in_ok-add_u16-in-Con.ensures c.in_ok-add_byte-in-Con-2.ensures c.add_each.ensures
+    c.in-Con.is c.as_slice.ensures c.len.ensures c.count_of.ensures c.in_ok-add_byte-in-Con.ensures.ok c.in_ok-add_u16-in-Con.ensures.ok c.in_ok-add_byte-in-Con-2.ensures.ok c.add_each.ensures.ok
+
+pub add_ground-returns-in_ok-add_byte-in-Con-2-clause-kept : goal.add_ground-returns-in_ok-add_byte-in-Con-2-clause-kept
+add_ground-returns-in_ok-add_byte-in-Con-2-clause-kept t c =
+    let new = c.add_each.new.text in
+    behind c.args.text.now _ c.add_byte.new.text new c.in_ok-add_byte-in-Con.ensures.ok
+    (behind c.add_byte.new.text _ c.add_u16.new.text new c.in_ok-add_u16-in-Con.ensures.ok
+    (behind c.add_u16.new.text _ c.add_byte-in-Con.new.text new c.in_ok-add_byte-in-Con-2.ensures.ok c.add_each.ensures.kept))
+
+pub add_ground-returns-in_ok-add_byte-in-Text-clause-kept : goal.add_ground-returns-in_ok-add_byte-in-Text-clause-kept
+add_ground-returns-in_ok-add_byte-in-Text-clause-kept t c =
+    behind c.args.text.now _ c.add_byte-in-Text.new.text c.add_text.new.text c.in_ok-add_byte-in-Text.ensures.ok
+    (in_both c.add_text.result c.add_byte-in-Text.new.text _ c.add_text.new.text c.add_text.ensures.ok c.add_text.ensures.err)
 
 pub add_each-loop-ground-preserved : goal.add_each-loop-ground-preserved
-add_each-loop-ground-preserved t c = λ h.
-    one_more (λ g. spelled_ground (ground_of g)) c.args.grounds.now c.loop-ground.ground-index c.ground-item.result c.args.text.now c.loop-ground.text c.add_ground.new.text c.loop-ground-test.true c.ground-item.is (c.loop-ground.invariant h)
-    (c.in_ok-add_ground.ensures (subst (λ y. HeadsInRange (ground_of y)) (sym c.ground-item.is) (each_at HeadsInRange ground_of c.args.grounds.now c.loop-ground.ground-index c.ground-item.result c.loop-ground-test.true h)))
+add_each-loop-ground-preserved t c = record {
+  added = λ h.
+      one_more (λ g. spelled_ground (ground_of g)) c.args.grounds.now c.loop-ground.ground-index c.ground-item.result c.args.text.now c.loop-ground.text c.add_ground.new.text c.loop-ground-test.true c.ground-item.is (c.loop-ground.invariant.added h)
+      (c.in_ok-add_ground.ensures.ok (subst (λ y. HeadsInRange (ground_of y)) (sym c.ground-item.is) (each_at HeadsInRange ground_of c.args.grounds.now c.loop-ground.ground-index c.ground-item.result c.loop-ground-test.true h)));
+  kept = starts_with_trans c.add_ground.new.text c.loop-ground.text c.args.text.now c.in_ok-add_ground.ensures.kept c.loop-ground.invariant.kept;
+}
 
-pub add_each-returns : goal.add_each-returns
-add_each-returns t c = λ h.
-    c.loop-ground.invariant h ∙ ap (λ ys. c.args.text.now ++ flat_map (λ g. spelled_ground (ground_of g)) ys) (take_all c.loop-ground.ground-index c.args.grounds.now (omega arith))
+pub add_each-returns-clause-ok : goal.add_each-returns-clause-ok
+add_each-returns-clause-ok t c = λ h.
+    c.loop-ground.invariant.added h ∙ ap (λ ys. c.args.text.now ++ flat_map (λ g. spelled_ground (ground_of g)) ys) (take_all c.loop-ground.ground-index c.args.grounds.now (omega arith))
     ∙ ap (λ u. c.args.text.now ++ u) (of_seen spelled_ground ground_of c.args.grounds.now)

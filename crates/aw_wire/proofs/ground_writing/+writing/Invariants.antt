@@ -1,5 +1,6 @@
 use Rattle.std.proofs.Common.{◌≡◌, ◌++◌, map, take}
 use Rattle.std.specs.List.{flat_map}
+use Rattle.std.specs.Io.{StartsWith}
 use Rattle.aw_term.specs.WellFormed.{Each}
 use Rattle.aw_term.specs.Views.{ground_of}
 use Rattle.aw_wire.specs.Grounds.{spelled_ground}
@@ -7,4 +8,7 @@ use Rattle.aw_wire.specs.Ranges.{HeadsInRange}
 use Rattle.aw_wire.proofs.ground_writing.+writing.Given as goal
 
 abbrev pub invariant-add_each-loop-ground : goal.invariant-add_each-loop-ground
-invariant-add_each-loop-ground l = Each HeadsInRange (map ground_of l.grounds) → l.text ≡ l.initial.text ++ flat_map (λ g. spelled_ground (ground_of g)) (take l.ground-index l.grounds)
+invariant-add_each-loop-ground l = record {
+  added : Each HeadsInRange (map ground_of l.grounds) → l.text ≡ l.initial.text ++ flat_map (λ g. spelled_ground (ground_of g)) (take l.ground-index l.grounds);
+  kept : StartsWith l.text l.initial.text;
+}

@@ -8,26 +8,26 @@ use Rattle.aw_wire.specs.Choices.{spelled_choice}
 use Rattle.aw_wire.proofs.Adding.{then_ok, two}
 use Rattle.aw_wire.proofs.ground_writing.add_choice.Goals as goal
 
-pub returns-in_ok-add_u16-in-Start : goal.returns-in_ok-add_u16-in-Start
-returns-in_ok-add_u16-in-Start c =
+pub returns-in_ok-add_u16-in-Start-clause-ok : goal.returns-in_ok-add_u16-in-Start-clause-ok
+returns-in_ok-add_u16-in-Start-clause-ok c =
     let old = c.args.text.now in
     let sort = to_be_bytes w16 c.in-Start.sort in
     let case = to_be_bytes w64 c.in-Start.case in
     then_ok c.add_u64.result
-    (λ e. two old (0 ∷ []) (sort ++ case) c.add_byte.new.text c.add_u64.new.text c.in_ok-add_byte-in-Start.ensures
-    (two c.add_byte.new.text sort case c.add_u16.new.text c.add_u64.new.text c.in_ok-add_u16-in-Start.ensures e)
+    (λ e. two old (0 ∷ []) (sort ++ case) c.add_byte.new.text c.add_u64.new.text c.in_ok-add_byte-in-Start.ensures.ok
+    (two c.add_byte.new.text sort case c.add_u16.new.text c.add_u64.new.text c.in_ok-add_u16-in-Start.ensures.ok e)
     ∙ ap (λ x. old ++ spelled_choice (choice_of x)) (sym c.in-Start.is))
-    c.add_u64.ensures
+    c.add_u64.ensures.ok
 
-pub returns-in_ok-add_u16-in-Develop : goal.returns-in_ok-add_u16-in-Develop
-returns-in_ok-add_u16-in-Develop c =
+pub returns-in_ok-add_u16-in-Develop-clause-ok : goal.returns-in_ok-add_u16-in-Develop-clause-ok
+returns-in_ok-add_u16-in-Develop-clause-ok c =
     let old = c.args.text.now in
     let node = spelled_node c.in-Develop.node in
     let rule = to_be_bytes w16 c.in-Develop.rule in
     let args = spelled_grounds (map ground_of c.in-Develop.args) in
     then_ok c.add_grounds.result
-    (λ e. two old (1 ∷ []) (node ++ (rule ++ args)) c.add_byte-in-Develop.new.text c.add_grounds.new.text c.in_ok-add_byte-in-Develop.ensures
-    (two c.add_byte-in-Develop.new.text node (rule ++ args) c.add_node.new.text c.add_grounds.new.text c.in_ok-add_node-in-Develop.ensures
-    (two c.add_node.new.text rule args c.add_u16-in-Develop.new.text c.add_grounds.new.text c.in_ok-add_u16-in-Develop.ensures e))
+    (λ e. two old (1 ∷ []) (node ++ (rule ++ args)) c.add_byte-in-Develop.new.text c.add_grounds.new.text c.in_ok-add_byte-in-Develop.ensures.ok
+    (two c.add_byte-in-Develop.new.text node (rule ++ args) c.add_node.new.text c.add_grounds.new.text c.in_ok-add_node-in-Develop.ensures.ok
+    (two c.add_node.new.text rule args c.add_u16-in-Develop.new.text c.add_grounds.new.text c.in_ok-add_u16-in-Develop.ensures.ok e))
     ∙ ap (λ x. old ++ spelled_choice (choice_of x)) (sym c.in-Develop.is))
-    c.add_grounds.ensures
+    c.add_grounds.ensures.ok

@@ -4,4 +4,4 @@ use Rattle.aw_wire.proofs.writing.add_each_ref.Goals as goal
 
 pub loop-reference-preserved : goal.loop-reference-preserved
 loop-reference-preserved c =
-    one_more spelled_ref c.args.refs.now c.loop-reference.reference-index c.reference-item.result c.args.text.now c.loop-reference.text c.add_ref.new.text c.loop-reference-test.true c.reference-item.is c.loop-reference.invariant c.in_ok-add_ref.ensures
+    one_more spelled_ref c.args.refs.now c.loop-reference.reference-index c.reference-item.result c.args.text.now c.loop-reference.text c.add_ref.new.text c.loop-reference-test.true c.reference-item.is c.loop-reference.invariant c.in_ok-add_ref.ensures.ok

@@ -5,16 +5,16 @@ use Rattle.aw_wire.specs.Names.{spelled_step}
 use Rattle.aw_wire.proofs.Adding.{then_ok, two}
 use Rattle.aw_wire.proofs.writing.add_node.Goals as goal
 
-pub returns : goal.returns
-returns c =
+pub returns-clause-ok : goal.returns-clause-ok
+returns-clause-ok c =
     let n = c.args.node.now in
     let old = c.args.text.now in
     let a = to_be_bytes w16 n.start in
     let b = to_be_bytes w64 n.case in
     let steps = flat_map spelled_step n.steps in
     then_ok c.add_steps.result
-    (λ e. two old a (b ++ (length n.steps ∷ steps)) c.add_u16.new.text c.add_steps.new.text c.in_ok-add_u16.ensures
-    (two c.add_u16.new.text b (length n.steps ∷ steps) c.add_u64.new.text c.add_steps.new.text c.in_ok-add_u64.ensures
-    (two c.add_u64.new.text (length n.steps ∷ []) steps c.add_byte.new.text c.add_steps.new.text (c.in_ok-add_byte.ensures ∙ ap (λ k. c.add_u64.new.text ++ k ∷ []) c.len.ensures.value)
+    (λ e. two old a (b ++ (length n.steps ∷ steps)) c.add_u16.new.text c.add_steps.new.text c.in_ok-add_u16.ensures.ok
+    (two c.add_u16.new.text b (length n.steps ∷ steps) c.add_u64.new.text c.add_steps.new.text c.in_ok-add_u64.ensures.ok
+    (two c.add_u64.new.text (length n.steps ∷ []) steps c.add_byte.new.text c.add_steps.new.text (c.in_ok-add_byte.ensures.ok ∙ ap (λ k. c.add_u64.new.text ++ k ∷ []) c.len.ensures.value)
     (e ∙ ap (λ ss. c.add_byte.new.text ++ flat_map spelled_step ss) c.as_slice.ensures.value))))
-    c.add_steps.ensures
+    c.add_steps.ensures.ok
