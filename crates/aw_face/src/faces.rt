@@ -2,7 +2,7 @@
 use aw_grammar::Numbers;
 use aw_list::Items;
 
-/// A role uses a sort of another role. Both are positions from 0.
+/// A role uses a sort, which needs a use where it is of another role. Both are positions from 0.
 #[derive(Clone, Copy, Debug, PartialEq, Eq)]
 pub struct Using {
     pub role: u16,

@@ -1,4 +1,4 @@
--- Declarations and choices as the plain definitions speak of them.
+-- Declarations as the plain definitions speak of them.
 use Rattle.std.specs.Prelude.{ℕ, List, map, length, slice_get}
 use Rattle.aw_term.specs.Rules as P
 use Rattle.aw_term.specs.Choices as Q

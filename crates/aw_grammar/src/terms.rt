@@ -1,4 +1,4 @@
-//! Walks over written terms: their size, the names in them, and the terms that they stand for.
+//! Walks over written terms: their size, and the names in them.
 ghost use Rattle.std.specs.Prelude.{◌≡◌, ◌+◌, ◌<◌, ◌≤◌, ◌++◌, ◌⊎◌, map, length, MatchOption, OnOk, IfOk};
 ghost use Rattle.aw_index.specs.Places.{number_of};
 ghost use Rattle.aw_term.specs.Views.{pattern_of, term_of};

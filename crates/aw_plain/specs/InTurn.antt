@@ -3,15 +3,11 @@ use Rattle.std.specs.Prelude.{◌≡◌, Bool, true, false, List, [], ◌∷◌,
 use Rattle.aw_term.specs.Rules.{Grammar}
 use Rattle.aw_term.specs.Configs.{Config}
 use Rattle.aw_term.specs.Choices.{Choice, Answer, Taken, answer, after, undivided}
+use Rattle.aw_term.specs.Runs.{after_all}
 
 abbrev pub is_taken : {R : Type 0} → Answer R → Bool
 is_taken Taken = true
 is_taken a = false
-
--- the configuration after these choices, one after the other: a refused one changes nothing
-abbrev pub after_all : Grammar → Config → List Choice → Config
-after_all g c [] = c
-after_all g c (x ∷ xs) = after_all g (after g c x) xs
 
 -- those of the choices that are taken, one after the other
 abbrev pub taken_among : Grammar → Config → List Choice → List Choice

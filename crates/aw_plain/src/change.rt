@@ -23,7 +23,7 @@ pub struct Change {
     pub row: Row,
 }
 
-/// Adds the row at a place after the rule was taken, unless it stays as it is.
+/// Adds the row at a place after the rule was taken. One that is known to stay as it is, is left out.
 fn push_change(
     alloc: Global,
     changes: &mut Vec<Change>,

@@ -127,7 +127,8 @@ fn done_row(
     })
 }
 
-/// A row that was held, after rule `number` was taken on the node; none where it stays as it is.
+/// A row that was held, after rule `number` was taken on the node; none where it stays as it is, which is not looked for
+/// where the rule gives results.
 pub fn row_after(
     alloc: Global,
     row: &Row,

@@ -1,5 +1,5 @@
 //! The undivided configuration: whole trees in one place, on which all choices are taken in turn, and its artifact text.
-//! It is what the plain definitions of `aw_term` say, and is meant for small cases.
+//! It is what the plain definitions of `aw_term` say: what `plain` runs, and `replay` as long as one role is replayed.
 #![tactic(auto)]
 
 pub mod change;

@@ -1,9 +1,8 @@
--- The lines of a schedule: how each is spelled, and which line lexemes spell.
-use Rattle.std.specs.Prelude.{ℕ, List, [], ◌∷◌, ◌++◌, Option, None, codes, if◌then◌else◌}
+-- The lines of a schedule, and which line lexemes spell.
+use Rattle.std.specs.Prelude.{ℕ, List, ◌∷◌, Option, None, codes, if◌then◌else◌}
 use Rattle.aw_term.specs.Trees.{nats_eq}
-use Rattle.aw_grammar.specs.Written.{Written, side_by_side}
-use Rattle.aw_form.specs.Lexemes.{Lexeme, Name, Number, Node, Mark}
-use Rattle.aw_form.specs.Terms.{spellings}
+use Rattle.aw_grammar.specs.Written.{Written}
+use Rattle.aw_form.specs.Lexemes.{Lexeme, Name}
 use Rattle.aw_form.specs.Forms.{◌>>=◌, name, number, node, only, terms_in_braces}
 
 pub data Line : Type 0 where
@@ -13,24 +12,14 @@ pub data Line : Type 0 where
   SettleLine : Line
   ListLine : (role : List ℕ) → Line
 
--- nothing, or `{..}`
-abbrev pub args_spelling : List Written → List Lexeme
-args_spelling [] = []
-args_spelling (t ∷ ts) = Mark 123 ∷ (spellings (side_by_side (t ∷ ts)) ++ Mark 125 ∷ [])
-
-abbrev pub line_spelling : Line → List Lexeme
-line_spelling (StartLine sort case) = Name (codes "start") ∷ Name sort ∷ Number case ∷ []
-line_spelling (ChooseLine n rule args) = Name (codes "choose") ∷ Node n ∷ Name rule ∷ args_spelling args
-line_spelling (DeliverLine message) = Name (codes "deliver") ∷ Number message ∷ []
-line_spelling SettleLine = Name (codes "settle") ∷ []
-line_spelling (ListLine role) = Name (codes "list") ∷ Name role ∷ []
-
+-- `start SORT CASE`
 abbrev pub start_line : List Lexeme → Option Line
 start_line ls = do
   sort ← name ls
   case ← number sort.1
   only (StartLine sort.0 case.0) case.1
 
+-- `choose NODE RULE`, and then nothing or `{..}`
 abbrev pub choose_line : List Lexeme → Option Line
 choose_line ls = do
   n ← node ls
@@ -38,16 +27,19 @@ choose_line ls = do
   args ← terms_in_braces rule.1
   only (ChooseLine n.0 rule.0 args.0) args.1
 
+-- `deliver MESSAGE`
 abbrev pub deliver_line : List Lexeme → Option Line
 deliver_line ls = do
   message ← number ls
   only (DeliverLine message.0) message.1
 
+-- `list ROLE`
 abbrev pub list_line : List Lexeme → Option Line
 list_line ls = do
   role ← name ls
   only (ListLine role.0) role.1
 
+-- the line whose first word is this; a line `settle` has no more than that
 abbrev pub by_word : List ℕ → List Lexeme → Option Line
 by_word w ls =
     if nats_eq w (codes "start") then start_line ls else

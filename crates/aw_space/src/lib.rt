@@ -1,4 +1,5 @@
-//! What one role holds of a case: nodes with references, and equations; and the laws of choices over them.
+//! Laws of choices over nodes with references and equations. The definitions are in `specs/`; what one role holds of a case
+//! will be built on them.
 #![tactic(auto)]
 
 pub mod laws;

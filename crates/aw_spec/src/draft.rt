@@ -20,8 +20,8 @@ use aw_base::{AddFault, DeclKind, Grammar, RawCon, RawRule, RawSort, Rule};
 use aw_face::{FaceKind, Faces, Using, is_offered, is_used, rule_fault};
 use aw_form::Unread;
 use aw_lex::LexFault;
-use aw_list::{Items, Text};
-use std::alloc::{AllocError, AllocFailed, Global};
+use aw_list::Text;
+use std::alloc::AllocFailed;
 
 /// Why a line is at fault.
 #[derive(Clone, Copy, Debug, PartialEq, Eq)]

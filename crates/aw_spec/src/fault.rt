@@ -1,5 +1,5 @@
 //! What is wrong with a specification.
-use std::alloc::{AllocError, AllocFailed};
+use std::alloc::AllocError;
 
 /// Kinds of fault of a line. Of those that hold the first in this order is told.
 #[derive(Clone, Copy, Debug, PartialEq, Eq)]
@@ -26,7 +26,7 @@ pub enum SpecKind {
     Never,
     /// A start sort inherits a value.
     Inherits,
-    /// A child is of another role, which this role does not use.
+    /// A child is of another role, and the rule's role does not use its sort.
     NotUsed,
     /// A child is of another role, and its sort is not offered.
     NotOffered,
@@ -73,17 +73,6 @@ impl From<AllocError> for SpecFault {
     ghost from_gives = { λ _ e. e ≡ NoMemory };
 
     fn from(_failed: AllocError) -> SpecFault {
-        SpecFault::NoMemory
-    }
-}
-
-impl<T: Drop> From<AllocFailed<T>> for SpecFault {
-    ghost use Rattle.std.specs.Prelude.{◌≡◌};
-    ghost use Rattle.aw_spec.specs.declared.fault.SpecFault.TheVariants.{NoMemory};
-
-    ghost from_gives = { λ _ e. e ≡ NoMemory };
-
-    fn from(_failed: AllocFailed<T>) -> SpecFault {
         SpecFault::NoMemory
     }
 }

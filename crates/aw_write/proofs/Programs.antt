@@ -62,6 +62,14 @@ ok_read (Ok t) reading s n e h = same (spec_of t.grammar t.faces) s t.lines n (s
     same x y m k p = cc
 ok_read (Err f) reading s n e h = tt
 
+-- and on how many lines
+pub lines_read : (r : Result SpecText SpecFault) (reading : Reading) (s : Spec) (n : ℕ) → reading ≡ Good s n → Spells r reading → IfOk r (λ t. t.lines ≡ n)
+lines_read (Ok t) reading s n e h = same (spec_of t.grammar t.faces) s t.lines n (sym h ∙ e)
+  where
+    same : (x y : Spec) (m k : ℕ) → Good x m ≡ Good y k → m ≡ k
+    same x y m k p = cc
+lines_read (Err f) reading s n e h = tt
+
 pub err_read : (r : Result SpecText SpecFault) (reading : Reading) (s : Spec) (n : ℕ) → reading ≡ Good s n → Spells r reading → IfErr r (λ f. f ≡ NoMemory)
 err_read (Ok t) reading s n e h = tt
 err_read (Err (Bad line kind)) reading s n e h = absurd cc
