@@ -1,12 +1,17 @@
-//! A table of specifications: of each it is told which results depend on which inherited values, or the least circle. What
-//! stands in `stdout` was worked out by hand; nothing in it comes from the program.
+//! A table of specifications: of each it is told what flows where in the text of each rule, and then which results depend on
+//! which inherited values, or the least circle. What stands in `stdout` was worked out by hand; nothing in it comes from the
+//! program.
 #![tactic(auto)]
 
+ghost use Rattle.std.specs.Prelude.{◌<◌, length};
+
 use aw_accept::{Fault, Refused, accept};
-use aw_base::Grammar;
+use aw_base::{Grammar, rule_name};
+use aw_iograph::{Io, Occ, io_from, io_of, rule_graph};
 use aw_list::Text;
 use aw_out::{StdSink, StdSource, read_all, write_all};
 use aw_spec::read_spec;
+use aw_text::push_number;
 use aw_told::{accepted_text, push_circle};
 use bstr::ByteSlice;
 use std::alloc::{AllocError, Global};
@@ -18,8 +23,69 @@ const MARK: &[u8] = b"=== ";
 /// The most bytes of a table.
 const LIMIT: usize = 16_777_216;
 
+/// Adds an occurrence, as `1.in2`.
+fn push_occ(told: &mut Text, occ: Occ) -> Result<(), AllocError> {
+    push_number(told, u64::from(occ.child))?;
+    told.push_bytes(if occ.result { b".out" } else { b".in" })?;
+    push_number(told, u64::from(occ.number))
+}
+
+/// Adds a line for each pair of occurrences in the text of a rule.
+fn push_flows(alloc: Global, told: &mut Text, g: &Grammar, rule: u16) -> Result<(), AllocError>
+    requires { rule < length g.now.rules }
+{
+    let graph = rule_graph(alloc, g, rule)?;
+    for flow in graph.as_slice() {
+        told.push_bytes(b"flow ")?;
+        told.push_bytes(rule_name(g, rule))?;
+        told.push_bytes(b" ")?;
+        push_occ(told, flow.from)?;
+        told.push_bytes(b" ")?;
+        push_occ(told, flow.to)?;
+        told.push_bytes(b"\n")?;
+    }
+    Ok(())
+}
+
+/// Adds the lines of all rules.
+fn push_all_flows(alloc: Global, told: &mut Text, g: &Grammar) -> Result<(), AllocError> {
+    for rule in 0..g.rules.len() {
+        if let Ok(rule) = u16::try_from(rule) {
+            push_flows(alloc, told, g, rule)?;
+        }
+    }
+    Ok(())
+}
+
+/// Whether two relations have the same pairs for a sort.
+fn is_same_at(a: &Io, b: &Io, sort: u16) -> bool {
+    for pair in 0..64 {
+        let (i, j) = (pair / 8 + 1, pair % 8 + 1);
+        if a.has(sort, i, j) != b.has(sort, i, j) {
+            return false;
+        }
+    }
+    true
+}
+
+/// Whether dependences that are settled already settle to themselves.
+fn are_settled(alloc: Global, g: &Grammar) -> Result<bool, AllocError> {
+    let io = io_of(alloc, g)?;
+    let again = io_from(alloc, g, &io)?;
+    for sort in 0..256 {
+        if !is_same_at(&io, &again, sort) {
+            return Ok(false);
+        }
+    }
+    Ok(true)
+}
+
 /// Adds what is told of a grammar.
 fn push_told(alloc: Global, told: &mut Text, grammar: Grammar) -> Result<(), AllocError> {
+    push_all_flows(alloc, told, &grammar)?;
+    if !are_settled(alloc, &grammar)? {
+        return told.push_bytes(b"not settled\n");
+    }
     match accept(alloc, grammar) {
         Ok(accepted) => told.push_bytes(accepted_text(alloc, &accepted)?.as_slice()),
         Err(Refused::Circular { grammar, rule, occ }) => {

@@ -1,13 +1,20 @@
 //! A table of inputs: of each it is told whether its specification and its schedule are good, or the first faulty line of
-//! the whole input and its kind. What stands in `stdin` was made from the stated limits, and `stdout` says what has to be
-//! told; nothing in them comes from the program.
+//! the whole input and its kind. What is good is also written again, the specification and the name of each task that is
+//! chosen on, and has to be read as what it was. What stands in `stdin` was made from the stated limits, and `stdout` says
+//! what has to be told; nothing in them comes from the program.
 #![tactic(auto)]
 
+ghost use Rattle.aw_spec.specs.Views.{spec_of};
+ghost use Rattle.aw_write.specs.Writable.{FacesFit};
+
+use aw_base::{Choice, Grammar, sort_of};
 use aw_list::Text;
+use aw_name::{Node, is_same_node};
 use aw_out::{StdSink, StdSource, read_all, write_all};
-use aw_sched::{SchedFault, read_schedule};
+use aw_sched::{Event, SchedFault, read_schedule};
 use aw_spec::{SpecFault, SpecText, read_spec};
 use aw_text::push_number;
+use aw_write::read_fits;
 use bstr::ByteSlice;
 use std::alloc::{AllocError, Global};
 use std::process::ExitCode;
@@ -27,6 +34,48 @@ fn push_place(told: &mut Text, what: &[u8], line: u64, kind: &[u8]) -> Result<()
     told.push_bytes(kind)
 }
 
+/// Whether two specifications have the same declarations and the same offers and uses.
+fn is_same(a: &SpecText, b: &SpecText) -> bool {
+    a.grammar.roles == b.grammar.roles
+        && a.grammar.cons == b.grammar.cons
+        && a.grammar.sorts == b.grammar.sorts
+        && a.grammar.rules == b.grammar.rules
+        && a.faces == b.faces
+}
+
+/// Whether a specification is read as the same from the text that is written of it.
+fn is_read_again(alloc: Global, spec: &SpecText) -> Result<bool, AllocError>
+    requires { FacesFit (spec_of spec.now.grammar spec.now.faces) }
+{
+    match aw_write::read_again(alloc, &spec.grammar, &spec.faces) {
+        Ok(again) => Ok(is_same(spec, &again)),
+        Err(_) => Err(AllocError),
+    }
+}
+
+/// Whether a task's printed name is read as that task.
+fn is_named_again(alloc: Global, g: &Grammar, node: &Node) -> Result<bool, AllocError> {
+    if sort_of(g, node).is_none() {
+        return Ok(false);
+    }
+    match aw_printed::read_again(alloc, g, node) {
+        Ok(again) => Ok(is_same_node(&again, node)),
+        Err(_) => Err(AllocError),
+    }
+}
+
+/// Whether each task that is chosen on is named again.
+fn are_named_again(alloc: Global, g: &Grammar, events: &[Event]) -> Result<bool, AllocError> {
+    for event in events {
+        if let Event::Choose(Choice::Develop { node, .. }) = event {
+            if !is_named_again(alloc, g, node)? {
+                return Ok(false);
+            }
+        }
+    }
+    Ok(true)
+}
+
 /// Adds what is told of the schedule behind a good specification.
 fn push_schedule_verdict(
     alloc: Global,
@@ -35,7 +84,12 @@ fn push_schedule_verdict(
     schedule: &[u8],
 ) -> Result<(), AllocError> {
     match read_schedule(alloc, &spec.grammar, schedule) {
-        Ok(_) => told.push_bytes(b"good"),
+        Ok(events) => {
+            if are_named_again(alloc, &spec.grammar, events.as_slice())? {
+                return told.push_bytes(b"good");
+            }
+            told.push_bytes(b"tasks named otherwise")
+        }
         Err(SchedFault::Bad { line, kind }) => push_place(
             told,
             b"schedule",
@@ -49,7 +103,13 @@ fn push_schedule_verdict(
 /// Adds what is told of an input.
 fn push_verdict(alloc: Global, told: &mut Text, input: &[u8]) -> Result<(), AllocError> {
     match read_spec(alloc, input) {
-        Ok(spec) => push_schedule_verdict(alloc, told, &spec, &input[spec.rest..]),
+        Ok(spec) => {
+            read_fits();
+            if is_read_again(alloc, &spec)? {
+                return push_schedule_verdict(alloc, told, &spec, &input[spec.rest..]);
+            }
+            told.push_bytes(b"specification read otherwise")
+        }
         Err(SpecFault::Bad { line, kind }) => {
             push_place(told, b"specification", line, kind.name())
         }
