@@ -1,18 +1,13 @@
 -- Leaves of trees, lists side by side, what a match binds.
-use Rattle.std.proofs.Common.{◌≡◌, ℕ, zero, suc, ◌+◌, ◌<◌, ◌≤◌, Bool, true, false, cond, List, [], ◌∷◌, ◌++◌, map, length, Option, Some, None, slice_get, replicate, refl, sym, ap, ◌∙◌, subst, inl, inr, ⊎_elim, arith}
-use Rattle.std.specs.Prelude.{◌⊎◌, ◌&&◌, nat_eq, option_and_then}
-use Rattle.aw_term.specs.Trees.{Never, Head, Tree, Leaf, Made, Trees, Nil, More, In, Ins, bind, binds, count, head_eq}
-use Rattle.aw_term.specs.Names.{Node, Ref, Slot, Result, Part, Step, steps_eq, node_eq, node_lt, below, result, root}
-use Rattle.aw_term.specs.Rules.{Term, Ground, Value, Child, Rule, Sort, Grammar, get, nth, upto, child_at}
-use Rattle.aw_term.specs.Matching.{Matched, Yes, Waits, Differs, Circle, and_then, under, match, match_parts, match_all}
-use Rattle.aw_term.specs.Configs.{State, Pending, Done, Row, Config, lift, holes, child_holes, env, nothing, fill, child_rows, insert_row, insert_rows, row_of, done_row, result_at, put, row_put, rounds, develop}
-use Rattle.aw_term.specs.WellFormed.{leaves, all_leaves, Each, Later}
-use Rattle.aw_iograph.specs.declared.occ.Occ.{Occ}
-use Rattle.aw_iograph.specs.Graphs.{Member, Plus, step, more}
-use Rattle.aw_iograph.specs.Occurrences.{inherited, given, item, pattern_entries, child_entries, entries, term_at}
-use Rattle.aw_iograph.specs.Dependence.{Edge, text, call, IO, IsClosedUnder, HasNoCircle}
+use Rattle.std.proofs.Common.{◌≡◌, ℕ, suc, Bool, true, false, cond, List, [], ◌∷◌, ◌++◌, map, refl, subst, inl, inr}
+use Rattle.std.specs.Prelude.{◌&&◌, nat_eq}
+use Rattle.aw_term.specs.Trees.{Tree, Leaf, Made, Trees, Nil, More, In, Ins, bind, binds, count, head_eq}
+use Rattle.aw_term.specs.Names.{Ref}
+use Rattle.aw_term.specs.Rules.{Term, Value}
+use Rattle.aw_term.specs.Matching.{Matched, Yes, Waits, Differs, Circle, and_then, under, match, match_parts}
+use Rattle.aw_term.specs.WellFormed.{leaves, all_leaves}
 use Rattle.aw_iograph.proofs.Members.{never}
-use Rattle.aw_accept.specs.Acyclic.{Pairs, Needs, need, Stands, IsWhole, IsAcyclic, IsGivenGrammar, IsTree}
+use Rattle.aw_accept.specs.Acyclic.{Pairs}
 
 -- a leaf of a tree with its leaves replaced
 mutual

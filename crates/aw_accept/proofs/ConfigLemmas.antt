@@ -1,68 +1,23 @@
 -- Members of configurations after a choice.
-use Rattle.std.proofs.Common.{◌≡◌, ℕ, zero, suc, ◌+◌, ◌<◌, ◌≤◌, Bool, true, false, cond, List, [], ◌∷◌, ◌++◌, map, length, Option, Some, None, slice_get, replicate, refl, sym, ap, ◌∙◌, subst, inl, inr, ⊎_elim, arith}
-use Rattle.std.specs.Prelude.{◌⊎◌, ◌&&◌, nat_eq, option_and_then}
-use Rattle.aw_term.specs.Trees.{Never, Head, Tree, Leaf, Made, Trees, Nil, More, In, Ins, bind, binds, count, head_eq}
-use Rattle.aw_term.specs.Names.{Node, Ref, Slot, Result, Part, Step, steps_eq, node_eq, node_lt, below, result, root}
-use Rattle.aw_term.specs.Rules.{Term, Ground, Value, Child, Rule, Sort, Grammar, get, nth, upto, child_at}
-use Rattle.aw_term.specs.Matching.{Matched, Yes, Waits, Differs, Circle, and_then, under, match, match_parts, match_all}
-use Rattle.aw_term.specs.Configs.{State, Pending, Done, Row, Config, lift, holes, child_holes, env, nothing, fill, child_rows, insert_row, insert_rows, row_of, done_row, result_at, put, row_put, rounds, develop}
-use Rattle.aw_term.specs.WellFormed.{leaves, all_leaves, Each, Later}
-use Rattle.aw_iograph.specs.declared.occ.Occ.{Occ}
-use Rattle.aw_iograph.specs.Graphs.{Member, Plus, step, more}
-use Rattle.aw_iograph.specs.Occurrences.{inherited, given, item, pattern_entries, child_entries, entries, term_at}
-use Rattle.aw_iograph.specs.Dependence.{Edge, text, call, IO, IsClosedUnder, HasNoCircle}
-use Rattle.aw_iograph.proofs.Members.{never}
-use Rattle.aw_accept.specs.Acyclic.{Pairs, Needs, need, Stands, IsWhole, IsAcyclic, IsGivenGrammar, IsTree}
-use Rattle.std.proofs.lemmas.Bool.{eqb-true, eq-eqb, cases_lt}
+use Rattle.std.proofs.Common.{◌≡◌, ℕ, zero, suc, ◌+◌, ◌<◌, ◌≤◌, Bool, true, false, cond, List, [], ◌∷◌, map, length, Some, slice_get, refl, sym, ap, ◌∙◌, subst, inl, inr, arith}
+use Rattle.std.specs.Prelude.{◌⊎◌}
+use Rattle.aw_term.specs.Trees.{Leaf, In, bind}
+use Rattle.aw_term.specs.Names.{Node, Ref, Slot, Result, Part, Step, node_eq, node_lt, below, result}
+use Rattle.aw_term.specs.Rules.{Term, Value, Child, nth, upto}
+use Rattle.aw_term.specs.Configs.{State, Pending, Row, Config, holes, nothing, fill, child_rows, insert_row, insert_rows, done_row, result_at, put, row_put, rounds}
+use Rattle.aw_iograph.specs.Graphs.{Member}
+use Rattle.aw_iograph.specs.Occurrences.{item}
+use Rattle.aw_iograph.proofs.Members.{never, member_map, member_unmap, member_upto, got_unmap}
+use Rattle.std.proofs.lemmas.Bool.{cases_lt}
+use Rattle.std.proofs.lemmas.List.{length-map, same_from_push}
+use Rattle.aw_term.proofs.NodeTests.{node_is}
+use Rattle.aw_term.proofs.RowParts.{rounds_node}
 use Rattle.aw_accept.proofs.Binding.{In-bind}
 
-pub and-true-both : (a b : Bool) → (a && b) ≡ true → (a ≡ true) × (b ≡ true)
-and-true-both true true e = (refl, refl)
-and-true-both true false e = absurd cc
-and-true-both false b e = absurd cc
-
-pub steps_eq-true : (xs ys : List Step) → steps_eq xs ys ≡ true → xs ≡ ys
-steps_eq-true [] [] e = refl
-steps_eq-true [] (y ∷ ys) e = absurd cc
-steps_eq-true (x ∷ xs) [] e = absurd cc
-steps_eq-true (x ∷ xs) (y ∷ ys) e =
-    let (a, b) = and-true-both _ _ e in
-    let (d, f) = and-true-both _ _ b in
-    let g = eqb-true x.rule y.rule a in
-    let h = eqb-true x.child y.child d in
-    let t = steps_eq-true xs ys f in
-    λ i. record { rule = g i; child = h i } ∷ t i
-
-pub node_eq-true : (n m : Node) → node_eq n m ≡ true → n ≡ m
-node_eq-true n m e =
-    let (a, b) = and-true-both _ _ e in
-    let (d, f) = and-true-both _ _ b in
-    let g = eqb-true n.start m.start a in
-    let h = eqb-true n.case m.case d in
-    let t = steps_eq-true n.steps m.steps f in
-    λ i. record { start = g i; case = h i; steps = t i }
-
--- the number of the last step
-abbrev last_child : List Step → ℕ
-last_child [] = 0
-last_child (s ∷ []) = s.child
-last_child (s ∷ t ∷ ss) = last_child (t ∷ ss)
-
-last_child-end : (xs : List Step) (s : Step) → last_child (xs ++ s ∷ []) ≡ s.child
-last_child-end [] s = refl
-last_child-end (x ∷ []) s = refl
-last_child-end (x ∷ y ∷ xs) s = last_child-end (y ∷ xs) s
-
 pub below-child : (n : Node) (r k l : ℕ) → below n r k ≡ below n r l → k ≡ l
-below-child n r k l e =
-    sym (last_child-end n.steps (record { rule = r; child = k })) ∙ (ap (λ (m : Node). last_child m.steps) e ∙ last_child-end n.steps (record { rule = r; child = l }))
+below-child n r k l e = ap (λ (s : Step). s.child) (same_from_push n.steps n.steps (record { rule = r; child = k }) (record { rule = r; child = l }) (ap (λ (m : Node). m.steps) e)).1
 
-pub Member-map : {A B : Type 0} (f : A → B) (y : B) (xs : List A) → Member y (map f xs) → (x : A) × Member x xs × (y ≡ f x)
-Member-map f y [] m = never m
-Member-map f y (x ∷ xs) (inl e) = (x, inl refl, e)
-Member-map f y (x ∷ xs) (inr m) = let (z, n, e) = Member-map f y xs m in (z, inr n, e)
-
-insert_cases : (b : Bool) (y r q : Row) (qs zs : Config) → (Member y zs → (y ≡ r) ⊎ Member y qs) → Member y (cond b (r ∷ q ∷ qs) (q ∷ zs)) → (y ≡ r) ⊎ Member y (q ∷ qs)
+pub insert_cases : {A : Type 0} (b : Bool) (y r q : A) (qs zs : List A) → (Member y zs → (y ≡ r) ⊎ Member y qs) → Member y (cond b (r ∷ q ∷ qs) (q ∷ zs)) → (y ≡ r) ⊎ Member y (q ∷ qs)
 insert_cases true y r q qs zs f (inl e) = inl e
 insert_cases true y r q qs zs f (inr m) = inr m
 insert_cases false y r q qs zs f (inl e) = inr (inl e)
@@ -93,12 +48,8 @@ pub Member-rounds : {A : Type 0} (m : ℕ) (f : A → A) (y : A) (xs : List A) �
 Member-rounds zero f y xs w = (y, w, refl)
 Member-rounds (suc m) f y xs w =
     let (z, n, e) = Member-rounds m f y (map f xs) w in
-    let (x, o, g) = Member-map f z xs n in
+    let (x, o, g) = member_unmap f z xs n in
     (x, o, e ∙ ap (rounds m f) g)
-
-pub rounds-node : (m : ℕ) (f : Ref → Value) (q : Row) → (rounds m (row_put f) q).node ≡ q.node
-rounds-node zero f q = refl
-rounds-node (suc m) f q = rounds-node m f (row_put f q)
 
 pub rounds-sort : (m : ℕ) (f : Ref → Value) (q : Row) → (rounds m (row_put f) q).sort ≡ q.sort
 rounds-sort zero f q = refl
@@ -108,14 +59,9 @@ pub rounds-state : (m : ℕ) (f : Ref → Value) (q : Row) → (rounds m (row_pu
 rounds-state zero f q = refl
 rounds-state (suc m) f q = rounds-state m f (row_put f q)
 
-pub slice_get-mapped : {A B : Type 0} (f : A → B) (xs : List A) (i : ℕ) (y : B) → slice_get (map f xs) i ≡ Some y → (x : A) × (slice_get xs i ≡ Some x) × (y ≡ f x)
-slice_get-mapped f [] i y e = absurd cc
-slice_get-mapped f (x ∷ xs) zero y e = (x, refl, cc)
-slice_get-mapped f (x ∷ xs) (suc i) y e = slice_get-mapped f xs i y e
-
 pub item-mapped : {A B : Type 0} (f : A → B) (xs : List A) (i : ℕ) (y : B) → item (map f xs) i ≡ Some y → (x : A) × (item xs i ≡ Some x) × (y ≡ f x)
 item-mapped f xs zero y e = absurd cc
-item-mapped f xs (suc i) y e = slice_get-mapped f xs i y e
+item-mapped f xs (suc i) y e = got_unmap f xs i y e
 
 pub rounds-inherited : (m : ℕ) (f : Ref → Value) (q : Row) (i : ℕ) (t : Value) → item ((rounds m (row_put f) q).inherited) i ≡ Some t → (s : Value) × (item q.inherited i ≡ Some s) × (t ≡ rounds m (bind f) s)
 rounds-inherited zero f q i t e = (t, e, refl)
@@ -141,7 +87,7 @@ slot_cases n ts a h (Result j) e f w = inr (j, (λ i. record { node = f i; slot 
 slot_cases n ts a h (Part k) e f w = inl w
 
 put_cases : (b : Bool) (n : Node) (ts : List Value) (a h : Ref) → node_eq n a.node ≡ b → In h (cond b (result_at ts a a.slot) (Leaf a)) → (h ≡ a) ⊎ ((j : ℕ) × (a ≡ result n j) × In h (nth nothing ts j))
-put_cases true n ts a h e w = slot_cases n ts a h a.slot refl (sym (node_eq-true n a.node e)) w
+put_cases true n ts a h e w = slot_cases n ts a h a.slot refl (sym (node_is n a.node e)) w
 put_cases false n ts a h e w = inl w
 
 pub In-put : (n : Node) (ts : List Value) (a h : Ref) → In h (put n ts a) → (h ≡ a) ⊎ ((j : ℕ) × (a ≡ result n j) × In h (nth nothing ts j))
@@ -155,18 +101,17 @@ get-filled f (t ∷ ts) (suc (suc j)) h w = get-filled f ts (suc j) h w
 
 -- the rows before the rounds
 done_cases : (b : Bool) (n : Node) (s : State) (q : Row) → node_eq n q.node ≡ b → cond b (record q { state = s }) q ≡ done_row n s q → ((n ≡ q.node) × (done_row n s q ≡ record q { state = s })) ⊎ (done_row n s q ≡ q)
-done_cases true n s q e f = inl (node_eq-true n q.node e, sym f)
+done_cases true n s q e f = inl (node_is n q.node e, sym f)
 done_cases false n s q e f = inr (sym f)
 
 pub done_row-cases : (n : Node) (s : State) (q : Row) → ((n ≡ q.node) × (done_row n s q ≡ record q { state = s })) ⊎ (done_row n s q ≡ q)
 done_row-cases n s q = done_cases (node_eq n q.node) n s q refl refl
 
-pub Member-mapped : {A B : Type 0} (f : A → B) (x : A) (xs : List A) → Member x xs → Member (f x) (map f xs)
-Member-mapped f x [] m = never m
-Member-mapped f x (y ∷ xs) (inl e) = inl (ap f e)
-Member-mapped f x (y ∷ xs) (inr m) = inr (Member-mapped f x xs m)
+-- what does not speak of the state stays
+pub done_row-same : {B : Type 0} (f : Row → B) (n : Node) (s : State) (q : Row) → f (record q { state = s }) ≡ f q → f (done_row n s q) ≡ f q
+done_row-same f n s q e = elim (done_row-cases n s q) [ inl x ↦ ap f x.1 ∙ e | inr x ↦ ap f x ]
 
-inserted_cases : (b : Bool) (y r q : Row) (qs zs : Config) → ((y ≡ r) ⊎ Member y qs → Member y zs) → (y ≡ r) ⊎ Member y (q ∷ qs) → Member y (cond b (r ∷ q ∷ qs) (q ∷ zs))
+pub inserted_cases : {A : Type 0} (b : Bool) (y r q : A) (qs zs : List A) → ((y ≡ r) ⊎ Member y qs → Member y zs) → (y ≡ r) ⊎ Member y (q ∷ qs) → Member y (cond b (r ∷ q ∷ qs) (q ∷ zs))
 inserted_cases true y r q qs zs f (inl e) = inl e
 inserted_cases true y r q qs zs f (inr m) = inr m
 inserted_cases false y r q qs zs f (inl e) = inr (f (inl e))
@@ -193,11 +138,7 @@ Member-made_children n r e k (d ∷ cs) (suc j) c f =
 
 pub Member-rounded : {A : Type 0} (m : ℕ) (f : A → A) (x : A) (xs : List A) → Member x xs → Member (rounds m f x) (rounds m (map f) xs)
 Member-rounded zero f x xs w = w
-Member-rounded (suc m) f x xs w = Member-rounded m f (f x) (map f xs) (Member-mapped f x xs w)
-
-pub length-mapped : {A B : Type 0} (f : A → B) (xs : List A) → length (map f xs) ≡ length xs
-length-mapped f [] = refl
-length-mapped f (x ∷ xs) = ap suc (length-mapped f xs)
+Member-rounded (suc m) f x xs w = Member-rounded m f (f x) (map f xs) (member_map f x xs w)
 
 pub length-upto : (i m : ℕ) → length (upto i m) ≡ m
 length-upto i zero = refl
@@ -209,13 +150,11 @@ Member-upto i (suc m) j le lt =
     elim (cases_lt i j) [ inl a ↦ inr (Member-upto (suc i) m j a (omega arith)) | inr a ↦ inl (omega arith) ]
 
 pub upto-bound : (i m j : ℕ) → Member j (upto i m) → j < i + m
-upto-bound i zero j w = never w
-upto-bound i (suc m) j (inl e) = omega arith
-upto-bound i (suc m) j (inr w) = let h = upto-bound (suc i) m j w in omega arith
+upto-bound i m j w = let (k, lt, e) = member_upto j i m w in omega arith
 
 pub rounds-results-length : (m : ℕ) (f : Ref → Value) (q : Row) → length (rounds m (row_put f) q).results ≡ length q.results
 rounds-results-length zero f q = refl
-rounds-results-length (suc m) f q = rounds-results-length m f (row_put f q) ∙ length-mapped (bind f) q.results
+rounds-results-length (suc m) f q = rounds-results-length m f (row_put f q) ∙ length-map q.results (bind f)
 
 pub rounds-inherited-list : (m : ℕ) (f : Ref → Value) (q : Row) → (rounds m (row_put f) q).inherited ≡ rounds m (map (bind f)) q.inherited
 rounds-inherited-list zero f q = refl
@@ -225,20 +164,5 @@ pub rounds-results-list : (m : ℕ) (f : Ref → Value) (q : Row) → (rounds m 
 rounds-results-list zero f q = refl
 rounds-results-list (suc m) f q = rounds-results-list m f (row_put f q)
 
-pub steps_eq-refl : (xs : List Step) → steps_eq xs xs ≡ true
-steps_eq-refl [] = refl
-steps_eq-refl (x ∷ xs) = both (eq-eqb x.rule x.rule refl) (both (eq-eqb x.child x.child refl) (steps_eq-refl xs))
-  where
-    both : {a b : Bool} → a ≡ true → b ≡ true → (a && b) ≡ true
-    both e f = λ i. e i && f i
-
-pub node_eq-refl : (n : Node) → node_eq n n ≡ true
-node_eq-refl n = both (eq-eqb n.start n.start refl) (both (eq-eqb n.case n.case refl) (steps_eq-refl n.steps))
-  where
-    both : {a b : Bool} → a ≡ true → b ≡ true → (a && b) ≡ true
-    both e f = λ i. e i && f i
-
 pub upto-low : (i m j : ℕ) → Member j (upto i m) → i ≤ j
-upto-low i zero j w = never w
-upto-low i (suc m) j (inl e) = omega arith
-upto-low i (suc m) j (inr w) = let h = upto-low (suc i) m j w in omega arith
+upto-low i m j w = let (k, lt, e) = member_upto j i m w in omega arith

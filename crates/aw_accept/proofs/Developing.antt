@@ -1,34 +1,33 @@
 -- A taken rule keeps that no hole needs itself.
-use Rattle.std.proofs.Common.{◌≡◌, ℕ, zero, suc, ◌+◌, ◌<◌, ◌≤◌, Bool, true, false, cond, List, [], ◌∷◌, ◌++◌, map, length, Option, Some, None, slice_get, replicate, refl, sym, ap, ◌∙◌, subst, inl, inr, ⊎_elim, arith}
-use Rattle.std.specs.Prelude.{◌⊎◌, ◌&&◌, nat_eq, option_and_then}
-use Rattle.aw_term.specs.Trees.{Never, Head, Tree, Leaf, Made, Trees, Nil, More, In, Ins, bind, binds, count, head_eq}
-use Rattle.aw_term.specs.Names.{Node, Ref, Slot, Result, Part, Step, steps_eq, node_eq, node_lt, below, result, root}
-use Rattle.aw_term.specs.Rules.{Term, Ground, Value, Child, Rule, Sort, Grammar, get, nth, upto, child_at}
-use Rattle.aw_term.specs.Matching.{Matched, Yes, Waits, Differs, Circle, and_then, under, match, match_parts, match_all}
-use Rattle.aw_term.specs.Configs.{State, Pending, Done, Row, Config, lift, holes, child_holes, env, nothing, fill, child_rows, insert_row, insert_rows, row_of, done_row, result_at, put, row_put, rounds, develop}
-use Rattle.aw_term.specs.WellFormed.{leaves, all_leaves, Each, Later}
+use Rattle.std.proofs.Common.{◌≡◌, ℕ, zero, suc, ◌+◌, ◌<◌, ◌≤◌, Bool, true, false, cond, List, [], ◌∷◌, map, length, Some, slice_get, refl, sym, ap, ◌∙◌, subst, inl, inr, arith}
+use Rattle.std.specs.Prelude.{◌⊎◌, option_and_then}
+use Rattle.std.proofs.lemmas.List.{length-map}
+use Rattle.aw_term.specs.Trees.{Never, Leaf, In, bind}
+use Rattle.aw_term.specs.Names.{Node, Ref, Slot, Result, Part, below, result}
+use Rattle.aw_term.specs.Rules.{Term, Ground, Value, Child, Rule, get, nth, upto}
+use Rattle.aw_term.specs.Matching.{Yes, match_all}
+use Rattle.aw_term.specs.Configs.{Pending, Done, Row, Config, env, nothing, fill, child_rows, insert_rows, done_row, put, row_put, rounds, develop}
+use Rattle.aw_term.specs.WellFormed.{Each, Later}
 use Rattle.aw_iograph.specs.declared.occ.Occ.{Occ}
 use Rattle.aw_iograph.specs.Graphs.{Member, Plus, step, more}
-use Rattle.aw_iograph.specs.Occurrences.{inherited, given, item, pattern_entries, child_entries, entries, term_at}
-use Rattle.aw_iograph.specs.Dependence.{Edge, text, call, IO, IsClosedUnder, HasNoCircle}
-use Rattle.aw_iograph.proofs.Members.{never}
-use Rattle.aw_accept.specs.Acyclic.{Pairs, Needs, need, Stands, IsWhole, IsAcyclic, IsGivenGrammar, IsTree}
-use Rattle.aw_iograph.proofs.Members.{member_got}
+use Rattle.aw_iograph.specs.Occurrences.{inherited, item, term_at}
+use Rattle.aw_iograph.specs.Dependence.{Edge, text, call}
+use Rattle.aw_iograph.proofs.Members.{never, member_map, member_unmap, member_got}
+use Rattle.aw_accept.specs.Acyclic.{Needs, need, Stands, IsWhole, IsAcyclic}
 use Rattle.aw_accept.proofs.Spots.{Spot, Inh, Out, occ_of, Move}
-use Rattle.aw_accept.proofs.Contraction.{join, Vertex, H, O, Way, outer, enter, inner, leave, contract, within}
+use Rattle.aw_accept.proofs.Contraction.{Vertex, H, O, Way, outer, enter, inner, leave, contract, within}
 use Rattle.aw_accept.proofs.Binding.{In-bind}
-use Rattle.aw_accept.proofs.Sources.{Source, Source_at, EntersAt, env_enters, entered}
-use Rattle.aw_accept.proofs.ConfigLemmas.{below-child, child_row, Member-map, Member-insert_rows, Member-child_rows, Member-rounds, rounds-node, rounds-sort, rounds-state, item-mapped, rounds-inherited, Chain, end, link, In-rounds, In-put, get-filled, done_row-cases, Member-mapped, Member-all_inserted, Member-made_children, Member-rounded, length-mapped, length-upto, Member-upto, upto-bound, upto-low, rounds-results-length, rounds-inherited-list, rounds-results-list, node_eq-refl}
-use Rattle.aw_accept.proofs.Pigeonholes.{pigeon, each_mapped}
+use Rattle.aw_accept.proofs.Sources.{Source, Source_at, env_enters, entered}
+use Rattle.aw_accept.proofs.ConfigLemmas.{below-child, child_row, Member-insert_rows, Member-child_rows, Member-rounds, rounds-sort, rounds-state, item-mapped, rounds-inherited, Chain, end, link, In-rounds, In-put, get-filled, done_row-cases, Member-all_inserted, Member-made_children, Member-rounded, length-upto, Member-upto, upto-bound, upto-low, rounds-results-length, rounds-inherited-list, rounds-results-list, done_row-same}
+use Rattle.aw_accept.proofs.Pigeonholes.{pigeon}
+use Rattle.aw_term.proofs.NodeTests.{node_self}
+use Rattle.aw_term.proofs.RowParts.{rounds_node}
+use Rattle.aw_term.proofs.Eaches.{each_map}
+use Rattle.aw_iograph.proofs.Reaching.{join}
 
 pub Item-at : {A : Type 0} (xs : List A) (i : ℕ) (x : A) → item xs i ≡ Some x → Member x xs
 Item-at xs zero x e = absurd cc
 Item-at xs (suc i) x e = member_got xs i x e
-
-pub Member-at : {A : Type 0} (xs : List A) (i : ℕ) (x : A) → slice_get xs i ≡ Some x → Member x xs
-Member-at [] i x e = absurd cc
-Member-at (y ∷ xs) zero x e = inl cc
-Member-at (y ∷ xs) (suc i) x e = inr (Member-at xs i x e)
 
 -- node q is developed by rule r, its ri-th, in the configuration c
 pub record Taking (rel : ℕ → ℕ → ℕ → Type 0) (c : Config) (q : Row) (ri : ℕ) (r : Rule) (bs : List Value) (args : List Ground) : Type 0 where
@@ -136,7 +135,7 @@ module _ (rel : ℕ → ℕ → ℕ → Type 0) (c : Config) (q : Row) (ri : ℕ
       elim (Member-insert_rows y _ _ m) [
         | inl n ↦ (let (k, d, f, g) = Member-child_rows y q.node ri e 1 r.children n in
             let z : 1 + k ≡ suc k = omega arith in inr (k, d, f, g ∙ ap (λ k'. child_row q.node ri e k' d) z))
-        | inr n ↦ (let (p, o, f) = Member-map (done_row q.node (Done ri args)) y c n in inl (pending_old y p o f s))
+        | inr n ↦ (let (p, o, f) = member_unmap (done_row q.node (Done ri args)) y c n in inl (pending_old y p o f s))
       ]
 
   old_go : {a b : Ref} {v : Vertex} → (y : Row) (i j : ℕ) (t : Value) → Member y c → y.state ≡ Pending → rel y.sort i j → item y.inherited i ≡ Some t → In b t → a ≡ result y.node j → At a v → Go v b
@@ -167,7 +166,7 @@ module _ (rel : ℕ → ℕ → ℕ → Type 0) (c : Config) (q : Row) (ri : ℕ
       let (t0, f0, ht) = rounds-inherited M sigma y1 i t (sym (ap (λ (y : Row). item y.inherited i) g) ∙ f) in
       let (h0, w0, ch) = In-rounds M sigma b t0 (subst (In b) ht w) in
       let x1 = subst (λ n. rel n i j) (ap (λ (y : Row). y.sort) g ∙ rounds-sort M sigma y1) x in
-      let nd : ◌≡◌ {A = Ref} (result y.node j) (result y1.node j) = ap (λ n. result n j) (ap (λ (y : Row). y.node) g ∙ rounds-node M sigma y1) in
+      let nd : ◌≡◌ {A = Ref} (result y.node j) (result y1.node j) = ap (λ n. result n j) (ap (λ (y : Row). y.node) g ∙ rounds_node M sigma y1) in
       let start : Go v h0 = elim (pending_added y1 m1 s1) [ inl o ↦ old_go y1 i j t0 o s1 x1 f0 w0 nd z | inr o ↦ child_go y1 i j t0 o x1 f0 w0 nd z ] in
       chain_go ch start
 
@@ -191,7 +190,7 @@ module _ (rel : ℕ → ℕ → ℕ → Type 0) (c : Config) (q : Row) (ri : ℕ
       let M = length r.results in
       let (y1, m1, g) = Member-rounds M (row_put sigma) y added m in
       let s1 : y1.state ≡ Pending = sym (rounds-state M sigma y1) ∙ (sym (ap (λ (y : Row). y.state) g) ∙ s) in
-      let nd : ◌≡◌ {A = Ref} (result y.node j) (result y1.node j) = ap (λ n. result n j) (ap (λ (y : Row). y.node) g ∙ rounds-node M sigma y1) in
+      let nd : ◌≡◌ {A = Ref} (result y.node j) (result y1.node j) = ap (λ n. result n j) (ap (λ (y : Row). y.node) g ∙ rounds_node M sigma y1) in
       elim (pending_added y1 m1 s1) [
         | inl o ↦ (H _, old y1 j o nd)
         | inr o ↦ (O (Out (suc o.0) j), child o.0 j (nd ∙ ap (λ (y : Row). result y.node j) o.3))
@@ -202,14 +201,11 @@ module _ (rel : ℕ → ℕ → ℕ → Type 0) (c : Config) (q : Row) (ri : ℕ
   first_of_walk (more n w) = start_at n
 
   -- the central law
-  pub still_no_circle : (h : Ref) → Plus (Needs rel new) h h → Never
+  still_no_circle : (h : Ref) → Plus (Needs rel new) h h → Never
   still_no_circle h w =
       let (v, z) = first_of_walk w in
       let (u, zu, wu) = new_walk w z in
       no_round v (subst (λ u'. Plus W v u') (At-one zu z) wu)
-
-  pub develop-no_circle : (h : Ref) → Plus (Needs rel (develop q.node ri r bs args c)) h h → Never
-  develop-no_circle h w = still_no_circle h w
 
   -- where a hole of the new configuration comes from
   abbrev pub Known : Ref → Type 0
@@ -254,7 +250,7 @@ module _ (rel : ℕ → ℕ → ℕ → Type 0) (c : Config) (q : Row) (ri : ℕ
   own_link : (a b : Ref) → Own a → Own b → In b (sigma a) → Plus (Needs rel c) a b
   own_link a b (i, f) (j, g) x =
       let x1 = subst (λ a. In b (sigma a)) f x in
-      let x2 = subst (λ z. In b (cond z (nth nothing (map (fill e) r.results) i) (Leaf (result q.node i)))) (node_eq-refl q.node) x1 in
+      let x2 = subst (λ z. In b (cond z (nth nothing (map (fill e) r.results) i) (Leaf (result q.node i)))) (node_self q.node) x1 in
       let (t, k, y) = get-filled (fill e) r.results i b x2 in
       let (u, z, ww) = value_walk (Out 0 i) t b k y in
       let w = subst (λ u'. Plus W (H (result q.node i)) u') (At-one z (old q j T.held g)) (more (enter i) ww) in
@@ -275,7 +271,7 @@ module _ (rel : ℕ → ℕ → ℕ → Type 0) (c : Config) (q : Row) (ri : ℕ
       let lt' : j < 1 + length r.results = omega (arith, lt, ap (λ (p : Row). length p.results) same, T.many) in
       let z : 1 ≤ j = omega (arith, lt0) in
       let g' = g ∙ ap (λ (p : Row). result p.node j) same in
-      subst (λ x. Member x places) (sym g') (Member-mapped (result q.node) j (upto 1 (length r.results)) (Member-upto 1 (length r.results) j z lt'))
+      subst (λ x. Member x places) (sym g') (member_map (result q.node) j (upto 1 (length r.results)) (Member-upto 1 (length r.results) j z lt'))
   own_place b (i, f) (inr (k, l, d, s, lt0, lt, g)) = never (T.fresh q T.held (suc k) (sym (node_of f) ∙ node_of g))
 
   own_list : {m : ℕ} {a h : Ref} → Chain sigma m a h → Own h → Fate a → (ys : List Ref) × (length ys ≡ m) × Each (λ y. Member y places) ys × Each (Plus (Needs rel c) a) ys × Later (Plus (Needs rel c)) ys
@@ -286,14 +282,14 @@ module _ (rel : ℕ → ℕ → ℕ → Type 0) (c : Config) (q : Row) (ri : ℕ
       let (ys, l, m, n, t) = own_list ch o fb in
       let oa : Own a = own_before (link x ch) o in
       let ab = own_link a b oa ob x in
-      (b ∷ ys, ap suc l, (own_place b ob fb, m), (ab, each_mapped (Plus (Needs rel c) b) (Plus (Needs rel c) a) (λ y w. join ab w) ys n), (n, t))
+      (b ∷ ys, ap suc l, (own_place b ob fb, m), (ab, each_map (Plus (Needs rel c) b) (Plus (Needs rel c) a) ys (λ y w. join ab w) n), (n, t))
 
   -- m rounds are enough
   pub no_own : (a h : Ref) → Chain sigma (length r.results) a h → Fate a → Own h → Never
   no_own a h ch f o =
       let (ys, l, m, n, t) = own_list ch o f in
       let (z, w) = pigeon (Plus (Needs rel c)) places (a ∷ ys) (own_place a (own_before ch o) f, m) (n, t)
-      (omega (arith, l, length-mapped (result q.node) (upto 1 (length r.results)), length-upto 1 (length r.results))) in
+      (omega (arith, l, length-map (upto 1 (length r.results)) (result q.node), length-upto 1 (length r.results))) in
       T.no_circle z w
 
   pub added_cases : (y : Row) → Member y added → FromChild y ⊎ ((p : Row) × Member p c × (y ≡ done_row q.node (Done ri args) p))
@@ -301,21 +297,18 @@ module _ (rel : ℕ → ℕ → ℕ → Type 0) (c : Config) (q : Row) (ri : ℕ
       elim (Member-insert_rows y _ _ m) [
         | inl n ↦ (let (k, d, f, g) = Member-child_rows y q.node ri e 1 r.children n in
             let z : 1 + k ≡ suc k = omega arith in inl (k, d, f, g ∙ ap (λ k'. child_row q.node ri e k' d) z))
-        | inr n ↦ (let (p, o, f) = Member-map (done_row q.node (Done ri args)) y c n in inr (p, o, f))
+        | inr n ↦ (let (p, o, f) = member_unmap (done_row q.node (Done ri args)) y c n in inr (p, o, f))
       ]
 
   same_trees : (p : Row) → ((done_row q.node (Done ri args) p).inherited ≡ p.inherited) × ((done_row q.node (Done ri args) p).results ≡ p.results)
-  same_trees p = elim (done_row-cases q.node (Done ri args) p) [
-    | inl g ↦ (ap (λ (y : Row). y.inherited) g.1, ap (λ (y : Row). y.results) g.1)
-    | inr g ↦ (ap (λ (y : Row). y.inherited) g, ap (λ (y : Row). y.results) g)
-  ]
+  same_trees p = (done_row-same (λ (y : Row). y.inherited) q.node (Done ri args) p refl, done_row-same (λ (y : Row). y.results) q.node (Done ri args) p refl)
 
   fate_child : (a : Ref) (y : Row) → FromChild y → Stands a y → Fate a
   fate_child a y (k, d, f, g) (inl (t, m, w)) =
-      let (s, n, eq) = Member-map (fill e) t d.args (subst (λ (y : Row). Member t y.inherited) g m) in
+      let (s, n, eq) = member_unmap (fill e) t d.args (subst (λ (y : Row). Member t y.inherited) g m) in
       fate_term s a (subst (In a) eq w)
   fate_child a y (k, d, f, g) (inr (t, m, w)) =
-      let (l, n, eq) = Member-map (λ j. Leaf (result (below q.node ri (suc k)) j)) t (upto 1 d.outs) (subst (λ (y : Row). Member t y.results) g m) in
+      let (l, n, eq) = member_unmap (λ j. Leaf (result (below q.node ri (suc k)) j)) t (upto 1 d.outs) (subst (λ (y : Row). Member t y.results) g m) in
       let lt : l < 1 + d.outs = upto-bound 1 d.outs l n in
       let low : 0 < l = upto-low 1 d.outs l n in
       let lt' : l ≤ d.outs = omega (arith, lt) in
@@ -338,22 +331,22 @@ module _ (rel : ℕ → ℕ → ℕ → Type 0) (c : Config) (q : Row) (ri : ℕ
         j,
         Member-rounded M (row_put sigma) y added m,
         rounds-state M sigma y ∙ s,
-        f ∙ ap (λ n. result n j) (sym (rounds-node M sigma y)),
+        f ∙ ap (λ n. result n j) (sym (rounds_node M sigma y)),
         lt0,
         omega (arith, lt, rounds-results-length M sigma y),
       )
 
-  fate_new : (a h : Ref) → Chain sigma (length r.results) a h → Fate a → Fate h → (p : Row) × (j : ℕ) × Member p new × (p.state ≡ Pending) × (h ≡ result p.node j) × (0 < j) × (j ≤ length p.results)
+  pub fate_new : (a h : Ref) → Chain sigma (length r.results) a h → Fate a → Fate h → (p : Row) × (j : ℕ) × Member p new × (p.state ≡ Pending) × (h ≡ result p.node j) × (0 < j) × (j ≤ length p.results)
   fate_new a h ch fa (inl (p, j, m, s, f, lt0, lt)) =
       elim (done_row-cases q.node (Done ri args) p) [
         | inl g ↦ never (no_own a h ch fa (j, f ∙ ap (λ n. result n j) (sym g.0)))
-        | inr g ↦ in_new p j h (Member-all_inserted p (child_rows q.node ri e 1 r.children) (map (done_row q.node (Done ri args)) c) (inr (subst (λ y. Member y (map (done_row q.node (Done ri args)) c)) g (Member-mapped (done_row q.node (Done ri args)) p c m)))) s f lt0 lt
+        | inr g ↦ in_new p j h (Member-all_inserted p (child_rows q.node ri e 1 r.children) (map (done_row q.node (Done ri args)) c) (inr (subst (λ y. Member y (map (done_row q.node (Done ri args)) c)) g (member_map (done_row q.node (Done ri args)) p c m)))) s f lt0 lt
       ]
   fate_new a h ch fa (inr (k, l, d, s, lt0, lt, f)) =
       let z : 1 + k ≡ suc k = omega arith in
       let mem = subst (λ k'. Member (child_row q.node ri e k' d) (child_rows q.node ri e 1 r.children)) z (Member-made_children q.node ri e 1 r.children k d s) in
       in_new (child_row q.node ri e (suc k) d) l h (Member-all_inserted (child_row q.node ri e (suc k) d) (child_rows q.node ri e 1 r.children) (map (done_row q.node (Done ri args)) c) (inl mem)) refl f lt0
-      (omega (arith, lt, length-mapped (λ j. Leaf (result (below q.node ri (suc k)) j)) (upto 1 d.outs), length-upto 1 d.outs))
+      (omega (arith, lt, length-map (upto 1 d.outs) (λ j. Leaf (result (below q.node ri (suc k)) j)), length-upto 1 d.outs))
 
   still_whole : IsWhole new
   still_whole y m h s =

@@ -1,18 +1,12 @@
 -- Circles over the relation that was found, and over the dependence relation.
-use Rattle.std.proofs.Common.{◌≡◌, ℕ, zero, suc, ◌+◌, ◌<◌, ◌≤◌, List, [], ◌∷◌, map, length, Option, Some, None, slice_get, refl, sym, ap, ◌∙◌, subst, inl, inr, arith}
-use Rattle.std.specs.Prelude.{◌⊎◌, ◌↔◌}
+use Rattle.std.proofs.Common.{◌≡◌, ℕ, zero, suc, ◌+◌, ◌<◌, ◌≤◌, List, [], ◌∷◌, length, Option, Some, None, slice_get, refl, subst, inl, inr, arith}
+use Rattle.std.specs.Prelude.{◌↔◌}
 use Rattle.aw_term.specs.Rules as P
-use Rattle.aw_grammar.specs.declared.grammar.Grammar.{Grammar}
-use Rattle.aw_grammar.specs.GrammarView.{rule_of}
-use Rattle.aw_grammar.specs.GrammarOf.{grammar_of}
 use Rattle.aw_iograph.specs.declared.occ.Occ.{Occ}
-use Rattle.aw_iograph.specs.declared.io.Io.{Io}
-use Rattle.aw_iograph.specs.Graphs.{Member, Plus}
-use Rattle.aw_iograph.specs.Dependence.{IO, IsOnCircle, LeastOnCircle, HasNoCircle}
-use Rattle.aw_iograph.specs.Pairs.{Has}
-use Rattle.aw_iograph.proofs.Members.{below_or_at, member_place, length_map}
+use Rattle.aw_iograph.specs.Dependence.{IO, LeastOnCircle, HasNoCircle}
+use Rattle.aw_iograph.proofs.Members.{below_or_at, member_place}
 use Rattle.aw_iograph.proofs.Relations.{plus_map}
-use Rattle.aw_accept.specs.Circular.{IsRelation, NoneBelow}
+use Rattle.aw_accept.specs.Circular.{NoneBelow}
 
 -- two equal relations have the same least occurrence on a circle
 pub least_same : (rel rel' : ℕ → ℕ → ℕ → Type 0) (r : P.Rule) (found : Option Occ) → ((s i j : ℕ) → rel s i j ↔ rel' s i j) → LeastOnCircle rel r found → LeastOnCircle rel' r found

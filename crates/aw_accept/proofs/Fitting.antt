@@ -1,7 +1,6 @@
 -- A well-formed grammar gives as many results as its sorts say.
-use Rattle.std.proofs.Common.{◌≡◌, ℕ, List, [], ◌∷◌, length, Some, slice_get, subst, sym, inl, inr}
-use Rattle.std.specs.Prelude.{◌⊎◌}
-use Rattle.aw_term.specs.Rules.{Child, Rule, Grammar}
+use Rattle.std.proofs.Common.{List, [], ◌∷◌, subst, sym, inl, inr}
+use Rattle.aw_term.specs.Rules.{Grammar}
 use Rattle.aw_term.specs.Artifacts.{Words}
 use Rattle.aw_term.specs.WellFormed.{Each, RuleFits, ChildFits, IsWellFormed, variables}
 use Rattle.aw_grammar.proofs.Fits.{each_at}
@@ -9,7 +8,7 @@ use Rattle.aw_iograph.specs.Graphs.{Member}
 use Rattle.aw_iograph.proofs.Members.{never}
 use Rattle.aw_accept.specs.Acyclic.{IsGivenGrammar}
 
-each_member : {A : Type 0} (P : A → Type 0) (xs : List A) (x : A) → Each P xs → Member x xs → P x
+pub each_member : {A : Type 0} (P : A → Type 0) (xs : List A) (x : A) → Each P xs → Member x xs → P x
 each_member P [] x each m = never m
 each_member P (y ∷ ys) x each (inl e) = subst P (sym e) each.0
 each_member P (y ∷ ys) x each (inr m) = each_member P ys x each.1 m

@@ -1,32 +1,31 @@
 -- Each configuration that choices lead to is acyclic.
-use Rattle.std.proofs.Common.{◌≡◌, ℕ, zero, suc, ◌+◌, ◌<◌, ◌≤◌, Bool, true, false, cond, List, [], ◌∷◌, ◌++◌, map, length, Option, Some, None, slice_get, replicate, refl, sym, ap, ◌∙◌, subst, inl, inr, ⊎_elim, arith}
-use Rattle.std.specs.Prelude.{◌⊎◌, ◌&&◌, nat_eq, option_and_then}
-use Rattle.aw_term.specs.Trees.{Never, Head, Tree, Leaf, Made, Trees, Nil, More, In, Ins, bind, binds, count, head_eq}
-use Rattle.aw_term.specs.Names.{Node, Ref, Slot, Result, Part, Step, steps_eq, node_eq, node_lt, below, result, root}
-use Rattle.aw_term.specs.Rules.{Term, Ground, Value, Child, Rule, Sort, Grammar, get, nth, upto, child_at}
-use Rattle.aw_term.specs.Matching.{Matched, Yes, Waits, Differs, Circle, and_then, under, match, match_parts, match_all}
-use Rattle.aw_term.specs.Configs.{State, Pending, Done, Row, Config, lift, holes, child_holes, env, nothing, fill, child_rows, insert_row, insert_rows, row_of, done_row, result_at, put, row_put, rounds, develop}
-use Rattle.aw_term.specs.WellFormed.{leaves, all_leaves, Each, Later}
-use Rattle.aw_iograph.specs.declared.occ.Occ.{Occ}
+use Rattle.std.proofs.Common.{◌≡◌, ℕ, zero, suc, ◌+◌, ◌<◌, Bool, true, false, cond, List, [], ◌∷◌, ◌++◌, map, length, Option, Some, None, slice_get, refl, sym, ap, ◌∙◌, subst, inl, inr, arith}
+use Rattle.std.specs.Prelude.{◌⊎◌, nat_eq}
+use Rattle.aw_term.specs.Trees.{Never, Leaf, In}
+use Rattle.aw_term.specs.Names.{Node, Ref, Step, node_eq, below, result, root}
+use Rattle.aw_term.specs.Rules.{Ground, Value, Rule, Grammar, upto}
+use Rattle.aw_term.specs.Matching.{Matched, Yes, Waits, Differs, Circle, match_all}
+use Rattle.aw_term.specs.Configs.{State, Pending, Done, Row, Config, env, child_rows, insert_row, row_of, done_row, row_put, rounds, develop}
 use Rattle.aw_iograph.specs.Graphs.{Member, Plus, step, more}
-use Rattle.aw_iograph.specs.Occurrences.{inherited, given, item, pattern_entries, child_entries, entries, term_at}
-use Rattle.aw_iograph.specs.Dependence.{Edge, text, call, IO, IsClosedUnder, HasNoCircle}
-use Rattle.aw_iograph.proofs.Members.{never}
-use Rattle.aw_accept.specs.Acyclic.{Pairs, Needs, need, Stands, IsWhole, IsAcyclic, IsGivenGrammar, IsTree}
+use Rattle.aw_iograph.specs.Occurrences.{item}
+use Rattle.aw_iograph.specs.Dependence.{IO, HasNoCircle}
+use Rattle.aw_iograph.proofs.Members.{never, member_map, member_unmap, member_got}
+use Rattle.aw_accept.specs.Acyclic.{Needs, need, Stands, IsWhole, IsAcyclic, IsGivenGrammar, IsTree}
 use Rattle.std.proofs.lemmas.Bool.{eqb-true}
-use Rattle.aw_term.specs.Choices.{Choice, Start, Develop, Answer, NotItsRule, Arguments, Outcome, Refused, Starts, Takes, deep, after_guard, at_rule, at_state, at_row, not_held, outcome, gives_of, start_row, taken, undivided}
+use Rattle.std.proofs.lemmas.List.{length-map, same_from_push}
+use Rattle.std.proofs.lemmas.Option.{same_Some, option_and_then_some}
+use Rattle.aw_term.specs.Choices.{Choice, Start, Develop, Answer, NotItsRule, Arguments, Outcome, Refused, Starts, Takes, deep, after_guard, at_rule, at_state, at_row, not_held, outcome, start_row, taken, undivided}
 use Rattle.aw_iograph.proofs.Relations.{io_closed}
 use Rattle.aw_accept.specs.Acyclic.{gives}
-use Rattle.aw_accept.proofs.Spots.{Spot, occ_of, moves}
-use Rattle.aw_accept.proofs.ConfigLemmas.{node_eq-true, node_eq-refl, below-child, child_row, Member-map, Member-insert_row, Member-inserted, Member-insert_rows, Member-all_inserted, Member-mapped, Member-child_rows, Member-rounds, Member-rounded, rounds-node, rounds-sort, rounds-state, rounds-results-length, done_row-cases, length-mapped, length-upto, upto-bound, upto-low}
-use Rattle.aw_accept.proofs.Developing.{Taking, Member-at, develop-acyclic, added, sigma, e, FromChild, added_cases}
+use Rattle.aw_accept.proofs.Spots.{occ_of, moves}
+use Rattle.aw_accept.proofs.ConfigLemmas.{below-child, child_row, Member-insert_row, Member-inserted, Member-all_inserted, Member-rounds, Member-rounded, rounds-sort, rounds-state, rounds-results-length, done_row-cases, length-upto, upto-bound, upto-low, done_row-same}
+use Rattle.aw_accept.proofs.Developing.{Taking, develop-acyclic, added, sigma, e, FromChild, added_cases}
+use Rattle.aw_term.proofs.NodeTests.{node_is, node_self}
+use Rattle.aw_term.proofs.RowParts.{rounds_node}
 
 item_none : {A : Type 0} (i : ℕ) (t : A) → item [] i ≡ Some t → Never
 item_none zero t e = absurd cc
 item_none (suc i) t e = absurd cc
-
-some-inj : {A : Type 0} {a b : A} → Some a ≡ Some b → a ≡ b
-some-inj e = cc
 
 -- what a taken rule says
 pub record Decoded (g : Grammar) (c : Config) (n : Node) (ri : ℕ) (args : List Ground) (rule : Rule) (bs : List Value) : Type 0 where
@@ -39,14 +38,14 @@ pub record Decoded (g : Grammar) (c : Config) (n : Node) (ri : ℕ) (args : List
   pub given : length args ≡ rule.params
   pub bound : match_all 1 rule.patterns row.inherited ≡ Yes bs
 
-row_cases : (b : Bool) (n : Node) (q h : Row) (o : Option Row) → node_eq n q.node ≡ b → cond b (Some q) o ≡ Some h → ((q ≡ h) × (n ≡ q.node)) ⊎ (o ≡ Some h)
-row_cases true n q h o e f = inl (cc, node_eq-true n q.node e)
-row_cases false n q h o e f = inr f
+pub found_cases : {A : Type 0} (node : A → Node) (b : Bool) (n : Node) (q h : A) (o : Option A) → node_eq n (node q) ≡ b → cond b (Some q) o ≡ Some h → ((q ≡ h) × (n ≡ node q)) ⊎ (o ≡ Some h)
+found_cases node true n q h o e f = inl (same_Some q h f, node_is n (node q) e)
+found_cases node false n q h o e f = inr f
 
 pub row_of-found : (n : Node) (c : Config) (h : Row) → row_of n c ≡ Some h → Member h c × (h.node ≡ n)
 row_of-found n [] h e = absurd cc
 row_of-found n (q ∷ qs) h e =
-    elim (row_cases (node_eq n q.node) n q h (row_of n qs) refl e) [
+    elim (found_cases (λ (r : Row). r.node) (node_eq n q.node) n q h (row_of n qs) refl e) [
       | inl x ↦ (inl (sym x.0), sym (ap (λ (h : Row). h.node) x.0) ∙ sym x.1)
       | inr x ↦ (let (m, f) = row_of-found n qs h x in (inr m, f))
     ]
@@ -60,23 +59,32 @@ row_of-none n [] e p m f = never m
 row_of-none n (q ∷ qs) e p m f =
     let (a, b) = none_cases (node_eq n q.node) q (row_of n qs) e in
     elim m [
-      | inl x ↦ (let z : node_eq n n ≡ false = subst (λ k. node_eq n k ≡ false) (sym (ap (λ (h : Row). h.node) x) ∙ f) a in let y = node_eq-refl n in absurd cc)
+      | inl x ↦ (let z : node_eq n n ≡ false = subst (λ k. node_eq n k ≡ false) (sym (ap (λ (h : Row). h.node) x) ∙ f) a in let y = node_self n in absurd cc)
       | inr x ↦ row_of-none n qs b p x f
     ]
 
-cond-takes : (b : Bool) (x : Outcome Value Ref) (a : Answer Ref) (rule : Rule) (bs : List Value) → cond b x (Refused a) ≡ Takes rule bs → (b ≡ true) × (x ≡ Takes rule bs)
+cond-takes : {A R : Type 0} (b : Bool) (x : Outcome A R) (a : Answer R) (rule : Rule) (bs : List A) → cond b x (Refused a) ≡ Takes rule bs → (b ≡ true) × (x ≡ Takes rule bs)
 cond-takes true x a rule bs e = (refl, e)
 cond-takes false x a rule bs e = absurd cc
 
-deep-takes : (b : Bool) (x : Outcome Value Ref) (a : Answer Ref) (rule : Rule) (bs : List Value) → cond b (Refused a) x ≡ Takes rule bs → x ≡ Takes rule bs
+pub deep-takes : {A R : Type 0} (b : Bool) (x : Outcome A R) (a : Answer R) (rule : Rule) (bs : List A) → cond b (Refused a) x ≡ Takes rule bs → x ≡ Takes rule bs
 deep-takes true x a rule bs e = absurd cc
 deep-takes false x a rule bs e = e
 
-guard-takes : (n : Node) (ru : Rule) (m : Matched Value Ref) (rule : Rule) (bs : List Value) → after_guard n ru m ≡ Takes rule bs → (ru ≡ rule) × (m ≡ Yes bs)
+guard-takes : {A R : Type 0} (n : Node) (ru : Rule) (m : Matched A R) (rule : Rule) (bs : List A) → after_guard n ru m ≡ Takes rule bs → (ru ≡ rule) × (m ≡ Yes bs)
 guard-takes n ru (Yes xs) rule bs e = let f = deep-takes (deep n ru) (Takes ru xs) _ rule bs e in (cc, cc)
 guard-takes n ru (Waits r) rule bs e = absurd cc
 guard-takes n ru (Differs r) rule bs e = absurd cc
 guard-takes n ru (Circle r) rule bs e = absurd cc
+
+-- what the tests of a rule say, whatever its guard reads
+pub tests-take : {A R : Type 0} (n : Node) (ru : Rule) (sort : ℕ) (args : List Ground) (m : Matched A R) (rule : Rule) (bs : List A)
+    → cond (nat_eq ru.sort sort) (cond (nat_eq (length args) ru.params) (after_guard n ru m) (Refused Arguments)) (Refused NotItsRule) ≡ Takes rule bs → (ru ≡ rule) × (ru.sort ≡ sort) × (length args ≡ ru.params) × (m ≡ Yes bs)
+tests-take n ru sort args m rule bs e =
+    let (a, f) = cond-takes (nat_eq ru.sort sort) (cond (nat_eq (length args) ru.params) (after_guard n ru m) (Refused Arguments)) NotItsRule rule bs e in
+    let (b, h) = cond-takes (nat_eq (length args) ru.params) (after_guard n ru m) Arguments rule bs f in
+    let (p, y) = guard-takes n ru m rule bs h in
+    (p, eqb-true ru.sort sort a, eqb-true (length args) ru.params b, y)
 
 abbrev RuleFacts : Option Rule → List Ground → Row → Rule → List Value → Type 0
 RuleFacts o args q rule bs = (o ≡ Some rule) × (rule.sort ≡ q.sort) × (length args ≡ rule.params) × (match_all 1 rule.patterns q.inherited ≡ Yes bs)
@@ -84,10 +92,8 @@ RuleFacts o args q rule bs = (o ≡ Some rule) × (rule.sort ≡ q.sort) × (len
 rule-takes : (o : Option Rule) (n : Node) (args : List Ground) (q : Row) (rule : Rule) (bs : List Value) → at_rule o n args q ≡ Takes rule bs → RuleFacts o args q rule bs
 rule-takes None n args q rule bs e = absurd cc
 rule-takes (Some ru) n args q rule bs e =
-    let (a, f) = cond-takes (nat_eq ru.sort q.sort) (cond (nat_eq (length args) ru.params) (after_guard n ru (match_all 1 ru.patterns q.inherited)) (Refused Arguments)) NotItsRule rule bs e in
-    let (b, h) = cond-takes (nat_eq (length args) ru.params) (after_guard n ru (match_all 1 ru.patterns q.inherited)) Arguments rule bs f in
-    let (p, y) = guard-takes n ru (match_all 1 ru.patterns q.inherited) rule bs h in
-    subst (λ ru'. RuleFacts (Some ru) args q ru' bs) p (refl, eqb-true _ _ a, eqb-true _ _ b, y)
+    let (p, a, b, y) = tests-take n ru q.sort args (match_all 1 ru.patterns q.inherited) rule bs e in
+    subst (λ ru'. RuleFacts (Some ru) args q ru' bs) p (refl, a, b, y)
 
 state-takes : (g : Grammar) (s : State) (n : Node) (ri : ℕ) (args : List Ground) (q : Row) (rule : Rule) (bs : List Value) → at_state s g n ri args q ≡ Takes rule bs → (s ≡ Pending) × RuleFacts (slice_get g.rules ri) args q rule bs
 state-takes g (Done a b) n ri args q rule bs e = absurd cc
@@ -100,22 +106,11 @@ decode_on g c (Some q) n ri args rule bs f e =
     let (m, p) = row_of-found n c q f in
     record { row = q; held = m; node = p; open_ = a; rule_is = b.0; sort = b.1; given = b.2; bound = b.3 }
 
-init_of : List Step → List Step
-init_of [] = []
-init_of (s ∷ []) = []
-init_of (s ∷ t ∷ ss) = s ∷ init_of (t ∷ ss)
-
-init_of-end : (xs : List Step) (s : Step) → init_of (xs ++ s ∷ []) ≡ xs
-unfolding init_of
-init_of-end [] s = refl
-init_of-end (x ∷ []) s = refl
-init_of-end (x ∷ y ∷ xs) s = ap (λ ys. x ∷ ys) (init_of-end (y ∷ xs) s)
-
 pub below-node : (n m : Node) (r r' k k' : ℕ) → below n r k ≡ below m r' k' → n ≡ m
 below-node n m r r' k k' e =
     let a = ap (λ (n : Node). n.start) e in
     let b = ap (λ (n : Node). n.case) e in
-    let c = sym (init_of-end n.steps (record { rule = r; child = k })) ∙ (ap (λ (n : Node). init_of n.steps) e ∙ init_of-end m.steps (record { rule = r'; child = k' })) in
+    let c = (same_from_push n.steps m.steps (record { rule = r; child = k }) (record { rule = r'; child = k' }) (ap (λ (n : Node). n.steps) e)).0 in
     λ i. record { start = a i; case = b i; steps = c i }
 
 pub root-below : (s k : ℕ) (n : Node) (r i : ℕ) → root s k ≡ below n r i → Never
@@ -141,9 +136,9 @@ module _ (g : Grammar) (fit : IsGivenGrammar g) (ok : HasNoCircle g (IO g)) wher
       sort = D.sort;
       bound = D.bound;
       given = D.given;
-      many = good.0.many D.row D.held ∙ (ap (gives g) (sym D.sort) ∙ sym (fit.results rule (Member-at g.rules ri rule D.rule_is)));
-      closed = λ i j w. subst (λ s. IO g s i j) D.sort (io_closed g rule (Member-at g.rules ri rule D.rule_is) i j (moves rule (IO g) w));
-      no_inner = λ o w. ok rule (Member-at g.rules ri rule D.rule_is) (occ_of o) (moves rule (IO g) w);
+      many = good.0.many D.row D.held ∙ (ap (gives g) (sym D.sort) ∙ sym (fit.results rule (member_got g.rules ri rule D.rule_is)));
+      closed = λ i j w. subst (λ s. IO g s i j) D.sort (io_closed g rule (member_got g.rules ri rule D.rule_is) i j (moves rule (IO g) w));
+      no_inner = λ o w. ok rule (member_got g.rules ri rule D.rule_is) (occ_of o) (moves rule (IO g) w);
       whole = good.1.whole;
       no_circle = good.1.no_circle;
       fresh = λ p m k f. let (p', m', a, b) = good.0.parents p m D.row.node ri k f in b (ap (λ (r : Row). r.state) (good.0.apart p' D.row m' D.held a) ∙ D.open_);
@@ -166,7 +161,7 @@ module _ (g : Grammar) (fit : IsGivenGrammar g) (ok : HasNoCircle g (IO g)) wher
     from_added y m = Member-rounds M (row_put (sigma (IO g) c q ri rule bs args taking)) y A m
 
     pub F-node : (z : Row) → (F z).node ≡ z.node
-    F-node z = rounds-node M (sigma (IO g) c q ri rule bs args taking) z
+    F-node z = rounds_node M (sigma (IO g) c q ri rule bs args taking) z
 
     abbrev Origin : Row → Type 0
     Origin z = FromChild (IO g) c q ri rule bs args taking z ⊎ ((p : Row) × Member p c × (z ≡ done_row q.node (Done ri args) p))
@@ -175,16 +170,17 @@ module _ (g : Grammar) (fit : IsGivenGrammar g) (ok : HasNoCircle g (IO g)) wher
     origin z m = added_cases (IO g) c q ri rule bs args taking z m
 
     pub done-same : (p : Row) → ((done_row q.node (Done ri args) p).node ≡ p.node) × ((done_row q.node (Done ri args) p).sort ≡ p.sort) × ((done_row q.node (Done ri args) p).results ≡ p.results)
-    done-same p = elim (done_row-cases q.node (Done ri args) p) [
-      | inl x ↦ (ap (λ (r : Row). r.node) x.1, ap (λ (r : Row). r.sort) x.1, ap (λ (r : Row). r.results) x.1)
-      | inr x ↦ (ap (λ (r : Row). r.node) x, ap (λ (r : Row). r.sort) x, ap (λ (r : Row). r.results) x)
-    ]
+    done-same p = (
+      done_row-same (λ (r : Row). r.node) q.node (Done ri args) p refl,
+      done_row-same (λ (r : Row). r.sort) q.node (Done ri args) p refl,
+      done_row-same (λ (r : Row). r.results) q.node (Done ri args) p refl,
+    )
 
     one_origin : (z z' : Row) → Origin z → Origin z' → z.node ≡ z'.node → z ≡ z'
     one_origin z z' (inl (k, d, f, a)) (inl (k', d', f', a')) e =
         let s : suc k ≡ suc k' = below-child q.node ri (suc k) (suc k') (sym (ap (λ (r : Row). r.node) a) ∙ (e ∙ ap (λ (r : Row). r.node) a')) in
         let t : k ≡ k' = omega arith in
-        let u : d ≡ d' = some-inj (sym f ∙ (ap (slice_get rule.children) t ∙ f')) in
+        let u : d ≡ d' = same_Some _ _ (sym f ∙ (ap (slice_get rule.children) t ∙ f')) in
         a ∙ ((λ i. child_row q.node ri (env q.node ri rule bs args) (suc (t i)) (u i)) ∙ sym a')
     one_origin z z' (inr (p, m, a)) (inr (p', m', a')) e =
         let s = good.0.apart p p' m m' (sym (done-same p).0 ∙ (sym (ap (λ (r : Row). r.node) a) ∙ (e ∙ (ap (λ (r : Row). r.node) a' ∙ (done-same p').0)))) in
@@ -196,7 +192,7 @@ module _ (g : Grammar) (fit : IsGivenGrammar g) (ok : HasNoCircle g (IO g)) wher
 
     pub kept_row : (p : Row) → Member p c → Member (F (done_row q.node (Done ri args) p)) new
     kept_row p m = Member-rounded M (row_put (sigma (IO g) c q ri rule bs args taking)) (done_row q.node (Done ri args) p) A
-        (Member-all_inserted _ (child_rows q.node ri (env q.node ri rule bs args) 1 rule.children) (map (done_row q.node (Done ri args)) c) (inr (Member-mapped (done_row q.node (Done ri args)) p c m)))
+        (Member-all_inserted _ (child_rows q.node ri (env q.node ri rule bs args) 1 rule.children) (map (done_row q.node (Done ri args)) c) (inr (member_map (done_row q.node (Done ri args)) p c m)))
 
     pub still_closed : (p : Row) → (p.state ≡ Pending → Never) → (F (done_row q.node (Done ri args) p)).state ≡ Pending → Never
     still_closed p no_ f =
@@ -209,7 +205,7 @@ module _ (g : Grammar) (fit : IsGivenGrammar g) (ok : HasNoCircle g (IO g)) wher
     pub own_closed : (p : Row) → q.node ≡ p.node → (F (done_row q.node (Done ri args) p)).state ≡ Pending → Never
     own_closed p e f =
         let h = sym (rounds-state M (sigma (IO g) c q ri rule bs args taking) (done_row q.node (Done ri args) p)) ∙ f in
-        let t : node_eq q.node p.node ≡ true = subst (λ n. node_eq q.node n ≡ true) e (node_eq-refl q.node) in
+        let t : node_eq q.node p.node ≡ true = subst (λ n. node_eq q.node n ≡ true) e (node_self q.node) in
         let z : Done ri args ≡ Pending = sym (ap (λ b. (cond b (record p { state = Done ri args }) p).state) t) ∙ h in absurd cc
 
     new_tree : IsTree g new
@@ -232,8 +228,8 @@ module _ (g : Grammar) (fit : IsGivenGrammar g) (ok : HasNoCircle g (IO g)) wher
           let len = ap (λ (r : Row). length r.results) a ∙ rounds-results-length M (sigma (IO g) c q ri rule bs args taking) z in
           let so = ap (λ (r : Row). r.sort) a ∙ rounds-sort M (sigma (IO g) c q ri rule bs args taking) z in
           elim (origin z o) [
-            | inl x ↦ len ∙ (ap (λ (r : Row). length r.results) x.3 ∙ (length-mapped (λ j. Leaf (result (below q.node ri (suc x.0)) j)) (upto 1 x.1.outs) ∙ (length-upto 1 x.1.outs
-                ∙ (fit.outs rule (Member-at g.rules ri rule D.rule_is) x.0 x.1 x.2 ∙ ap (gives g) (sym (so ∙ ap (λ (r : Row). r.sort) x.3))))))
+            | inl x ↦ len ∙ (ap (λ (r : Row). length r.results) x.3 ∙ (length-map (upto 1 x.1.outs) (λ j. Leaf (result (below q.node ri (suc x.0)) j)) ∙ (length-upto 1 x.1.outs
+                ∙ (fit.outs rule (member_got g.rules ri rule D.rule_is) x.0 x.1 x.2 ∙ ap (gives g) (sym (so ∙ ap (λ (r : Row). r.sort) x.3))))))
             | inr x ↦ len ∙ (ap (λ (r : Row). length r.results) x.2 ∙ (ap length (done-same x.0).2 ∙ (good.0.many x.0 x.1 ∙ ap (gives g) (sym (so ∙ (ap (λ (r : Row). r.sort) x.2 ∙ (done-same x.0).1))))))
           ];
     }
@@ -269,7 +265,7 @@ module _ (g : Grammar) (fit : IsGivenGrammar g) (ok : HasNoCircle g (IO g)) wher
           ];
       many = λ y m.
           elim (Member-insert_row y row c m) [
-            | inl a ↦ ap (λ (r : Row). length r.results) a ∙ (length-mapped (λ j. Leaf (result (root s k) j)) (upto 1 (gives g s)) ∙ (length-upto 1 (gives g s) ∙ ap (gives g) (sym (ap (λ (r : Row). r.sort) a))))
+            | inl a ↦ ap (λ (r : Row). length r.results) a ∙ (length-map (upto 1 (gives g s)) (λ j. Leaf (result (root s k) j)) ∙ (length-upto 1 (gives g s) ∙ ap (gives g) (sym (ap (λ (r : Row). r.sort) a))))
             | inr o ↦ good.0.many y o
           ];
     }
@@ -290,7 +286,7 @@ module _ (g : Grammar) (fit : IsGivenGrammar g) (ok : HasNoCircle g (IO g)) wher
           | inl a ↦ elim (subst (Stands h) a st) [
             | inl (t, n, w) ↦ never n
             | inr (t, n, w) ↦
-                (let (j, o, f) = Member-map (λ j. Leaf (result (root s k) j)) t (upto 1 (gives g s)) n in
+                (let (j, o, f) = member_unmap (λ j. Leaf (result (root s k) j)) t (upto 1 (gives g s)) n in
                 let lt : j < 1 + gives g s = upto-bound 1 (gives g s) j o in
                 let low : 0 < j = upto-low 1 (gives g s) j o in (
                   row,
@@ -299,7 +295,7 @@ module _ (g : Grammar) (fit : IsGivenGrammar g) (ok : HasNoCircle g (IO g)) wher
                   refl,
                   subst (In h) f w,
                   low,
-                  omega (arith, lt, length-mapped (λ j. Leaf (result (root s k) j)) (upto 1 (gives g s)), length-upto 1 (gives g s)),
+                  omega (arith, lt, length-map (upto 1 (gives g s)) (λ j. Leaf (result (root s k) j)), length-upto 1 (gives g s)),
                 ))
           ]
           | inr o ↦ (let (p, j, mp, sp, f, lt0, lt) = good.1.whole y o h st in (p, j, Member-inserted p row c (inr mp), sp, f, lt0, lt))
@@ -315,21 +311,16 @@ module _ (g : Grammar) (fit : IsGivenGrammar g) (ok : HasNoCircle g (IO g)) wher
   -- one choice
   pub taken-good : (c : Config) (x : Choice) (o : Outcome Value Ref) (d : Config) → Good c → outcome g c x ≡ o → taken g c x o ≡ Some d → Good d
   taken-good c x (Refused a) d good e t = absurd cc
-  taken-good c (Start s k) Starts d good e t = subst Good (some-inj t) (started c s k good (held_none (row_of (root s k) c) e))
+  taken-good c (Start s k) Starts d good e t = subst Good (same_Some _ _ t) (started c s k good (held_none (row_of (root s k) c) e))
   taken-good c (Start s k) (Takes rule bs) d good e t = absurd cc
   taken-good c (Develop n ri args) Starts d good e t = absurd cc
   taken-good c (Develop n ri args) (Takes rule bs) d good e t =
-      subst Good (some-inj t) (developed c n ri args rule bs good (decode_on g c (row_of n c) n ri args rule bs refl e))
-
-  next : (c : Config) (x : Choice) (xs : List Choice) (z : Config) (o : Option Config) → taken g c x (outcome g c x) ≡ o → option_and_then (λ d. undivided g d xs) o ≡ Some z → (d : Config) × (taken g c x (outcome g c x) ≡ Some d) × (undivided g d xs ≡ Some z)
-  next c x xs z None e f = absurd cc
-  next c x xs z (Some d) e f = (d, e, f)
+      subst Good (same_Some _ _ t) (developed c n ri args rule bs good (decode_on g c (row_of n c) n ri args rule bs refl e))
 
   pub undivided-good : (c : Config) (xs : List Choice) (z : Config) → Good c → undivided g c xs ≡ Some z → Good z
-  undivided-good c [] z good e = subst Good (some-inj e) good
+  undivided-good c [] z good e = subst Good (same_Some _ _ e) good
   undivided-good c (x ∷ xs) z good e =
-      let (d, t, f) = next c x xs z (taken g c x (outcome g c x)) refl e in
-      undivided-good d xs z (taken-good c x (outcome g c x) d good refl t) f
+      option_and_then_some (λ d. undivided g d xs) (taken g c x (outcome g c x)) z e (λ d t f. undivided-good d xs z (taken-good c x (outcome g c x) d good refl t) f)
 
   pub empty_good : Good []
   empty_good = (record { apart = λ p p' m. never m; parents = λ p m. never m; many = λ p m. never m }, record { whole = λ q m. never m; no_circle = none })

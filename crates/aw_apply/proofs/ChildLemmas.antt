@@ -1,11 +1,12 @@
 -- The children of a taken rule, one after the other.
-use Rattle.std.proofs.Common.{◌≡◌, ℕ, zero, suc, ◌+◌, ◌<◌, ◌≤◌, List, [], ◌∷◌, ◌++◌, length, map, drop, get_or, refl, ap, sym, ◌∙◌, arith, append_assoc}
+use Rattle.std.proofs.Common.{◌≡◌, ℕ, suc, ◌+◌, ◌<◌, ◌≤◌, List, [], ◌∷◌, ◌++◌, length, map, drop, get_or, refl, ap, sym, ◌∙◌, arith, append_assoc}
 use Rattle.std.proofs.lemmas.List.{at_drop_more, map-append}
 use Rattle.aw_term.specs.Names.{Node, Ref, below, result}
 use Rattle.aw_term.specs.Rules.{upto}
 use Rattle.aw_term.specs.Rules as R
 use Rattle.aw_term.specs.WellFormed.{symbols_of, child_symbols}
 use Rattle.aw_term.specs.Views.{term_of}
+use Rattle.aw_term.proofs.Joined.{upto_end}
 use Rattle.aw_grammar.specs.declared.rule.Sort.{Sort}
 use Rattle.aw_grammar.specs.declared.rule.Child.{Child}
 use Rattle.aw_grammar.specs.GrammarView.{child_of}
@@ -13,10 +14,6 @@ use Rattle.aw_apply.specs.Made.{Laid, lay_list, lay_children}
 use Rattle.aw_apply.specs.MadeView.{with_one, as_children}
 use Rattle.aw_apply.specs.declared.making.MadeChild.{MadeChild}
 use Rattle.aw_apply.proofs.LayLemmas.{joined, before, joined-one, lay_list-next}
-
-upto_end : (i n : ℕ) → upto i (suc n) ≡ upto i n ++ (i + n) ∷ []
-upto_end i zero = ap (λ k. k ∷ []) (omega arith)
-upto_end i (suc n) = ap (λ ks. i ∷ ks) (upto_end (suc i) n ∙ ap (λ k. upto (suc i) n ++ k ∷ []) (omega arith))
 
 -- one result more
 pub results_more : (n : Node) (old base : List Ref) (j : ℕ) → old ≡ base ++ map (result n) (upto 1 j) → old ++ result n (j + 1) ∷ [] ≡ base ++ map (result n) (upto 1 (j + 1))

@@ -1,14 +1,17 @@
 -- Guards over equations, slot by slot.
-use Rattle.std.proofs.Common.{◌≡◌, ℕ, zero, suc, ◌+◌, ◌<◌, ◌≤◌, Bool, true, false, cond, List, [], ◌∷◌, ◌++◌, length, map, drop, get_or, Option, Some, None, refl, ap, sym, ◌∙◌, subst, arith, append_assoc, append-nil, eq-eqb, Decides}
-use Rattle.std.specs.Prelude.{slice_get, option_and_then, ◌&&◌, nat_eq, nat_le}
-use Rattle.std.proofs.lemmas.Bool.{eqb-true}
-use Rattle.std.proofs.lemmas.List.{at_drop_more, map-append, length-append}
-use Rattle.std.proofs.lemmas.Option.{slice_get_within}
+use Rattle.std.proofs.Common.{◌≡◌, ℕ, zero, suc, ◌+◌, ◌<◌, true, false, cond, List, [], ◌∷◌, ◌++◌, length, map, drop, get_or, Option, Some, None, refl, ap, sym, ◌∙◌, arith, append_assoc, append-nil, Decides}
+use Rattle.std.specs.Prelude.{slice_get, option_and_then, ◌&&◌, nat_eq}
+use Rattle.std.specs.Cmp.Lexicographic.{pointwise, pointwise_decides}
+use Rattle.std.proofs.Math.Bool.{and-true}
+use Rattle.std.proofs.lemmas.Bool.{eqb-true, and_parts}
+use Rattle.std.proofs.lemmas.Bool.Decides.{Decides-at, Decides-eqb}
+use Rattle.std.proofs.lemmas.List.{at_drop_more, drop_more, map-append, length-append}
+use Rattle.std.proofs.lemmas.Option.{slice_get_within, get_or_from_slice_get}
 use Rattle.aw_term.specs.Trees as P
 use Rattle.aw_term.specs.Trees.{Head, Con, Leaf, Made, Nil, More, count, nats_eq, head_eq, join}
 use Rattle.aw_term.specs.Names.{Ref}
 use Rattle.aw_term.specs.Matching.{Matched, Yes, Waits, Differs, Circle, and_then, under}
-use Rattle.aw_term.specs.WellFormed.{symbols, all_symbols, nesting, all_nesting, leaves, all_leaves}
+use Rattle.aw_term.specs.WellFormed.{leaves, all_leaves}
 use Rattle.aw_term.specs.Views.{pattern_of}
 use Rattle.aw_term.specs.declared.term.Pattern.{Pattern}
 use Rattle.aw_term.specs.declared.term.Pattern as pattern
@@ -21,9 +24,8 @@ use Rattle.aw_store.specs.StoreView.{IsKindOf}
 use Rattle.aw_store.specs.declared.facts.Kind.TheVariants as kind
 use Rattle.aw_store.specs.declared.facts.Chase.TheVariants as answer
 use Rattle.aw_store.proofs.ChaseLemmas.{name_at}
-use Rattle.aw_store.proofs.RefLemmas.{both}
 use Rattle.aw_apply.specs.Guard.{guard_end, guard, guard_parts, guard_all}
-use Rattle.aw_apply.specs.Named.{AreNamed, as_named, behind, is_head}
+use Rattle.aw_apply.specs.Named.{AreNamed, names_at, as_named, behind, is_head}
 use Rattle.aw_apply.specs.GuardView.{step_of}
 use Rattle.aw_apply.specs.declared.guarding.Step.{Step}
 use Rattle.aw_apply.specs.declared.guarding.Step.TheVariants as step
@@ -31,34 +33,26 @@ use Rattle.aw_apply.specs.declared.guarding.Step.TheVariants as step
 abbrev pub N : Type 0
 N = Matched (Option Ref) (Option Ref)
 
-nats_eq-true : (a b : List ℕ) → nats_eq a b ≡ true → a ≡ b
-nats_eq-true [] [] e = refl
-nats_eq-true [] (y ∷ ys) e = absurd cc
-nats_eq-true (x ∷ xs) [] e = absurd cc
-nats_eq-true (x ∷ xs) (y ∷ ys) e =
-    let (p, q) = both _ _ e in
-    let f = eqb-true x y p in
-    let g = nats_eq-true xs ys q in
-    λ i. f i ∷ g i
+-- the bytes of two texts are the same
+pub nats_Decides : (a b : List ℕ) → Decides (nats_eq a b) (a ≡ b)
+nats_Decides a b = Decides-at _ _ (by_bytes a b) (pointwise_decides Decides-eqb a b)
+  where
+    by_bytes : (a b : List ℕ) → nats_eq a b ≡ pointwise nat_eq a b
+    by_bytes [] [] = refl
+    by_bytes [] (y ∷ ys) = refl
+    by_bytes (x ∷ xs) [] = refl
+    by_bytes (x ∷ xs) (y ∷ ys) = ap (λ r. nat_eq x y && r) (by_bytes xs ys)
 
 head_eq-true : (a b : Head) → head_eq a b ≡ true → a ≡ b
 head_eq-true (Con c) (Con d) e = ap Con (eqb-true c d e)
 head_eq-true (P.Num m) (P.Num n) e = ap P.Num (eqb-true m n e)
-head_eq-true (P.Text t) (P.Text u) e = ap P.Text (nats_eq-true t u e)
+head_eq-true (P.Text t) (P.Text u) e = ap P.Text ((nats_Decides t u).0 e)
 head_eq-true (Con c) (P.Num n) e = absurd cc
 head_eq-true (Con c) (P.Text u) e = absurd cc
 head_eq-true (P.Num m) (Con d) e = absurd cc
 head_eq-true (P.Num m) (P.Text u) e = absurd cc
 head_eq-true (P.Text t) (Con d) e = absurd cc
 head_eq-true (P.Text t) (P.Num n) e = absurd cc
-
-nats_eq-self : (a : List ℕ) → nats_eq a a ≡ true
-nats_eq-self [] = refl
-nats_eq-self (x ∷ xs) = ap (λ b. b && nats_eq xs xs) (eq-eqb x x refl) ∙ nats_eq-self xs
-
--- the bytes of two texts are the same
-pub nats_Decides : (a b : List ℕ) → Decides (nats_eq a b) (a ≡ b)
-nats_Decides a b = (nats_eq-true a b, λ e. subst (λ t. nats_eq a t ≡ true) e (nats_eq-self a))
 
 -- What a chase has come to
 pub chased_missing : (k : Map) (names : List Ref) (slot end : ℕ) (x : Chased) → IsChasedTo k names slot x (answer.Missing end) → (r : Ref) × (x ≡ Missing r) × (slice_get names end ≡ Some r)
@@ -89,7 +83,7 @@ pub end_goes : (k : Map) (names : List Ref) (slot end : ℕ) (bs : List (Option 
 end_goes k names slot end bs path x go h n r w t =
     let (j, parts, e, b, l) = chased_found k names slot end x w in
     let t' : (head_eq h j && nat_eq n (length parts)) ≡ true = ap (is_head h n) (sym b) ∙ t in
-    let (same, as_many) = both _ _ t' in (
+    let (same, as_many) = and_parts _ _ t' in (
       parts,
       b ∙ ap (λ y. Some (Is y parts)) (sym (head_eq-true h j same)),
       eqb-true n (length parts) as_many,
@@ -100,23 +94,9 @@ end_goes k names slot end bs path x go h n r w t =
 abbrev pub from : Map → ℕ → ℕ → List Pattern → List Ref → Matched Ref Ref
 from k n i ps rs = guard_parts k n (join (map pattern_of (drop i ps))) (drop i rs)
 
-pub count_patterns : (ps : List Pattern) → count (join (map pattern_of ps)) ≡ length ps
-count_patterns [] = refl
-count_patterns (p ∷ ps) = ap suc (count_patterns ps)
-
 -- a constructor in a pattern, as a plain one
 pub con_term : (qs ps : List Pattern) (p : Pattern) (c : ℕ) → qs ≡ ps → p ≡ pattern.Con c ps → pattern_of p ≡ Made (Con c) (join (map pattern_of qs))
 con_term qs ps p c e i = ap pattern_of i ∙ pattern_con c ps ∙ ap (λ zs. Made (Con c) (join (map pattern_of zs))) (sym e)
-
-pub symbols_at : (ps : List Pattern) (i : ℕ) (p : Pattern) → i < length ps → p ≡ get_or ps i p → symbols (pattern_of p) ≤ all_symbols (join (map pattern_of ps))
-symbols_at [] i p l e = absurd (omega (arith, l))
-symbols_at (q ∷ ps) zero p l e = omega (arith, ap (λ z. symbols (pattern_of z)) e)
-symbols_at (q ∷ ps) (suc i) p l e = omega (arith, symbols_at ps i p (omega (arith, l)) e)
-
-pub nesting_at : (ps : List Pattern) (i : ℕ) (p : Pattern) → i < length ps → p ≡ get_or ps i p → nesting (pattern_of p) ≤ all_nesting (join (map pattern_of ps))
-nesting_at [] i p l e = absurd (omega (arith, l))
-nesting_at (q ∷ ps) zero p l e = omega (arith, ap (λ z. nesting (pattern_of z)) e)
-nesting_at (q ∷ ps) (suc i) p l e = omega (arith, nesting_at ps i p (omega (arith, l)) e)
 
 -- the variables of the patterns from a place on
 pub leaves_at : (ps : List Pattern) (i : ℕ) (p : Pattern) → i < length ps → p ≡ get_or ps i p →
@@ -145,13 +125,8 @@ behind_parts q n (Waits r) b = refl
 behind_parts q n (Differs p) b = ap Differs (sym (append_assoc q (n ∷ []) p))
 behind_parts q n (Circle r) b = refl
 
-part_after : (rs : List Ref) (i : ℕ) (r : Ref) → slice_get rs i ≡ Some r → drop i rs ≡ r ∷ drop (suc i) rs
-part_after [] i r e = absurd cc
-part_after (x ∷ rs) zero r e = let f : x ≡ r = cc in ap (λ y. y ∷ rs) f
-part_after (x ∷ rs) (suc i) r e = part_after rs i r e
-
 part_at : (rs : List Ref) (i : ℕ) (r : Ref) → slice_get rs i ≡ Some r → drop i rs ≡ r ∷ drop (i + 1) rs
-part_at rs i r e = let one : suc i ≡ i + 1 = omega arith in part_after rs i r e ∙ ap (λ n. r ∷ drop n rs) one
+part_at rs i r e = drop_more rs i r (slice_get_within rs i r e) ∙ ap (λ x. x ∷ drop (i + 1) rs) (get_or_from_slice_get rs i r r e)
 
 from_more : (k : Map) (n i : ℕ) (ps : List Pattern) (rs : List Ref) (p : Pattern) (r : Ref) → i < length ps → p ≡ get_or ps i p → slice_get rs i ≡ Some r → from k n i ps rs ≡ and_then (under n (guard k (pattern_of p) r)) (from k (suc n) (i + 1) ps rs)
 from_more k n i ps rs p r l e f =
@@ -177,13 +152,6 @@ not_yes names bound (step.Waits slot) m w = refl
 not_yes names bound (step.Differs path) m w = refl
 not_yes names bound (step.Circle slot) m w = refl
 
-pub at_most_8 : (n : ℕ) → nat_le n 8 ≡ true → n ≤ 8
-at_most_8 n e = grind (arith, e)
-
-and_true_right : (b : Bool) → (b && true) ≡ b
-and_true_right true = refl
-and_true_right false = refl
-
 -- a text in a pattern, and the text at a slot
 pub is_text : (names : List Ref) (b : Option Body) (t u : List ℕ) → IsKindOf names b kind.Text → as_text b ≡ Some u → nats_eq t u ≡ is_head (P.Text t) 0 b
 is_text names None t u w e = elim w [ ]
@@ -192,14 +160,14 @@ is_text names (Some (Is (Con c) parts)) t u w e = elim w [ ]
 is_text names (Some (Is (P.Num n) parts)) t u w e = elim w [ ]
 is_text names (Some (Is (P.Text v) parts)) t u w e =
     let f : u ≡ v = cc in
-    ap (nats_eq t) f ∙ sym (and_true_right (nats_eq t v)) ∙ ap (λ p. nats_eq t v && nat_eq 0 (length p)) (sym w)
+    ap (nats_eq t) f ∙ sym (and-true (nats_eq t v)) ∙ ap (λ p. nats_eq t v && nat_eq 0 (length p)) (sym w)
 
 -- The patterns from attribute i on, with numbers from n on
 abbrev pub all_from : Map → ℕ → ℕ → List Pattern → List Ref → Matched Ref Ref
 all_from k n i ps rs = guard_all k n (map pattern_of (drop i ps)) (drop i rs)
 
 -- the reference that one of these slots names
-pub named_slot : (names : List Ref) (slots : List ℕ) (rs : List Ref) (i : ℕ) → AreNamed names slots rs → i < length slots → (r : Ref) × (slice_get rs i ≡ Some r) × (slice_get names (get_or slots i 0) ≡ Some r)
+named_slot : (names : List Ref) (slots : List ℕ) (rs : List Ref) (i : ℕ) → AreNamed names slots rs → i < length slots → (r : Ref) × (slice_get rs i ≡ Some r) × (slice_get names (get_or slots i 0) ≡ Some r)
 named_slot names [] rs i w l = absurd (omega (arith, l))
 named_slot names (x ∷ slots) [] i w l = absurd cc
 named_slot names (x ∷ slots) (r ∷ rs) zero w l = let f : slice_get names x ≡ Some r = cc in (r, refl, f)
@@ -221,12 +189,16 @@ under_named n xs (Differs p) b = refl
 under_named n xs (Circle r) b = refl
 
 -- one more attribute has given this, and the rest follows it
-pub one_attribute : (k : Map) (here : List ℕ) (n i : ℕ) (ps : List Pattern) (rs : List Ref) (p : Pattern) (r : Ref) (xs : List (Option Ref)) (s whole : N) → i < length ps → p ≡ get_or ps i p → slice_get rs i ≡ Some r → here ≡ [] →
-    s ≡ and_then (Yes xs) (behind here (as_named (guard k (pattern_of p) r))) →
-    and_then (Yes xs) (as_named (all_from k n i ps rs)) ≡ whole →
-    and_then (under n s) (as_named (all_from k (suc n) (i + 1) ps rs)) ≡ whole
-one_attribute k here n i ps rs p r xs s whole l e f h es w =
-    ap (λ z. and_then (under n z) (as_named (all_from k (suc n) (i + 1) ps rs))) (es ∙ ap (λ z. and_then (Yes xs) (behind z (as_named (guard k (pattern_of p) r)))) h)
+pub one_attribute : (k : Map) (names : List Ref) (here : List ℕ) (n i : ℕ) (ps : List Pattern) (slots : List ℕ) (rs : List Ref) (p : Pattern) (old new : List ℕ) (x y : Step) (whole : N) →
+    length ps ≡ length slots → i < length ps → p ≡ get_or ps i p → AreNamed names slots rs → here ≡ [] → y ≡ x →
+    ((r : Ref) → slice_get names (get_or slots i 0) ≡ Some r → step_of names new y ≡ and_then (Yes (names_at names old)) (behind here (as_named (guard k (pattern_of p) r)))) →
+    and_then (Yes (names_at names old)) (as_named (all_from k n i ps rs)) ≡ whole →
+    and_then (under n (step_of names new x)) (as_named (all_from k (suc n) (i + 1) ps rs)) ≡ whole
+one_attribute k names here n i ps slots rs p old new x y whole same l e named h is es w =
+    let (r, f, live) = named_slot names slots rs i named (omega (arith, l, same)) in
+    let xs = names_at names old in
+    ap (λ z. and_then (under n z) (as_named (all_from k (suc n) (i + 1) ps rs)))
+    (ap (step_of names new) (sym is) ∙ es r live ∙ ap (λ z. and_then (Yes xs) (behind z (as_named (guard k (pattern_of p) r)))) h)
     ∙ sym (under_named n xs _ _)
     ∙ ap (λ z. and_then (Yes xs) (as_named z)) (sym (all_more k n i ps rs p r l e f))
     ∙ w

@@ -1,6 +1,5 @@
 -- Laying down one thing after the other.
 use Rattle.std.proofs.Common.{◌≡◌, ℕ, zero, suc, ◌+◌, ◌<◌, ◌≤◌, List, [], ◌∷◌, ◌++◌, length, map, drop, get_or, refl, ap, sym, ◌∙◌, arith, append_assoc}
-use Rattle.std.specs.Prelude.{Result, Ok, Err, IfOk}
 use Rattle.std.proofs.lemmas.List.{at_drop_more}
 use Rattle.aw_term.specs.Trees as P
 use Rattle.aw_term.specs.Trees.{Head, Tree, Leaf, Made, Trees, Nil, More, join}
@@ -10,6 +9,7 @@ use Rattle.aw_term.specs.WellFormed.{symbols, all_symbols, symbols_of}
 use Rattle.aw_term.specs.Views.{ground_of, term_of}
 use Rattle.aw_term.specs.declared.term.Expr as expr
 use Rattle.aw_term.specs.declared.ground.Ground as grounds
+use Rattle.aw_term.proofs.Joined.{symbols_join}
 use Rattle.aw_term.proofs.ViewLemmas.{ground_con, term_con}
 use Rattle.aw_store.specs.Equations.{Body, Is, Equation}
 use Rattle.aw_apply.specs.Made.{Laid, lay, lays, lay_list}
@@ -46,10 +46,6 @@ pub lay_list-next : {L : Type 0} (n : Node) (f : L → Ref) (k : ℕ) (ts : List
 lay_list-next n f k [] = omega arith
 lay_list-next n f k (t ∷ ts) = omega (arith, lay-next n f k t, lay_list-next n f (lay n f k t).next ts)
 
-pub symbols-join : {L : Type 0} (ts : List (Tree L)) → all_symbols (join ts) ≡ symbols_of ts
-symbols-join [] = refl
-symbols-join (t ∷ ts) = ap (λ n. symbols t + n) (symbols-join ts)
-
 -- the rest of a list of things, from a place on
 pub list_more : {X L : Type 0} (n : Node) (f : L → Ref) (g : X → Tree L) (xs : List X) (i : ℕ) (x : X) (k : ℕ) → i < length xs → x ≡ get_or xs i x → lay_list n f k (map g (drop i xs)) ≡ before (lay n f k (g x)) (lay_list n f (lay n f k (g x)).next (map g (drop (i + 1) xs)))
 list_more n f g xs i x k l e = ap (λ ys. lay_list n f k (map g ys)) (at_drop_more (λ ys. ys) xs i x l ∙ ap (λ y. y ∷ drop (i + 1) xs) (sym e))
@@ -57,19 +53,19 @@ list_more n f g xs i x k l e = ap (λ ys. lay_list n f k (map g ys)) (at_drop_mo
 pub symbols_more : {X L : Type 0} (g : X → Tree L) (xs : List X) (i : ℕ) (x : X) → i < length xs → x ≡ get_or xs i x → symbols_of (map g (drop i xs)) ≡ symbols (g x) + symbols_of (map g (drop (i + 1) xs))
 symbols_more g xs i x l e = ap (λ ys. symbols_of (map g ys)) (at_drop_more (λ ys. ys) xs i x l ∙ ap (λ y. y ∷ drop (i + 1) xs) (sym e))
 
--- one more was laid down, and the rest follows it
-pub laid_more : {X L : Type 0} (n : Node) (f : L → Ref) (g : X → Tree L) (xs : List X) (i : ℕ) (x : X) (a b : Laid (List Ref)) (one : Laid Ref) (whole : Laid (List Ref)) → i < length xs → x ≡ get_or xs i x →
-    one ≡ lay n f a.next (g x) → b ≡ with_one a one → joined a (lay_list n f a.next (map g (drop i xs))) ≡ whole → joined b (lay_list n f b.next (map g (drop (i + 1) xs))) ≡ whole
-laid_more n f g xs i x a b one whole l e o m w =
-    let both : b ≡ with_one a (lay n f a.next (g x)) = m ∙ ap (with_one a) o in
-    ap (λ z. joined z (lay_list n f z.next (map g (drop (i + 1) xs)))) both
-    ∙ joined-one a (lay n f a.next (g x)) _
-    ∙ ap (joined a) (sym (list_more n f g xs i x a.next l e))
-    ∙ w
-
-pub if_ok_to : {T E : Type 0} (r : Result T E) (a b : T) → a ≡ b → IfOk r (λ x. x ≡ a) → IfOk r (λ x. x ≡ b)
-if_ok_to (Ok x) a b e w = w ∙ e
-if_ok_to (Err x) a b e w = w
+-- one more was laid down, the rest follows it, and the part numbers go on
+pub laid_more : {X L : Type 0} (n : Node) (f : L → Ref) (g : X → Tree L) (xs : List X) (i : ℕ) (x : X) (a b : Laid (List Ref)) (one : Laid Ref) (whole : Laid (List Ref)) (most : ℕ) → i < length xs → x ≡ get_or xs i x →
+    one ≡ lay n f a.next (g x) → b ≡ with_one a one →
+    (joined a (lay_list n f a.next (map g (drop i xs))) ≡ whole) × (a.next + symbols_of (map g (drop i xs)) ≤ most) →
+    (joined b (lay_list n f b.next (map g (drop (i + 1) xs))) ≡ whole) × (b.next + symbols_of (map g (drop (i + 1) xs)) ≤ most)
+laid_more n f g xs i x a b one whole most l e o m w =
+    let both : b ≡ with_one a (lay n f a.next (g x)) = m ∙ ap (with_one a) o in (
+      ap (λ z. joined z (lay_list n f z.next (map g (drop (i + 1) xs)))) both
+          ∙ joined-one a (lay n f a.next (g x)) _
+          ∙ ap (joined a) (sym (list_more n f g xs i x a.next l e))
+          ∙ w.0,
+      omega (arith, w.1, symbols_more g xs i x l e, ap (λ (z : Laid (List Ref)). z.next) both, lay-next n f a.next (g x)),
+    )
 
 pub symbols_within : {X L : Type 0} (g : X → Tree L) (xs : List X) (i : ℕ) (x : X) → i < length xs → x ≡ get_or xs i x → symbols (g x) ≤ symbols_of (map g xs)
 symbols_within g [] i x l e = absurd (omega (arith, l))
@@ -97,15 +93,7 @@ expr_term qs ps t c e i = ap term_of i ∙ term_con c ps ∙ ap (λ zs. Made (P.
 
 -- the symbols of a constructor
 pub symbols_over : {L : Type 0} (h : Head) (ts : List (Tree L)) (t : Tree L) → t ≡ Made h (join ts) → symbols t ≡ suc (symbols_of ts)
-symbols_over h ts t e = ap symbols e ∙ ap suc (symbols-join ts)
-
--- the next part number after one more
-pub next_more : {L : Type 0} (n : Node) (f : L → Ref) (t : Tree L) (a b : Laid (List Ref)) (one : Laid Ref) → one ≡ lay n f a.next t → b ≡ with_one a one → b.next ≤ a.next + symbols t
-next_more n f t a b one o m = omega (arith, ap (λ (z : Laid (List Ref)). z.next) m, ap (λ (z : Laid Ref). z.next) o, lay-next n f a.next t)
-
-pub if_ok_view : {T E V : Type 0} (v : T → V) (r : Result T E) (a b : V) → a ≡ b → IfOk r (λ x. v x ≡ a) → IfOk r (λ x. v x ≡ b)
-if_ok_view v (Ok x) a b e w = w ∙ e
-if_ok_view v (Err x) a b e w = w
+symbols_over h ts t e = ap symbols e ∙ ap suc (symbols_join ts)
 
 pub got_at : {A : Type 0} (d : A) (xs : List A) (i : ℕ) (x : A) → i < length xs → x ≡ get_or xs i x → x ≡ get d xs i
 got_at d [] i x l e = absurd (omega (arith, l))

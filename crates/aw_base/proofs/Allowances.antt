@@ -1,10 +1,12 @@
 -- Allowances of symbols.
 use Rattle.std.proofs.Common.{◌≡◌, ℕ, suc, ◌+◌, ◌-◌, ◌≤◌, refl, sym, ap, ◌∙◌, Bool, true, false, ◌&&◌, cond, List, [], ◌∷◌, map, length, max, Option, Some, None, is_some, option_and_then, arith, nat_le}
+use Rattle.std.proofs.lemmas.Bool.{lt-leb, le-leb, and_right}
 use Rattle.std.proofs.lemmas.Bool.Decides.{nat_tests}
 use Rattle.std.proofs.lemmas.List.{length-map}
-use Rattle.aw_term.specs.Trees.{Con, Leaf, Made, join, count}
+use Rattle.aw_term.specs.Trees.{Con, Leaf, Made, join}
 use Rattle.aw_term.specs.Rules.{Ground, Grammar}
 use Rattle.aw_term.specs.WellFormed.{head_fits, heads_fit, all_heads_fit, symbols, all_symbols, symbols_of, nesting, all_nesting}
+use Rattle.aw_term.proofs.Joined.{count_join, symbols_join}
 use Rattle.aw_base.specs.ChoiceFits.{ground_ok, grounds_ok, args_ok}
 use Rattle.aw_base.specs.Allowance.{spare, fits_levels, left_after, left_after_all}
 
@@ -41,43 +43,19 @@ all_spare arities levels allowed (t ∷ ts) =
 -- of no symbol, or no level, nothing is left
 some_symbol : (t : Ground) → nat_le (symbols t) 0 ≡ false
 some_symbol (Leaf x) = grind (arith, nat_tests)
-some_symbol (Made h ts) = above (all_symbols ts)
-  where
-    above : (n : ℕ) → nat_le (suc n) 0 ≡ false
-    above n = grind (arith, nat_tests)
+some_symbol (Made h ts) = lt-leb (suc (all_symbols ts)) 0 (omega arith)
 
 some_level : (t : Ground) → nat_le (nesting t) 0 ≡ false
 some_level (Leaf x) = grind (arith, nat_tests)
-some_level (Made h ts) = above (all_nesting ts)
-  where
-    above : (n : ℕ) → nat_le (suc n) 0 ≡ false
-    above n = grind (arith, nat_tests)
-
-and_false : (a : Bool) → (a && false) ≡ false
-and_false true = refl
-and_false false = refl
+some_level (Made h ts) = lt-leb (suc (all_nesting ts)) 0 (omega arith)
 
 pub no_levels : (arities : List ℕ) (allowed : ℕ) (t : Ground) → left_after arities 0 allowed t ≡ None
-no_levels arities allowed t = rw (some_level t, and_false (heads_fit arities t)) refl
+no_levels arities allowed t = rw (some_level t, and_right (heads_fit arities t) false refl) refl
 
 pub no_symbols : (arities : List ℕ) (levels : ℕ) (t : Ground) → left_after arities levels 0 t ≡ None
-no_symbols arities levels t = rw (some_symbol t, and_false (fits_levels arities levels t)) refl
-
--- a number or a text
-pub alone : (good : Bool) (levels below allowed left : ℕ) → levels ≡ below + 1 → allowed ≡ left + 1
-    → spare (good && nat_le 1 levels) 1 allowed ≡ cond good (Some left) None
-alone true levels below allowed left e f = grind (arith, nat_tests)
-alone false levels below allowed left e f = refl
+no_symbols arities levels t = rw (some_symbol t, and_right (fits_levels arities levels t) false refl) refl
 
 -- a constructor with parts
-count_join : (ts : List Ground) → count (join ts) ≡ length ts
-count_join [] = refl
-count_join (t ∷ ts) = ap (λ n. suc n) (count_join ts) ∙ omega arith
-
-symbols_join : (ts : List Ground) → all_symbols (join ts) ≡ symbols_of ts
-symbols_join [] = refl
-symbols_join (t ∷ ts) = ap (λ n. symbols t + n) (symbols_join ts)
-
 max_test : (n m levels : ℕ) → nat_le (max n m) levels ≡ (nat_le n levels && nat_le m levels)
 max_test n m levels = grind (arith, nat_tests)
 
@@ -87,11 +65,8 @@ regroup true false true d = refl
 regroup true false false d = refl
 regroup false b c d = refl
 
-none_nested : (levels : ℕ) → nat_le 0 levels ≡ true
-none_nested levels = grind (arith, nat_tests)
-
 fit_join : (arities : List ℕ) (levels : ℕ) (ts : List Ground) → (all_heads_fit arities (join ts) && nat_le (all_nesting (join ts)) levels) ≡ fit_levels arities levels ts
-fit_join arities levels [] = none_nested levels
+fit_join arities levels [] = le-leb 0 levels (omega arith)
 fit_join arities levels (t ∷ ts) =
     ap (λ b. (heads_fit arities t && all_heads_fit arities (join ts)) && b) (max_test (nesting t) (all_nesting (join ts)) levels)
     ∙ regroup (heads_fit arities t) (all_heads_fit arities (join ts)) (nat_le (nesting t) levels) (nat_le (all_nesting (join ts)) levels)
@@ -144,7 +119,7 @@ some_spare true n allowed = either (nat_le n allowed)
     either : (b : Bool) → is_some (cond b (Some (allowed - n)) None) ≡ (b && true)
     either true = refl
     either false = refl
-some_spare false n allowed = sym (and_false (nat_le n allowed))
+some_spare false n allowed = sym (and_right (nat_le n allowed) false refl)
 
 pub all_left : (g : Grammar) (ts : List Ground) → is_some (left_after_all g.arities 32 256 ts) ≡ (nat_le (symbols_of ts) 256 && grounds_ok g ts)
 all_left g ts =
@@ -152,10 +127,7 @@ all_left g ts =
     ∙ some_spare (fit_levels g.arities 32 ts) (symbols_of ts) 256
     ∙ ap (λ b. nat_le (symbols_of ts) 256 && b) (fit_all g ts)
 
-few_test : (n m : ℕ) → n ≡ m → m ≤ 8 → nat_le n 8 ≡ true
-few_test n m e h = grind (arith, nat_tests)
-
 pub few_left : {G : Type 0} (f : G → Ground) (g : Grammar) (xs : List G) → length xs ≤ 8 → is_some (left_after_all g.arities 32 256 (map f xs)) ≡ args_ok g (map f xs)
 few_left f g xs h =
     all_left g (map f xs)
-    ∙ ap (λ b. b && (nat_le (symbols_of (map f xs)) 256 && grounds_ok g (map f xs))) (sym (few_test (length (map f xs)) (length xs) (length-map xs f) h))
+    ∙ ap (λ b. b && (nat_le (symbols_of (map f xs)) 256 && grounds_ok g (map f xs))) (sym (le-leb (length (map f xs)) 8 (omega (arith, length-map xs f, h))))

@@ -1,6 +1,6 @@
 -- Which node a text names, by the parts of the text.
-use Rattle.std.proofs.Common.{◌≡◌, ℕ, ◌+◌, ◌≤◌, ◌<◌, refl, ap, true, false, cond, ◌==◌, List, [], ◌∷◌, length, Option, Some, None, is_some, option_map, option_and_then, count_by, arith, nat_lt, IsSomeAnd}
-use Rattle.std.proofs.lemmas.Bool.Decides.{nat_tests}
+use Rattle.std.proofs.Common.{◌≡◌, ℕ, ◌+◌, ◌≤◌, ◌<◌, refl, ap, true, false, cond, ◌==◌, List, [], ◌∷◌, length, Option, Some, None, is_some, option_map, option_and_then, count_by, arith, IsSomeAnd}
+use Rattle.std.proofs.lemmas.Bool.{lt-ltb}
 use Rattle.std.proofs.lemmas.List.Splits.{length-slice_split}
 use Rattle.aw_text.specs.Spelling.{parts, steps_of, step_of, name_from, start_of, parts_of_name}
 use Rattle.aw_term.specs.Names.{Step}
@@ -11,9 +11,6 @@ use Rattle.aw_grammar.specs.Named.{number_named}
 
 abbrev Parts : Type 0
 Parts = List ℕ × ℕ × List (List ℕ × ℕ)
-
-short : (n : ℕ) → n ≤ 250 → nat_lt 250 n ≡ false
-short n h = grind (arith, nat_tests)
 
 -- as many steps as parts
 length_steps : (ps : List (List ℕ)) (trail : List (List ℕ × ℕ)) → steps_of ps ≡ Some trail → length trail ≡ length ps
@@ -70,18 +67,12 @@ pub slashes_are_steps : (text : List ℕ) (found : Parts) → parts_of_name text
 slashes_are_steps text found e = omega (arith, from_slashes (parts text) found e, length-slice_split (λ b. b == 47) text)
 
 -- what parse_node's tests say
-pub no_name : (w : Words) (g : Grammar) (found : Option Parts) → is_some found ≡ false → with_parts w g found ≡ NoNodeName
-no_name w g None e = refl
-no_name w g (Some p) e = cc
-
-above : (n : ℕ) → 250 < n → nat_lt 250 n ≡ true
-above n h = grind (arith, nat_tests)
 
 pub long_name : (w : Words) (g : Grammar) (text : List ℕ) (found : Option Parts) → parts_of_name text ≡ found → is_some found ≡ true → 250 < count_by (λ b. b == 47) text → with_parts w g found ≡ TooLong
 long_name w g text None f e h = cc
 long_name w g text (Some p) f e h =
     let many : 250 < length p.2 = omega (arith, slashes_are_steps text p f, h) in
-    ap (λ b. cond b TooLong (with_start w g p.1 p.2 (number_named w.sorts p.0))) (above (length p.2) many)
+    ap (λ b. cond b TooLong (with_start w g p.1 p.2 (number_named w.sorts p.0))) (lt-ltb 250 (length p.2) many)
 
 pub short_name : (text : List ℕ) (found : Option Parts) → parts_of_name text ≡ found → is_some found ≡ true → count_by (λ b. b == 47) text ≤ 250 → IsSomeAnd found (λ parts. length parts.2 ≤ 250)
 short_name text None f e h = cc

@@ -4,7 +4,7 @@ use Rattle.aw_text.specs.Spelling.{steps_of, parts_behind}
 use Rattle.aw_term.specs.Names.{Step, Node}
 use Rattle.aw_term.specs.Rules.{Grammar}
 use Rattle.aw_term.specs.Artifacts.{Words}
-use Rattle.aw_base.specs.NodeNames.{NodeRead, Named, NoNodeName, TooLong, NotDeclared, NoFit, steps_named, is_start, with_steps}
+use Rattle.aw_base.specs.NodeNames.{NodeRead, Named, NoNodeName, TooLong, NotDeclared, NoFit, steps_named, is_start}
 use Rattle.aw_grammar.specs.Named.{number_named}
 use Rattle.aw_base.specs.declared.read_node.NameFault.{NameFault}
 use Rattle.aw_base.specs.declared.read_node.NameFault.TheVariants.{Form, Long, Unknown, Step as Misfit, NoMemory}

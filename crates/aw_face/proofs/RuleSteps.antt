@@ -1,6 +1,7 @@
 -- One rule after the other.
-use Rattle.std.proofs.Common.{◌≡◌, ℕ, zero, suc, ◌+◌, ◌<◌, ◌≤◌, refl, sym, ap, ◌∙◌, add-one, List, [], ◌∷◌, map, drop, length, slice_get, arith, Option, Some, None, IfSome, Bor}
-use Rattle.std.proofs.lemmas.List.{length-map}
+use Rattle.std.proofs.Common.{◌≡◌, ℕ, zero, suc, ◌+◌, ◌≤◌, refl, sym, ap, ◌∙◌, add-one, List, [], ◌∷◌, map, drop, length, slice_get, arith, Option, Some, None, IfSome, Bor}
+use Rattle.std.proofs.lemmas.List.{length-map, drop_more}
+use Rattle.std.proofs.lemmas.Option.{slice_get_within, get_or_from_slice_get}
 use Rattle.std.proofs.Math.Logic.{∥∥₁_elim}
 use Rattle.std.specs.Coded.{le_prop}
 use Rattle.aw_term.specs.Rules as P
@@ -16,15 +17,11 @@ pub few_children : (g : P.Grammar) (sorts : List Sort) (found : Option (Bor Rule
 few_children g sorts None h = tt
 few_children g sorts (Some r) h = ∥∥₁_elim h le_prop (λ w. omega (arith, w.few_children, length-map r.now.children (child_of sorts)))
 
-at_place : {A : Type 0} (xs : List A) (i : ℕ) (x : A) → slice_get xs i ≡ Some x → drop i xs ≡ x ∷ drop (suc i) xs
-at_place [] i x e = cc
-at_place (y ∷ ys) zero x e = first y x ys e
-  where
-    first : {A : Type 0} (y x : A) (ys : List A) → Some y ≡ Some x → y ∷ ys ≡ x ∷ ys
-    first y x ys e = let same : y ≡ x = cc in ap (λ z. z ∷ ys) same
-at_place (y ∷ ys) (suc i) x e = at_place ys i x e
+-- an item is first among those from its place on
+pub at_next : {A : Type 0} (xs : List A) (i : ℕ) (x : A) → slice_get xs i ≡ Some x → drop i xs ≡ x ∷ drop (i + 1) xs
+at_next xs i x e = drop_more xs i x (slice_get_within xs i x e) ∙ ap (λ y. y ∷ drop (i + 1) xs) (get_or_from_slice_get xs i x x e)
 
-past_end : {A : Type 0} (xs : List A) (i : ℕ) → None ≡ slice_get xs i → drop i xs ≡ []
+pub past_end : {A : Type 0} (xs : List A) (i : ℕ) → None ≡ slice_get xs i → drop i xs ≡ []
 past_end [] zero e = refl
 past_end [] (suc i) e = refl
 past_end (y ∷ ys) zero e = cc
@@ -37,8 +34,8 @@ faults_from sorts offers uses i rules = rules_fault (sorts_of sorts) offers uses
 one_rule : (sorts : List Sort) (offers : List ℕ) (uses : List Using) (i : ℕ) (r : Rule) (rules : List Rule) → slice_get rules i ≡ Some r →
     faults_from sorts offers uses i (drop i rules) ≡ at_rule i (rule_fault (sorts_of sorts) offers uses (rule_of sorts r)) (faults_from sorts offers uses (i + 1) (drop (i + 1) rules))
 one_rule sorts offers uses i r rules e =
-    ap (faults_from sorts offers uses i) (at_place rules i r e)
-    ∙ ap (λ k. at_rule i (rule_fault (sorts_of sorts) offers uses (rule_of sorts r)) (faults_from sorts offers uses k (drop k rules))) (sym (add-one i))
+    ap (faults_from sorts offers uses i) (at_next rules i r e)
+    ∙ ap (λ k. at_rule i (rule_fault (sorts_of sorts) offers uses (rule_of sorts r)) (faults_from sorts offers uses k (drop (i + 1) rules))) (sym (add-one i))
 
 none_then : (i : ℕ) (o : Option (ℕ × FaceKind)) (later : Option (ℕ × ℕ × FaceKind)) → None ≡ at_rule i o None → at_rule i o later ≡ later
 none_then i None later e = refl

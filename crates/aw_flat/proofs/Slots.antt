@@ -11,6 +11,7 @@ use Rattle.aw_store.specs.ChaseView.{IsChasedTo}
 use Rattle.aw_store.specs.declared.facts.Chase.TheVariants as answer
 use Rattle.aw_store.proofs.ChaseLemmas.{name_at}
 use Rattle.aw_apply.specs.Named.{AreNamed, names_at, as_named}
+use Rattle.aw_apply.proofs.GuardLemmas.{chased_missing}
 
 live_at : (names : List Ref) (slots : List ℕ) (rs : List Ref) (k d : ℕ) → AreNamed names slots rs → k < length slots → get_or slots k d < length names
 live_at names [] rs k d e l = absurd (omega (arith, l))
@@ -43,39 +44,20 @@ circle_live names slot (Differs p) e = absurd cc
 circle_live names slot (Circle r) e = let f : slice_get names slot ≡ Some r = cc in slice_get_within names slot r f
 
 -- where a chase ends
-found_at : (k : Map) (names : List Ref) (slot end : ℕ) (x : Chased) → IsChasedTo k names slot x (answer.Found end) → end < length names
-found_at k names slot end (Found h parts) w = slice_get_within names end w.0 w.1
-found_at k names slot end (Missing r) w = elim w [ ]
-found_at k names slot end Round w = elim w [ ]
-
-missing_at : (k : Map) (names : List Ref) (slot end : ℕ) (x : Chased) → IsChasedTo k names slot x (answer.Missing end) → end < length names
-missing_at k names slot end (Found h parts) w = elim w [ ]
-missing_at k names slot end (Missing r) w = slice_get_within names end r w
-missing_at k names slot end Round w = elim w [ ]
-
 round_at : (k : Map) (names : List Ref) (slot start : ℕ) (x : Chased) → IsChasedTo k names slot x (answer.Circle start) → slot < length names → start < length names
 round_at k names slot start (Found h parts) w l = elim w [ ]
 round_at k names slot start (Missing r) w l = elim w [ ]
 round_at k names slot start Round w l = omega (arith, l, w)
 
 module _ (k : Map) (names : List Ref) (slot end : ℕ) (l : slot < length names) where
-  pub found_live : ((r : Ref) → slice_get names slot ≡ Some r → IsChasedTo k names slot (chase k r) (answer.Found end)) → end < length names
-  found_live w = let n = name_at names slot l in found_at k names slot end _ (w n.0 n.1)
-
   pub missing_live : ((r : Ref) → slice_get names slot ≡ Some r → IsChasedTo k names slot (chase k r) (answer.Missing end)) → end < length names
-  missing_live w = let n = name_at names slot l in missing_at k names slot end _ (w n.0 n.1)
+  missing_live w =
+      let n = name_at names slot l in
+      let (r, e, at) = chased_missing k names slot end _ (w n.0 n.1) in
+      slice_get_within names end r at
 
   pub round_live : ((r : Ref) → slice_get names slot ≡ Some r → IsChasedTo k names slot (chase k r) (answer.Circle end)) → end < length names
   round_live w = let n = name_at names slot l in round_at k names slot end _ (w n.0 n.1) l
-
--- one more reference is named
-pub named_more : (names : List Ref) (slots : List ℕ) (rs : List Ref) (i slot : ℕ) (r : Ref) → i < length rs → r ≡ get_or rs i r → AreNamed names slots (take i rs) → slice_get names slot ≡ Some r → AreNamed names (slots ++ slot ∷ []) (take (i + 1) rs)
-named_more names slots rs i slot r l e w h =
-    map-append (slice_get names) slots (slot ∷ [])
-    ∙ ap (λ xs. xs ++ slice_get names slot ∷ []) w
-    ∙ ap (λ x. map Some (take i rs) ++ x ∷ []) h
-    ∙ ap (λ x. map Some (take i rs) ++ Some x ∷ []) e
-    ∙ sym (map_more Some rs i r l)
 
 pub when_some : {A : Type 0} (P : A → Type 0) (o : Option A) (x : A) → o ≡ Some x → IfSome o P → P x
 when_some P o x e w = subst (λ q. IfSome q P) e w

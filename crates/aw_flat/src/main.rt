@@ -8,6 +8,7 @@ mod case;
 mod typed;
 mod weigh;
 
+use aw_base::Grammar;
 use aw_list::Text;
 use aw_out::{StdSink, StdSource, read_all, write_all};
 use aw_spec::read_spec;
@@ -22,19 +23,33 @@ const MARK: &[u8] = b"=== ";
 /// The most bytes of a table.
 const LIMIT: usize = 16_777_216;
 
+/// Adds what is told of the lines behind a specification.
+fn push_case(
+    alloc: Global,
+    told: &mut Text,
+    grammar: &Grammar,
+    lines: &[u8],
+) -> Result<(), AllocError> {
+    let mut case = Case::new(alloc, grammar);
+    for line in lines.lines() {
+        case.push_line(line)?;
+    }
+    told.push_bytes(case.told())
+}
+
 /// Adds the lines of an entry.
 fn push_entry(alloc: Global, told: &mut Text, name: &[u8], input: &[u8]) -> Result<(), AllocError> {
     told.push_bytes(MARK)?;
     told.push_bytes(name)?;
     told.push_bytes(b"\n")?;
-    let Ok(spec) = read_spec(alloc, input) else {
-        return told.push_bytes(b"not read\n");
-    };
-    let mut case = Case::new(alloc, &spec.grammar);
-    for line in (&input[spec.rest..]).lines() {
-        case.push_line(line)?;
+    match read_spec(alloc, input) {
+        Ok(spec) => {
+            let pushed = push_case(alloc, told, &spec.grammar, &input[spec.rest..]);
+            drop(spec);
+            pushed
+        }
+        Err(_) => told.push_bytes(b"not read\n"),
     }
-    told.push_bytes(case.told())
 }
 
 /// The lines of all entries. What stands before the first mark is none.

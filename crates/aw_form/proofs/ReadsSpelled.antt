@@ -1,14 +1,11 @@
 -- Spelled terms are read as they were.
-use Rattle.std.proofs.Common.{◌≡◌, ◌≢◌, ℕ, Bool, true, false, cond, List, [], ◌∷◌, ◌++◌, Option, None, Some, refl, sym, ap, ◌∙◌, append_assoc, append-nil, arith}
-use Rattle.std.specs.Prelude.{nat_eq}
+use Rattle.std.proofs.Common.{◌≡◌, ◌≢◌, ℕ, cond, List, [], ◌∷◌, ◌++◌, Some, refl, sym, ap, ◌∙◌, append_assoc, append-nil, arith}
+use Rattle.std.proofs.lemmas.Bool.{ne_eqb, eq-eqb}
 use Rattle.aw_term.specs.Trees as P
 use Rattle.aw_grammar.specs.Written.{Written, Word, Apply, Literal, Writtens, Empty, Then, side_by_side}
 use Rattle.aw_form.specs.Lexemes.{Lexeme, Name, Number, Node, Quoted, Mark}
-use Rattle.aw_form.specs.Terms.{Expected, TermOrEnd, TermOnly, CommaOrEnd, BehindName, Opened, Reading, Read, On, AtEnd, Misplaced, spelling, spellings, spellings_behind, with_term, closed, at_term, at_comma, at_start, behind_name, read_one, go_on, read_terms, terms_up_to}
+use Rattle.aw_form.specs.Terms.{Expected, TermOrEnd, TermOnly, CommaOrEnd, BehindName, Opened, Reading, On, AtEnd, Misplaced, spelling, spellings, spellings_behind, closed, at_comma, go_on, read_terms, terms_up_to}
 use Rattle.aw_form.specs.Laws.{IsWritten, AreWritten}
-
-other : (m n : ℕ) → m ≢ n → nat_eq m n ≡ false
-other m n h = grind (arith, h)
 
 -- what may follow a term: a mark, but not `(`
 abbrev Follows : List Lexeme → Type 0
@@ -26,22 +23,16 @@ Awaits (BehindName name) = P.Never
 abbrev state : List Opened → List Written → Expected → Reading
 state opened terms expected = record { opened = opened; terms = terms; expected = expected }
 
-abbrev Outcome : Type 0
-Outcome = Option (List Written × List Lexeme)
-
 -- behind a bare name a following mark does what it does behind a term
 follow : (close : ℕ) (os : List Opened) (terms : List Written) (name : List ℕ) (ls : List Lexeme) → Follows ls →
     read_terms close (state os terms (BehindName name)) ls ≡ read_terms close (state os (terms ++ Word name ∷ []) CommaOrEnd) ls
 follow close os terms name [] f = elim f [ ]
 follow close os terms name (Mark m ∷ ls) f =
-    ap (λ b. go_on (cond b (On (state (record { name = name; before = terms } ∷ os) [] TermOrEnd)) (at_comma close (state os (terms ++ Word name ∷ []) CommaOrEnd) (Mark m))) (λ s. read_terms close s ls) ls) (other m 40 f)
+    ap (λ b. go_on (cond b (On (state (record { name = name; before = terms } ∷ os) [] TermOrEnd)) (at_comma close (state os (terms ++ Word name ∷ []) CommaOrEnd) (Mark m))) (λ s. read_terms close s ls) ls) (ne_eqb m 40 f)
 follow close os terms name (Name n ∷ ls) f = elim f [ ]
 follow close os terms name (Number n ∷ ls) f = elim f [ ]
 follow close os terms name (Node n ∷ ls) f = elim f [ ]
 follow close os terms name (Quoted t ∷ ls) f = elim f [ ]
-
-comma_is_none : ◌≢◌ {A = ℕ} 44 40
-comma_is_none = λ e. omega (arith, e)
 
 end_is_none : ◌≢◌ {A = ℕ} 41 40
 end_is_none = λ e. omega (arith, e)
@@ -51,7 +42,7 @@ end_is_no_comma = λ e. omega (arith, e)
 
 behind_follows : (ts : Writtens) (m : ℕ) (ls : List Lexeme) → m ≢ 40 → Follows (spellings_behind ts ++ Mark m ∷ ls)
 behind_follows Empty m ls h = h
-behind_follows (Then t ts) m ls h = comma_is_none
+behind_follows (Then t ts) m ls h = λ e. omega (arith, e)
 
 -- a list of terms as a list again
 abbrev listed : Writtens → List Written
@@ -108,7 +99,7 @@ mutual
   behind : (close : ℕ) (ts : Writtens) → AreWritten ts → (os : List Opened) (terms : List Written) (m : ℕ) (ls : List Lexeme) → m ≢ 40 → m ≢ 44 →
       read_terms close (state os terms CommaOrEnd) (spellings_behind ts ++ Mark m ∷ ls) ≡ go_on (closed close os (terms ++ listed ts) m) (λ s. read_terms close s ls) ls
   behind close Empty w os terms m ls h k =
-      ap (λ b. go_on (cond b (On (state os terms TermOnly)) (closed close os terms m)) (λ s. read_terms close s ls) ls) (other m 44 k)
+      ap (λ b. go_on (cond b (On (state os terms TermOnly)) (closed close os terms m)) (λ s. read_terms close s ls) ls) (ne_eqb m 44 k)
       ∙ ap (λ ts. go_on (closed close os ts m) (λ s. read_terms close s ls) ls) (sym (append-nil terms))
   behind close (Then t ts) w os terms m ls h k =
       ap (read_terms close (state os terms TermOnly)) (append_assoc (spelling t) (spellings_behind ts) (Mark m ∷ ls))
@@ -116,12 +107,9 @@ mutual
       ∙ behind close ts w.1 os (terms ++ t ∷ []) m ls h k
       ∙ ap (λ us. go_on (closed close os us m) (λ s. read_terms close s ls) ls) (append_assoc terms (t ∷ []) (listed ts))
 
-same_is_one : (n : ℕ) → nat_eq n n ≡ true
-same_is_one n = grind arith
-
 pub reads_spelled : (close : ℕ) (ts : List Written) (rest : List Lexeme) → close ≢ 40 → close ≢ 44 → AreWritten (side_by_side ts) →
     terms_up_to close (spellings (side_by_side ts) ++ Mark close ∷ rest) ≡ Some (ts, rest)
 reads_spelled close ts rest h k w =
     all close (side_by_side ts) w [] close rest h k
-    ∙ ap (λ b. go_on (cond b (AtEnd (listed (side_by_side ts))) Misplaced) (λ s. read_terms close s rest) rest) (same_is_one close)
+    ∙ ap (λ b. go_on (cond b (AtEnd (listed (side_by_side ts))) Misplaced) (λ s. read_terms close s rest) rest) (eq-eqb close close refl)
     ∙ ap (λ us. Some (us, rest)) (listed-side_by_side ts)

@@ -1,5 +1,5 @@
 -- A list that begins with a term has one term or more.
-use Rattle.std.proofs.Common.{◌≡◌, ℕ, Bool, true, false, cond, List, [], ◌∷◌, ◌++◌, Option, None, Some, refl, ap, subst, nat_eq}
+use Rattle.std.proofs.Common.{◌≡◌, ℕ, true, false, cond, List, [], ◌∷◌, ◌++◌, Option, Some, ap, subst, nat_eq}
 use Rattle.aw_term.specs.Trees as P
 use Rattle.aw_grammar.specs.Written.{Written, Word, Apply, Literal, side_by_side}
 use Rattle.aw_form.specs.Lexemes.{Lexeme, Name, Number, Node, Quoted, Mark}
@@ -22,7 +22,7 @@ Comes (On r) = IsStarted r.opened r.terms r.expected
 Comes (AtEnd ts) = IsNonempty ts
 Comes Misplaced = Unit {0}
 
-some_more : (ts : List Written) (t : Written) → IsNonempty (ts ++ t ∷ [])
+pub some_more : (ts : List Written) (t : Written) → IsNonempty (ts ++ t ∷ [])
 some_more [] t = tt
 some_more (u ∷ us) t = tt
 

@@ -1,5 +1,6 @@
 -- What is read from tokens: names are names, and texts are contents.
-use Rattle.std.proofs.Common.{◌≡◌, ℕ, Bool, true, false, cond, ◌&&◌, List, [], ◌∷◌, ◌++◌, Option, None, Some, unwrap_or, IfSome, refl, sym, ap, ◌∙◌, subst, nat_eq}
+use Rattle.std.proofs.Common.{◌≡◌, ℕ, true, false, cond, List, [], ◌∷◌, ◌++◌, Option, None, Some, unwrap_or, IfSome, refl, ap, subst, nat_eq}
+use Rattle.std.proofs.lemmas.Bool.{and_parts, and_from}
 use Rattle.aw_text.specs.Spelling.{is_name, is_content, unquoted}
 use Rattle.aw_text.proofs.Quotes.{unquoted_is_content}
 use Rattle.aw_lex.specs.declared.token.Token.{Token}
@@ -8,8 +9,9 @@ use Rattle.aw_lex.specs.declared.token.TokenKind.TheVariants as kinds
 use Rattle.aw_lex.specs.Tokens.{AreSlices, Spells}
 use Rattle.aw_term.specs.Trees as P
 use Rattle.aw_term.specs.WellFormed.{Each}
-use Rattle.aw_grammar.specs.Written.{Written, Word, Apply, Literal, Writtens, Empty, Then, side_by_side}
+use Rattle.aw_grammar.specs.Written.{Written, Word, Apply, Literal, side_by_side}
 use Rattle.aw_grammar.specs.Terms.{has_contents, parts_have_contents, all_have_contents}
+use Rattle.aw_grammar.proofs.Contents.{contents_append}
 use Rattle.aw_form.specs.Lexemes.{Lexeme, Name, Number, Node, Quoted, Mark, said, slice, lexemes}
 use Rattle.aw_form.specs.Terms.{Expected, TermOrEnd, TermOnly, CommaOrEnd, BehindName, Opened, Reading, Read, On, AtEnd, Misplaced, with_term, with_opened, closed, at_term, at_comma, at_start, behind_name, read_one, go_on, read_terms, nothing_read}
 use Rattle.aw_form.specs.Sound.{IsSound, IsSoundBehind}
@@ -29,24 +31,12 @@ pub tokens_are_sound : (line : List ℕ) (from : ℕ) (tokens : List Token) → 
 tokens_are_sound line from [] h = tt
 tokens_are_sound line from (t ∷ ts) h = (said_sound t.kind (slice line t) h.3, tokens_are_sound line t.end ts h.4)
 
-and_left : (a b : Bool) → (a && b) ≡ true → a ≡ true
-and_left true b e = refl
-and_left false b e = cc
-
-and_right : (a b : Bool) → (a && b) ≡ true → b ≡ true
-and_right true b e = e
-and_right false b e = cc
-
-both : (a b : Bool) → a ≡ true → b ≡ true → (a && b) ≡ true
-both a b p q = λ i. p i && q i
-
 parts_of_list : (ts : List Written) → all_have_contents ts ≡ true → parts_have_contents (side_by_side ts) ≡ true
 parts_of_list [] h = refl
-parts_of_list (t ∷ ts) h = both (has_contents t) (parts_have_contents (side_by_side ts)) (and_left (has_contents t) (all_have_contents ts) h) (parts_of_list ts (and_right (has_contents t) (all_have_contents ts) h))
+parts_of_list (t ∷ ts) h = let (first, rest) = and_parts _ _ h in and_from _ _ first (parts_of_list ts rest)
 
 with_last : (ts : List Written) (t : Written) → all_have_contents ts ≡ true → has_contents t ≡ true → all_have_contents (ts ++ t ∷ []) ≡ true
-with_last [] t h k = both (has_contents t) true k refl
-with_last (u ∷ us) t h k = both (has_contents u) (all_have_contents (us ++ t ∷ [])) (and_left (has_contents u) (all_have_contents us) h) (with_last us t (and_right (has_contents u) (all_have_contents us) h) k)
+with_last ts t h k = contents_append ts (t ∷ []) h (and_from (has_contents t) true k refl)
 
 abbrev OpenFine : Opened → Type 0
 OpenFine o = all_have_contents o.before ≡ true

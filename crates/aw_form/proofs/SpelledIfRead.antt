@@ -1,10 +1,12 @@
 -- What was read is spelled so.
-use Rattle.std.proofs.Common.{◌≡◌, ◌≢◌, ℕ, Bool, true, false, cond, List, [], ◌∷◌, ◌++◌, Option, None, Some, refl, sym, ap, ◌∙◌, append_assoc, append-nil, arith}
+use Rattle.std.proofs.Common.{◌≡◌, ℕ, Bool, true, false, cond, List, [], ◌∷◌, ◌++◌, Some, refl, sym, ap, ◌∙◌, append_assoc, append-nil}
 use Rattle.std.specs.Prelude.{nat_eq}
+use Rattle.std.proofs.lemmas.Bool.{eqb-true}
 use Rattle.aw_term.specs.Trees as P
-use Rattle.aw_grammar.specs.Written.{Written, Word, Apply, Literal, Writtens, Empty, Then, side_by_side}
+use Rattle.aw_grammar.specs.Written.{Written, Word, Apply, Literal, side_by_side}
 use Rattle.aw_form.specs.Lexemes.{Lexeme, Name, Number, Node, Quoted, Mark}
-use Rattle.aw_form.specs.Terms.{Expected, TermOrEnd, TermOnly, CommaOrEnd, BehindName, Opened, Reading, Read, On, AtEnd, Misplaced, spelling, spellings, spellings_behind, with_term, closed, at_term, at_comma, at_start, behind_name, read_one, go_on, read_terms, nothing_read, terms_up_to}
+use Rattle.aw_form.specs.Terms.{Expected, TermOrEnd, TermOnly, CommaOrEnd, BehindName, Opened, Reading, Read, On, AtEnd, Misplaced, spelling, spellings, spellings_behind, closed, at_term, at_comma, at_start, behind_name, read_one, go_on, read_terms, nothing_read, terms_up_to}
+use Rattle.aw_form.proofs.SomeTerms.{IsNonempty, some_more}
 
 -- terms with a comma behind each
 abbrev comma_each : List Written → List Lexeme
@@ -26,14 +28,10 @@ inner ts (BehindName name) = comma_each ts ++ Name name ∷ []
 abbrev so_far : Reading → List Lexeme
 so_far r = opens r.opened ++ inner r.terms r.expected
 
-abbrev IsSome_ : List Written → Type 0
-IsSome_ [] = P.Never
-IsSome_ (t ∷ ts) = Unit {0}
-
 abbrev Fits : List Written → Expected → Type 0
 Fits ts TermOrEnd = ts ≡ []
 Fits ts TermOnly = Unit {0}
-Fits ts CommaOrEnd = IsSome_ ts
+Fits ts CommaOrEnd = IsNonempty ts
 Fits ts (BehindName name) = Unit {0}
 
 -- what a lexeme may do
@@ -56,30 +54,23 @@ behind_comma [] = refl
 behind_comma (u ∷ us) = ap (λ ls. Mark 44 ∷ ls) (append_assoc (spelling u) (spellings_behind (side_by_side us)) (Mark 44 ∷ []) ∙ ap (λ ls. spelling u ++ ls) (behind_comma us))
 
 -- a comma behind some terms
-comma : (ts : List Written) → IsSome_ ts → spellings (side_by_side ts) ++ Mark 44 ∷ [] ≡ comma_each ts
+comma : (ts : List Written) → IsNonempty ts → spellings (side_by_side ts) ++ Mark 44 ∷ [] ≡ comma_each ts
 comma [] s = elim s [ ]
 comma (u ∷ us) s = append_assoc (spelling u) (spellings_behind (side_by_side us)) (Mark 44 ∷ []) ∙ ap (λ ls. spelling u ++ ls) (behind_comma us)
-
-some_more : (ts : List Written) (t : Written) → IsSome_ (ts ++ t ∷ [])
-some_more [] t = tt
-some_more (u ∷ us) t = tt
-
-is_one : (m n : ℕ) → nat_eq m n ≡ true → m ≡ n
-is_one m n h = grind (arith, h)
 
 -- a closing mark
 closes : (close : ℕ) (r : Reading) (os : List Opened) (terms : List Written) (mark : ℕ) → so_far r ≡ opens os ++ spellings (side_by_side terms) → Steps close r (Mark mark) (closed close os terms mark)
 closes close r [] terms mark e = by_test (nat_eq mark close) refl
   where
     by_test : (b : Bool) → nat_eq mark close ≡ b → Steps close r (Mark mark) (cond b (AtEnd terms) Misplaced)
-    by_test true h = (e, ap Mark (is_one mark close h))
+    by_test true h = (e, ap Mark (eqb-true mark close h))
     by_test false h = tt
 closes close r (o ∷ os) terms mark e = by_test (nat_eq mark 41) refl
   where
     by_test : (b : Bool) → nat_eq mark 41 ≡ b → Steps close r (Mark mark) (cond b (On (record { opened = os; terms = o.before ++ Apply o.name (side_by_side terms) ∷ []; expected = CommaOrEnd })) Misplaced)
     by_test true h = (
       ap (λ ls. opens os ++ ls) (last o.before (Apply o.name (side_by_side terms)))
-          ∙ sym (ap (λ m. so_far r ++ Mark m ∷ []) (is_one mark 41 h) ∙ ap (λ ls. ls ++ Mark 41 ∷ []) e
+          ∙ sym (ap (λ m. so_far r ++ Mark m ∷ []) (eqb-true mark 41 h) ∙ ap (λ ls. ls ++ Mark 41 ∷ []) e
           ∙ simp append_assoc),
       some_more o.before (Apply o.name (side_by_side terms)),
     )
@@ -98,13 +89,13 @@ terms_step close r (Node name) e = tt
 terms_step close r (Mark mark) e = tt
 
 -- a comma or the end, behind a term
-comma_step : (close : ℕ) (r s : Reading) (mark : ℕ) → so_far r ≡ opens s.opened ++ spellings (side_by_side s.terms) → IsSome_ s.terms → Steps close r (Mark mark) (at_comma close s (Mark mark))
+comma_step : (close : ℕ) (r s : Reading) (mark : ℕ) → so_far r ≡ opens s.opened ++ spellings (side_by_side s.terms) → IsNonempty s.terms → Steps close r (Mark mark) (at_comma close s (Mark mark))
 comma_step close r s mark e some = by_test (nat_eq mark 44) refl
   where
     by_test : (b : Bool) → nat_eq mark 44 ≡ b → Steps close r (Mark mark) (cond b (On (record s { expected = TermOnly })) (closed close s.opened s.terms mark))
     by_test true h = (
       ap (λ ls. opens s.opened ++ ls) (sym (comma s.terms some))
-          ∙ sym (ap (λ m. so_far r ++ Mark m ∷ []) (is_one mark 44 h) ∙ ap (λ ls. ls ++ Mark 44 ∷ []) e ∙ append_assoc (opens s.opened) (spellings (side_by_side s.terms)) (Mark 44 ∷ [])),
+          ∙ sym (ap (λ m. so_far r ++ Mark m ∷ []) (eqb-true mark 44 h) ∙ ap (λ ls. ls ++ Mark 44 ∷ []) e ∙ append_assoc (opens s.opened) (spellings (side_by_side s.terms)) (Mark 44 ∷ [])),
       tt,
     )
     by_test false h = closes close r s.opened s.terms mark e
@@ -117,7 +108,7 @@ named_step close os terms name mark = by_test (nat_eq mark 40) refl
         (cond b (On (record { opened = record { name = name; before = terms } ∷ os; terms = []; expected = TermOrEnd })) (at_comma close (record { opened = os; terms = terms ++ Word name ∷ []; expected = CommaOrEnd }) (Mark mark)))
     by_test true h = (
       append-nil (opens os ++ (comma_each terms ++ Name name ∷ Mark 40 ∷ []))
-          ∙ sym (ap (λ m. (opens os ++ (comma_each terms ++ Name name ∷ [])) ++ Mark m ∷ []) (is_one mark 40 h) ∙ simp append_assoc),
+          ∙ sym (ap (λ m. (opens os ++ (comma_each terms ++ Name name ∷ [])) ++ Mark m ∷ []) (eqb-true mark 40 h) ∙ simp append_assoc),
       refl,
     )
     by_test false h = comma_step close (record { opened = os; terms = terms; expected = BehindName name }) (record { opened = os; terms = terms ++ Word name ∷ []; expected = CommaOrEnd }) mark

@@ -96,6 +96,15 @@ fn push_entry(alloc: Global, told: &mut Text, g: &Grammar, entry: &[u8]) -> Resu
     push_told(alloc, told, g, form, rest)
 }
 
+/// What is told of entries.
+fn told_of(alloc: Global, g: &Grammar, entries: &[u8]) -> Result<Text, TableFault> {
+    let mut told = Text::new(alloc);
+    for entry in entries.split_str(MARK) {
+        push_entry(alloc, &mut told, g, entry)?;
+    }
+    Ok(told)
+}
+
 /// What is told of all entries. Replies name what the specification before the first mark declares.
 pub fn table(alloc: Global, text: &[u8]) -> Result<Text, TableFault> {
     let Some((declared, entries)) = text.split_once_str(MARK) else {
@@ -104,9 +113,7 @@ pub fn table(alloc: Global, text: &[u8]) -> Result<Text, TableFault> {
     let Ok(spec) = read_spec(alloc, declared) else {
         return Err(TableFault::Unreadable);
     };
-    let mut told = Text::new(alloc);
-    for entry in entries.split_str(MARK) {
-        push_entry(alloc, &mut told, &spec.grammar, entry)?;
-    }
-    Ok(told)
+    let told = told_of(alloc, &spec.grammar, entries);
+    drop(spec);
+    told
 }

@@ -1,5 +1,6 @@
 -- A grammar stays well formed where a declaration without fault is added.
-use Rattle.std.proofs.Common.{◌≡◌, ℕ, ◌<◌, ◌≤◌, true, false, nat_le, nat_lt, List, [], ◌∷◌, ◌++◌, map, length, slice_get, Option, Some, None, is_some, option_and_then, subst, sym, refl, ap, ◌∙◌, arith}
+use Rattle.std.proofs.Common.{◌≡◌, ℕ, true, nat_lt, List, [], ◌∷◌, ◌++◌, map, length, slice_get, Option, Some, None, is_some, option_and_then, subst, sym, refl, ap, ◌∙◌, arith}
+use Rattle.std.proofs.lemmas.Bool.{false≢true, leb-false, ltb-false, not-false, or_parts}
 use Rattle.std.proofs.Math.Logic.{∥∥₁_map}
 use Rattle.aw_text.specs.Spelling.{is_name}
 use Rattle.aw_index.specs.Places.{stands, place_of, number_of, or_else}
@@ -15,7 +16,7 @@ use Rattle.aw_grammar.specs.GrammarView.{sort_of, plain_grammar, plain_words}
 use Rattle.aw_grammar.specs.GrammarOf.{entry}
 use Rattle.aw_grammar.specs.Declarations.{Declarations, sort_declared, with_start_at}
 use Rattle.aw_grammar.specs.Kinds.{role_tests, con_tests, sort_tests, role_kind, con_kind, sort_kind, start_kind, start_kind_of}
-use Rattle.aw_grammar.proofs.NoKind.{none_holds, neither, not_false}
+use Rattle.aw_grammar.proofs.NoKind.{none_holds}
 use Rattle.aw_grammar.proofs.Declared.{well_formed_role, well_formed_con, well_formed_sort, well_formed_start, names_of_start}
 
 -- the declarations of these lists
@@ -26,43 +27,34 @@ listed roles cons sorts rules = record { roles = roles; cons = cons; sorts = sor
 abbrev pub Good : List (List ℕ) → List Con → List Sort → List Rule → Type 0
 Good roles cons sorts rules = IsWellFormed (plain_words roles cons sorts rules) (plain_grammar roles cons sorts rules)
 
-false_not_true : false ≡ true → ⊥
-false_not_true h = cc
-
-below : (a b : ℕ) → nat_le b a ≡ false → a < b
-below a b h = grind arith
-
-at_most : (a b : ℕ) → nat_lt b a ≡ false → a ≤ b
-at_most a b h = grind arith
-
 pub good_role : (roles : List (List ℕ)) (cons : List Con) (sorts : List Sort) (rules : List Rule) (name : List ℕ) (new : List (List ℕ)) → new ≡ roles ++ name ∷ [] → sorts ≡ [] → rules ≡ [] → is_name name ≡ true → role_kind (listed roles cons sorts rules) name ≡ None → ∥ Good roles cons sorts rules ∥₁ → ∥ Good new cons sorts rules ∥₁
 good_role roles cons [] [] name new e no_sorts no_rules named none good =
     let tests = none_holds (role_tests (listed roles cons [] []) name) none in
-    ∥∥₁_map good (λ w. subst (λ rs. Good rs cons [] []) (sym e) (well_formed_role roles cons name w named (below (length roles) 64 tests.0) tests.1.0))
+    ∥∥₁_map good (λ w. subst (λ rs. Good rs cons [] []) (sym e) (well_formed_role roles cons name w named (leb-false 64 (length roles) tests.0) tests.1.0))
 good_role roles cons (s ∷ ss) rules name new e no_sorts no_rules named none good = cc
 good_role roles cons [] (r ∷ rs) name new e no_sorts no_rules named none good = cc
 
 pub good_con : (roles : List (List ℕ)) (cons : List Con) (sorts : List Sort) (rules : List Rule) (con : RawCon) (new : List Con) → new ≡ cons ++ record { name = con.name; arity = con.arity } ∷ [] → rules ≡ [] → is_name con.name ≡ true → con_kind (listed roles cons sorts rules) con ≡ None → ∥ Good roles cons sorts rules ∥₁ → ∥ Good roles new sorts rules ∥₁
 good_con roles cons sorts [] con new e no_rules named none good =
     let tests = none_holds (con_tests (listed roles cons sorts []) con) none in
-    let limits = neither _ _ tests.0 in
+    let limits = or_parts _ _ tests.0 in
     ∥∥₁_map good (λ w. subst (λ cs. Good roles cs sorts []) (sym e)
-    (well_formed_con roles cons sorts (record { name = con.name; arity = con.arity }) w named (below (length cons) 1024 limits.0) (at_most con.arity 8 limits.1) tests.1.0))
+    (well_formed_con roles cons sorts (record { name = con.name; arity = con.arity }) w named (leb-false 1024 (length cons) limits.0) (ltb-false 8 con.arity limits.1) tests.1.0))
 good_con roles cons sorts (r ∷ rs) con new e no_rules named none good = cc
 
 pub good_sort : (roles : List (List ℕ)) (cons : List Con) (sorts : List Sort) (rules : List Rule) (sort : RawSort) (new : List Sort) → new ≡ sorts ++ sort_declared (listed roles cons sorts rules) sort ∷ [] → rules ≡ [] → is_name sort.name ≡ true → sort_kind (listed roles cons sorts rules) sort ≡ None → ∥ Good roles cons sorts rules ∥₁ → ∥ Good roles cons new rules ∥₁
 good_sort roles cons sorts [] sort new e no_rules named none good =
     let tests = none_holds (sort_tests (listed roles cons sorts []) sort) none in
-    let few = neither _ _ tests.0 in
-    let small = neither _ _ few.1 in
+    let few = or_parts _ _ tests.0 in
+    let small = or_parts _ _ few.1 in
     let fits : SortFits (length roles) (sort_of (sort_declared (listed roles cons sorts []) sort)) = record {
-      declared = number_within sort.role roles (not_false _ tests.1.1.0);
-      few_takes = at_most sort.takes 8 small.0;
-      few_gives = at_most sort.gives 8 small.1;
-      start = λ h. absurd (false_not_true h);
+      declared = number_within sort.role roles (not-false _ tests.1.1.0);
+      few_takes = ltb-false 8 sort.takes small.0;
+      few_gives = ltb-false 8 sort.gives small.1;
+      start = λ h. absurd (false≢true h);
     } in
     ∥∥₁_map good (λ w. subst (λ ss. Good roles cons ss []) (sym e)
-    (well_formed_sort roles cons sorts (sort_declared (listed roles cons sorts []) sort) w named (below (length sorts) 256 few.0) fits tests.1.0))
+    (well_formed_sort roles cons sorts (sort_declared (listed roles cons sorts []) sort) w named (leb-false 256 (length sorts) few.0) fits tests.1.0))
 good_sort roles cons sorts (r ∷ rs) sort new e no_rules named none good = cc
 
 -- a start without fault names a declared sort that takes nothing
@@ -73,13 +65,10 @@ pub record StartFound (name : List ℕ) (sorts : List Sort) : Type 0 where
   pub found : slice_get sorts place ≡ Some sort
   pub none : sort.takes ≡ 0
 
-not_positive : (n : ℕ) → nat_lt 0 n ≡ false → n ≡ 0
-not_positive n h = grind arith
-
 start_tests : (s : Sort) → start_kind_of (Some s) ≡ None → s.takes ≡ 0
 start_tests s h =
     let tests = none_holds ((s.start, Double) ∷ (nat_lt 0 s.takes, Inherits) ∷ []) h in
-    not_positive s.takes tests.1.0
+    omega (arith, ltb-false 0 s.takes tests.1.0)
 
 start_at_place : (name : List ℕ) (sorts : List Sort) (o : Option ℕ) → o ≡ place_of name (map (λ (s : Sort). s.name) sorts) → start_kind_of (option_and_then (λ i. slice_get sorts i) o) ≡ None → StartFound name sorts
 start_at_place name sorts None e h = cc

@@ -17,7 +17,7 @@ pub symbols_append : (xs ys : List Written) → symbols_in_all (xs ++ ys) ≡ sy
 symbols_append [] ys = omega arith
 symbols_append (x ∷ xs) ys = omega (arith, symbols_append xs ys)
 
-and_more : (a b c d : Bool) → b ≡ (c && d) → (a && b) ≡ ((a && c) && d)
+pub and_more : (a b c d : Bool) → b ≡ (c && d) → (a && b) ≡ ((a && c) && d)
 and_more true b c d h = h
 and_more false b c d h = refl
 
@@ -40,10 +40,6 @@ any_append names (x ∷ xs) ys = or_more (stands x names) (any_stands (xs ++ ys)
 pub all_append : (names xs ys : List (List ℕ)) → all_stand (xs ++ ys) names ≡ (all_stand xs names && all_stand ys names)
 all_append names [] ys = refl
 all_append names (x ∷ xs) ys = and_more (stands x names) (all_stand (xs ++ ys) names) (all_stand xs names) (all_stand ys names) (all_append names xs ys)
-
-pub leaves_append : {A : Type 0} (xs ys : List (Tree A)) → leaves_of (xs ++ ys) ≡ leaves_of xs ++ leaves_of ys
-leaves_append [] ys = refl
-leaves_append (x ∷ xs) ys = ap (λ zs. leaves x ++ zs) (leaves_append xs ys) ∙ sym (append_assoc (leaves x) (leaves_of xs) (leaves_of ys))
 
 pub variables_append : (cons : List (List ℕ)) (xs ys : List Written) → leaves_of (all_resolved cons (xs ++ ys)) ≡ leaves_of (all_resolved cons xs) ++ leaves_of (all_resolved cons ys)
 variables_append cons [] ys = refl

@@ -1,7 +1,7 @@
 -- A grammar stays well formed where a role, a constructor or a sort is declared, and where a sort becomes a start.
 use Rattle.std.proofs.Common.{◌≡◌, ℕ, zero, suc, ◌<◌, ◌≤◌, true, false, List, [], ◌∷◌, ◌++◌, map, length, slice_get, Some, subst, sym, refl, ap, ◌∙◌, arith, length-append, get_or}
 use Rattle.std.proofs.Math.ListN.{set}
-use Rattle.std.proofs.lemmas.List.{map-append}
+use Rattle.std.proofs.lemmas.List.{length-map, map-append}
 use Rattle.aw_text.specs.Spelling.{is_name}
 use Rattle.aw_index.specs.Places.{stands}
 use Rattle.aw_term.specs.WellFormed.{Each, Differ, SortFits, IsWellFormed}
@@ -9,7 +9,8 @@ use Rattle.aw_grammar.specs.declared.rule.Con.{Con}
 use Rattle.aw_grammar.specs.declared.rule.Sort.{Sort}
 use Rattle.aw_grammar.specs.GrammarView.{sort_of, sorts_of, plain_grammar, plain_words}
 use Rattle.aw_grammar.specs.Declarations.{with_start_at}
-use Rattle.aw_grammar.proofs.Growth.{each_push, differ_push, four_from, four_to}
+use Rattle.aw_term.proofs.Eaches.{each_push}
+use Rattle.aw_grammar.proofs.Growth.{differ_push, four_from, four_to}
 
 length_push : {A : Type 0} (xs : List A) (x : A) (n : ℕ) → length xs < n → length (xs ++ x ∷ []) ≤ n
 length_push xs x n less = omega (arith, length-append xs (x ∷ []))
@@ -39,7 +40,7 @@ well_formed_con roles cons sorts con w named few small absent =
     let sort_names = map (λ (s : Sort). s.name) sorts in
     let names = four_from (λ n. is_name n ≡ true) roles old sort_names [] w.names in
     let pushed : old ++ con.name ∷ [] ≡ map (λ (c : Con). c.name) (cons ++ con ∷ []) = sym (map-append (λ (c : Con). c.name) cons (con ∷ [])) in
-    let few_old : length old < 1024 = omega (arith, length_map cons) in
+    let few_old : length old < 1024 = omega (arith, length-map cons (λ (c : Con). c.name)) in
     record {
       roles = refl;
       few_roles = w.few_roles;
@@ -56,10 +57,6 @@ well_formed_con roles cons sorts con w named few small absent =
       sorts = w.sorts;
       rules = tt;
     }
-  where
-    length_map : (cs : List Con) → length (map (λ (c : Con). c.name) cs) ≡ length cs
-    length_map [] = refl
-    length_map (c ∷ cs) = ap (λ n. suc n) (length_map cs)
 
 pub well_formed_sort : (roles : List (List ℕ)) (cons : List Con) (sorts : List Sort) (sort : Sort) → IsWellFormed (plain_words roles cons sorts []) (plain_grammar roles cons sorts []) → is_name sort.name ≡ true → length sorts < 256 → SortFits (length roles) (sort_of sort) → stands sort.name (map (λ (s : Sort). s.name) sorts) ≡ false → IsWellFormed (plain_words roles cons (sorts ++ sort ∷ []) []) (plain_grammar roles cons (sorts ++ sort ∷ []) [])
 well_formed_sort roles cons sorts sort w named few fits absent =
@@ -67,7 +64,7 @@ well_formed_sort roles cons sorts sort w named few fits absent =
     let con_names = map (λ (c : Con). c.name) cons in
     let names = four_from (λ n. is_name n ≡ true) roles con_names old [] w.names in
     let pushed : old ++ sort.name ∷ [] ≡ map (λ (s : Sort). s.name) (sorts ++ sort ∷ []) = sym (map-append (λ (s : Sort). s.name) sorts (sort ∷ [])) in
-    let few_old : length old < 256 = omega (arith, length_map sorts) in
+    let few_old : length old < 256 = omega (arith, length-map sorts (λ (s : Sort). s.name)) in
     record {
       roles = refl;
       few_roles = w.few_roles;
@@ -84,10 +81,6 @@ well_formed_sort roles cons sorts sort w named few fits absent =
       sorts = subst (λ ss. Each (SortFits (length roles)) ss) (sym (map-append sort_of sorts (sort ∷ []))) (each_push (SortFits (length roles)) (sorts_of sorts) (sort_of sort) w.sorts fits);
       rules = tt;
     }
-  where
-    length_map : (ss : List Sort) → length (map (λ (s : Sort). s.name) ss) ≡ length ss
-    length_map [] = refl
-    length_map (s ∷ ss) = ap (λ n. suc n) (length_map ss)
 
 -- a start keeps the names
 pub names_of_start : (sorts : List Sort) (i : ℕ) → map (λ (s : Sort). s.name) (with_start_at sorts i) ≡ map (λ (s : Sort). s.name) sorts

@@ -1,6 +1,7 @@
 -- A written rule without fault stands for a rule that fits.
-use Rattle.std.proofs.Common.{◌≡◌, ℕ, zero, suc, ◌+◌, ◌<◌, ◌≤◌, max, nat_eq, nat_lt, nat_le, Bool, true, false, not, ◌&&◌, ◌||◌, List, [], ◌∷◌, ◌++◌, length, map, Option, Some, None, option_and_then, slice_get, refl, sym, ap, ◌∙◌, subst, arith, length-append}
-use Rattle.std.proofs.lemmas.Bool.{eqb-true}
+use Rattle.std.proofs.Common.{◌≡◌, ℕ, zero, suc, ◌+◌, ◌<◌, ◌≤◌, max, nat_eq, nat_lt, nat_le, true, false, not, ◌&&◌, ◌||◌, List, [], ◌∷◌, ◌++◌, length, map, Option, Some, None, option_and_then, slice_get, refl, sym, ap, ◌∙◌, subst, arith, length-append}
+use Rattle.std.proofs.lemmas.List.{length-map}
+use Rattle.std.proofs.lemmas.Bool.{and_parts, eqb-true, ltb-false, not-false, or_parts}
 use Rattle.aw_index.specs.Places.{place_of, or_else, number_of, stands, all_stand, has_double}
 use Rattle.aw_index.proofs.Lookups.{place_within}
 use Rattle.aw_term.specs.Rules.{upto}
@@ -14,29 +15,17 @@ use Rattle.aw_grammar.specs.Written.{Written, WrittenChild, WrittenRule}
 use Rattle.aw_grammar.specs.Terms.{args_of, results_of, uses_of, terms_of, all_have_contents, depth_of_all, symbols_in_all, has_contents}
 use Rattle.aw_grammar.specs.Resolved.{all_resolved, entering, numbered, child_numbered, rule_numbered}
 use Rattle.aw_grammar.specs.Kinds.{sort_called, takes_and_gives, children_fit, all_known, all_have_arities, is_past_counts, is_past_terms, child_sorts, rule_kind, rule_tests}
-use Rattle.aw_grammar.proofs.NoKind.{none_holds, neither, not_false}
+use Rattle.aw_grammar.proofs.NoKind.{none_holds}
 use Rattle.aw_grammar.proofs.Added.{listed}
-use Rattle.aw_grammar.proofs.Appends.{known_append, arities_append, depth_append, symbols_append, variables_append, all_append}
+use Rattle.aw_grammar.proofs.Appends.{and_more, known_append, arities_append, depth_append, symbols_append, variables_append, all_append}
 use Rattle.aw_grammar.proofs.Numbering.{numbers_first, numbers_below}
 use Rattle.aw_grammar.proofs.TermFits.{Sound, sound_fit, numbered_leaves, all_numbered_symbols}
 
-abbrev con_names : List Con → List (List ℕ)
+abbrev pub con_names : List Con → List (List ℕ)
 con_names cons = map (λ (c : Con). c.name) cons
 
-abbrev sort_names : List Sort → List (List ℕ)
+abbrev pub sort_names : List Sort → List (List ℕ)
 sort_names sorts = map (λ (s : Sort). s.name) sorts
-
-abbrev arities_of : List Con → List ℕ
-arities_of cons = map (λ (c : Con). c.arity) cons
-
-both : (a b : Bool) → (a && b) ≡ true → (a ≡ true) × (b ≡ true)
-both true true h = (refl, refl)
-both true false h = cc
-both false b h = cc
-
-length_map : {A B : Type 0} (f : A → B) (xs : List A) → length (map f xs) ≡ length xs
-length_map f [] = refl
-length_map f (x ∷ xs) = ap (λ n. suc n) (length_map f xs)
 
 -- the sort of this name is declared, and takes and gives this many values
 pub record SortHas (sorts : List Sort) (name : List ℕ) (takes gives : ℕ) : Type 0 where
@@ -51,10 +40,10 @@ get_sort (t ∷ sorts) (suc i) s h = get_sort sorts i s h
 
 sort_has_at : (sorts : List Sort) (name : List ℕ) (takes gives i : ℕ) (s : Sort) → place_of name (sort_names sorts) ≡ Some i → slice_get sorts i ≡ Some s → (nat_eq s.takes takes && nat_eq s.gives gives) ≡ true → SortHas sorts name takes gives
 sort_has_at sorts name takes gives i s placed found h =
-    let parts = both (nat_eq s.takes takes) (nat_eq s.gives gives) h in
+    let parts = and_parts (nat_eq s.takes takes) (nat_eq s.gives gives) h in
     let at : number_of name (sort_names sorts) ≡ i = ap (or_else (length (sort_names sorts))) placed in
     let got : slice_get (sorts_of sorts) (number_of name (sort_names sorts)) ≡ Some (sort_of s) = ap (slice_get (sorts_of sorts)) at ∙ get_sort sorts i s found in
-    let less : i < length (sorts_of sorts) = subst (λ n. i < n) (length_map (λ (z : Sort). z.name) sorts ∙ sym (length_map sort_of sorts)) (place_within name (sort_names sorts) i placed) in
+    let less : i < length (sorts_of sorts) = subst (λ n. i < n) (length-map sorts (λ (z : Sort). z.name) ∙ sym (length-map sorts sort_of)) (place_within name (sort_names sorts) i placed) in
     record {
       declared = subst (λ n. n < length (sorts_of sorts)) (sym at) less;
       takes_so = sym (eqb-true s.takes takes parts.0) ∙ sym (ap takes_of got);
@@ -75,17 +64,13 @@ sort_has sorts name takes gives h = sort_has_placed sorts name takes gives (plac
 -- lists of terms that are sound together are sound each
 pub contents_append : (xs ys : List Written) → all_have_contents (xs ++ ys) ≡ (all_have_contents xs && all_have_contents ys)
 contents_append [] ys = refl
-contents_append (x ∷ xs) ys = ap (λ b. has_contents x && b) (contents_append xs ys) ∙ regroup (has_contents x) (all_have_contents xs) (all_have_contents ys)
-  where
-    regroup : (a b c : Bool) → (a && (b && c)) ≡ ((a && b) && c)
-    regroup true b c = refl
-    regroup false b c = refl
+contents_append (x ∷ xs) ys = and_more (has_contents x) (all_have_contents (xs ++ ys)) (all_have_contents xs) (all_have_contents ys) (contents_append xs ys)
 
 pub sound_split : (cons : List Con) (xs ys : List Written) → Sound cons (xs ++ ys) → Sound cons xs × Sound cons ys
 sound_split cons xs ys s =
-    let k = both (all_known (con_names cons) xs) (all_known (con_names cons) ys) (sym (known_append (con_names cons) xs ys) ∙ s.known) in
-    let a = both (all_have_arities cons xs) (all_have_arities cons ys) (sym (arities_append cons xs ys) ∙ s.arities) in
-    let e = both (all_have_contents xs) (all_have_contents ys) (sym (contents_append xs ys) ∙ s.contents) in
+    let k = and_parts (all_known (con_names cons) xs) (all_known (con_names cons) ys) (sym (known_append (con_names cons) xs ys) ∙ s.known) in
+    let a = and_parts (all_have_arities cons xs) (all_have_arities cons ys) (sym (arities_append cons xs ys) ∙ s.arities) in
+    let e = and_parts (all_have_contents xs) (all_have_contents ys) (sym (contents_append xs ys) ∙ s.contents) in
     let deep : max (depth_of_all xs) (depth_of_all ys) ≤ 32 = subst (λ n. n ≤ 32) (depth_append xs ys) s.shallow in (
       record { known = k.0; arities = a.0; contents = e.0; shallow = omega arith },
       record { known = k.1; arities = a.1; contents = e.1; shallow = omega arith },
@@ -97,7 +82,7 @@ Enter cons names ts = all_stand (leaves_of (all_resolved (con_names cons) ts)) n
 
 enter_split : (cons : List Con) (names : List (List ℕ)) (xs ys : List Written) → Enter cons names (xs ++ ys) → Enter cons names xs × Enter cons names ys
 enter_split cons names xs ys h =
-    both (all_stand (leaves_of (all_resolved (con_names cons) xs)) names) (all_stand (leaves_of (all_resolved (con_names cons) ys)) names)
+    and_parts (all_stand (leaves_of (all_resolved (con_names cons) xs)) names) (all_stand (leaves_of (all_resolved (con_names cons) ys)) names)
     (sym (all_append names (leaves_of (all_resolved (con_names cons) xs)) (leaves_of (all_resolved (con_names cons) ys)))
     ∙ ap (λ ns. all_stand ns names) (sym (variables_append (con_names cons) xs ys)) ∙ h)
 
@@ -109,13 +94,13 @@ enter_each cons names ts h =
 children_fit_each : (roles : List (List ℕ)) (cons : List Con) (sorts : List Sort) (rules : List Rule) (names : List (List ℕ)) (cs : List WrittenChild) → children_fit sorts cs ≡ true → Sound cons (args_of cs) → Enter cons names (args_of cs) → Each (ChildFits (plain_grammar roles cons sorts rules) (length names)) (map (child_numbered (con_names cons) (sort_names sorts) names) cs)
 children_fit_each roles cons sorts rules names [] fit sound enter = tt
 children_fit_each roles cons sorts rules names (c ∷ cs) fit sound enter =
-    let f = both (takes_and_gives (sort_called c.sort sorts) (length c.args) (length c.results)) (children_fit sorts cs) fit in
+    let f = and_parts (takes_and_gives (sort_called c.sort sorts) (length c.args) (length c.results)) (children_fit sorts cs) fit in
     let has = sort_has sorts c.sort (length c.args) (length c.results) f.0 in
     let s = sound_split cons c.args (args_of cs) sound in
     let e = enter_split cons names c.args (args_of cs) enter in (
       record {
         declared = has.declared;
-        takes = length_map (numbered (con_names cons) names) c.args ∙ has.takes_so;
+        takes = length-map c.args (numbered (con_names cons) names) ∙ has.takes_so;
         gives = has.gives_so;
         terms = sound_fit cons names c.args s.0;
         enter = enter_each cons names c.args e.0;
@@ -138,7 +123,7 @@ variables_are cons sorts w =
     let names = entering cons w in
     let first = leaves_of (all_resolved cons w.patterns) in
     let a : length (leaves_of (map (numbered cons names) w.patterns)) ≡ length first =
-    ap length (numbered_leaves cons names w.patterns) ∙ length_map (λ x. number_of x names) first in
+    ap length (numbered_leaves cons names w.patterns) ∙ length-map first (λ x. number_of x names) in
     omega (arith, a, outs_are cons sorts names w.children, length-append first (w.params ++ results_of w.children), length-append w.params (results_of w.children))
 
 -- what the tests of a rule leave
@@ -166,13 +151,13 @@ rule_fits roles cons sorts rules w n =
     let listed_leaves = numbered_leaves (con_names cons) names w.patterns in
     record {
       declared = has.declared;
-      takes = length_map (numbered (con_names cons) names) w.patterns ∙ has.takes_so;
-      gives = length_map (numbered (con_names cons) names) w.results ∙ has.gives_so;
+      takes = length-map w.patterns (numbered (con_names cons) names) ∙ has.takes_so;
+      gives = length-map w.results (numbered (con_names cons) names) ∙ has.gives_so;
       few_params = n.few_params;
-      few_children = subst (λ m. m ≤ 8) (sym (length_map (child_numbered (con_names cons) (sort_names sorts) names) w.children)) n.few_children;
+      few_children = subst (λ m. m ≤ 8) (sym (length-map w.children (child_numbered (con_names cons) (sort_names sorts) names))) n.few_children;
       few_variables = subst (λ m. m ≤ 64) (sym count) n.few_names;
       few_symbols = all_symbols_few (con_names cons) (sort_names sorts) names w n.few_symbols;
-      numbered = listed_leaves ∙ numbers_first first (w.params ++ results_of w.children) n.once ∙ ap (upto 0) (sym (ap length listed_leaves ∙ length_map number first));
+      numbered = listed_leaves ∙ numbers_first first (w.params ++ results_of w.children) n.once ∙ ap (upto 0) (sym (ap length listed_leaves ∙ length-map first number));
       patterns = sound_fit cons names w.patterns s.0;
       results = sound_fit cons names w.results t.1;
       enter = subst (λ m. Each (λ v. v < m) (leaves_of (map (numbered (con_names cons) names) w.results))) (sym count) (enter_each cons names w.results e.1);
@@ -184,45 +169,33 @@ rule_fits roles cons sorts rules w n =
     all_symbols_few cons sorts names w few =
         omega (arith, few, all_numbered_symbols cons names w.patterns, child_symbols_are cons sorts names w.children, all_numbered_symbols cons names w.results, symbols_append w.patterns (args_of w.children ++ w.results), symbols_append (args_of w.children) w.results)
 
-small : (n : ℕ) → nat_lt 8 n ≡ false → n ≤ 8
-small n h = grind arith
-
-within_64 : (n : ℕ) → nat_lt 64 n ≡ false → n ≤ 64
-within_64 n h = grind arith
-
-within_32 : (n : ℕ) → nat_lt 32 n ≡ false → n ≤ 32
-within_32 n h = grind arith
-
-within_256 : (n : ℕ) → nat_lt 256 n ≡ false → n ≤ 256
-within_256 n h = grind arith
-
 pub no_fault : (roles : List (List ℕ)) (cons : List Con) (sorts : List Sort) (rules : List Rule) (w : WrittenRule) → rule_kind (listed roles cons sorts rules) w ≡ None → all_have_contents (terms_of w) ≡ true → NoFault cons sorts w
 no_fault roles cons sorts rules w none contents =
     let d = listed roles cons sorts rules in
     let tests = none_holds (rule_tests d w) none in
-    let past = neither (is_past_counts d w) (is_past_terms w) tests.0 in
-    let a = neither (nat_le 1024 (length d.rules)) (nat_lt 8 (length w.patterns) || (nat_lt 8 (length w.results) || (nat_lt 8 (length w.params) || nat_lt 8 (length w.children)))) past.0 in
-    let b = neither (nat_lt 8 (length w.patterns)) (nat_lt 8 (length w.results) || (nat_lt 8 (length w.params) || nat_lt 8 (length w.children))) a.1 in
-    let c = neither (nat_lt 8 (length w.results)) (nat_lt 8 (length w.params) || nat_lt 8 (length w.children)) b.1 in
-    let e = neither (nat_lt 8 (length w.params)) (nat_lt 8 (length w.children)) c.1 in
-    let sizes = neither (nat_lt 32 (depth_of_all (terms_of w))) (nat_lt 256 (symbols_in_all (terms_of w))) past.1 in
-    let unknown = neither (not (stands w.sort (sort_names sorts))) (not (all_stand (child_sorts w.children) (sort_names sorts)) || not (all_known (con_names cons) (terms_of w))) tests.1.1.1.1.0 in
-    let known = neither (not (all_stand (child_sorts w.children) (sort_names sorts))) (not (all_known (con_names cons) (terms_of w))) unknown.1 in
-    let differs = neither (not (takes_and_gives (sort_called w.sort sorts) (length w.patterns) (length w.results))) (not (children_fit sorts w.children) || not (all_have_arities cons (terms_of w))) tests.1.1.1.1.1.0 in
-    let arity = neither (not (children_fit sorts w.children)) (not (all_have_arities cons (terms_of w))) differs.1 in
+    let past = or_parts (is_past_counts d w) (is_past_terms w) tests.0 in
+    let a = or_parts (nat_le 1024 (length d.rules)) (nat_lt 8 (length w.patterns) || (nat_lt 8 (length w.results) || (nat_lt 8 (length w.params) || nat_lt 8 (length w.children)))) past.0 in
+    let b = or_parts (nat_lt 8 (length w.patterns)) (nat_lt 8 (length w.results) || (nat_lt 8 (length w.params) || nat_lt 8 (length w.children))) a.1 in
+    let c = or_parts (nat_lt 8 (length w.results)) (nat_lt 8 (length w.params) || nat_lt 8 (length w.children)) b.1 in
+    let e = or_parts (nat_lt 8 (length w.params)) (nat_lt 8 (length w.children)) c.1 in
+    let sizes = or_parts (nat_lt 32 (depth_of_all (terms_of w))) (nat_lt 256 (symbols_in_all (terms_of w))) past.1 in
+    let unknown = or_parts (not (stands w.sort (sort_names sorts))) (not (all_stand (child_sorts w.children) (sort_names sorts)) || not (all_known (con_names cons) (terms_of w))) tests.1.1.1.1.0 in
+    let known = or_parts (not (all_stand (child_sorts w.children) (sort_names sorts))) (not (all_known (con_names cons) (terms_of w))) unknown.1 in
+    let differs = or_parts (not (takes_and_gives (sort_called w.sort sorts) (length w.patterns) (length w.results))) (not (children_fit sorts w.children) || not (all_have_arities cons (terms_of w))) tests.1.1.1.1.1.0 in
+    let arity = or_parts (not (children_fit sorts w.children)) (not (all_have_arities cons (terms_of w))) differs.1 in
     record {
-      few_params = small (length w.params) e.0;
-      few_children = small (length w.children) e.1;
-      few_names = within_64 (length (entering (con_names cons) w)) tests.1.0;
-      few_symbols = within_256 (symbols_in_all (terms_of w)) sizes.1;
-      own_sort = not_false (takes_and_gives (sort_called w.sort sorts) (length w.patterns) (length w.results)) differs.0;
-      child_fits = not_false (children_fit sorts w.children) arity.0;
+      few_params = ltb-false 8 (length w.params) e.0;
+      few_children = ltb-false 8 (length w.children) e.1;
+      few_names = ltb-false 64 (length (entering (con_names cons) w)) tests.1.0;
+      few_symbols = ltb-false 256 (symbols_in_all (terms_of w)) sizes.1;
+      own_sort = not-false (takes_and_gives (sort_called w.sort sorts) (length w.patterns) (length w.results)) differs.0;
+      child_fits = not-false (children_fit sorts w.children) arity.0;
       sound = record {
-        known = not_false (all_known (con_names cons) (terms_of w)) known.1;
-        arities = not_false (all_have_arities cons (terms_of w)) arity.1;
+        known = not-false (all_known (con_names cons) (terms_of w)) known.1;
+        arities = not-false (all_have_arities cons (terms_of w)) arity.1;
         contents = contents;
-        shallow = within_32 (depth_of_all (terms_of w)) sizes.0;
+        shallow = ltb-false 32 (depth_of_all (terms_of w)) sizes.0;
       };
       once = tests.1.1.1.1.1.1.0;
-      enter = not_false (all_stand (leaves_of (all_resolved (con_names cons) (uses_of w))) (entering (con_names cons) w)) tests.1.1.1.1.1.1.1.0;
+      enter = not-false (all_stand (leaves_of (all_resolved (con_names cons) (uses_of w))) (entering (con_names cons) w)) tests.1.1.1.1.1.1.1.0;
     }

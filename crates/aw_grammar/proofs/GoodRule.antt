@@ -1,7 +1,8 @@
 -- A grammar stays well formed where a rule without fault is added.
-use Rattle.std.proofs.Common.{◌≡◌, ℕ, suc, ◌<◌, ◌≤◌, nat_lt, nat_le, true, false, ◌||◌, List, [], ◌∷◌, ◌++◌, length, map, Option, None, Result, Ok, Err, refl, sym, ap, ◌∙◌, subst, arith, length-append}
+use Rattle.std.proofs.Common.{◌≡◌, ℕ, ◌<◌, ◌≤◌, nat_lt, nat_le, true, false, ◌||◌, List, [], ◌∷◌, ◌++◌, length, map, Option, None, Result, Ok, Err, refl, sym, ap, ◌∙◌, subst, arith, length-append}
+use Rattle.std.proofs.lemmas.Bool.{leb-false, or_parts}
 use Rattle.std.specs.Result.{IsErrAnd}
-use Rattle.std.proofs.lemmas.List.{map-append}
+use Rattle.std.proofs.lemmas.List.{length-map, map-append}
 use Rattle.std.proofs.Math.Logic.{∥∥₁_map}
 use Rattle.aw_text.specs.Spelling.{is_name}
 use Rattle.aw_index.specs.Places.{stands}
@@ -21,10 +22,11 @@ use Rattle.aw_grammar.specs.Written.{WrittenRule}
 use Rattle.aw_grammar.specs.Terms.{all_have_contents, terms_of}
 use Rattle.aw_grammar.specs.Declarations.{Entry, Declarations, entry_of, with_rule}
 use Rattle.aw_grammar.specs.Kinds.{rule_kind, rule_tests, is_past_counts, is_past_terms}
-use Rattle.aw_grammar.proofs.NoKind.{none_holds, neither}
-use Rattle.aw_grammar.proofs.Growth.{each_push, each_map, differ_push, four_from, four_to}
+use Rattle.aw_grammar.proofs.NoKind.{none_holds}
+use Rattle.aw_term.proofs.Eaches.{each_push, each_map}
+use Rattle.aw_grammar.proofs.Growth.{differ_push, four_from, four_to}
 use Rattle.aw_grammar.proofs.Added.{listed, Good}
-use Rattle.aw_grammar.proofs.Tests.{entry_names}
+use Rattle.aw_grammar.proofs.Entries.{names_of_entries}
 use Rattle.aw_grammar.proofs.FitsRule.{rule_fits, no_fault}
 
 -- a rule fits whatever other rules there are
@@ -44,14 +46,6 @@ other_rules roles cons sorts old new r f = record {
   children = each_map _ _ r.children (λ c h. record { declared = h.declared; takes = h.takes; gives = h.gives; terms = h.terms; enter = h.enter }) f.children;
 }
 
-length_names : (rules : List Rule) → length (map (λ (r : Rule). r.name) rules) ≡ length rules
-length_names [] = refl
-length_names (r ∷ rules) = ap (λ n. suc n) (length_names rules)
-
-length_entries : (sorts : List Sort) (rules : List Rule) → length (map (entry sorts) rules) ≡ length rules
-length_entries sorts [] = refl
-length_entries sorts (r ∷ rules) = ap (λ n. suc n) (length_entries sorts rules)
-
 well_formed_rule : (roles : List (List ℕ)) (cons : List Con) (sorts : List Sort) (rules : List Rule) (r : Rule) → Good roles cons sorts rules → is_name r.name ≡ true → length rules < 1024 → stands r.name (map (λ (u : Rule). u.name) rules) ≡ false → RuleFits (plain_grammar roles cons sorts (rules ++ r ∷ [])) (rule_of sorts r) → Good roles cons sorts (rules ++ r ∷ [])
 well_formed_rule roles cons sorts rules r w named few absent fits =
     let old = map (λ (u : Rule). u.name) rules in
@@ -59,7 +53,7 @@ well_formed_rule roles cons sorts rules r w named few absent fits =
     let sort_names = map (λ (s : Sort). s.name) sorts in
     let names = four_from (λ n. is_name n ≡ true) roles con_names sort_names old w.names in
     let pushed : old ++ r.name ∷ [] ≡ map (λ (u : Rule). u.name) (rules ++ r ∷ []) = sym (map-append (λ (u : Rule). u.name) rules (r ∷ [])) in
-    let longer : length (old ++ r.name ∷ []) ≤ 1024 = omega (arith, few, length_names rules, length-append old (r.name ∷ [])) in
+    let longer : length (old ++ r.name ∷ []) ≤ 1024 = omega (arith, few, length-map rules (λ (u : Rule). u.name), length-append old (r.name ∷ [])) in
     record {
       roles = refl;
       few_roles = w.few_roles;
@@ -79,22 +73,19 @@ well_formed_rule roles cons sorts rules r w named few absent fits =
           (each_map _ _ (map (rule_of sorts) rules) (λ u h. other_rules roles cons sorts rules (rules ++ r ∷ []) u h) w.rules) fits);
     }
 
-below_1024 : (n : ℕ) → nat_le 1024 n ≡ false → n < 1024
-below_1024 n h = grind arith
-
 -- a rule without fault has a new name
 pub new_name : (roles : List (List ℕ)) (cons : List Con) (sorts : List Sort) (rules : List Rule) (w : WrittenRule) → rule_kind (listed roles cons sorts rules) w ≡ None → stands w.name (map (λ (u : Rule). u.name) rules) ≡ false
 new_name roles cons sorts rules w none =
     let tests = none_holds (rule_tests (listed roles cons sorts rules) w) none in
-    ap (stands w.name) (sym (entry_names sorts rules)) ∙ tests.1.1.0
+    ap (stands w.name) (names_of_entries sorts rules) ∙ tests.1.1.0
 
 few_rules : (roles : List (List ℕ)) (cons : List Con) (sorts : List Sort) (rules : List Rule) (w : WrittenRule) → rule_kind (listed roles cons sorts rules) w ≡ None → length rules < 1024
 few_rules roles cons sorts rules w none =
     let d = listed roles cons sorts rules in
     let tests = none_holds (rule_tests d w) none in
-    let past = neither (is_past_counts d w) (is_past_terms w) tests.0 in
-    let a = neither (nat_le 1024 (length d.rules)) (nat_lt 8 (length w.patterns) || (nat_lt 8 (length w.results) || (nat_lt 8 (length w.params) || nat_lt 8 (length w.children)))) past.0 in
-    subst (λ n. n < 1024) (length_entries sorts rules) (below_1024 (length d.rules) a.0)
+    let past = or_parts (is_past_counts d w) (is_past_terms w) tests.0 in
+    let a = or_parts (nat_le 1024 (length d.rules)) (nat_lt 8 (length w.patterns) || (nat_lt 8 (length w.results) || (nat_lt 8 (length w.params) || nat_lt 8 (length w.children)))) past.0 in
+    subst (λ n. n < 1024) (length-map rules (entry sorts)) (leb-false 1024 (length d.rules) a.0)
 
 pub good_rule : (roles : List (List ℕ)) (cons : List Con) (sorts : List Sort) (rules : List Rule) (w : WrittenRule) (r : Rule) (new : List Rule) → new ≡ rules ++ r ∷ [] → entry sorts r ≡ entry_of (listed roles cons sorts rules) w → is_name w.name ≡ true → all_have_contents (terms_of w) ≡ true → rule_kind (listed roles cons sorts rules) w ≡ None → ∥ Good roles cons sorts rules ∥₁ → ∥ Good roles cons sorts new ∥₁
 good_rule roles cons sorts rules w r new e made named contents none good =

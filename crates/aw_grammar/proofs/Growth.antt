@@ -3,25 +3,7 @@ use Rattle.std.proofs.Common.{◌≡◌, ◌≢◌, ℕ, false, List, [], ◌∷
 use Rattle.aw_index.specs.Places.{stands}
 use Rattle.aw_index.proofs.Same.{stands_apart}
 use Rattle.aw_term.specs.WellFormed.{Each, Differ}
-
-pub each_append : {A : Type 0} (P : A → Type 0) (xs ys : List A) → Each P xs → Each P ys → Each P (xs ++ ys)
-each_append P [] ys left right = right
-each_append P (x ∷ xs) ys left right = (left.0, each_append P xs ys left.1 right)
-
-pub each_left : {A : Type 0} (P : A → Type 0) (xs ys : List A) → Each P (xs ++ ys) → Each P xs
-each_left P [] ys each = tt
-each_left P (x ∷ xs) ys each = (each.0, each_left P xs ys each.1)
-
-pub each_right : {A : Type 0} (P : A → Type 0) (xs ys : List A) → Each P (xs ++ ys) → Each P ys
-each_right P [] ys each = each
-each_right P (x ∷ xs) ys each = each_right P xs ys each.1
-
-pub each_push : {A : Type 0} (P : A → Type 0) (xs : List A) (x : A) → Each P xs → P x → Each P (xs ++ x ∷ [])
-each_push P xs x each here = each_append P xs (x ∷ []) each (here, tt)
-
-pub each_map : {A : Type 0} (P Q : A → Type 0) (xs : List A) → ((x : A) → P x → Q x) → Each P xs → Each Q xs
-each_map P Q [] f each = tt
-each_map P Q (x ∷ xs) f each = (f x each.0, each_map P Q xs f each.1)
+use Rattle.aw_term.proofs.Eaches.{each_append, each_left, each_right, each_push}
 
 pub differ_push : (names : List (List ℕ)) (x : List ℕ) → Differ names → stands x names ≡ false → Differ (names ++ x ∷ [])
 differ_push [] x differ absent = (tt, tt)

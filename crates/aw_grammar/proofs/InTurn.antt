@@ -4,18 +4,15 @@ use Rattle.std.specs.Result.{IsErrAnd, IfOk}
 use Rattle.aw_term.specs.WellFormed.{IsWellFormed}
 use Rattle.aw_grammar.specs.declared.fault.DeclKind.{DeclKind}
 use Rattle.aw_grammar.specs.declared.fault.DeclPlace.{DeclPlace}
-use Rattle.aw_grammar.specs.declared.fault.AddFault.TheVariants as add
 use Rattle.aw_grammar.specs.declared.fault.GrammarFault.{GrammarFault}
 use Rattle.aw_grammar.specs.declared.fault.GrammarFault.TheVariants as build
 use Rattle.aw_grammar.specs.declared.raw.RawCon.{RawCon}
 use Rattle.aw_grammar.specs.declared.raw.RawSort.{RawSort}
-use Rattle.aw_grammar.specs.declared.rule.Sort.{Sort}
-use Rattle.aw_grammar.specs.declared.rule.Rule.{Rule}
-use Rattle.aw_grammar.specs.GrammarView.{rule_of}
 use Rattle.aw_grammar.specs.declared.grammar.Grammar.{Grammar}
-use Rattle.aw_grammar.specs.Declarations.{Entry, Declarations, with_role, with_con, with_sort, grammar_in, words_in}
+use Rattle.aw_grammar.specs.Declarations.{Declarations, with_role, with_con, with_sort, grammar_in, words_in}
 use Rattle.aw_grammar.specs.GrammarOf.{declarations_of, entry, grammar_of, words_of}
 use Rattle.aw_grammar.specs.Build.{Declaration, kind_of, declare, here_or, first_fault, declare_all, placed, is_spelled, AllSpelled, BuiltOn, roles_placed, cons_placed, sorts_placed}
+use Rattle.aw_grammar.proofs.Entries.{declared_grammar, declared_words}
 
 suc_place : (n : ℕ) → n + 1 ≡ suc n
 suc_place n = omega arith
@@ -100,20 +97,12 @@ sorts_keep d i (x ∷ xs) = sorts_keep (with_sort d x) (suc i) xs
 pub rules_of_none : (g h : Grammar) (xs : List (DeclPlace × Declaration)) → BuiltOn (declarations_of g) xs (Ok h) → (declare_all (declarations_of g) xs).rules ≡ (declarations_of g).rules → g.rules ≡ [] → h.rules ≡ []
 rules_of_none g h xs built keep none = still_no_rules g h (ap (λ (z : Declarations). z.rules) built.1 ∙ keep) none
 
-plain_rules : (sorts : List Sort) (rules : List Rule) → map (rule_of sorts) rules ≡ map (λ (e : Entry). e.rule) (map (entry sorts) rules)
-plain_rules sorts [] = refl
-plain_rules sorts (r ∷ rules) = ap (λ us. rule_of sorts r ∷ us) (plain_rules sorts rules)
-
-plain_names : (sorts : List Sort) (rules : List Rule) → map (λ (r : Rule). r.name) rules ≡ map (λ (e : Entry). e.name) (map (entry sorts) rules)
-plain_names sorts [] = refl
-plain_names sorts (r ∷ rules) = ap (λ ns. r.name ∷ ns) (plain_names sorts rules)
-
 -- the grammar and the words of what is declared
 pub grammar_is : (g : Grammar) (d : Declarations) → declarations_of g ≡ d → grammar_of g ≡ grammar_in d
-grammar_is g d e = ap (λ rs. record (grammar_in (declarations_of g)) { rules = rs }) (plain_rules g.sorts g.rules) ∙ ap grammar_in e
+grammar_is g d e = declared_grammar g ∙ ap grammar_in e
 
 pub words_are : (g : Grammar) (d : Declarations) → declarations_of g ≡ d → words_of g ≡ words_in d
-words_are g d e = ap (λ rs. record (words_in (declarations_of g)) { rules = rs }) (plain_names g.sorts g.rules) ∙ ap words_in e
+words_are g d e = declared_words g ∙ ap words_in e
 
 pub no_rules_in : (g : Grammar) (d : Declarations) → declarations_of g ≡ d → d.rules ≡ [] → g.rules ≡ []
 no_rules_in g d e none = none_of_map (entry g.sorts) g.rules (ap (λ (z : Declarations). z.rules) e ∙ none)

@@ -1,7 +1,9 @@
 pub mod Added
 pub mod Appends
+pub mod Contents
 pub mod Declared
 pub mod Emptying
+pub mod Entries
 pub mod Fits
 pub mod FitsRule
 pub mod GoodRule
@@ -11,6 +13,7 @@ pub mod MadeLemmas
 pub mod NoKind
 pub mod Numbering
 pub mod Numbers
+pub mod PlacedNames
 pub mod RuleTold
 pub mod SizeLemmas
 pub mod Steps

@@ -1,5 +1,5 @@
 -- Where no kind is told, no test holds.
-use Rattle.std.proofs.Common.{◌≡◌, Bool, true, false, ◌||◌, not, cond, List, [], ◌∷◌, Option, Some, None, refl}
+use Rattle.std.proofs.Common.{◌≡◌, Bool, true, false, cond, List, [], ◌∷◌, Option, Some, None, refl}
 use Rattle.aw_grammar.specs.declared.fault.DeclKind.{DeclKind}
 use Rattle.aw_grammar.specs.Kinds.{first_kind}
 
@@ -17,12 +17,3 @@ none_holds [] h = tt
 none_holds (test ∷ tests) h =
     let parts = not_first test.0 test.1 (first_kind tests) h in
     (parts.0, none_holds tests parts.1)
-
-pub neither : (a b : Bool) → (a || b) ≡ false → (a ≡ false) × (b ≡ false)
-neither false false h = (refl, refl)
-neither true b h = cc
-neither false true h = cc
-
-pub not_false : (a : Bool) → not a ≡ false → a ≡ true
-not_false true h = refl
-not_false false h = cc

@@ -1,5 +1,6 @@
 -- Which kind of a rule is told, group by group of tests.
-use Rattle.std.proofs.Common.{◌≡◌, ℕ, ◌≤◌, Bool, true, false, cond, not, ◌||◌, nat_le, nat_lt, List, [], ◌∷◌, ◌++◌, length, Option, Some, None, MatchOption, refl, sym, ap, ◌∙◌, arith}
+use Rattle.std.proofs.Common.{◌≡◌, ℕ, ◌≤◌, Bool, true, false, cond, not, ◌||◌, nat_le, nat_lt, List, [], ◌∷◌, ◌++◌, length, Option, Some, None, MatchOption, refl, sym, ap, ◌∙◌}
+use Rattle.std.proofs.lemmas.Bool.{ltb-false, or_parts}
 use Rattle.aw_index.specs.Places.{has_double}
 use Rattle.aw_grammar.specs.declared.fault.DeclKind.{DeclKind}
 use Rattle.aw_grammar.specs.declared.fault.DeclKind.TheVariants.{Limit, Twice, Never}
@@ -7,7 +8,6 @@ use Rattle.aw_grammar.specs.declared.variables.Variables.{Variables}
 use Rattle.aw_grammar.specs.Written.{WrittenRule}
 use Rattle.aw_grammar.specs.Declarations.{Declarations}
 use Rattle.aw_grammar.specs.Kinds.{first_kind, is_past_counts}
-use Rattle.aw_grammar.proofs.NoKind.{neither}
 
 abbrev or_kind : Option DeclKind → Option DeclKind → Option DeclKind
 or_kind None later = later
@@ -20,9 +20,6 @@ one_test false kind rest later told e = e
 first_append : (xs ys : List (Bool × DeclKind)) → first_kind (xs ++ ys) ≡ or_kind (first_kind xs) (first_kind ys)
 first_append [] ys = refl
 first_append (x ∷ xs) ys = one_test x.0 x.1 (first_kind xs) (first_kind ys) (first_kind (xs ++ ys)) (first_append xs ys)
-
-pub either_false : (a b : Bool) → a ≡ false → b ≡ false → (a || b) ≡ false
-either_false a b h k = ap (λ x. x || b) h ∙ k
 
 -- where the tests before tell nothing, those after decide
 pub later_tests : (past : Bool) (before after : List (Bool × DeclKind)) → past ≡ false → None ≡ first_kind before → first_kind ((past, Limit) ∷ (before ++ after)) ≡ first_kind after
@@ -47,13 +44,10 @@ found_variables names (Some w) v e h =
     let same : w ≡ v = cc in
     (h.0, sym (ap (λ (u : Variables). u.names) same) ∙ h.1)
 
-small_count : (n : ℕ) → nat_lt 8 n ≡ false → n ≤ 8
-small_count n h = grind arith
-
 pub few_params : (d : Declarations) (r : WrittenRule) → is_past_counts d r ≡ false → length r.params ≤ 8
 few_params d r h =
-    let a = neither (nat_le 1024 (length d.rules)) (nat_lt 8 (length r.patterns) || (nat_lt 8 (length r.results) || (nat_lt 8 (length r.params) || nat_lt 8 (length r.children)))) h in
-    let b = neither (nat_lt 8 (length r.patterns)) (nat_lt 8 (length r.results) || (nat_lt 8 (length r.params) || nat_lt 8 (length r.children))) a.1 in
-    let c = neither (nat_lt 8 (length r.results)) (nat_lt 8 (length r.params) || nat_lt 8 (length r.children)) b.1 in
-    let e = neither (nat_lt 8 (length r.params)) (nat_lt 8 (length r.children)) c.1 in
-    small_count (length r.params) e.0
+    let a = or_parts (nat_le 1024 (length d.rules)) (nat_lt 8 (length r.patterns) || (nat_lt 8 (length r.results) || (nat_lt 8 (length r.params) || nat_lt 8 (length r.children)))) h in
+    let b = or_parts (nat_lt 8 (length r.patterns)) (nat_lt 8 (length r.results) || (nat_lt 8 (length r.params) || nat_lt 8 (length r.children))) a.1 in
+    let c = or_parts (nat_lt 8 (length r.results)) (nat_lt 8 (length r.params) || nat_lt 8 (length r.children)) b.1 in
+    let e = or_parts (nat_lt 8 (length r.params)) (nat_lt 8 (length r.children)) c.1 in
+    ltb-false 8 (length r.params) e.0

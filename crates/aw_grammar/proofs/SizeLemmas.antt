@@ -4,6 +4,7 @@ use Rattle.aw_grammar.specs.declared.raw.RawTerm.{RawTerm}
 use Rattle.aw_grammar.specs.declared.raw.RawTerm as raw
 use Rattle.aw_grammar.specs.Written.{Written, Word, Apply, Literal, written_of}
 use Rattle.aw_grammar.specs.Terms.{depth_of, depth_of_all, symbols_in, symbols_in_all}
+use Rattle.aw_grammar.proofs.Emptying.{some_symbols}
 use Rattle.aw_grammar.proofs.TermLemmas.{symbols_apply, depth_apply}
 
 some_depth : (w : Written) → 0 < depth_of w
@@ -11,15 +12,10 @@ some_depth (Word x) = omega arith
 some_depth (Apply x ts) = omega arith
 some_depth (Literal h) = omega arith
 
-some_symbol : (w : Written) → 0 < symbols_in w
-some_symbol (Word x) = omega arith
-some_symbol (Apply x ts) = omega arith
-some_symbol (Literal h) = omega arith
-
 -- without depth or room nothing fits
 pub none_left : (t : RawTerm) (depth room : ℕ) → (depth ≡ 0) ⊎ (room ≡ 0) → (depth < depth_of (written_of t)) ⊎ (room < symbols_in (written_of t))
 none_left t depth room (inl e) = inl (omega (arith, some_depth (written_of t)))
-none_left t depth room (inr e) = inr (omega (arith, some_symbol (written_of t)))
+none_left t depth room (inr e) = inr (omega (arith, some_symbols (written_of t)))
 
 -- what the answer for a term's room says, by its depth and symbols
 abbrev pub Leaves : ℕ → ℕ → ℕ → ℕ → Option ℕ → Type 0

@@ -1,5 +1,6 @@
 -- A written term without fault stands for a term that fits.
-use Rattle.std.proofs.Common.{◌≡◌, ℕ, zero, suc, ◌+◌, ◌<◌, ◌≤◌, max, Bool, true, false, ◌&&◌, List, [], ◌∷◌, ◌++◌, length, map, Option, Some, None, option_and_then, slice_get, refl, sym, ap, ◌∙◌, subst, arith}
+use Rattle.std.proofs.Common.{◌≡◌, ℕ, zero, suc, ◌+◌, ◌<◌, ◌≤◌, max, true, ◌&&◌, List, [], ◌∷◌, ◌++◌, length, map, Option, Some, None, option_and_then, slice_get, refl, sym, ap, ◌∙◌, subst, arith}
+use Rattle.std.proofs.lemmas.Bool.{and_from, and_parts}
 use Rattle.std.proofs.lemmas.List.{map-append}
 use Rattle.aw_text.specs.Spelling.{is_content}
 use Rattle.aw_index.specs.Places.{place_of, or_else, number_of, stands}
@@ -14,14 +15,6 @@ use Rattle.aw_grammar.specs.Kinds.{is_known, parts_are_known, all_known, has_ari
 
 abbrev numbered_parts : List (List ℕ) → List (List ℕ) → Writtens → Trees ℕ
 numbered_parts cons variables ts = binds (λ x. Leaf (number_of x variables)) (resolved_parts cons ts)
-
-both : (a b : Bool) → (a && b) ≡ true → (a ≡ true) × (b ≡ true)
-both true true h = (refl, refl)
-both true false h = cc
-both false b h = cc
-
-all_three : (a b : Bool) → a ≡ true → b ≡ true → (a && b) ≡ true
-all_three a b h k = ap (λ x. x && b) h ∙ k
 
 -- sizes
 
@@ -97,22 +90,22 @@ name_fits cons x n c placed h =
 
 word_fits : (cons : List decl.Con) (f : List ℕ → ℕ) (x : List ℕ) (o : Option ℕ) → place_of x (map (λ (k : decl.Con). k.name) cons) ≡ o → has_arity 0 (con_called x cons) ≡ true → heads_fit (map (λ (k : decl.Con). k.arity) cons) (bind (λ y. Leaf (f y)) (word_tree x o)) ≡ true
 word_fits cons f x None placed h = refl
-word_fits cons f x (Some c) placed h = all_three _ true (name_fits cons x 0 c placed h) refl
+word_fits cons f x (Some c) placed h = and_from _ true (name_fits cons x 0 c placed h) refl
 
 literal_fits : (arities : List ℕ) (h : Head) → is_literal h ≡ true → (head_fits arities h 0 && true) ≡ true
 literal_fits arities (Con c) e = cc
 literal_fits arities (Num n) e = refl
-literal_fits arities (Text t) e = all_three (is_content t) true e refl
+literal_fits arities (Text t) e = and_from (is_content t) true e refl
 
 mutual
   numbered_heads : (cons : List decl.Con) (variables : List (List ℕ)) (t : Written) → is_known (map (λ (k : decl.Con). k.name) cons) t ≡ true → has_arities cons t ≡ true → has_contents t ≡ true → heads_fit (map (λ (k : decl.Con). k.arity) cons) (numbered (map (λ (k : decl.Con). k.name) cons) variables t) ≡ true
   numbered_heads cons variables (Word x) known arity content = word_fits cons (λ y. number_of y variables) x (place_of x (map (λ (k : decl.Con). k.name) cons)) refl arity
   numbered_heads cons variables (Apply x ts) known arity content =
       let names = map (λ (k : decl.Con). k.name) cons in
-      let k = both (stands x names) (parts_are_known names ts) known in
-      let a = both (has_arity (count_parts ts) (con_called x cons)) (parts_have_arities cons ts) arity in
+      let k = and_parts (stands x names) (parts_are_known names ts) known in
+      let a = and_parts (has_arity (count_parts ts) (con_called x cons)) (parts_have_arities cons ts) arity in
       let found = some_place x names k.0 in
-      all_three _ _
+      and_from _ _
       (ap (λ o. head_fits (map (λ (c : decl.Con). c.arity) cons) (Con (or_else (length names) o)) (count (numbered_parts names variables ts))) found.1
       ∙ ap (λ n. head_fits (map (λ (c : decl.Con). c.arity) cons) (Con found.0) n) (parts_count names variables ts)
       ∙ name_fits cons x (count_parts ts) found.0 found.1 a.0)
@@ -123,10 +116,10 @@ mutual
   parts_heads cons variables Empty known arity content = refl
   parts_heads cons variables (Then t ts) known arity content =
       let names = map (λ (k : decl.Con). k.name) cons in
-      let k = both (is_known names t) (parts_are_known names ts) known in
-      let a = both (has_arities cons t) (parts_have_arities cons ts) arity in
-      let e = both (has_contents t) (parts_have_contents ts) content in
-      all_three _ _ (numbered_heads cons variables t k.0 a.0 e.0) (parts_heads cons variables ts k.1 a.1 e.1)
+      let k = and_parts (is_known names t) (parts_are_known names ts) known in
+      let a = and_parts (has_arities cons t) (parts_have_arities cons ts) arity in
+      let e = and_parts (has_contents t) (parts_have_contents ts) content in
+      and_from _ _ (numbered_heads cons variables t k.0 a.0 e.0) (parts_heads cons variables ts k.1 a.1 e.1)
 
 -- terms in which nothing is at fault
 pub record Sound (cons : List decl.Con) (ts : List Written) : Type 0 where
@@ -140,9 +133,9 @@ pub sound_fit : (cons : List decl.Con) (variables : List (List ℕ)) (ts : List 
 sound_fit cons variables [] s = tt
 sound_fit cons variables (t ∷ ts) s =
     let names = map (λ (k : decl.Con). k.name) cons in
-    let k = both (is_known names t) (all_known names ts) s.known in
-    let a = both (has_arities cons t) (all_have_arities cons ts) s.arities in
-    let e = both (has_contents t) (all_have_contents ts) s.contents in
+    let k = and_parts (is_known names t) (all_known names ts) s.known in
+    let a = and_parts (has_arities cons t) (all_have_arities cons ts) s.arities in
+    let e = and_parts (has_contents t) (all_have_contents ts) s.contents in
     let deep = s.shallow in
     let same = numbered_nesting names variables t in (
       record { heads = numbered_heads cons variables t k.0 a.0 e.0; depth = subst (λ n. n ≤ 32) (sym same) (omega arith) },

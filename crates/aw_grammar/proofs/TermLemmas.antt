@@ -1,5 +1,6 @@
 -- What holds of a term in parentheses by what holds of its parts.
 use Rattle.std.proofs.Common.{◌≡◌, ℕ, suc, ◌+◌, ◌&&◌, List, [], ◌∷◌, ◌++◌, map, max, Result, Ok, Err, OnOk, length, refl, sym, ap, ◌∙◌}
+use Rattle.std.proofs.lemmas.List.{length-map}
 use Rattle.aw_index.specs.Places.{stands, number_of}
 use Rattle.aw_term.specs.Trees.{Con, Leaf, Made, More, binds, join}
 use Rattle.aw_term.specs.WellFormed.{leaves, all_leaves, leaves_of}
@@ -56,10 +57,6 @@ count_side : (ts : List Written) → count_parts (side_by_side ts) ≡ length ts
 count_side [] = refl
 count_side (t ∷ ts) = ap (λ n. suc n) (count_side ts)
 
-length_map : {A B : Type 0} (f : A → B) (xs : List A) → length (map f xs) ≡ length xs
-length_map f [] = refl
-length_map f (x ∷ xs) = ap (λ n. suc n) (length_map f xs)
-
 arities_side : (cons : List decl.Con) (ts : List Written) → parts_have_arities cons (side_by_side ts) ≡ all_have_arities cons ts
 arities_side cons [] = refl
 arities_side cons (t ∷ ts) = ap (λ b. has_arities cons t && b) (arities_side cons ts)
@@ -67,5 +64,5 @@ arities_side cons (t ∷ ts) = ap (λ b. has_arities cons t && b) (arities_side 
 pub arities_apply : (cons : List decl.Con) (name : List ℕ) (ts : List RawTerm) → has_arities cons (written_of (raw.Apply name ts)) ≡ (has_arity (length ts) (con_called name cons) && all_have_arities cons (map written_of ts))
 arities_apply cons name ts =
     ap (has_arities cons) (written_apply name ts)
-    ∙ ap (λ n. has_arity n (con_called name cons) && parts_have_arities cons (side_by_side (map written_of ts))) (count_side (map written_of ts) ∙ length_map written_of ts)
+    ∙ ap (λ n. has_arity n (con_called name cons) && parts_have_arities cons (side_by_side (map written_of ts))) (count_side (map written_of ts) ∙ length-map ts written_of)
     ∙ ap (λ b. has_arity (length ts) (con_called name cons) && b) (arities_side cons (map written_of ts))

@@ -1,10 +1,6 @@
 -- Tests one after another.
-use Rattle.std.proofs.Common.{◌≡◌, ℕ, ◌+◌, ◌≤◌, ◌<◌, ◌⊎◌, inl, inr, ⊎_elim, Bool, true, false, cond, ◌&&◌, ◌||◌, nat_lt, max, Option, Some, None, List, [], ◌∷◌, map, refl, sym, ap, ◌∙◌, subst, arith}
+use Rattle.std.proofs.Common.{◌≡◌, ℕ, ◌+◌, ◌≤◌, ◌<◌, ◌⊎◌, inl, inr, ⊎_elim, Bool, true, false, cond, ◌&&◌, ◌||◌, max, Option, Some, None, sym, ap, ◌∙◌, subst, arith}
 use Rattle.aw_grammar.specs.declared.fault.DeclKind.{DeclKind}
-use Rattle.aw_grammar.specs.declared.rule.Sort.{Sort}
-use Rattle.aw_grammar.specs.declared.rule.Rule.{Rule}
-use Rattle.aw_grammar.specs.Declarations.{Entry}
-use Rattle.aw_grammar.specs.GrammarOf.{entry}
 use Rattle.aw_grammar.proofs.SizeLemmas.{Leaves}
 
 pub skip_test : (test : Bool) (kind : DeclKind) (told later : Option DeclKind) → test ≡ false → told ≡ later → told ≡ cond test (Some kind) later
@@ -27,13 +23,6 @@ or_first p q h = sym (ap (λ b. b || q) h)
 
 pub or_last : (p q answer : Bool) → p ≡ false → answer ≡ q → answer ≡ (p || q)
 or_last p q answer h e = e ∙ sym (ap (λ b. b || q) h)
-
-pub few_enough : (n : ℕ) → n ≤ 64 → nat_lt 64 n ≡ false
-few_enough n h = grind arith
-
-pub entry_names : (sorts : List Sort) (rules : List Rule) → map (λ (e : Entry). e.name) (map (entry sorts) rules) ≡ map (λ (r : Rule). r.name) rules
-entry_names sorts [] = refl
-entry_names sorts (r ∷ rules) = ap (λ ns. r.name ∷ ns) (entry_names sorts rules)
 
 -- the room after patterns, arguments and results
 pub room_first : (dp da dr sp sa sr deep symbols : ℕ) → deep ≡ max dp (max da dr) → symbols ≡ sp + (sa + sr) → (32 < dp) ⊎ (256 < sp) → (32 < deep) ⊎ (256 < symbols)

@@ -1,5 +1,6 @@
 -- The variables of rules without fault: one name each, no two the same, none a constructor's.
-use Rattle.std.proofs.Common.{◌≡◌, ℕ, Bool, true, false, ◌&&◌, is_some, List, [], ◌∷◌, ◌++◌, map, length, Option, None, Some, refl, sym, ap, ◌∙◌, subst, append_assoc}
+use Rattle.std.proofs.Common.{◌≡◌, ℕ, true, false, is_some, List, [], ◌∷◌, ◌++◌, Option, None, Some, refl, sym, ap, ◌∙◌, subst, append_assoc}
+use Rattle.std.proofs.lemmas.Bool.{and_parts, or_parts}
 use Rattle.std.proofs.lemmas.List.{append-nil}
 use Rattle.std.proofs.Math.Logic.{∥∥₁_map}
 use Rattle.aw_text.specs.Spelling.{is_name}
@@ -16,15 +17,11 @@ use Rattle.aw_grammar.specs.Declarations.{Entry, entry_of}
 use Rattle.aw_grammar.specs.GrammarOf.{entry}
 use Rattle.aw_grammar.specs.Kinds.{rule_kind, rule_tests}
 use Rattle.aw_grammar.specs.Variables.{VariablesFit, AllVariablesFit}
-use Rattle.aw_grammar.proofs.NoKind.{none_holds, neither}
-use Rattle.aw_grammar.proofs.Growth.{each_append, each_map, each_push, differ_push}
+use Rattle.aw_grammar.proofs.NoKind.{none_holds}
+use Rattle.aw_term.proofs.Eaches.{each_append, each_map, each_push}
+use Rattle.aw_grammar.proofs.Growth.{differ_push}
 use Rattle.aw_grammar.proofs.Added.{listed}
-use Rattle.aw_grammar.proofs.FitsRule.{no_fault, sound_split, variables_are}
-
-both : (a b : Bool) → (a && b) ≡ true → (a ≡ true) × (b ≡ true)
-both true true h = (refl, refl)
-both true false h = cc
-both false b h = cc
+use Rattle.aw_grammar.proofs.FitsRule.{con_names, sort_names, no_fault, sound_split, variables_are}
 
 -- a name that is no constructor's
 abbrev IsFree : List (List ℕ) → List ℕ → Type 0
@@ -43,33 +40,27 @@ mutual
   parts_free : (cons : List (List ℕ)) (ts : Writtens) → parts_have_contents ts ≡ true → Each (IsFree cons) (all_leaves (resolved_parts cons ts))
   parts_free cons Empty h = tt
   parts_free cons (Then t ts) h =
-      let b = both (has_contents t) (parts_have_contents ts) h in
+      let b = and_parts (has_contents t) (parts_have_contents ts) h in
       each_append (IsFree cons) (leaves (resolved cons t)) (all_leaves (resolved_parts cons ts)) (term_free cons t b.0) (parts_free cons ts b.1)
 
 terms_free : (cons : List (List ℕ)) (ts : List Written) → all_have_contents ts ≡ true → Each (IsFree cons) (leaves_of (all_resolved cons ts))
 terms_free cons [] h = tt
 terms_free cons (t ∷ ts) h =
-    let b = both (has_contents t) (all_have_contents ts) h in
+    let b = and_parts (has_contents t) (all_have_contents ts) h in
     each_append (IsFree cons) (leaves (resolved cons t)) (leaves_of (all_resolved cons ts)) (term_free cons t b.0) (terms_free cons ts b.1)
 
 words_free : (cons xs : List (List ℕ)) → any_stands xs cons ≡ false → are_names xs ≡ true → Each (IsFree cons) xs
 words_free cons [] absent named = tt
 words_free cons (x ∷ xs) absent named =
-    let a = neither (stands x cons) (any_stands xs cons) absent in
-    let b = both (is_name x) (are_names xs) named in
+    let a = or_parts (stands x cons) (any_stands xs cons) absent in
+    let b = and_parts (is_name x) (are_names xs) named in
     ((a.0, b.0), words_free cons xs a.1 b.1)
 
 differ_behind : (seen xs : List (List ℕ)) → Differ seen → stands_again seen xs ≡ false → Differ (seen ++ xs)
 differ_behind seen [] d h = subst Differ (sym (append-nil seen)) d
 differ_behind seen (x ∷ xs) d h =
-    let p = neither (stands x seen) (stands_again (seen ++ x ∷ []) xs) h in
+    let p = or_parts (stands x seen) (stands_again (seen ++ x ∷ []) xs) h in
     subst Differ (append_assoc seen (x ∷ []) xs) (differ_behind (seen ++ x ∷ []) xs (differ_push seen x d p.0) p.1)
-
-abbrev con_names : List Con → List (List ℕ)
-con_names cons = map (λ (c : Con). c.name) cons
-
-abbrev sort_names : List Sort → List (List ℕ)
-sort_names sorts = map (λ (s : Sort). s.name) sorts
 
 entering_fit : (roles : List (List ℕ)) (cons : List Con) (sorts : List Sort) (rules : List Rule) (w : WrittenRule) → rule_kind (listed roles cons sorts rules) w ≡ None
     → all_have_contents (terms_of w) ≡ true → are_names (w.params ++ results_of w.children) ≡ true

@@ -1,4 +1,6 @@
 //! Building a grammar, one declaration after the other.
+//!
+//! A grammar that is given up is let go whole, by `drop`: it is proved in far less time than field by field.
 ghost use Rattle.std.specs.Prelude.{◌≡◌, ◌<◌, ◌++◌, true, [], length, IfOk};
 ghost use Rattle.aw_grammar.specs.Declarations.{with_start_at};
 ghost use Rattle.aw_text.specs.Spelling.{is_name};
@@ -6,6 +8,7 @@ ghost use Rattle.aw_text.specs.Spelling.{is_name};
 use crate::fault::{AddFault, GrammarFault};
 use crate::grammar::Grammar;
 use crate::made::checked_rule;
+use crate::named::added;
 use crate::raw::{Parts, RawCon, RawRule, RawSort};
 use crate::rule::{Con, Sort, Sorts};
 use crate::whole::add_all;
@@ -39,183 +42,99 @@ impl Grammar {
     }
 
     /// Declares a role. Sorts come later.
-    pub fn add_role(self, name: Text) -> Result<Grammar, AddFault>
+    pub fn add_role(mut self, name: Text) -> Result<Grammar, AddFault>
         requires named { is_name name ≡ true }
         requires no_sorts { self.sorts ≡ [] }
         requires no_rules { self.rules ≡ [] }
         ensures { Added (role_kind (declarations_of self) name) (with_role (declarations_of self) name) result }
     {
         if let Some(kind) = self.kind_of_role(&name) {
+            drop(self);
             return Err(AddFault::Bad(kind));
         }
-        let Grammar {
-            mut roles,
-            cons,
-            sorts,
-            rules,
-            mut role_index,
-            con_index,
-            sort_index,
-            rule_index,
-        } = self;
-        role_index.push(name.as_slice())?;
-        roles.push(name)?;
-        Ok(Grammar {
-            roles,
-            cons,
-            sorts,
-            rules,
-            role_index,
-            con_index,
-            sort_index,
-            rule_index,
-        })
+        let (roles, index) = added(self.roles, self.role_index, name)?;
+        self.roles = roles;
+        self.role_index = index;
+        Ok(self)
     }
 
     /// Declares a constructor. Rules come later.
-    pub fn add_con(self, con: RawCon) -> Result<Grammar, AddFault>
+    pub fn add_con(mut self, con: RawCon) -> Result<Grammar, AddFault>
         requires named { is_name con.name ≡ true }
         requires no_rules { self.rules ≡ [] }
         ensures { Added (con_kind (declarations_of self) con) (with_con (declarations_of self) con) result }
     {
         if let Some(kind) = self.kind_of_con(&con) {
+            drop(self);
             return Err(AddFault::Bad(kind));
         }
-        let Grammar {
-            roles,
-            mut cons,
-            sorts,
-            rules,
-            role_index,
-            mut con_index,
-            sort_index,
-            rule_index,
-        } = self;
-        let RawCon { name, arity } = con;
-        con_index.push(name.as_slice())?;
-        cons.push(Con {
-            name,
-            arity: arity as u8,
-        })?;
-        Ok(Grammar {
-            roles,
-            cons,
-            sorts,
-            rules,
-            role_index,
-            con_index,
-            sort_index,
-            rule_index,
-        })
+        let made = Con {
+            arity: con.arity as u8,
+            name: con.name,
+        };
+        let (cons, index) = added(self.cons, self.con_index, made)?;
+        self.cons = cons;
+        self.con_index = index;
+        Ok(self)
     }
 
     /// Declares a sort of a role that is declared. Rules come later.
-    pub fn add_sort(self, sort: RawSort) -> Result<Grammar, AddFault>
+    pub fn add_sort(mut self, sort: RawSort) -> Result<Grammar, AddFault>
         requires named { is_name sort.name ≡ true }
         requires no_rules { self.rules ≡ [] }
         ensures { Added (sort_kind (declarations_of self) sort) (with_sort (declarations_of self) sort) result }
     {
         if let Some(kind) = self.kind_of_sort(&sort) {
+            drop(self);
             return Err(AddFault::Bad(kind));
         }
-        let role = self.role_index.place(sort.role.as_slice()) as u16;
-        let Grammar {
-            roles,
-            cons,
-            mut sorts,
-            rules,
-            role_index,
-            con_index,
-            mut sort_index,
-            rule_index,
-        } = self;
-        let RawSort {
-            name,
-            takes,
-            gives,
-            ..
-        } = sort;
-        sort_index.push(name.as_slice())?;
-        sorts.push(Sort {
-            name,
-            role,
-            takes: takes as u8,
-            gives: gives as u8,
+        let made = Sort {
+            role: self.role_index.place(sort.role.as_slice()) as u16,
+            takes: sort.takes as u8,
+            gives: sort.gives as u8,
             start: false,
-        })?;
-        Ok(Grammar {
-            roles,
-            cons,
-            sorts,
-            rules,
-            role_index,
-            con_index,
-            sort_index,
-            rule_index,
-        })
+            name: sort.name,
+        };
+        let (sorts, index) = added(self.sorts, self.sort_index, made)?;
+        self.sorts = sorts;
+        self.sort_index = index;
+        Ok(self)
     }
 
     /// Makes a declared sort a start sort. Rules come later.
-    pub fn add_start(self, name: &Text) -> Result<Grammar, AddFault>
+    pub fn add_start(mut self, name: &Text) -> Result<Grammar, AddFault>
         requires no_rules { self.rules ≡ [] }
         ensures { Added (start_kind (declarations_of self) name.now) (with_start (declarations_of self) name.now) result }
     {
         if let Some(kind) = self.kind_of_start(name) {
+            drop(self);
             return Err(AddFault::Bad(kind));
         }
         let place = self.sort_index.place(name.as_slice());
-        let Grammar {
-            roles,
-            cons,
-            sorts,
-            rules,
-            role_index,
-            con_index,
-            sort_index,
-            rule_index,
-        } = self;
-        Ok(Grammar {
-            roles,
-            cons,
-            sorts: start_at(sorts, place),
-            rules,
-            role_index,
-            con_index,
-            sort_index,
-            rule_index,
-        })
+        self.sorts = start_at(self.sorts, place);
+        Ok(self)
     }
 
     /// Declares a rule.
-    pub fn add_rule(self, rule: RawRule) -> Result<Grammar, AddFault>
+    pub fn add_rule(mut self, rule: RawRule) -> Result<Grammar, AddFault>
         requires named { is_name rule.name ≡ true }
         requires contents { all_have_contents (terms_of (rule_of_raw rule)) ≡ true }
         requires variables { are_names ((rule_of_raw rule).params ++ results_of (rule_of_raw rule).children) ≡ true }
         ensures { Added (rule_kind (declarations_of self) (rule_of_raw rule)) (with_rule (declarations_of self) (rule_of_raw rule)) result }
     {
-        let made = checked_rule(&self, &rule)?;
-        let Grammar {
-            roles,
-            cons,
-            sorts,
-            mut rules,
-            role_index,
-            con_index,
-            sort_index,
-            mut rule_index,
-        } = self;
-        rule_index.push(made.name.as_slice())?;
-        rules.push(made)?;
-        Ok(Grammar {
-            roles,
-            cons,
-            sorts,
-            rules,
-            role_index,
-            con_index,
-            sort_index,
-            rule_index,
-        })
+        let checked = checked_rule(&self, &rule);
+        drop(rule);
+        let made = match checked {
+            Ok(made) => made,
+            Err(fault) => {
+                drop(self);
+                return Err(fault);
+            }
+        };
+        let (rules, index) = added(self.rules, self.rule_index, made)?;
+        self.rules = rules;
+        self.rule_index = index;
+        Ok(self)
     }
 
     /// The grammar of a specification's declarations, or the first place with a fault, in the order roles, constructors, sorts, starts, rules, with its

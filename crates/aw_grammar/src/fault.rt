@@ -2,7 +2,7 @@
 ghost use Rattle.std.specs.Prelude.{◌≡◌};
 ghost use Rattle.aw_grammar.specs.declared.fault.AddFault.TheVariants.{NoMemory};
 
-use std::alloc::{AllocError, AllocFailed};
+use std::alloc::AllocError;
 
 /// Kinds of fault, in the order in which they are told.
 #[derive(Clone, Copy, Debug, PartialEq, Eq)]
@@ -53,14 +53,6 @@ impl From<AllocError> for AddFault {
     ghost from_gives = { λ _ e. e ≡ NoMemory };
 
     fn from(_fault: AllocError) -> AddFault {
-        AddFault::NoMemory
-    }
-}
-
-impl<T: Drop> From<AllocFailed<T>> for AddFault {
-    ghost from_gives = { λ _ e. e ≡ NoMemory };
-
-    fn from(_fault: AllocFailed<T>) -> AddFault {
         AddFault::NoMemory
     }
 }

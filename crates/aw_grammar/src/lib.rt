@@ -8,6 +8,7 @@ pub mod fault;
 pub mod grammar;
 mod kinds;
 mod made;
+mod named;
 pub mod raw;
 mod resolve;
 pub mod rule;

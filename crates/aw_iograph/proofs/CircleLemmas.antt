@@ -1,24 +1,22 @@
 -- Circles of a rule and of its arcs.
-use Rattle.std.proofs.Common.{◌≡◌, ℕ, zero, suc, ◌<◌, ◌≤◌, List, map, slice_get, Option, Some, None, slice_index, sym, ap, ◌∙◌, subst, inl, inr, arith}
+use Rattle.std.proofs.Common.{◌≡◌, ℕ, ◌<◌, ◌≤◌, List, map, slice_get, Option, Some, None, slice_index, sym, ap, ◌∙◌, subst, inl, inr, arith}
 use Rattle.std.specs.Prelude.{◌⊎◌}
+use Rattle.std.proofs.lemmas.Bool.{cases_lt}
 use Rattle.aw_term.specs.Rules as P
 use Rattle.aw_iograph.specs.declared.reach.Arc.{Arc}
 use Rattle.aw_iograph.specs.declared.occ.Occ.{Occ}
-use Rattle.aw_iograph.specs.Graphs.{Member, Plus, step, more, Arrow, FirstCircle, Rises}
+use Rattle.aw_iograph.specs.Graphs.{Member, Plus, Arrow, FirstCircle, Rises}
 use Rattle.aw_iograph.specs.Occurrences.{IsPlace, place_of}
 use Rattle.aw_iograph.specs.Dependence.{IsOnCircle, LeastOnCircle}
 use Rattle.aw_iograph.specs.Arcs.{IsGraphOf}
 use Rattle.aw_iograph.proofs.Members.{got_map}
 use Rattle.aw_iograph.proofs.Placing.{place_below, place_order}
 use Rattle.aw_iograph.proofs.RuleGraphs.{walk_arcs, arcs_walk, circle_place}
-
-rising_walk : (arcs : List Arc) (ranks : List ℕ) → ((arc : Arc) → Member arc arcs → Rises ranks arc) → {a b : ℕ} → Plus (Arrow arcs) a b → slice_index ranks a < slice_index ranks b
-rising_walk arcs ranks all (step m) = all _ m
-rising_walk arcs ranks all (more m w) = let x = all _ m in let y = rising_walk arcs ranks all w in omega (arith, x, y)
+use Rattle.aw_iograph.proofs.Reaching.{rises}
 
 -- where numbers rise over each arc no place is reached from itself
 pub rising_none : (arcs : List Arc) (ranks : List ℕ) → ((arc : Arc) → Member arc arcs → Rises ranks arc) → (v : ℕ) → Plus (Arrow arcs) v v → ⊥
-rising_none arcs ranks all v w = let x : slice_index ranks v < slice_index ranks v = rising_walk arcs ranks all w in omega arith
+rising_none arcs ranks all v w = let x : slice_index ranks v < slice_index ranks v = rises (Arrow arcs) (slice_index ranks) (λ a b m. all _ m) w in omega arith
 
 pub no_circle : (r : P.Rule) (rel : ℕ → ℕ → ℕ → Type 0) (arcs : List Arc) → IsGraphOf r rel arcs → FirstCircle arcs None → LeastOnCircle rel r None
 no_circle r rel arcs g none o w = absurd (none (place_of o) (place_below o (circle_place r rel arcs g w)) (walk_arcs r rel arcs g w))
@@ -26,14 +24,9 @@ no_circle r rel arcs g none o w = absurd (none (place_of o) (place_below o (circ
 pub least_circle : (r : P.Rule) (rel : ℕ → ℕ → ℕ → Type 0) (arcs : List Arc) → IsGraphOf r rel arcs → (v : ℕ) (o : Occ) → place_of o ≡ v → IsPlace o → FirstCircle arcs (Some v) → LeastOnCircle rel r (Some o)
 least_circle r rel arcs g v o at p first = (
   arcs_walk r rel arcs g o o p p (subst (λ x. Plus (Arrow arcs) x x) (sym at) first.1),
-  λ u w. let q = circle_place r rel arcs g w in place_order o u p q (not_before u w (least (place_of o) (place_of u))),
+  λ u w. let q = circle_place r rel arcs g w in place_order o u p q (not_before u w (cases_lt (place_of u) (place_of o))),
 )
   where
-    least : (a b : ℕ) → (b < a) ⊎ (a ≤ b)
-    least zero b = inr (omega arith)
-    least (suc a) zero = inl (omega arith)
-    least (suc a) (suc b) = elim (least a b) [ inl x ↦ inl (omega arith) | inr x ↦ inr (omega arith) ]
-
     not_before : (u : Occ) → IsOnCircle rel r u → (place_of u < place_of o) ⊎ (place_of o ≤ place_of u) → place_of o ≤ place_of u
     not_before u w (inl less) = absurd (first.2 (place_of u) (subst (λ x. place_of u < x) at less) (walk_arcs r rel arcs g w))
     not_before u w (inr le) = le

@@ -1,6 +1,7 @@
 -- A rule of a well-formed grammar has at most 8 of each.
 use Rattle.std.proofs.Common.{◌≡◌, ℕ, zero, suc, ◌<◌, ◌≤◌, List, [], ◌∷◌, length, Some, slice_get, sym, subst, arith}
 use Rattle.std.proofs.Math.Logic.{∥∥₁_elim}
+use Rattle.std.proofs.lemmas.List.{length-map}
 use Rattle.std.specs.Coded.{le_prop}
 use Rattle.aw_term.specs.Rules as P
 use Rattle.aw_term.specs.Choices.{gives_of}
@@ -13,14 +14,14 @@ use Rattle.aw_grammar.specs.GrammarView.{rule_of, child_of, sort_of}
 use Rattle.aw_grammar.specs.GrammarOf.{grammar_of}
 use Rattle.aw_grammar.proofs.Fits.{each_at, each_map_at}
 use Rattle.aw_iograph.specs.Small.{IsSmall, HasFew}
-use Rattle.aw_iograph.proofs.Members.{length_map, got_map}
+use Rattle.aw_iograph.proofs.Members.{got_map}
 
-takes_few : (roles : ℕ) (sorts : List P.Sort) → Each (SortFits roles) sorts → (s : ℕ) → takes_of (slice_get sorts s) ≤ 8
+pub takes_few : (roles : ℕ) (sorts : List P.Sort) → Each (SortFits roles) sorts → (s : ℕ) → takes_of (slice_get sorts s) ≤ 8
 takes_few roles [] fits s = omega arith
 takes_few roles (t ∷ ts) fits zero = fits.0.few_takes
 takes_few roles (t ∷ ts) fits (suc s) = takes_few roles ts fits.1 s
 
-gives_few : (roles : ℕ) (sorts : List P.Sort) → Each (SortFits roles) sorts → (s : ℕ) → gives_of (slice_get sorts s) ≤ 8
+pub gives_few : (roles : ℕ) (sorts : List P.Sort) → Each (SortFits roles) sorts → (s : ℕ) → gives_of (slice_get sorts s) ≤ 8
 gives_few roles [] fits s = omega arith
 gives_few roles (t ∷ ts) fits zero = fits.0.few_gives
 gives_few roles (t ∷ ts) fits (suc s) = gives_few roles ts fits.1 s
@@ -43,12 +44,12 @@ few_of g n r e = ∥∥₁_elim g.well_formed (few_prop (rule_of g.sorts r))
 
 pub small_of : (sorts : List Sort) (r : Rule) → HasFew (rule_of sorts r) → IsSmall r
 small_of sorts r few = record {
-  patterns = subst (λ n. n ≤ 8) (length_map pattern_of r.patterns) few.patterns;
-  results = subst (λ n. n ≤ 8) (length_map term_of r.results) few.results;
-  children = subst (λ n. n ≤ 8) (length_map (child_of sorts) r.children) few.children;
-  args = λ k c e. subst (λ n. n ≤ 8) (length_map term_of c.args) (few.args k (child_of sorts c) (got_map (child_of sorts) r.children k c e));
+  patterns = subst (λ n. n ≤ 8) (length-map r.patterns pattern_of) few.patterns;
+  results = subst (λ n. n ≤ 8) (length-map r.results term_of) few.results;
+  children = subst (λ n. n ≤ 8) (length-map r.children (child_of sorts)) few.children;
+  args = λ k c e. subst (λ n. n ≤ 8) (length-map c.args term_of) (few.args k (child_of sorts c) (got_map (child_of sorts) r.children k c e));
 }
 
 pub declared_of : (g : Grammar) (n : ℕ) (r : Rule) → slice_get g.rules n ≡ Some r → r.sort < length g.sorts
 declared_of g n r e = ∥∥₁_elim g.well_formed le_prop
-    (λ w. subst (λ m. r.sort < m) (length_map sort_of g.sorts) (each_map_at (rule_of g.sorts) (RuleFits (grammar_of g)) g.rules n r w.rules e).declared)
+    (λ w. subst (λ m. r.sort < m) (length-map g.sorts sort_of) (each_map_at (rule_of g.sorts) (RuleFits (grammar_of g)) g.rules n r w.rules e).declared)

@@ -15,19 +15,6 @@ set_kept (m ∷ ms) zero (suc k) e = e
 set_kept (m ∷ ms) (suc at) zero e = e
 set_kept (m ∷ ms) (suc at) (suc k) e = set_kept ms at k e
 
-pub set_here : (marks : List Bool) (at : ℕ) → at < length marks → Marked (slice_set marks at true) at
-set_here [] at lt = absurd (omega arith)
-set_here (m ∷ ms) zero lt = refl
-set_here (m ∷ ms) (suc at) lt = let below : at < length ms = omega arith in set_here ms at below
-
--- what is marked now was marked before, or is the place
-pub set_only : (marks : List Bool) (at k : ℕ) → Marked (slice_set marks at true) k → (k ≡ at) ⊎ Marked marks k
-set_only [] at k e = inr e
-set_only (m ∷ ms) zero zero e = inl refl
-set_only (m ∷ ms) zero (suc k) e = inr e
-set_only (m ∷ ms) (suc at) zero e = inr e
-set_only (m ∷ ms) (suc at) (suc k) e = elim (set_only ms at k e) [ inl same ↦ inl (ap suc same) | inr was ↦ inr was ]
-
 pub set_fewer : (marks : List Bool) (at : ℕ) → at < length marks → get_or marks at false ≡ false → unset (slice_set marks at true) < unset marks
 set_fewer [] at lt e = absurd (omega arith)
 set_fewer (true ∷ ms) zero lt e = cc
@@ -44,17 +31,6 @@ grown_set marks at lt e = record {
   same = λ off. cc;
   fewer = λ on. set_fewer marks at lt e;
 }
-
-pub set_same : (marks : List Bool) (at : ℕ) → get_or marks at false ≡ true → slice_set marks at true ≡ marks
-set_same [] at e = refl
-set_same (m ∷ ms) zero e = let same : true ≡ m = cc in ap (λ b. b ∷ ms) same
-set_same (m ∷ ms) (suc at) e = ap (λ bs. m ∷ bs) (set_same ms at e)
-
--- nothing is marked
-pub none_marked : (n k : ℕ) → Marked (replicate n false) k → ⊥
-none_marked zero k e = cc
-none_marked (suc n) zero e = cc
-none_marked (suc n) (suc k) e = none_marked n k e
 
 pub grown_trans : (a b c : List Bool) (x y z : Bool) → z ≡ (y || x) → Grown a b x → Grown b c y → Grown a c z
 grown_trans a b c true true z e p q = record { size = q.size ∙ p.size; kept = λ k m. q.kept k (p.kept k m); same = λ off. cc; fewer = λ on. let one = p.fewer refl in let two = q.fewer refl in omega arith }

@@ -1,6 +1,7 @@
 -- Members of a list and their places.
 use Rattle.std.proofs.Common.{◌≡◌, ℕ, zero, suc, ◌+◌, ◌<◌, List, [], ◌∷◌, ◌++◌, map, length, Option, Some, None, slice_get, refl, sym, ap, ◌∙◌, subst, inl, inr, arith, get_or}
 use Rattle.std.specs.Prelude.{◌⊎◌}
+use Rattle.std.proofs.lemmas.Option.{get_or_from_slice_get, slice_get_read}
 use Rattle.aw_term.specs.Trees.{Never}
 use Rattle.aw_term.specs.Rules.{get, upto}
 use Rattle.aw_iograph.specs.Graphs.{Member}
@@ -23,11 +24,6 @@ member_place [] x m = never m
 member_place (y ∷ ys) x (inl same) = (0, omega arith, ap Some (sym same))
 member_place (y ∷ ys) x (inr m) = let (k, lt, e) = member_place ys x m in (suc k, omega arith, e)
 
-pub got_at : {A : Type 0} (xs : List A) (i : ℕ) (d x : A) → slice_get xs i ≡ Some x → get_or xs i d ≡ x
-got_at [] i d x e = cc
-got_at (y ∷ ys) zero d x e = cc
-got_at (y ∷ ys) (suc i) d x e = got_at ys i d x e
-
 pub below_or_at : (k i : ℕ) → k < i + 1 → (k < i) ⊎ (k ≡ i)
 below_or_at zero zero lt = inr refl
 below_or_at zero (suc i) lt = inl (omega arith)
@@ -36,7 +32,7 @@ below_or_at (suc k) (suc i) lt = let l : k < i + 1 = omega arith in elim (below_
 
 -- what holds of each item before a place, and of the one there, holds of each up to it
 pub each_more : {A : Type 0} (P : A → Type 0) (xs : List A) (i : ℕ) (d : A) → ((k : ℕ) → k < i → (x : A) → slice_get xs k ≡ Some x → P x) → P (get_or xs i d) → (k : ℕ) → k < i + 1 → (x : A) → slice_get xs k ≡ Some x → P x
-each_more P xs i d before here k lt x e = elim (below_or_at k i lt) [ inl less ↦ before k less x e | inr same ↦ subst P (got_at xs i d x (ap (slice_get xs) (sym same) ∙ e)) here ]
+each_more P xs i d before here k lt x e = elim (below_or_at k i lt) [ inl less ↦ before k less x e | inr same ↦ subst P (get_or_from_slice_get xs i x d (ap (slice_get xs) (sym same) ∙ e)) here ]
 
 pub get_some : {A : Type 0} (d : A) (xs : List A) (i : ℕ) (x : A) → slice_get xs i ≡ Some x → get d xs i ≡ x
 get_some d [] i x e = cc
@@ -82,15 +78,6 @@ got_unmap f [] i y e = absurd cc
 got_unmap f (x ∷ xs) zero y e = let same : y ≡ f x = cc in (x, refl, same)
 got_unmap f (x ∷ xs) (suc i) y e = got_unmap f xs i y e
 
-pub got_within : {A : Type 0} (xs : List A) (i : ℕ) (x : A) → slice_get xs i ≡ Some x → i < length xs
-got_within [] i x e = absurd cc
-got_within (y ∷ ys) zero x e = omega arith
-got_within (y ∷ ys) (suc i) x e = let lt = got_within ys i x e in omega arith
-
-pub length_map : {A B : Type 0} (f : A → B) (xs : List A) → length (map f xs) ≡ length xs
-length_map f [] = refl
-length_map f (x ∷ xs) = ap suc (length_map f xs)
-
 pub get_member : {A : Type 0} (xs : List (Option A)) (i : ℕ) (x : A) → get None xs i ≡ Some x → Member (Some x) xs
 get_member [] i x e = absurd cc
 get_member (y ∷ ys) zero x e = inl (sym e)
@@ -102,9 +89,4 @@ member_upto x n (suc m) (inl e) = let z : x ≡ n + 0 = omega arith in (0, omega
 member_upto x n (suc m) (inr r) = let (i, lt, e) = member_upto x (suc n) m r in let z : x ≡ n + suc i = omega arith in (suc i, omega arith, z)
 
 pub got_here : {A : Type 0} (xs ys : List A) (i : ℕ) (x : A) → xs ≡ ys → i < length xs → x ≡ get_or xs i x → slice_get ys i ≡ Some x
-got_here xs ys i x same lt e = subst (λ (zs : List _). slice_get zs i ≡ Some x) same (at xs i x lt e)
-  where
-    at : {A : Type 0} (xs : List A) (i : ℕ) (x : A) → i < length xs → x ≡ get_or xs i x → slice_get xs i ≡ Some x
-    at [] i x lt e = absurd (omega arith)
-    at (z ∷ zs) zero x lt e = ap Some (sym e)
-    at (z ∷ zs) (suc i) x lt e = let below : i < length zs = omega arith in at zs i x below e
+got_here xs ys i x same lt e = subst (λ (zs : List _). slice_get zs i ≡ Some x) same (slice_get_read xs (length xs) i x refl lt e)

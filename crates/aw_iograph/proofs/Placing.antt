@@ -1,6 +1,8 @@
 -- Each occurrence of a rule has its place.
 use Rattle.std.proofs.Common.{◌≡◌, ℕ, zero, suc, ◌+◌, ◌*◌, ◌-◌, ◌<◌, ◌≤◌, Bool, true, false, List, [], ◌∷◌, ◌++◌, map, length, replicate, Some, None, slice_get, refl, sym, ap, ◌∙◌, subst, inl, inr, arith}
 use Rattle.std.specs.Prelude.{◌⊎◌, if◌then◌else◌}
+use Rattle.std.proofs.lemmas.Bool.{cases_lt}
+use Rattle.std.proofs.lemmas.Option.{same_Some, slice_get_within}
 use Rattle.aw_term.specs.Trees.{Never}
 use Rattle.aw_term.specs.Rules.{Term, Child, Rule, get, upto}
 use Rattle.aw_term.specs.WellFormed.{leaves}
@@ -8,18 +10,15 @@ use Rattle.aw_iograph.specs.declared.occ.Occ.{Occ}
 use Rattle.aw_iograph.specs.Graphs.{Member}
 use Rattle.aw_iograph.specs.Occurrences.{inherited, given, pattern_entries, child_entries, entries, term_at, IsPlace, place_of, IsUpTo}
 use Rattle.aw_iograph.specs.Small.{HasFew}
-use Rattle.aw_iograph.proofs.Members.{never, member_split, member_unmap, member_upto, get_member, got_within}
+use Rattle.aw_iograph.proofs.Members.{never, member_split, member_unmap, member_upto, get_member}
 use Rattle.aw_iograph.proofs.TextFlows.{Stands, argument, outcome, stands}
-
-some_inj : {A : Type 0} (x y : A) → Some x ≡ Some y → x ≡ y
-some_inj x y e = cc
 
 pattern_place : (ps : List Term) (n : ℕ) (o : Occ) → 0 < n → n + length ps ≤ 9 → Member (Some o) (pattern_entries n ps) → IsPlace o
 pattern_place [] n o pos few m = never m
 pattern_place (p ∷ ps) n o pos few m = elim (member_split (Some o) (map (λ v. Some (inherited 0 n)) (leaves p)) (pattern_entries (suc n) ps) m) [
   | inl a ↦ (let (v, w, e) = member_unmap (λ v. Some (inherited 0 n)) (Some o) (leaves p) a in
       let small : n ≤ 8 = omega arith in let none : 0 ≤ 8 = omega arith in
-      subst IsPlace (sym (some_inj o (inherited 0 n) e)) (record { child = none; counted = pos; number = small }))
+      subst IsPlace (sym (same_Some o (inherited 0 n) e)) (record { child = none; counted = pos; number = small }))
   | inr b ↦ (let next : suc n + length ps ≤ 9 = omega arith in let above : 0 < suc n = omega arith in pattern_place ps (suc n) o above next b)
 ]
 
@@ -35,7 +34,7 @@ child_place (c ∷ cs) n o few outs m = elim (member_split (Some o) (map (λ l. 
       let (i, lt, at) = member_upto l 1 c.outs w in
       let most : c.outs ≤ 8 = outs 0 c refl in
       let small : n ≤ 8 = omega arith in let pos : 0 < l = omega arith in let number : l ≤ 8 = omega arith in
-      subst IsPlace (sym (some_inj o (given n l) e)) (record { child = small; counted = pos; number = number }))
+      subst IsPlace (sym (same_Some o (given n l) e)) (record { child = small; counted = pos; number = number }))
   | inr b ↦ (let next : suc n + length cs ≤ 9 = omega arith in child_place cs (suc n) o next (λ k d e. outs (suc k) d e) b)
 ]
 
@@ -50,10 +49,10 @@ entry_place r v o few e = elim (member_split (Some o) (pattern_entries 1 r.patte
 
 standing_place : (r : Rule) (t : Term) (u : Occ) → HasFew r → Stands r t u → IsPlace u
 standing_place r t u few (argument k i c g h) =
-    let a : k < length r.children = got_within r.children k c g in let b : i < length c.args = got_within c.args i t h in
+    let a : k < length r.children = slice_get_within r.children k c g in let b : i < length c.args = slice_get_within c.args i t h in
     record { child = omega (arith, few.children); counted = omega arith; number = omega (arith, few.args k c g) }
 standing_place r t u few (outcome j h) =
-    let b : j < length r.results = got_within r.results j t h in
+    let b : j < length r.results = slice_get_within r.results j t h in
     record { child = omega arith; counted = omega arith; number = omega (arith, few.results) }
 
 pub term_place : (r : Rule) (t : Term) (u : Occ) → HasFew r → term_at r u ≡ Some t → IsPlace u
@@ -83,17 +82,11 @@ place_one o u p q e =
 pub place_order : (o u : Occ) → IsPlace o → IsPlace u → place_of o ≤ place_of u → IsUpTo o u
 place_order o u p q le = parts o.child u.child o.result u.result o.number u.number p.counted p.number q.counted q.number le
   where
-    child_cases : (k l : ℕ) → k ≤ l → (k < l) ⊎ (k ≡ l)
-    child_cases zero zero le = inr refl
-    child_cases zero (suc l) le = inl (omega arith)
-    child_cases (suc k) zero le = absurd (omega arith)
-    child_cases (suc k) (suc l) le = let below : k ≤ l = omega arith in elim (child_cases k l below) [ inl a ↦ inl (omega arith) | inr b ↦ inr (ap suc b) ]
-
     parts : (k l : ℕ) (b c : Bool) (i j : ℕ) → 0 < i → i ≤ 8 → 0 < j → j ≤ 8 → k * 16 + ((if b then 8 else 0) + (i - 1)) ≤ l * 16 + ((if c then 8 else 0) + (j - 1)) →
         (k < l) ⊎ ((k ≡ l) × (((b ≡ false) × (c ≡ true)) ⊎ ((b ≡ c) × (i ≤ j))))
-    parts k l true true i j a p b q le = let few : k ≤ l = omega arith in elim (child_cases k l few) [ inl x ↦ inl x | inr e ↦ inr (e, inr (refl, omega arith)) ]
-    parts k l false false i j a p b q le = let few : k ≤ l = omega arith in elim (child_cases k l few) [ inl x ↦ inl x | inr e ↦ inr (e, inr (refl, omega arith)) ]
-    parts k l false true i j a p b q le = let few : k ≤ l = omega arith in elim (child_cases k l few) [ inl x ↦ inl x | inr e ↦ inr (e, inl (refl, refl)) ]
+    parts k l true true i j a p b q le = elim (cases_lt k l) [ inl x ↦ inl x | inr y ↦ inr (omega arith, inr (refl, omega arith)) ]
+    parts k l false false i j a p b q le = elim (cases_lt k l) [ inl x ↦ inl x | inr y ↦ inr (omega arith, inr (refl, omega arith)) ]
+    parts k l false true i j a p b q le = elim (cases_lt k l) [ inl x ↦ inl x | inr y ↦ inr (omega arith, inl (refl, refl)) ]
     parts k l true false i j a p b q le = let less : k < l = omega arith in inl less
 
 pub number_place : (b : Bool) (i : ℕ) → 0 < i → i ≤ 8 → IsPlace (record { child = 0; result = b; number = i })

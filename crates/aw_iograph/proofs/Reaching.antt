@@ -1,6 +1,7 @@
 -- Marks that spread over arcs.
-use Rattle.std.proofs.Common.{◌≡◌, ℕ, ◌+◌, ◌<◌, Bool, true, false, List, length, Some, slice_get, refl, sym, ◌∙◌, subst, inl, inr, get_or}
+use Rattle.std.proofs.Common.{◌≡◌, ℕ, ◌+◌, ◌<◌, Bool, false, List, length, Some, slice_get, sym, ◌∙◌, subst, inl, inr, get_or, arith}
 use Rattle.std.specs.Prelude.{◌⊎◌, ◌||◌}
+use Rattle.std.proofs.lemmas.Bool.{or_parts}
 use Rattle.aw_iograph.specs.declared.reach.Arc.{Arc}
 use Rattle.aw_iograph.specs.Graphs.{Member, Plus, step, more, Arrow, AreReached, IsSpread, Passed}
 use Rattle.aw_iograph.specs.Growth.{Marked, Grown}
@@ -10,6 +11,11 @@ use Rattle.aw_iograph.proofs.Members.{member_at, member_place, each_more}
 pub join : {V : Type 0} {E : V → V → Type 0} {a b c : V} → Plus E a b → Plus E b c → Plus E a c
 join (step e) w = more e w
 join (more e v) w = more e (join v w)
+
+-- a number that rises with each step rises over a walk
+pub rises : {V : Type 0} (E : V → V → Type 0) (rank : V → ℕ) → ((a b : V) → E a b → rank a < rank b) → {a b : V} → Plus E a b → rank a < rank b
+rises E rank up (step e) = up _ _ e
+rises E rank up (more e w) = let x = up _ _ e in let y = rises E rank up w in omega (arith, x, y)
 
 -- where each mark is an old one or was passed on over an arc, each is reached
 pub reached_more : (arcs : List Arc) (from : ℕ) (marks next : List Bool) (arc : Arc) → Member arc arcs → AreReached arcs from marks →
@@ -28,10 +34,6 @@ pub record Spreading (arcs : List Arc) (from : ℕ) (start marks : List Bool) (a
   pub reached : AreReached arcs from marks
   pub passed : added ≡ false → (k : ℕ) → k < i → (arc : Arc) → slice_get arcs k ≡ Some arc → Passed from marks arc
 
-pub either : (a b c : Bool) → c ≡ (a || b) → c ≡ false → (a ≡ false) × (b ≡ false)
-either true b c e off = cc
-either false b c e off = (refl, sym e ∙ off)
-
 pub spread_step : (arcs : List Arc) (from i : ℕ) (d : Arc) (start marks next : List Bool) (added passed both : Bool) → i < length arcs → both ≡ (passed || added) →
     Spreading arcs from start marks added i → Grown marks next passed → Passed from next (get_or arcs i d) →
     ((v : ℕ) → Marked next v → Marked marks v ⊎ ((v ≡ (get_or arcs i d).to) × (((get_or arcs i d).from ≡ from) ⊎ Marked marks (get_or arcs i d).from))) →
@@ -40,7 +42,7 @@ spread_step arcs from i d start marks next added passed both lt e s grown here o
   grown = grown_trans start marks next added passed both e s.grown grown;
   reached = reached_more arcs from marks next (get_or arcs i d) (member_at arcs i d lt) s.reached only;
   passed = λ off.
-      let (calm, before) = either passed added both e off in
+      let (calm, before) = or_parts passed added (sym e ∙ off) in
       each_more (Passed from next) arcs i d
       (subst (λ (ms : List Bool). (k : ℕ) → k < i → (arc : Arc) → slice_get arcs k ≡ Some arc → Passed from ms arc) (sym (grown.same calm)) (s.passed before)) here;
 }

@@ -1,5 +1,6 @@
 -- The arcs of a rule are its steps.
 use Rattle.std.proofs.Common.{◌≡◌, ℕ, zero, suc, ◌<◌, ◌≤◌, List, map, length, Some, slice_get, refl, sym, ap, ◌∙◌, subst, inl, inr, arith}
+use Rattle.std.proofs.lemmas.Option.{slice_get_within}
 use Rattle.aw_term.specs.Rules as P
 use Rattle.aw_grammar.specs.declared.rule.Rule.{Rule}
 use Rattle.aw_grammar.specs.declared.rule.Sort.{Sort}
@@ -13,7 +14,7 @@ use Rattle.aw_iograph.specs.Dependence.{Edge, text, call}
 use Rattle.aw_iograph.specs.Pairs.{Has}
 use Rattle.aw_iograph.specs.Small.{HasFew}
 use Rattle.aw_iograph.specs.Arcs.{arc_of, call_arc, GainsAll, IsGraphOf}
-use Rattle.aw_iograph.proofs.Members.{member_map, member_unmap, got_map, got_unmap, got_within}
+use Rattle.aw_iograph.proofs.Members.{member_map, member_unmap, got_map, got_unmap}
 use Rattle.aw_iograph.proofs.TextFlows.{flows_all, flows_only}
 use Rattle.aw_iograph.proofs.Placing.{entry_place, term_place, place_below, place_one}
 
@@ -24,7 +25,7 @@ child_got r (suc j) c e = (j, refl, e)
 edge_places : (r : P.Rule) (io : Io) (o u : Occ) → HasFew r → Edge r (Has io) o u → IsPlace o × IsPlace u
 edge_places r io o u few (text v t e f x) = (entry_place r v o few e, term_place r t u few f)
 edge_places r io o u few (call k i l c e h) =
-    let (j, at, got) = child_got r k c e in let lt : j < length r.children = got_within r.children j c got in
+    let (j, at, got) = child_got r k c e in let lt : j < length r.children = slice_get_within r.children j c got in
     let small : k ≤ 8 = omega (arith, few.children) in
     (record { child = small; counted = h.inherited.counted; number = h.inherited.few }, record { child = small; counted = h.result.counted; number = h.result.few })
 
@@ -37,7 +38,7 @@ graph_of sorts r io start arcs few first gained = record { there = there; only =
     there o u (call k i l c e h) =
         let (j, at, got) = child_got (rule_of sorts r) k c e in
         let (d, here, same) = got_unmap (child_of sorts) r.children j c got in
-        subst (λ (n : ℕ). Member (call_arc n i l) arcs) (sym at) (gained.there j i l d (got_within r.children j d here) here (subst (λ (x : P.Child). Has io x.sort i l) same h))
+        subst (λ (n : ℕ). Member (call_arc n i l) arcs) (sym at) (gained.there j i l d (slice_get_within r.children j d here) here (subst (λ (x : P.Child). Has io x.sort i l) same h))
 
     only : (a : Arc) → Member a arcs → (o : Occ) × (u : Occ) × IsPlace o × IsPlace u × Edge (rule_of sorts r) (Has io) o u × (a ≡ arc_of (record { from = o; to = u }))
     only a m = elim (gained.only a m) [

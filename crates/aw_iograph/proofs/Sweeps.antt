@@ -1,6 +1,7 @@
 -- Rules that are visited in turn.
-use Rattle.std.proofs.Common.{◌≡◌, ℕ, ◌+◌, ◌<◌, ◌≤◌, Bool, true, false, List, length, Some, slice_get, sym, subst, inl, inr, arith}
+use Rattle.std.proofs.Common.{◌≡◌, ℕ, ◌+◌, ◌<◌, ◌≤◌, Bool, true, false, List, length, Some, slice_get, sym, subst, inl, inr, arith, ◌∙◌}
 use Rattle.std.specs.Prelude.{◌⊎◌, ◌||◌}
+use Rattle.std.proofs.lemmas.Bool.{or_parts}
 use Rattle.aw_term.specs.Rules as P
 use Rattle.aw_grammar.specs.declared.rule.Rule.{Rule}
 use Rattle.aw_grammar.specs.declared.rule.Sort.{Sort}
@@ -17,7 +18,6 @@ use Rattle.aw_iograph.specs.Pairs.{Has, HasMark, IsNumber}
 use Rattle.aw_iograph.specs.Arcs.{IsGraphOf}
 use Rattle.aw_iograph.proofs.Marking.{grown_trans}
 use Rattle.aw_iograph.proofs.Members.{below_or_at, member_place, member_map, member_unmap, member_got}
-use Rattle.aw_iograph.proofs.Reaching.{either}
 use Rattle.aw_iograph.proofs.RuleGraphs.{walk_arcs, arcs_walk, circle_place, end_place}
 use Rattle.aw_iograph.proofs.Placing.{number_place}
 use Rattle.aw_iograph.proofs.Relations.{follows_walk}
@@ -64,7 +64,7 @@ sweep_step g start io next added one both n e so grown kept only = record {
   grown = grown_trans start.marks.items io.marks.items next.marks.items added one both e so.grown grown;
   follows = λ s i j has. follows_walk (grammar_of g) (Has start) (Has io) so.follows s i j (only s i j has);
   kept = λ off k lt r got.
-      let (calm, before) = either one added both e off in
+      let (calm, before) = or_parts one added (sym e ∙ off) in
       let same = grown.same calm in
       elim (below_or_at k n lt) [
         | inl less ↦ subst (λ (ms : List Bool). IsKept (HasMark ms) (rule_of g.sorts r)) (sym same) (so.kept before k less r got)

@@ -11,7 +11,7 @@ use Rattle.aw_iograph.specs.Occurrences.{inherited, given, item, entries, argume
 use Rattle.aw_iograph.proofs.Members.{never, member_left, member_right, member_split}
 
 mutual
-  leaf_there : {A : Type 0} (x : A) (t : Tree A) → In x t → Member x (leaves t)
+  pub leaf_there : {A : Type 0} (x : A) (t : Tree A) → In x t → Member x (leaves t)
   leaf_there x (Leaf y) e = inl e
   leaf_there x (Made h ts) m = leaf_there_all x ts m
 

@@ -1,5 +1,6 @@
 -- One step over a line.
 use Rattle.std.proofs.Common.{◌≡◌, ℕ, zero, suc, ◌+◌, ◌<◌, ◌≤◌, refl, sym, ◌∙◌, ap, List, [], ◌∷◌, ◌++◌, drop, length, arith, Result, Ok, Err, append_assoc}
+use Rattle.std.proofs.lemmas.List.{nil_from_length}
 use Rattle.aw_lex.specs.declared.token.Token.{Token}
 use Rattle.aw_lex.specs.declared.token.TokenKind.{TokenKind}
 use Rattle.aw_lex.specs.declared.front.Front.TheVariants as front
@@ -36,5 +37,4 @@ behind_one found token (Ok more) = ap Ok (sym (append_assoc found (token ∷ [])
 behind_one found token (Err at) = refl
 
 pub none_left : (at : ℕ) (bs : List ℕ) → length bs ≡ 0 → tokens_from at 0 bs ≡ Ok []
-none_left at [] h = refl
-none_left at (b ∷ bs) h = absurd (omega arith)
+none_left at bs h = ap (tokens_from at 0) (nil_from_length bs h)

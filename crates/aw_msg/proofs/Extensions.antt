@@ -1,21 +1,17 @@
 -- What was read of frames, or cannot be read, stays so where more bytes follow.
-use Rattle.std.proofs.Common.{◌≡◌, ℕ, suc, ◌<◌, ◌≤◌, Bool, true, false, cond, ltb, List, [], ◌∷◌, ◌++◌, length, take, drop, Option, None, Some, Result, Ok, Err, refl, sym, ap, subst, ◌∙◌, arith}
+use Rattle.std.proofs.Common.{◌≡◌, ℕ, ◌<◌, ◌≤◌, Bool, true, false, cond, ltb, List, [], ◌∷◌, ◌++◌, length, take, drop, Option, None, Some, Ok, Err, refl, sym, ap, subst, ◌∙◌, arith}
 use Rattle.std.proofs.lemmas.Bool.{ltb-false}
-use Rattle.std.proofs.lemmas.List.{take-append-le, drop-append-le, length-append, length-drop}
+use Rattle.std.proofs.lemmas.List.{take-append-le, drop-append-le, length-drop}
 use Rattle.std.specs.Int.{w32}
-use Rattle.aw_wire.specs.Reading.{Fault, Short, Bad, Reader, byte, number, such_that}
+use Rattle.aw_wire.specs.Reading.{Short, Bad, Reader, byte, number, such_that}
 use Rattle.aw_wire.specs.Names.{is_from_1_to}
-use Rattle.aw_wire.proofs.Laws.{bind_ok, rule_ok}
-use Rattle.aw_wire.proofs.Extending.{Extends, still_long, byte_shorter, byte_extends, number_extends, such_that_extends, next, next_extends, via}
+use Rattle.aw_wire.proofs.Laws.{bind_ok, guard_is, rule_ok, ok_is, ok_not_err}
+use Rattle.aw_wire.proofs.Extending.{Extends, still_long, byte_shorter, byte_extends, number_extends, such_that_extends, next, next_extends, via, fault_of, long_bad}
 use Rattle.aw_msg.specs.Frames.{Frame, payload, has_length, known, payload_at, frame}
 use Rattle.aw_msg.specs.Pieces.{Yields, IsBad, HasEnded, Splits}
-use Rattle.aw_msg.proofs.FrameLaws.{known_is, long_is}
+use Rattle.aw_msg.proofs.FrameLaws.{known_is}
 
 -- ---- payloads and frames
-
-long_bad : (b : Bool) (read : Result (Frame × List ℕ) Fault) (left : ℕ) → cond b (Err Short) read ≡ Err (Bad left) → (b ≡ false) × (read ≡ Err (Bad left))
-long_bad true read left e = absurd cc
-long_bad false read left e = (refl, e)
 
 known_bad : (n : ℕ) (o : Option Frame) (rest : List ℕ) (left : ℕ) → known n o rest ≡ Err (Bad left) → o ≡ None
 known_bad n None rest left e = refl
@@ -23,7 +19,7 @@ known_bad n (Some f) rest left e = absurd cc
 
 payload_ok : (kind n : ℕ) (bytes : List ℕ) (f : Frame) (rest more : List ℕ) → payload_at kind n bytes ≡ Ok (f, rest) → payload_at kind n (bytes ++ more) ≡ Ok (f, rest ++ more)
 payload_ok kind n bytes f rest more e =
-    let g = long_is (ltb (length bytes) n) (known (length bytes) (payload kind (take n bytes)) (drop n bytes)) (f, rest) e in
+    let g = guard_is (ltb (length bytes) n) Short (known (length bytes) (payload kind (take n bytes)) (drop n bytes)) (f, rest) e in
     let k = known_is (length bytes) (payload kind (take n bytes)) (drop n bytes) f rest g.1 in
     let long : n ≤ length bytes = ltb-false _ _ g.0 in
     rw (still_long n bytes more long, take-append-le n bytes more long, drop-append-le n bytes more long, k.0) (ap (λ (t : List ℕ). Ok (f, t ++ more)) k.1)
@@ -37,7 +33,7 @@ payload_bad kind n bytes more left e =
 
 payload_shorter : (kind n : ℕ) (bytes : List ℕ) (f : Frame) (rest : List ℕ) → payload_at kind n bytes ≡ Ok (f, rest) → length rest ≤ length bytes
 payload_shorter kind n bytes f rest e =
-    let g = long_is (ltb (length bytes) n) (known (length bytes) (payload kind (take n bytes)) (drop n bytes)) (f, rest) e in
+    let g = guard_is (ltb (length bytes) n) Short (known (length bytes) (payload kind (take n bytes)) (drop n bytes)) (f, rest) e in
     let k = known_is (length bytes) (payload kind (take n bytes)) (drop n bytes) f rest g.1 in
     subst (λ (t : List ℕ). length t ≤ length bytes) k.1 (omega (arith, length-drop n bytes))
 
@@ -88,35 +84,17 @@ ended_sound failed bytes h e = subst (λ b. HasEnded b bytes) e h
 
 -- ---- one way to split
 
-abbrev fault_of : (A : Type 0) → Fault → Result A Fault
-fault_of A d = Err d
-
-abbrev read : Frame × List ℕ → Result (Frame × List ℕ) Fault
-read x = Ok x
-
-read_is : (x y : Frame × List ℕ) → read x ≡ read y → x ≡ y
-read_is x y e = cc
-
 not_ended : (bad : Bool) (bytes : List ℕ) (x : Frame × List ℕ) → HasEnded bad bytes → frame bytes ≡ Ok x → ⊥
-not_ended true bytes x h e = apart h.0 (sym e ∙ h.1)
-  where
-    apart : (left : ℕ) → read x ≡ Err (Bad left) → ⊥
-    apart left e = absurd cc
-not_ended false bytes x h e = apart (sym e ∙ h)
-  where
-    apart : read x ≡ Err Short → ⊥
-    apart e = absurd cc
+not_ended true bytes x h e = ok_not_err x (Bad h.0) (sym e ∙ h.1)
+not_ended false bytes x h e = ok_not_err x Short (sym e ∙ h)
+
+bad_not_short : (left : ℕ) → fault_of (Frame × List ℕ) (Bad left) ≡ fault_of (Frame × List ℕ) Short → ⊥
+bad_not_short left e = absurd cc
 
 same_end : (bad worse : Bool) (bytes : List ℕ) → HasEnded bad bytes → HasEnded worse bytes → bad ≡ worse
 same_end true true bytes h k = refl
-same_end true false bytes h k = absurd (apart h.0 (sym h.1 ∙ k))
-  where
-    apart : (left : ℕ) → fault_of (Frame × List ℕ) (Bad left) ≡ fault_of (Frame × List ℕ) Short → ⊥
-    apart left e = absurd cc
-same_end false true bytes h k = absurd (apart k.0 (sym k.1 ∙ h))
-  where
-    apart : (left : ℕ) → fault_of (Frame × List ℕ) (Bad left) ≡ fault_of (Frame × List ℕ) Short → ⊥
-    apart left e = absurd cc
+same_end true false bytes h k = absurd (bad_not_short h.0 (sym h.1 ∙ k))
+same_end false true bytes h k = absurd (bad_not_short k.0 (sym k.1 ∙ h))
 same_end false false bytes h k = refl
 
 one_split : (bytes : List ℕ) (fs gs : List Frame) (rest last : List ℕ) (bad worse : Bool) → Yields bytes fs rest → HasEnded bad rest → Yields bytes gs last → HasEnded worse last → (fs ≡ gs) × (bad ≡ worse)
@@ -124,7 +102,7 @@ one_split bytes [] [] rest last bad worse h p k q = (refl, same_end bad worse by
 one_split bytes [] (g ∷ gs) rest last bad worse h p k q = absurd (not_ended bad bytes (g, k.0) (subst (HasEnded bad) (sym h) p) k.1)
 one_split bytes (f ∷ fs) [] rest last bad worse h p k q = absurd (not_ended worse bytes (f, h.0) (subst (HasEnded worse) (sym k) q) h.1)
 one_split bytes (f ∷ fs) (g ∷ gs) rest last bad worse h p k q =
-    let same = read_is (f, h.0) (g, k.0) (sym h.1 ∙ k.1) in
+    let same = ok_is (f, h.0) (g, k.0) (sym h.1 ∙ k.1) in
     let others = one_split h.0 fs gs rest last bad worse h.2 p (subst (λ (t : List ℕ). Yields t gs last) (sym (ap (λ (x : Frame × List ℕ). x.1) same)) k.2) q in
     (ap (λ (x : Frame × List ℕ). x.0 ∷ fs) same ∙ ap (λ (xs : List Frame). g ∷ xs) others.0, others.1)
 

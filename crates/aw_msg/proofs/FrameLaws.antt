@@ -1,14 +1,14 @@
 -- What is read of frames is spelled so, and what is spelled so is read.
-use Rattle.std.proofs.Common.{◌≡◌, ℕ, zero, suc, ◌<◌, ◌≤◌, ◌^◌, Bool, true, false, cond, ltb, nat_le, ◌==◌, List, [], ◌∷◌, ◌++◌, length, take, drop, Option, None, Some, option_map, Result, Ok, Err, refl, sym, ap, subst, ◌∙◌, append_assoc, arith}
-use Rattle.std.proofs.lemmas.Bool.{ltb-false, le-ltb, eqb-true}
-use Rattle.std.proofs.lemmas.Bool.Decides.{nat_tests}
+use Rattle.std.proofs.Common.{◌≡◌, ℕ, zero, suc, ◌<◌, ◌≤◌, ◌^◌, true, false, ltb, ◌==◌, List, [], ◌∷◌, ◌++◌, length, take, drop, Option, None, Some, option_map, Result, Ok, Err, refl, sym, ap, subst, ◌∙◌, append_assoc, arith}
+use Rattle.std.proofs.lemmas.Bool.{ltb-false, le-ltb, le-leb, eqb-true}
 use Rattle.std.proofs.lemmas.List.{take_at, drop_at, take-append-drop, length-append, length-take, append-nil, nil_from_length}
+use Rattle.std.proofs.lemmas.Option.{same_Some, cond_some}
 use Rattle.std.specs.Int.{w32, w64, to_be_bytes}
 use Rattle.aw_wire.specs.Bytes.{AreBytes}
 use Rattle.aw_wire.specs.Reading.{Fault, Short, Reader, ◌>>=◌, byte, number, such_that}
 use Rattle.aw_wire.specs.Names.{is_from_1_to}
 use Rattle.aw_wire.specs.Choices.{spelled_choice, choice}
-use Rattle.aw_wire.proofs.Laws.{Law, Takes, Takes-then, AreBytes-drop, AreBytes-take, bind_ok, byte_law, number32, number64, such_that_law}
+use Rattle.aw_wire.proofs.Laws.{Law, Takes, Takes-then, AreBytes-drop, AreBytes-take, bind_ok, ok_is, guard_is, byte_law, number32, number64, such_that_law}
 use Rattle.aw_wire.proofs.ChoiceLaws.{choice_law}
 use Rattle.aw_msg.specs.Messages.{spelled_message, message}
 use Rattle.aw_msg.specs.Frames.{Frame, Push, Choose, Pull, Listed, frame_kind, spelled_payload, spelled_frame, FrameSized, FrameInRange, all_of, whole, payload, has_length, known, payload_at, frame}
@@ -17,26 +17,10 @@ use Rattle.aw_msg.proofs.Lengths.{payload_short}
 
 -- ---- all of the bytes
 
-some_is : {B : Type 0} (x y : B) → Some x ≡ Some y → x ≡ y
-some_is x y e = cc
-
-none_is_not : {B : Type 0} (y : B) → None ≡ Some y → ⊥
-none_is_not y e = absurd cc
-
-abbrev done : {A : Type 0} → A × List ℕ → Result (A × List ℕ) Fault
-done x = Ok x
-
-pub pair_is : {A : Type 0} (x y : A × List ℕ) → done x ≡ done y → x ≡ y
-pair_is x y e = cc
-
 whole_is : {A : Type 0} (read : Result (A × List ℕ) Fault) (x : A) → all_of read ≡ Some x → read ≡ Ok (x, [])
-whole_is {A} (Ok y) x e = by_test (length y.1 == 0) refl
-  where
-    by_test : (b : Bool) → (length y.1 == 0) ≡ b → done y ≡ done (x, [])
-    by_test true h =
-        let known : y.0 ≡ x = some_is y.0 x (ap (λ c. cond c (Some y.0) None) (sym h) ∙ e) in
-        ap (λ z. Ok (z, y.1)) known ∙ ap (λ (rest : List ℕ). Ok (x, rest)) (nil_from_length y.1 (eqb-true (length y.1) 0 h))
-    by_test false h = absurd (none_is_not x (ap (λ c. cond c (Some y.0) None) (sym h) ∙ e))
+whole_is {A} (Ok y) x e =
+    let (h, known) = cond_some (length y.1 == 0) y.0 x e in
+    ap (λ z. Ok (z, y.1)) known ∙ ap (λ (rest : List ℕ). Ok (x, rest)) (nil_from_length y.1 (eqb-true (length y.1) 0 h))
 whole_is (Err f) x e = absurd cc
 
 whole_taken : {A : Type 0} {r : Reader A} {s : A → List ℕ} {S R : A → Type 0} (law : Law r s S R) (bytes : List ℕ) (x : A) → AreBytes bytes → whole r bytes ≡ Some x → (bytes ≡ s x) × S x × R x
@@ -51,7 +35,7 @@ whole_again {A} {r} {s} law x sized range = ap all_of (ap r (sym (append-nil (s 
 
 mapped_is : {A B : Type 0} (f : A → B) (o : Option A) (y : B) → option_map f o ≡ Some y → (x : A) × (o ≡ Some x) × (f x ≡ y)
 mapped_is f None y e = absurd cc
-mapped_is f (Some x) y e = (x, refl, some_is (f x) y e)
+mapped_is f (Some x) y e = (x, refl, same_Some (f x) y e)
 
 abbrev PayloadTakes : ℕ → List ℕ → Frame → Type 0
 PayloadTakes kind bytes f = (bytes ≡ spelled_payload f) × (frame_kind f ≡ kind) × FrameSized f × FrameInRange f
@@ -78,11 +62,7 @@ payload_again (Listed place) sized range = ap (option_map Listed) (whole_again n
 
 pub known_is : (left : ℕ) (o : Option Frame) (rest : List ℕ) (f : Frame) (behind : List ℕ) → known left o rest ≡ Ok (f, behind) → (o ≡ Some f) × (rest ≡ behind)
 known_is left None rest f behind e = absurd cc
-known_is left (Some g) rest f behind e = let p = pair_is (g, rest) (f, behind) e in (ap (λ (q : Frame × List ℕ). Some q.0) p, ap (λ (q : Frame × List ℕ). q.1) p)
-
-pub long_is : (b : Bool) (read : Result (Frame × List ℕ) Fault) (x : Frame × List ℕ) → cond b (Err Short) read ≡ Ok x → (b ≡ false) × (read ≡ Ok x)
-long_is true read x e = absurd cc
-long_is false read x e = (refl, e)
+known_is left (Some g) rest f behind e = let p = ok_is (g, rest) (f, behind) e in (ap (λ (q : Frame × List ℕ). Some q.0) p, ap (λ (q : Frame × List ℕ). q.1) p)
 
 -- ---- frames
 
@@ -101,7 +81,7 @@ frame_taken bytes f rest fits e =
     let behind = b.0.1 in
     let one = kind_law.taken bytes a.0.0 a.0.1 fits a.1 in
     let two = (length_law a.0.0).taken a.0.1 n behind one.0.rest_bytes b.1 in
-    let g = long_is (ltb (length behind) n) (known (length behind) (payload a.0.0 (take n behind)) (drop n behind)) (f, rest) b.2 in
+    let g = guard_is (ltb (length behind) n) Short (known (length behind) (payload a.0.0 (take n behind)) (drop n behind)) (f, rest) b.2 in
     let k = known_is (length behind) (payload a.0.0 (take n behind)) (drop n behind) f rest g.1 in
     let p = payload_taken a.0.0 (take n behind) f (AreBytes-take n behind two.0.rest_bytes) k.0 in
     let long : n ≤ length behind = ltb-false (length behind) n g.0 in
@@ -126,12 +106,9 @@ kind_sized (Choose c) = omega arith
 kind_sized (Pull place) = omega arith
 kind_sized (Listed place) = omega arith
 
-within : (n : ℕ) → n ≤ 1048576 → nat_le n 1048576 ≡ true
-within n e = grind (arith, nat_tests)
-
 length_fits : (f : Frame) → FrameInRange f → has_length (frame_kind f) (length (spelled_payload f)) ≡ true
-length_fits (Push m) h = within (length (spelled_message m)) (payload_short (Push m) h)
-length_fits (Choose c) h = within (length (spelled_choice c)) (payload_short (Choose c) h)
+length_fits (Push m) h = le-leb (length (spelled_message m)) 1048576 (payload_short (Push m) h)
+length_fits (Choose c) h = le-leb (length (spelled_choice c)) 1048576 (payload_short (Choose c) h)
 length_fits (Pull place) h = refl
 length_fits (Listed place) h = refl
 

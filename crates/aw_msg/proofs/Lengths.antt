@@ -1,10 +1,10 @@
 -- How long spellings are: the payload of each frame is within its limit.
-use Rattle.std.proofs.Common.{◌≡◌, ℕ, suc, ◌+◌, ◌*◌, ◌≤◌, Bool, true, false, ◌&&◌, nat_le, List, [], ◌∷◌, ◌++◌, length, refl, sym, subst, arith}
+use Rattle.std.proofs.Common.{ℕ, suc, ◌+◌, ◌*◌, ◌≤◌, nat_le, List, [], ◌∷◌, ◌++◌, length, sym, subst, arith}
 use Rattle.std.specs.List.{flat_map, list_all}
 use Rattle.std.specs.Int.{w16, to_be_bytes}
 use Rattle.std.proofs.lemmas.List.{length-append}
 use Rattle.std.proofs.lemmas.List.Concat.{flat_map-cons}
-use Rattle.std.proofs.lemmas.Bool.Decides.{nat_tests}
+use Rattle.std.proofs.lemmas.Bool.{and_parts, leb-true}
 use Rattle.aw_text.specs.Spelling.{is_content_byte}
 use Rattle.aw_term.specs.Trees.{Never, Head, Con, Num, Text, Leaf, Made, Trees, Nil, More, count}
 use Rattle.aw_term.specs.Names.{Step, Node, Slot, Result, Part, Ref}
@@ -69,14 +69,7 @@ refs_short rs h = whole (length (flat_map spelled_ref rs)) (length rs) (each_add
     whole n m e f = omega arith
 
 content_short : (t : List ℕ) → TextInRange t → length t ≤ 1024
-content_short t e = tested (length t) (front (nat_le (length t) 1024) (list_all is_content_byte t) e)
-  where
-    front : (a b : Bool) → (a && b) ≡ true → a ≡ true
-    front true b e = refl
-    front false b e = absurd cc
-
-    tested : (n : ℕ) → nat_le n 1024 ≡ true → n ≤ 1024
-    tested n e = grind (arith, nat_tests)
+content_short t e = leb-true (length t) 1024 (and_parts (nat_le (length t) 1024) (list_all is_content_byte t) e).0
 
 text_short : (t : List ℕ) → TextInRange t → length (spelled_text t) ≤ 1026
 text_short t e = let le = content_short t e in whole (length t) le
@@ -84,23 +77,17 @@ text_short t e = let le = content_short t e in whole (length t) le
     whole : (n : ℕ) → n ≤ 1024 → suc (suc n) ≤ 1026
     whole n e = omega arith
 
+behind_tag : (n m k : ℕ) → n ≤ m → suc m ≤ k → suc n ≤ k
+behind_tag n m k e f = omega arith
+
 body_short : (b : Body) → BodyInRange b → length (spelled_body b) ≤ 6116
-body_short (body.Same r) h = whole (length (spelled_ref r)) (ref_short r h)
-  where
-    whole : (n : ℕ) → n ≤ 764 → suc n ≤ 6116
-    whole n e = omega arith
+body_short (body.Same r) h = behind_tag _ _ _ (ref_short r h) (omega arith)
 body_short (body.Con c parts) h = whole (length (spelled_refs parts)) (refs_short parts h)
   where
     whole : (n : ℕ) → n ≤ 6113 → suc (suc (suc n)) ≤ 6116
     whole n e = omega arith
 body_short (body.Num n) h = omega arith
-body_short (body.Text t) h = whole (length (spelled_text t)) (text_short t h)
-  where
-    whole : (n : ℕ) → n ≤ 1026 → suc n ≤ 6116
-    whole n e = omega arith
-
-behind_tag : (n m k : ℕ) → n ≤ m → suc m ≤ k → suc n ≤ k
-behind_tag n m k e f = omega arith
+body_short (body.Text t) h = behind_tag _ _ _ (text_short t h) (omega arith)
 
 kind_short : (k : MsgKind) → KindInRange k → length (spelled_kind k) ≤ 6881
 kind_short (Call n inherited) h = behind_tag _ _ _ (adds (spelled_node n) (spelled_refs inherited) 761 6113 (node_short n h.0) (refs_short inherited h.1)) (omega arith)

@@ -24,10 +24,6 @@ ready_is false bytes (Err (Bad left)) f t e h = absurd cc
 pub was_ready : (s : Stream) (f : Frame) (t : Stream) → Ready f ≡ next_of s → t ≡ left_of s → (frame s.bytes ≡ Ok (f, t.bytes)) × (t.failed ≡ false)
 was_ready s f t e h = ready_is s.failed s.bytes (frame s.bytes) f t e h
 
-pub not_both : (b : Bool) → b ≡ true → b ≡ false → ⊥
-not_both true e f = absurd cc
-not_both false e f = absurd cc
-
 pub started : (s : Stream) (fs : List declared.Frame) → s ≡ record { bytes = []; failed = false } → fs ≡ [] → Yields [] (map frame_of fs) s.bytes × HasEnded s.failed s.bytes
 started s fs e f =
     subst (λ gs. Yields [] (map frame_of gs) s.bytes × HasEnded s.failed s.bytes) (sym f)

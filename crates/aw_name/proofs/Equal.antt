@@ -58,9 +58,6 @@ slot_same (Result i) (Part k) = refl
 slot_same (Part k) (Result j) = refl
 slot_same (Part k) (Part l) = refl
 
-pub node_same : (a b : Node) → (node.ghosts).eq a b ≡ node_eq a b
-node_same a b = refl
-
 pub ref_same : (a b : Ref) → (reference.ghosts).eq a b ≡ ref_eq a b
 ref_same a b = ap (λ t. node_eq a.node b.node && t) (slot_same a.slot b.slot)
 

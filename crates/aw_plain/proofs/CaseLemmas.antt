@@ -6,12 +6,14 @@ use Rattle.aw_term.specs.Rules.{Term, Ground, Value, Child, Rule, Grammar, get, 
 use Rattle.aw_term.specs.Matching.{Yes, match_all}
 use Rattle.aw_term.specs.Configs.{State, Done, Row, Config, env, nothing, fill, child_rows, insert_row, insert_rows, row_of, done_row, result_at, put, row_put, rounds, develop}
 use Rattle.aw_term.specs.Choices.{Choice, Start, Develop, Outcome, Refused, Starts, Takes, gives_of, start_row, outcome, taken, or_same, after}
+use Rattle.aw_term.proofs.NodeTests.{node_is}
+use Rattle.aw_term.proofs.RowParts.{rounds_node}
 use Rattle.aw_iograph.specs.Graphs.{Member}
-use Rattle.aw_iograph.proofs.Members.{never}
+use Rattle.aw_iograph.proofs.Members.{never, member_unmap}
 use Rattle.aw_accept.specs.Acyclic.{Stands}
 use Rattle.aw_accept.proofs.Binding.{In-bind}
 use Rattle.aw_accept.proofs.Sources.{Source_at, env_enters, entered}
-use Rattle.aw_accept.proofs.ConfigLemmas.{node_eq-true, Member-map, Member-insert_row, Member-insert_rows, child_row, Member-child_rows, Member-rounds, rounds-node, rounds-inherited-list, rounds-results-list, Chain, end, link, In-rounds, In-put, get-filled, done_row-cases}
+use Rattle.aw_accept.proofs.ConfigLemmas.{Member-insert_row, Member-insert_rows, child_row, Member-child_rows, Member-rounds, rounds-inherited-list, rounds-results-list, Chain, end, link, In-rounds, In-put, get-filled, done_row-cases}
 use Rattle.aw_accept.proofs.Developing.{Item-at}
 use Rattle.aw_accept.proofs.UndividedRuns.{decode_on}
 use Rattle.aw_plain.specs.Changes.{row_fed, row_after}
@@ -28,7 +30,7 @@ hole_of h n j e = case_of n h.node (ap (λ (h : Ref). h.node) (sym e))
 
 in_holes : (n : Node) (m : ℕ) (t : Value) (h : Ref) → Member t (map (λ j. Leaf (result n j)) (upto 1 m)) → In h t → IsSameCase n h.node
 in_holes n m t h held w =
-    let (j, o, e) = Member-map (λ j. Leaf (result n j)) t (upto 1 m) held in
+    let (j, o, e) = member_unmap (λ j. Leaf (result n j)) t (upto 1 m) held in
     hole_of h n j (subst (In h) e w)
 
 -- a rule that is taken on the node of a row
@@ -65,7 +67,7 @@ module _ (q : Row) (ri : ℕ) (r : Rule) (bs : List Value) (args : List Ground) 
 
   rounds_keep : (m : ℕ) (z : Row) → KeepsToCase z → KeepsToCase (rounds m (row_put sigma) z)
   rounds_keep m z kept h stands =
-      subst (λ n. IsSameCase n h.node) (sym (rounds-node m sigma z))
+      subst (λ n. IsSameCase n h.node) (sym (rounds_node m sigma z))
       (elim stands [
         | inl (t, n, w) ↦
             (let (t0, n0, f) = Member-rounds m (bind sigma) t z.inherited (subst (λ ts. Member t ts) (rounds-inherited-list m sigma z) n) in
@@ -80,7 +82,7 @@ module _ (q : Row) (ri : ℕ) (r : Rule) (bs : List Value) (args : List Ground) 
   child_keeps : (k : ℕ) (c : Child) → KeepsToCase (child_row q.node ri e k c)
   child_keeps k c h stands =
       elim stands [
-        | inl (t, n, w) ↦ (let (arg, o, f) = Member-map (fill e) t c.args n in in_term arg h (subst (In h) f w))
+        | inl (t, n, w) ↦ (let (arg, o, f) = member_unmap (fill e) t c.args n in in_term arg h (subst (In h) f w))
         | inr (t, n, w) ↦ in_holes (below q.node ri k) c.outs t h n w
       ]
 
@@ -97,7 +99,7 @@ module _ (q : Row) (ri : ℕ) (r : Rule) (bs : List Value) (args : List Ground) 
       subst KeepsToCase (sym f) (rounds_keep (length r.results) z
       (elim (Member-insert_rows z (child_rows q.node ri e 1 r.children) (map (done_row q.node (Done ri args)) c) mz) [
         | inl o ↦ (let (k, d, g, h) = Member-child_rows z q.node ri e 1 r.children o in subst KeepsToCase (sym h) (child_keeps (1 + k) d))
-        | inr o ↦ (let (p, mp, g) = Member-map (done_row q.node (Done ri args)) z c o in subst KeepsToCase (sym g) (done_keeps (Done ri args) p (apart p mp)))
+        | inr o ↦ (let (p, mp, g) = member_unmap (done_row q.node (Done ri args)) z c o in subst KeepsToCase (sym g) (done_keeps (Done ri args) p (apart p mp)))
       ]))
 
 start_apart : (g : Grammar) (c : Config) (s k : ℕ) → AreApart c → AreApart (insert_row (start_row g s k) c)
@@ -148,7 +150,7 @@ rounds_same zero f x e = refl
 rounds_same (suc m) f x e = ap (rounds m f) e ∙ rounds_same m f x e
 
 other_node : (n m : Node) (b : Bool) → node_eq n m ≡ b → (n ≡ m → ⊥) → b ≡ false
-other_node n m true e differ = absurd (differ (node_eq-true n m e))
+other_node n m true e differ = absurd (differ (node_is n m e))
 other_node n m false e differ = refl
 
 done_other : (n : Node) (s : State) (q : Row) → (n ≡ q.node → ⊥) → done_row n s q ≡ q

@@ -1,10 +1,12 @@
 -- Rows that are changed in their places.
 use Rattle.std.proofs.Common.{◌≡◌, ℕ, zero, suc, ◌+◌, ◌<◌, List, [], ◌∷◌, ◌++◌, map, length, take, drop, set, get_or, Bool, true, false, cond, ap, sym, ◌∙◌, refl, arith}
-use Rattle.std.proofs.lemmas.List.{map-set, length-map}
+use Rattle.std.proofs.lemmas.List.{map-set, map-id, length-map}
+use Rattle.std.proofs.lemmas.Simd.{map-map}
 use Rattle.aw_term.specs.Names.{Node, node_lt}
 use Rattle.aw_term.specs.Rules.{Value, Ground, Rule}
 use Rattle.aw_term.specs.Configs as Q
 use Rattle.aw_term.specs.Configs.{State, Done, Config, done_row, rounds, env, fill, child_rows, insert_row, insert_rows, row_put, put, develop}
+use Rattle.aw_term.proofs.RowParts.{rounds_node}
 use Rattle.aw_plain.specs.declared.row.Row.{Row}
 use Rattle.aw_plain.specs.declared.change.Change.{Change}
 use Rattle.aw_plain.specs.RowView.{plain_row, config_of}
@@ -44,16 +46,8 @@ change_none f rows xs i q l g e w =
 
 -- rounds over all rows are rounds over each
 rounds_map : {A : Type 0} (m : ℕ) (f : A → A) (xs : List A) → rounds m (map f) xs ≡ map (rounds m f) xs
-rounds_map zero f xs = same xs
-  where
-    same : {A : Type 0} (xs : List A) → xs ≡ map (λ x. x) xs
-    same [] = refl
-    same (x ∷ xs) = ap (λ ys. x ∷ ys) (same xs)
-rounds_map (suc m) f xs = rounds_map m f (map f xs) ∙ twice xs
-  where
-    twice : (xs : List _) → map (rounds m f) (map f xs) ≡ map (rounds (suc m) f) xs
-    twice [] = refl
-    twice (x ∷ xs) = ap (λ ys. rounds (suc m) f x ∷ ys) (twice xs)
+rounds_map zero f xs = sym (map-id xs)
+rounds_map (suc m) f xs = rounds_map m f (map f xs) ∙ map-map (rounds m f) f xs
 
 -- rows are placed by their nodes, which replacing keeps
 module _ (f : Q.Row → Q.Row) (keeps : (q : Q.Row) → (f q).node ≡ q.node) where
@@ -72,21 +66,13 @@ module _ (f : Q.Row → Q.Row) (keeps : (q : Q.Row) → (f q).node ≡ q.node) w
   map_inserts [] c = refl
   map_inserts (r ∷ rs) c = map_inserts rs (insert_row r c) ∙ ap (insert_rows (map f rs)) (map_insert r c)
 
-map_map : {A B C : Type 0} (g : B → C) (f : A → B) (xs : List A) → map g (map f xs) ≡ map (λ x. g (f x)) xs
-map_map g f [] = refl
-map_map g f (x ∷ xs) = ap (λ ys. g (f x) ∷ ys) (map_map g f xs)
-
-fed_node : (n : Node) (results : List Value) (m : ℕ) (q : Q.Row) → (rounds m (row_put (put n results)) q).node ≡ q.node
-fed_node n results zero q = refl
-fed_node n results (suc m) q = fed_node n results m (row_put (put n results) q)
-
 -- developing row by row
 pub developed : (n : Node) (r : ℕ) (rule : Rule) (bound : List Value) (args : List Ground) (c : Config) (e results : List Value) (kids fed next : Config) →
     e ≡ env n r rule bound args → results ≡ map (fill e) rule.results → kids ≡ child_rows n r e 1 rule.children → fed ≡ map (row_fed n results) kids → next ≡ map (row_after n (Done r args) results) c →
     insert_rows fed next ≡ develop n r rule bound args c
 developed n r rule bound args c e results kids fed next ee er ek ef en =
-    ap (λ ks. insert_rows ks next) (ef ∙ ap (map (row_fed n results)) ek) ∙ ap (insert_rows (map (row_fed n results) (child_rows n r e 1 rule.children))) (en ∙ sym (map_map (row_fed n results) (done_row n (Done r args)) c))
-    ∙ sym (map_inserts (row_fed n results) (fed_node n results (length results)) (child_rows n r e 1 rule.children) (map (done_row n (Done r args)) c))
+    ap (λ ks. insert_rows ks next) (ef ∙ ap (map (row_fed n results)) ek) ∙ ap (insert_rows (map (row_fed n results) (child_rows n r e 1 rule.children))) (en ∙ sym (map-map (row_fed n results) (done_row n (Done r args)) c))
+    ∙ sym (map_inserts (row_fed n results) (rounds_node (length results) (put n results)) (child_rows n r e 1 rule.children) (map (done_row n (Done r args)) c))
     ∙ sym (rounds_map (length results) (row_put (put n results)) (insert_rows (child_rows n r e 1 rule.children) (map (done_row n (Done r args)) c)))
     ∙ ap (λ m. rounds m (map (row_put (put n results))) (insert_rows (child_rows n r e 1 rule.children) (map (done_row n (Done r args)) c))) (ap length er ∙ length-map rule.results (fill e))
     ∙ ap (λ rs. rounds (length rule.results) (map (row_put (put n rs))) (insert_rows (child_rows n r e 1 rule.children) (map (done_row n (Done r args)) c))) er

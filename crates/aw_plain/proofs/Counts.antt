@@ -1,5 +1,5 @@
 -- Counting the places of values, for the drop that takes no stack.
-use Rattle.std.proofs.Common.{◌≡◌, ℕ, suc, ◌+◌, ◌<◌, ◌≤◌, List, [], ◌∷◌, ◌++◌, map, Bool, true, false, ◌||◌, arith, refl, ◌∙◌, ap}
+use Rattle.std.proofs.Common.{◌≡◌, ℕ, suc, ◌+◌, ◌<◌, List, [], ◌∷◌, ◌++◌, map, Bool, true, false, ◌||◌, arith, refl, ◌∙◌, ap}
 use Rattle.std.specs.declared.vec.Vec.{Vec}
 use Rattle.std.specs.declared.rc.Rc.{Rc}
 use Rattle.std.specs.declared.alloc.Global.{Global}
@@ -8,7 +8,7 @@ use Rattle.aw_term.specs.Trees.{Leaf, Made, join}
 use Rattle.aw_term.specs.Rules.{Value}
 use Rattle.aw_term.specs.WellFormed.{symbols, all_symbols}
 use Rattle.aw_plain.specs.TreeView.{value_under, row_under, value_of}
-use Rattle.aw_plain.specs.Places.{places, places_of_all, rank}
+use Rattle.aw_plain.specs.Places.{places, places_of_all}
 use Rattle.aw_plain.specs.declared.tree.Tree.{Tree, Con}
 use Rattle.aw_plain.specs.declared.tree.Tree as tree
 use Rattle.aw_plain.proofs.ViewLemmas.{value_con}
@@ -42,12 +42,6 @@ places_con c m ts = ap symbols (value_con false c m ts) ∙ count
 
 pub places_made : (t : Tree) (c : ℕ) (m : Bool) (ts : Rc (Vec Tree Global) Global) → t ≡ Con c m ts → places t ≡ 1 + places_of_all ts.value.items
 places_made t c m ts e = ap places e ∙ places_con c m ts
-
-pub falls_hand : (t h u k : ℕ) → u ≤ t → k < h → rank u k < rank t h
-falls_hand t h u k p q = grind arith
-
-pub falls_all : (t h u k : ℕ) → u < t → k ≤ u → rank u k < rank t h
-falls_all t h u k p q = grind arith
 
 positive : (v : Value) → 0 < symbols v
 positive (Leaf r) = omega arith

@@ -9,9 +9,6 @@ one_round f n i x l =
     let e : n - i ≡ suc (n - (i + 1)) = omega (arith, l) in
     sym (ap (λ k. rounds k f x) e)
 
-pub no_round : {A : Type 0} (f : A → A) (n i : ℕ) (x : A) → n ≡ i → x ≡ rounds (n - i) f x
-no_round f n i x e = let z : n - i ≡ 0 = omega (arith, e) in sym (ap (λ k. rounds k f x) z)
-
 -- a row with these parts is the row done
 pub done_parts : (n : Node) (s : State) (q r : Row) → r.node ≡ q.node → r.sort ≡ q.sort → r.inherited ≡ q.inherited → r.results ≡ q.results → r.state ≡ (done_row n s q).state → r ≡ done_row n s q
 done_parts n s q r en es ei er et = cases (node_eq n q.node) et

@@ -1,5 +1,5 @@
 -- Terms and arguments with the values of their variables, and the holes of a node.
-use Rattle.std.proofs.Common.{◌≡◌, ℕ, zero, suc, ◌+◌, List, [], ◌∷◌, ◌++◌, map, sym, ap, ◌∙◌, arith}
+use Rattle.std.proofs.Common.{◌≡◌, ℕ, suc, ◌+◌, List, [], ◌∷◌, ◌++◌, map, sym, ap, ◌∙◌, arith}
 use Rattle.std.proofs.lemmas.List.{map-append}
 use Rattle.aw_term.specs.Trees as P
 use Rattle.aw_term.specs.Trees.{Leaf, Made, join, bind}
@@ -9,6 +9,7 @@ use Rattle.aw_term.specs.Configs.{fill, lift, holes, nothing}
 use Rattle.aw_term.specs.Views.{term_of, ground_of}
 use Rattle.aw_term.specs.declared.term.Expr as expr
 use Rattle.aw_term.specs.declared.ground.Ground as grounds
+use Rattle.aw_term.proofs.Joined.{upto_end}
 use Rattle.aw_term.proofs.ViewLemmas.{term_con, ground_con}
 use Rattle.aw_plain.specs.declared.tree.Tree as tree
 use Rattle.aw_plain.specs.TreeView.{value_of, values_of}
@@ -27,10 +28,6 @@ lift_con g c parts qs us ie iq iv =
     ap (λ vs. Made (P.Con c) (join vs)) iv
     ∙ sym (ap (λ g. lift (ground_of g)) ie ∙ ap lift (ground_con c parts) ∙ ap (Made (P.Con c)) (binds_join (λ x. elim x [ ]) (map ground_of parts))
     ∙ ap (λ ps. Made (P.Con c) (join (map lift (map ground_of ps)))) (sym iq))
-
-upto_end : (i n : ℕ) → upto i (suc n) ≡ upto i n ++ (i + n) ∷ []
-upto_end i zero = ap (λ k. k ∷ []) (omega arith)
-upto_end i (suc n) = ap (λ ks. i ∷ ks) (upto_end (suc i) n ∙ ap (λ k. upto (suc i) n ++ k ∷ []) (omega arith))
 
 -- one hole more
 pub holes_more : (n : Node) (ts : List tree.Tree) (j : ℕ) → values_of ts ≡ holes n j → values_of (ts ++ tree.Hole n (j + 1) ∷ []) ≡ holes n (j + 1)

@@ -1,23 +1,22 @@
 -- What a well-formed grammar says of the patterns of a rule and of the rows that its choices make.
-use Rattle.std.proofs.Common.{◌≡◌, ℕ, zero, suc, ◌≤◌, Bool, true, false, List, [], ◌∷◌, length, map, Some, slice_get, sym, ◌∙◌, refl, arith}
-use Rattle.std.specs.Prelude.{nat_le, ◌&&◌}
+use Rattle.std.proofs.Common.{◌≡◌, ℕ, zero, suc, ◌≤◌, true, List, [], ◌∷◌, length, map, Some, slice_get, sym, ◌∙◌, refl, arith}
 use Rattle.std.proofs.Math.Logic.{∥∥₁_elim}
 use Rattle.std.proofs.Math.Bool.{Bool-set}
 use Rattle.std.proofs.Math.Nat.{ℕ_set}
 use Rattle.std.specs.Coded.{le_prop}
-use Rattle.std.proofs.lemmas.Bool.{eqb-true}
+use Rattle.std.proofs.lemmas.Bool.{eqb-true, le-leb, and_parts, and_from}
 use Rattle.std.proofs.lemmas.List.{length-map}
 use Rattle.aw_term.specs.Trees.{Head, Con, Num, Text, Tree, Leaf, Made, Trees, Nil, More, count, join}
 use Rattle.aw_term.specs.Rules as P
 use Rattle.aw_term.specs.Views.{pattern_of}
 use Rattle.aw_term.specs.WellFormed.{Each, all_nesting, head_fits, heads_fit, all_heads_fit, TermFits, takes_of, RuleFits, SortFits, IsWellFormed}
+use Rattle.aw_term.proofs.Joined.{shallow_join}
 use Rattle.aw_grammar.specs.declared.grammar.Grammar.{Grammar}
 use Rattle.aw_grammar.specs.declared.rule.Rule.{Rule}
 use Rattle.aw_grammar.specs.GrammarView.{rule_of, child_of}
 use Rattle.aw_grammar.specs.GrammarOf.{grammar_of, words_of}
 use Rattle.aw_grammar.proofs.Fits.{each_map_at}
 use Rattle.aw_plain.specs.Narrow.{is_narrow, are_narrow}
-use Rattle.aw_plain.proofs.MatchLemmas.{and_left, and_right}
 
 few_parts : (arities : List ℕ) (c n : ℕ) → Each (λ m. m ≤ 8) arities → head_fits arities (Con c) n ≡ true → n ≤ 8
 few_parts [] c n few e = absurd cc
@@ -27,32 +26,21 @@ few_parts (m ∷ ms) (suc c) n few e = few_parts ms c n few.1 e
 few_below : (arities : List ℕ) (h : Head) (n : ℕ) → Each (λ m. m ≤ 8) arities → head_fits arities h n ≡ true → n ≤ 8
 few_below arities (Con c) n few e = few_parts arities c n few e
 few_below arities (Num m) n few e = omega (arith, eqb-true n 0 e)
-few_below arities (Text t) n few e = omega (arith, eqb-true n 0 (and_left _ _ e))
-
-both : (a b : Bool) → a ≡ true → b ≡ true → (a && b) ≡ true
-both true b e f = f
-both false b e f = absurd cc
-
-at_most : (n m : ℕ) → n ≤ m → nat_le n m ≡ true
-at_most n m l = grind (arith, l)
+few_below arities (Text t) n few e = omega (arith, eqb-true n 0 (and_parts _ _ e).0)
 
 mutual
   narrow : {A : Type 0} (arities : List ℕ) (t : Tree A) → Each (λ m. m ≤ 8) arities → heads_fit arities t ≡ true → is_narrow t ≡ true
   narrow arities (Leaf x) few e = refl
   narrow arities (Made h ts) few e =
-      both _ _ (at_most (count ts) 8 (few_below arities h (count ts) few (and_left _ _ e))) (all_narrow arities ts few (and_right (head_fits arities h (count ts)) _ e))
+      and_from _ _ (le-leb (count ts) 8 (few_below arities h (count ts) few (and_parts _ _ e).0)) (all_narrow arities ts few (and_parts (head_fits arities h (count ts)) _ e).1)
 
   all_narrow : {A : Type 0} (arities : List ℕ) (ts : Trees A) → Each (λ m. m ≤ 8) arities → all_heads_fit arities ts ≡ true → are_narrow ts ≡ true
   all_narrow arities Nil few e = refl
-  all_narrow arities (More t ts) few e = both _ _ (narrow arities t few (and_left _ _ e)) (all_narrow arities ts few (and_right (heads_fit arities t) _ e))
+  all_narrow arities (More t ts) few e = and_from _ _ (narrow arities t few (and_parts _ _ e).0) (all_narrow arities ts few (and_parts (heads_fit arities t) _ e).1)
 
 terms_narrow : {A : Type 0} (arities : List ℕ) (ts : List (Tree A)) → Each (λ m. m ≤ 8) arities → Each (TermFits arities) ts → are_narrow (join ts) ≡ true
 terms_narrow arities [] few fits = refl
-terms_narrow arities (t ∷ ts) few fits = both _ _ (narrow arities t few fits.0.heads) (terms_narrow arities ts few fits.1)
-
-terms_shallow : {A : Type 0} (arities : List ℕ) (ts : List (Tree A)) → Each (TermFits arities) ts → all_nesting (join ts) ≤ 32
-terms_shallow arities [] fits = omega arith
-terms_shallow arities (t ∷ ts) fits = omega (arith, fits.0.depth, terms_shallow arities ts fits.1)
+terms_narrow arities (t ∷ ts) few fits = and_from _ _ (narrow arities t few fits.0.heads) (terms_narrow arities ts few fits.1)
 
 few_taken : (roles : ℕ) (sorts : List P.Sort) (s : ℕ) → Each (SortFits roles) sorts → takes_of (slice_get sorts s) ≤ 8
 few_taken roles [] s fits = omega arith
@@ -67,7 +55,7 @@ module _ (g : Grammar) (number : ℕ) (rule : Rule) (here : slice_get g.rules nu
   patterns_narrow = ∥∥₁_elim g.well_formed (Bool-set _ _) (λ w. terms_narrow (grammar_of g).arities _ w.arities (fits w).patterns)
 
   pub patterns_shallow : all_nesting (join (map pattern_of rule.patterns)) ≤ 32
-  patterns_shallow = ∥∥₁_elim g.well_formed le_prop (λ w. terms_shallow (grammar_of g).arities _ (fits w).patterns)
+  patterns_shallow = ∥∥₁_elim g.well_formed le_prop (λ w. shallow_join (grammar_of g).arities _ (fits w).patterns)
 
   pub patterns_few : length rule.patterns ≤ 8
   patterns_few = ∥∥₁_elim g.well_formed le_prop (λ w. omega (arith, (fits w).takes, length-map rule.patterns pattern_of, few_taken (grammar_of g).roles (grammar_of g).sorts rule.sort w.sorts))

@@ -1,6 +1,7 @@
 -- Going through trees on a stack.
 use Rattle.std.proofs.Common.{◌≡◌, ℕ, ◌+◌, ◌-◌, ◌<◌, ◌≤◌, List, [], ◌∷◌, ◌++◌, map, length, take, drop, get_or, sym, ap, ◌∙◌, refl, arith, append_assoc, length-append}
 use Rattle.std.proofs.lemmas.List.{at_drop_more, take_at, drop_at, map-append, take-map, drop-map, length-map}
+use Rattle.std.proofs.lemmas.Simd.{map-map}
 use Rattle.aw_term.specs.Trees as P
 use Rattle.aw_term.specs.Trees.{Leaf, Made, Nil, More, bind, binds, join}
 use Rattle.aw_term.specs.Names.{Ref}
@@ -10,7 +11,7 @@ use Rattle.std.specs.declared.vec.Vec.{Vec}
 use Rattle.std.specs.declared.rc.Rc.{Rc}
 use Rattle.std.specs.declared.alloc.Global.{Global}
 use Rattle.aw_plain.specs.declared.tree.Tree.{Tree, Con}
-use Rattle.std.specs.Prelude.{zero, suc, Result, Ok, Err, IfOk, Bool, true, false}
+use Rattle.std.specs.Prelude.{zero, suc, Bool, true, false}
 use Rattle.aw_plain.specs.declared.put.Job.{Job}
 use Rattle.aw_plain.specs.TreeView.{value_of, value_under, values_of}
 use Rattle.aw_plain.specs.Jobs.{finish, do_job, made, work, work_of}
@@ -54,12 +55,8 @@ pub binds_join : {A B : Type 0} (f : A → P.Tree B) (ts : List (P.Tree A)) → 
 binds_join f [] = refl
 binds_join f (t ∷ ts) = ap (More (bind f t)) (binds_join f ts)
 
-map_map : {A B C : Type 0} (g : B → C) (f : A → B) (xs : List A) → map g (map f xs) ≡ map (λ x. g (f x)) xs
-map_map g f [] = refl
-map_map g f (x ∷ xs) = ap (λ ys. g (f x) ∷ ys) (map_map g f xs)
-
 pub bind_parts : {A B X : Type 0} (f : A → P.Tree B) (g : X → P.Tree A) (c : ℕ) (ps : List X) → bind f (Made (P.Con c) (join (map g ps))) ≡ Made (P.Con c) (join (map (λ t. bind f (g t)) ps))
-bind_parts f g c ps = ap (Made (P.Con c)) (binds_join f (map g ps) ∙ ap join (map_map (bind f) g ps))
+bind_parts f g c ps = ap (Made (P.Con c)) (binds_join f (map g ps) ∙ ap join (map-map (bind f) g ps))
 
 pub bind_con : (f : Ref → Value) (t : Tree) (c : ℕ) (w : Bool) (ts : Rc (Vec Tree Global) Global) (ps : List Tree) → t ≡ Con c w ts → w ≡ false → ps ≡ ts.value.items → bind f (value_of t) ≡ Made (P.Con c) (join (map (λ t. bind f (value_of t)) ps))
 bind_con f t c w ts ps e m i =
@@ -81,11 +78,3 @@ pub got_past : (ts : List Tree) (i : ℕ) → length ts ≤ i → nothing ≡ ge
 got_past [] i l = refl
 got_past (u ∷ ts) zero l = absurd (omega arith)
 got_past (u ∷ ts) (suc i) l = got_past ts i (omega arith)
-
-pub IfOk-weaken : {X E : Type 0} (P Q : X → Type 0) → ((x : X) → P x → Q x) → (r : Result X E) → IfOk r P → IfOk r Q
-IfOk-weaken P Q f (Ok x) p = f x p
-IfOk-weaken P Q f (Err e) p = p
-
-pub nil_from_length : {A : Type 0} (xs : List A) → length xs ≡ 0 → xs ≡ []
-nil_from_length [] e = refl
-nil_from_length (x ∷ xs) e = absurd (omega (arith, e))

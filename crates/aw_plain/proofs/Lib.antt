@@ -18,5 +18,4 @@ pub mod TurnLemmas
 pub mod OrderedLemmas
 pub mod RowLemmas
 pub mod FillLemmas
-pub mod StepLemmas
 pub mod OrderLemmas

@@ -1,7 +1,7 @@
 -- The line of a row.
-use Rattle.std.proofs.Common.{◌≡◌, ℕ, zero, suc, ◌+◌, ◌<◌, ◌≤◌, List, [], ◌∷◌, ◌++◌, map, drop, get_or, length, codes, sym, ap, ◌∙◌, refl, append_assoc, subst, arith}
+use Rattle.std.proofs.Common.{◌≡◌, ℕ, ◌+◌, ◌<◌, ◌≤◌, List, [], ◌∷◌, ◌++◌, map, drop, get_or, length, codes, sym, ap, ◌∙◌, refl, append_assoc, subst}
 use Rattle.std.specs.Prelude.{false, Result, Ok, Err}
-use Rattle.std.proofs.lemmas.List.{at_drop_more}
+use Rattle.std.proofs.lemmas.List.{at_drop_more, drop_all}
 use Rattle.aw_term.specs.Trees.{Never, Leaf, Made, Trees, Nil, More, binds}
 use Rattle.aw_term.specs.Rules.{Ground, get}
 use Rattle.aw_term.specs.Configs.{Done, lift}
@@ -73,12 +73,6 @@ pub lines_more : (w : Words) (qs : List rows.Row) (i : ℕ) (q : rows.Row) → i
 lines_more w qs i q l e =
     at_drop_more (λ rs. artifact_text w (config_of rs)) qs i q l ∙ ap (λ r. row_text w (plain_row r) ++ artifact_text w (config_of (drop (i + 1) qs))) (sym e)
 
-past_end : {A : Type 0} (xs : List A) (i : ℕ) → length xs ≤ i → drop i xs ≡ []
-past_end [] zero l = refl
-past_end [] (suc i) l = refl
-past_end (x ∷ xs) zero l = absurd (omega (arith, l))
-past_end (x ∷ xs) (suc i) l = past_end xs i (omega (arith, l))
-
 -- a text was printed, and the rest is printed
 pub then_prints : (text a b : List ℕ) (old mid new : Bounded) (r1 r : Result Unit PrintFault) (u : Unit) → text ≡ a ++ b → r1 ≡ Ok u → Prints a old mid r1 → Prints b mid new r → Prints text old new r
 then_prints text a b old mid new r1 r u e ok first next =
@@ -92,4 +86,4 @@ stops text a b old new r1 r fault e err same first =
 
 -- no line is left to be printed
 pub no_lines : (w : Words) (qs : List rows.Row) (i : ℕ) (report : Bounded) → length qs ≤ i → Prints (artifact_text w (config_of (drop i qs))) report report (Ok tt)
-no_lines w qs i report l = subst (λ rs. Prints (artifact_text w (config_of rs)) report report (Ok tt)) (sym (past_end qs i l)) (Prints-nothing report)
+no_lines w qs i report l = subst (λ rs. Prints (artifact_text w (config_of rs)) report report (Ok tt)) (sym (drop_all i qs l)) (Prints-nothing report)

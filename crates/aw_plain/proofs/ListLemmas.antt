@@ -1,6 +1,7 @@
 -- Items of a worklist, one rule after the other.
 use Rattle.std.proofs.Common.{◌≡◌, ℕ, zero, suc, ◌+◌, ◌<◌, true, false, nat_eq, List, [], ◌∷◌, ◌++◌, length, drop, Some, None, slice_get, option_map, ap, ◌∙◌, refl, append_assoc, add-one, get_or}
-use Rattle.std.proofs.lemmas.Option.{slice_get-map, slice_get_read}
+use Rattle.std.proofs.lemmas.Option.{slice_get-map, slice_get_read, slice_get_within, get_or_from_slice_get}
+use Rattle.std.proofs.Math.Seq.{drop-cons}
 use Rattle.std.proofs.Math.Nat.{ℕ_set}
 use Rattle.std.proofs.Math.Logic.{∥∥₁_elim}
 use Rattle.aw_term.specs.Rules as P
@@ -17,9 +18,7 @@ use Rattle.aw_plain.specs.RowView.{plain_row, config_of}
 use Rattle.aw_plain.specs.Filled.{IsFilled, AreFilled}
 
 from_here : {A : Type 0} (xs : List A) (n : ℕ) (x : A) → slice_get xs n ≡ Some x → drop n xs ≡ x ∷ drop (suc n) xs
-from_here [] n x e = absurd cc
-from_here (y ∷ ys) zero x e = let h : y ≡ x = cc in ap (λ z. z ∷ ys) h
-from_here (y ∷ ys) (suc n) x e = from_here ys n x e
+from_here xs n x e = drop-cons xs n x (slice_get_within xs n x e) ∙ ap (λ y. y ∷ drop (suc n) xs) (get_or_from_slice_get xs n x x e)
 
 none_here : {A : Type 0} (xs : List A) (n : ℕ) → slice_get xs n ≡ None → (drop n xs ≡ []) × (drop (suc n) xs ≡ [])
 none_here [] zero e = (refl, refl)

@@ -1,6 +1,7 @@
 -- Matching through the views.
 use Rattle.std.proofs.Common.{◌≡◌, ℕ, suc, ◌+◌, ◌<◌, ◌≤◌, cond, Bool, true, false, List, [], ◌∷◌, ◌++◌, length, map, drop, get_or, sym, ap, ◌∙◌, refl, arith, append_assoc, append-nil, eq-eqb, subst}
 use Rattle.std.specs.Prelude.{nat_eq, nat_le, ◌&&◌, zero}
+use Rattle.std.proofs.lemmas.Bool.{and_parts, ne_eqb}
 use Rattle.std.proofs.lemmas.List.{at_drop_more, map-append, length-map}
 use Rattle.aw_term.specs.Trees as P
 use Rattle.aw_term.specs.Trees.{Leaf, Made, Nil, More, count, head_eq, join}
@@ -12,6 +13,7 @@ use Rattle.aw_term.specs.Views.{pattern_of}
 use Rattle.aw_term.specs.declared.term.Pattern.{Pattern}
 use Rattle.aw_term.specs.declared.term.Pattern as pattern
 use Rattle.aw_term.proofs.ViewLemmas.{pattern_con}
+use Rattle.aw_term.proofs.Joined.{count_join}
 use Rattle.std.specs.declared.vec.Vec.{Vec}
 use Rattle.std.specs.declared.rc.Rc.{Rc}
 use Rattle.std.specs.declared.alloc.Global.{Global}
@@ -25,24 +27,13 @@ use Rattle.aw_plain.proofs.ViewLemmas.{value_parts}
 abbrev pub M : Type 0
 M = Matched Value Ref
 
-pub count_join : {X L : Type 0} (f : X → P.Tree L) (xs : List X) → count (join (map f xs)) ≡ length xs
-count_join f [] = refl
-count_join f (x ∷ xs) = ap suc (count_join f xs)
-
-count_list : {L : Type 0} (us : List (P.Tree L)) → count (join us) ≡ length us
-count_list [] = refl
-count_list (u ∷ us) = ap suc (count_list us)
-
-nat_eq_other : (m n : ℕ) → (m ≡ n → ⊥) → nat_eq m n ≡ false
-nat_eq_other m n h = grind (arith, h)
-
 con_case : (c d : ℕ) (ps : List Pattern) (us : List Value) (b : Bool) → nat_eq (length ps) (length us) ≡ b → c ≡ d →
     match (pattern_of (pattern.Con c ps)) (Made (P.Con d) (join us)) ≡ cond b (match_parts 1 (join (map pattern_of ps)) (join us)) (Differs [])
 con_case c d ps us b l e =
     ap (λ p. match p (Made (P.Con d) (join us))) (pattern_con c ps)
     ∙ ap (λ x. cond (x && nat_eq (count (join (map pattern_of ps))) (count (join us))) (match_parts 1 (join (map pattern_of ps)) (join us)) (Differs [])) (eq-eqb c d e)
-    ∙ ap (λ n. cond (nat_eq n (count (join us))) (match_parts 1 (join (map pattern_of ps)) (join us)) (Differs [])) (count_join pattern_of ps)
-    ∙ ap (λ n. cond (nat_eq (length ps) n) (match_parts 1 (join (map pattern_of ps)) (join us)) (Differs [])) (count_list us)
+    ∙ ap (λ n. cond (nat_eq n (count (join us))) (match_parts 1 (join (map pattern_of ps)) (join us)) (Differs [])) (count_join (map pattern_of ps) ∙ length-map ps pattern_of)
+    ∙ ap (λ n. cond (nat_eq (length ps) n) (match_parts 1 (join (map pattern_of ps)) (join us)) (Differs [])) (count_join us)
     ∙ ap (λ x. cond x (match_parts 1 (join (map pattern_of ps)) (join us)) (Differs [])) l
 
 pub parts_of : (d : ℕ) (w : Bool) (ts : Rc (Vec Tree Global) Global) (t : Tree) (xs us : List Tree) → t ≡ tree.Con d w ts → xs ≡ ts.value.items → values_of us ≡ map (value_under w) xs → value_of t ≡ Made (P.Con d) (join (values_of us))
@@ -58,7 +49,7 @@ con_match c d ps us p t ep et e l =
 pub con_long : (c d : ℕ) (ps : List Pattern) (us : List Tree) (p : Pattern) (t : Tree) → p ≡ pattern.Con c ps → value_of t ≡ Made (P.Con d) (join (values_of us)) → c ≡ d → (length ps ≡ length us → ⊥) → match (pattern_of p) (value_of t) ≡ Differs []
 con_long c d ps us p t ep et e l =
     ap (λ q. match (pattern_of q) (value_of t)) ep ∙ ap (match (pattern_of (pattern.Con c ps))) et
-    ∙ con_case c d ps (values_of us) false (nat_eq_other _ _ (λ h. l (h ∙ length-map us value_of))) e
+    ∙ con_case c d ps (values_of us) false (ne_eqb _ _ (λ h. l (h ∙ length-map us value_of))) e
 
 abbrev nowhere : M
 nowhere = Differs []
@@ -101,24 +92,16 @@ one_more q n i ps ts p t xs m whole lp lt ep et em w =
 pub more_taken : (xs : List Tree) (ys : List Tree) (m : M) → and_then (Yes (values_of (xs ++ ys))) m ≡ and_then (Yes (values_of xs)) (and_then (Yes (values_of ys)) m)
 more_taken xs ys m = ap (λ zs. and_then (Yes zs) m) (map-append value_of xs ys) ∙ assoc (values_of xs) (values_of ys) m
 
-pub and_left : (a b : Bool) → (a && b) ≡ true → a ≡ true
-and_left true b e = refl
-and_left false b e = absurd cc
-
-pub and_right : (a b : Bool) → (a && b) ≡ true → b ≡ true
-and_right true b e = e
-and_right false b e = absurd cc
-
 pub narrow_at : (ps : List Pattern) (i : ℕ) (p : Pattern) → i < length ps → p ≡ get_or ps i p → are_narrow (join (map pattern_of ps)) ≡ true → is_narrow (pattern_of p) ≡ true
 narrow_at [] i p l e w = absurd (omega arith)
-narrow_at (q ∷ ps) zero p l e w = subst (λ z. is_narrow (pattern_of z) ≡ true) (sym e) (and_left _ _ w)
-narrow_at (q ∷ ps) (suc i) p l e w = narrow_at ps i p (omega arith) e (and_right (is_narrow (pattern_of q)) _ w)
+narrow_at (q ∷ ps) zero p l e w = subst (λ z. is_narrow (pattern_of z) ≡ true) (sym e) (and_parts _ _ w).0
+narrow_at (q ∷ ps) (suc i) p l e w = narrow_at ps i p (omega arith) e (and_parts (is_narrow (pattern_of q)) _ w).1
 
 narrow_con : (c : ℕ) (ps : List Pattern) → is_narrow (pattern_of (pattern.Con c ps)) ≡ true → (length ps ≤ 8) × (are_narrow (join (map pattern_of ps)) ≡ true)
 narrow_con c ps w =
     let v : (nat_le (count (join (map pattern_of ps))) 8 && are_narrow (join (map pattern_of ps))) ≡ true = sym (ap is_narrow (pattern_con c ps)) ∙ w in
-    let l : nat_le (count (join (map pattern_of ps))) 8 ≡ true = and_left _ _ v in
-    (grind (arith, l, count_join pattern_of ps), and_right (nat_le (count (join (map pattern_of ps))) 8) _ v)
+    let (l, r) = and_parts (nat_le (count (join (map pattern_of ps))) 8) _ v in
+    (grind (arith, l, count_join (map pattern_of ps), length-map ps pattern_of), r)
 
 pub narrow_parts : (qs ps : List Pattern) (p : Pattern) (c : ℕ) → qs ≡ ps → p ≡ pattern.Con c ps → is_narrow (pattern_of p) ≡ true → are_narrow (join (map pattern_of qs)) ≡ true
 narrow_parts qs ps p c e i w = subst (λ zs. are_narrow (join (map pattern_of zs)) ≡ true) (sym e) (narrow_con c ps (subst (λ z. is_narrow (pattern_of z) ≡ true) i w)).1
@@ -131,17 +114,3 @@ symbols_con qs ps p c e i = ap (λ z. symbols (pattern_of z)) i ∙ ap symbols (
 
 pub nesting_con : (qs ps : List Pattern) (p : Pattern) (c : ℕ) → qs ≡ ps → p ≡ pattern.Con c ps → nesting (pattern_of p) ≡ 1 + all_nesting (join (map pattern_of qs))
 nesting_con qs ps p c e i = ap (λ z. nesting (pattern_of z)) i ∙ ap nesting (pattern_con c ps) ∙ omega (arith, ap (λ zs. all_nesting (join (map pattern_of zs))) e)
-
-pub symbols_at : (ps : List Pattern) (i : ℕ) (p : Pattern) → i < length ps → p ≡ get_or ps i p → symbols (pattern_of p) ≤ all_symbols (join (map pattern_of ps))
-symbols_at [] i p l e = absurd (omega (arith, l))
-symbols_at (q ∷ ps) zero p l e = omega (arith, ap (λ z. symbols (pattern_of z)) e)
-symbols_at (q ∷ ps) (suc i) p l e = omega (arith, symbols_at ps i p (omega (arith, l)) e)
-
-pub nesting_at : (ps : List Pattern) (i : ℕ) (p : Pattern) → i < length ps → p ≡ get_or ps i p → nesting (pattern_of p) ≤ all_nesting (join (map pattern_of ps))
-nesting_at [] i p l e = absurd (omega (arith, l))
-nesting_at (q ∷ ps) zero p l e = omega (arith, ap (λ z. nesting (pattern_of z)) e)
-nesting_at (q ∷ ps) (suc i) p l e = omega (arith, nesting_at ps i p (omega (arith, l)) e)
-
-positive : {A : Type 0} (t : P.Tree A) → 0 < nesting t
-positive (Leaf r) = omega arith
-positive (Made h ts) = omega arith

@@ -2,11 +2,12 @@
 use Rattle.std.proofs.Common.{◌≡◌, ℕ, zero, suc, ◌+◌, ◌<◌, ◌≤◌, List, [], ◌∷◌, length, map, get_or, Bool, true, false, cond, ap, subst, sym, ◌∙◌, refl, arith}
 use Rattle.std.specs.Cmp.{IsStrictWeakOrder}
 use Rattle.std.proofs.lemmas.List.Sorted.{sorted_far}
-use Rattle.aw_term.specs.Names.{Node, Ref, node_eq, node_lt}
+use Rattle.aw_term.specs.Names.{Node, Ref, node_lt}
 use Rattle.aw_term.specs.Rules.{Value, Ground, Rule, Grammar}
 use Rattle.aw_term.specs.Configs.{State, Done, Row, Config, done_row, env, fill, put, child_rows, row_put, develop, insert_row, insert_rows, rounds}
 use Rattle.aw_term.specs.Choices.{Choice, Start, Develop, Outcome, Refused, Starts, Takes, start_row, outcome, taken, or_same, after}
 use Rattle.aw_term.specs.WellFormed.{Each}
+use Rattle.aw_term.proofs.RowParts.{done_node, rounds_node}
 use Rattle.aw_plain.specs.Ordered.{IsOrdered}
 use Rattle.aw_plain.proofs.NodeOrder.{node_order}
 
@@ -92,17 +93,6 @@ ordered_mapped f same c up = ordered_of (map f c) (up_mapped f same c (up_of c u
 pub ordered_rounds : (f : Row → Row) → ((q : Row) → (f q).node ≡ q.node) → (m : ℕ) (c : Config) → IsOrdered c → IsOrdered (rounds m (map f) c)
 ordered_rounds f same zero c up = up
 ordered_rounds f same (suc m) c up = ordered_rounds f same m (map f c) (ordered_mapped f same c up)
-
-done_node : (n : Node) (s : State) (q : Row) → (done_row n s q).node ≡ q.node
-done_node n s q = cases (node_eq n q.node)
-  where
-    cases : (b : Bool) → (cond b (record q { state = s }) q).node ≡ q.node
-    cases true = refl
-    cases false = refl
-
-rounds_node : (m : ℕ) (f : Ref → Value) (q : Row) → (rounds m (row_put f) q).node ≡ q.node
-rounds_node zero f q = refl
-rounds_node (suc m) f q = rounds_node m f (row_put f q)
 
 -- a taken rule keeps the nodes of the rows that were held
 pub after_node : (n : Node) (s : State) (m : ℕ) (f : Ref → Value) (q : Row) → (rounds m (row_put f) (done_row n s q)).node ≡ q.node

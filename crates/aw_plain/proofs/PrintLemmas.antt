@@ -1,7 +1,7 @@
 -- Printing values on a stack.
-use Rattle.std.proofs.Common.{◌≡◌, ℕ, ◌+◌, ◌-◌, ◌<◌, ◌≤◌, List, [], ◌∷◌, ◌++◌, map, length, take, drop, get_or, codes, sym, ap, ◌∙◌, refl, arith, append_assoc, append-nil, subst}
-use Rattle.std.specs.Prelude.{Bool, Result, Ok, Err, IfErr}
-use Rattle.std.proofs.lemmas.List.{at_drop_more, take_all}
+use Rattle.std.proofs.Common.{◌≡◌, ℕ, ◌+◌, ◌<◌, ◌≤◌, List, [], ◌∷◌, ◌++◌, map, length, drop, get_or, codes, sym, ap, ◌∙◌, refl, arith, append_assoc, append-nil, subst}
+use Rattle.std.specs.Prelude.{Bool, Result, Ok, Err}
+use Rattle.std.proofs.lemmas.List.{at_drop_more}
 use Rattle.std.specs.declared.vec.Vec.{Vec}
 use Rattle.std.specs.declared.rc.Rc.{Rc}
 use Rattle.std.specs.declared.alloc.Global.{Global}
@@ -71,10 +71,6 @@ opened w u c m ts ps rest e i some =
     ∙ sym (append_assoc name (codes "(") (inner ++ (codes ")" ++ rest)))
     ∙ ap (λ us. us ++ (inner ++ (codes ")" ++ rest))) (sym (opening_some w u c m ts ps e i some))
 
-pub all_behind : {A : Type 0} (ts : List A) → take (length ts - 1) (drop 1 ts) ≡ drop 1 ts
-all_behind [] = refl
-all_behind (t ∷ ts) = take_all (length (t ∷ ts) - 1) ts (omega arith)
-
 -- the first of some values, and those behind it
 pub listed_split : (w : Words) (m : Bool) (ts : List Tree) (t : Tree) → 1 ≤ length ts → t ≡ get_or ts 0 t → listed (texts_under w m ts) ≡ value_text w (value_under m t) ++ following (texts_under w m (drop 1 ts))
 listed_split w m [] t l e = absurd (omega (arith, l))
@@ -97,10 +93,6 @@ gathered w old text p before after e h = ap (λ t. t ++ pending w after) e ∙ a
 
 pub all_gathered : (w : Words) (text : List ℕ) (ps before : List Piece) (p : Piece) → ps ≡ before ++ p ∷ [] → text ++ (piece_text w p ++ pending w before) ≡ text ++ pending w ps
 all_gathered w text ps before p e = ap (λ t. text ++ t) (sym (ap (pending w) e ∙ pending_push w before p))
-
-pub IfErr-weaken : {A E : Type 0} (P Q : E → Type 0) → ((x : E) → P x → Q x) → (r : Result A E) → IfErr r P → IfErr r Q
-IfErr-weaken P Q f (Ok x) p = p
-IfErr-weaken P Q f (Err x) p = f x p
 
 -- what was gathered is added, and the rest is printed
 pub added : (text more left : List ℕ) (old mid last : Bounded) (r1 r : Result Unit PrintFault) (u : Unit) → r1 ≡ Ok u → left ≡ [] → Prints text old mid r1 → Prints (left ++ more) mid last r → Prints (text ++ more) old last r

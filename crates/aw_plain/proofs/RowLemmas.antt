@@ -4,13 +4,18 @@ use Rattle.std.specs.Prelude.{not}
 use Rattle.std.specs.List.{AllWithin}
 use Rattle.std.specs.List.Sorted.{IsPartitionedBy}
 use Rattle.std.proofs.Math.ListN.{get_or-map}
+use Rattle.std.proofs.lemmas.Bool.{not-true, not-false}
+use Rattle.std.proofs.lemmas.List.{length-map}
+use Rattle.std.proofs.lemmas.Option.{same_Some}
 use Rattle.aw_term.specs.Names.{Node, node_lt, node_eq}
 use Rattle.aw_term.specs.Configs as Q
 use Rattle.aw_term.specs.Configs.{insert_row, row_of}
 use Rattle.aw_plain.specs.declared.row.Row.{Row}
 use Rattle.aw_plain.specs.RowView.{plain_row, config_of}
 use Rattle.aw_plain.specs.Ordered.{IsOrdered}
-use Rattle.aw_plain.proofs.NodeOrder.{node_order, node_tied, node_same, node_refl}
+use Rattle.aw_term.proofs.NodeTests.{node_is}
+use Rattle.aw_plain.proofs.NodeOrder.{node_order, node_tied, before_cases}
+use Rattle.aw_plain.proofs.OrderLemmas.{node_Decides}
 use Rattle.aw_plain.proofs.OrderedLemmas.{far}
 
 pub rows_far : (rows : List Row) → IsOrdered (config_of rows) → (i j : ℕ) (d : Row) → i ≤ j → j < length rows → node_lt (get_or rows j d).node (get_or rows i d).node ≡ false
@@ -18,45 +23,29 @@ rows_far rows up i j d le l =
     let at = λ (k : ℕ). ap (λ (q : Q.Row). q.node) (get_or-map plain_row rows k d) in
     subst (λ m. node_lt (get_or rows j d).node m ≡ false) (at i)
     (subst (λ m. node_lt m (get_or (config_of rows) i (plain_row d)).node ≡ false) (at j)
-    (far (config_of rows) up i j (plain_row d) le (subst (λ n. j < n) (sym (length_map rows)) l)))
-  where
-    length_map : (rows : List Row) → length (config_of rows) ≡ length rows
-    length_map [] = refl
-    length_map (x ∷ xs) = ap suc (length_map xs)
-
-before_cases : (n a b : Node) (x : Bool) → node_lt a n ≡ x → node_lt b a ≡ false → node_lt b n ≡ true → x ≡ true
-before_cases n a b true e up l = refl
-before_cases n a b false e up l = let z = node_order.chain b a n up e in absurd cc
+    (far (config_of rows) up i j (plain_row d) le (subst (λ n. j < n) (sym (length-map rows plain_row)) l)))
 
 -- the rows before a node stand in front
 pub before_first : (rows : List Row) (n : Node) → IsOrdered (config_of rows) → IsPartitionedBy (λ r. node_lt r.node n) rows
-before_first rows n up i j d le l h = before_cases n (get_or rows i d).node (get_or rows j d).node _ refl (rows_far rows up i j d le l) h
-
-pub not_true : (b : Bool) → not b ≡ true → b ≡ false
-not_true true e = absurd cc
-not_true false e = refl
-
-pub not_false : (b : Bool) → not b ≡ false → b ≡ true
-not_false true e = refl
-not_false false e = absurd cc
+before_first rows n up i j d le l h = before_cases node_lt node_order n (get_or rows i d).node (get_or rows j d).node _ refl (rows_far rows up i j d le l) h
 
 -- the rows that a node is not before stand in front
 pub after_last : (rows : List Row) (n : Node) → IsOrdered (config_of rows) → IsPartitionedBy (λ r. not (node_lt n r.node)) rows
 after_last rows n up i j d le l h =
-    ap not (node_order.chain n (get_or rows j d).node (get_or rows i d).node (not_true _ h) (rows_far rows up i j d le l))
+    ap not (node_order.chain n (get_or rows j d).node (get_or rows i d).node (not-true _ h) (rows_far rows up i j d le l))
 
 -- a row goes between those that it is not before and those that it is before
 pub inserted_at : (rows : List Row) (n : Node) (i : ℕ) → i ≤ length rows → AllWithin (λ r. not (node_lt n r.node) ≡ true) rows 0 i → AllWithin (λ r. not (node_lt n r.node) ≡ false) rows i (length rows) → (r : Q.Row) → r.node ≡ n → insert_row r (config_of rows) ≡ config_of (take i rows) ++ r ∷ config_of (drop i rows)
 inserted_at [] n zero le low high r e = refl
 inserted_at [] n (suc i) le low high r e = refl
 inserted_at (x ∷ xs) n zero le low high r e =
-    ap (λ b. cond b (r ∷ plain_row x ∷ config_of xs) (plain_row x ∷ insert_row r (config_of xs))) (ap (λ m. node_lt m x.node) e ∙ not_false _ (high 0 x (omega arith) (omega arith)))
+    ap (λ b. cond b (r ∷ plain_row x ∷ config_of xs) (plain_row x ∷ insert_row r (config_of xs))) (ap (λ m. node_lt m x.node) e ∙ not-false _ (high 0 x (omega arith) (omega arith)))
 inserted_at (x ∷ xs) n (suc i) le low high r e =
-    ap (λ b. cond b (r ∷ plain_row x ∷ config_of xs) (plain_row x ∷ insert_row r (config_of xs))) (ap (λ m. node_lt m x.node) e ∙ not_true _ (low 0 x (omega arith) (omega arith)))
+    ap (λ b. cond b (r ∷ plain_row x ∷ config_of xs) (plain_row x ∷ insert_row r (config_of xs))) (ap (λ m. node_lt m x.node) e ∙ not-true _ (low 0 x (omega arith) (omega arith)))
     ∙ ap (λ c. plain_row x ∷ c) (inserted_at xs n i (omega (arith, le)) (λ k d a b. low (suc k) d (omega arith) (omega (arith, b))) (λ k d a b. high (suc k) d (omega (arith, a)) (omega (arith, b))) r e)
 
 differs : (n m : Node) (b : Bool) → node_eq n m ≡ b → (n ≡ m → node_lt m m ≡ true) → b ≡ false
-differs n m true e h = let same = node_same n m e in let l = h same in let z = node_order.one_way m m l in absurd cc
+differs n m true e h = let same = node_is n m e in let l = h same in let z = node_order.one_way m m l in absurd cc
 differs n m false e h = refl
 
 other_before : (n m : Node) → node_lt m n ≡ true → node_eq n m ≡ false
@@ -88,10 +77,7 @@ after_cases n a b false e l up = let z = node_order.chain n b a e up in absurd c
 
 strict_cases : (n a : Node) (x : Bool) → node_lt n a ≡ x → node_lt a n ≡ false → node_eq n a ≡ false → x ≡ true
 strict_cases n a true e low differ = refl
-strict_cases n a false e low differ = let same = node_tied n a e low in let z = node_self n a same in absurd cc
-  where
-    node_self : (n a : Node) → n ≡ a → node_eq n a ≡ true
-    node_self n a e = subst (λ k. node_eq n k ≡ true) e (node_refl n)
+strict_cases n a false e low differ = let same = node_tied n a e low in let z = (node_Decides n a).1 same in absurd cc
 
 abbrev Far : List Row → Type 0
 Far rows = (i j : ℕ) (d : Row) → i ≤ j → j < length rows → node_lt (get_or rows j d).node (get_or rows i d).node ≡ false
@@ -113,11 +99,8 @@ row_gone rows n i up low high here = gone rows n i (rows_far rows up) low high h
 
 pub other_here : (rows : List Row) (n : Node) (i : ℕ) (row other : Row) → slice_get rows i ≡ Some row → slice_get rows i ≡ Some other → node_eq n other.node ≡ false → node_eq n row.node ≡ false
 other_here rows n i row other here there e =
-    let same : other ≡ row = some_same (sym there ∙ here) in
+    let same = same_Some other row (sym there ∙ here) in
     ap (λ (r : Row). node_eq n r.node) (sym same) ∙ e
-  where
-    some_same : {a b : Row} → Some a ≡ Some b → a ≡ b
-    some_same e = cc
 
 pub nothing_here : (rows : List Row) (n : Node) (i : ℕ) (row : Row) → slice_get rows i ≡ Some row → slice_get rows i ≡ None → node_eq n row.node ≡ false
 nothing_here rows n i row here gone = absurd cc

@@ -1,14 +1,13 @@
 -- What a choice keeps: that rows are filled, that they are reached, and so that they are acyclic.
 use Rattle.std.proofs.Common.{◌≡◌, ℕ, zero, suc, arith, Bool, true, false, cond, List, [], ◌∷◌, ◌++◌, length, map, Option, Some, None, slice_get, sym, ap, ◌∙◌, refl, subst}
-use Rattle.std.specs.Prelude.{option_and_then, Result, Ok, Err, IfOk, OnErr, nat_eq}
+use Rattle.std.specs.Prelude.{option_and_then, Result, Ok, Err, IfOk, OnErr}
 use Rattle.std.proofs.Math.Logic.{∥∥₁_map₂}
 use Rattle.std.proofs.lemmas.List.{length-map}
 use Rattle.aw_term.specs.Trees.{bind}
 use Rattle.aw_term.specs.Names.{Node, Ref, node_eq, node_lt}
 use Rattle.aw_term.specs.Rules.{Ground, Value, Child, Rule, Sort, Grammar}
-use Rattle.aw_term.specs.Matching.{Matched, Yes, Waits, Differs, Circle, match_all}
-use Rattle.aw_term.specs.Configs.{State, Pending, Done, Row, Config, child_rows, insert_row, insert_rows, row_of, done_row, row_put, rounds, develop, fill}
-use Rattle.aw_term.specs.Choices.{Choice, Start, Develop, Answer, NotItsRule, Arguments, TooDeep, Outcome, Refused, Starts, Takes, deep, after_guard, at_rule, at_state, at_row, outcome, start_row, taken, or_same, after, undivided}
+use Rattle.aw_term.specs.Configs.{State, Done, Row, Config, child_rows, insert_row, insert_rows, row_of, done_row, row_put, rounds, develop, fill}
+use Rattle.aw_term.specs.Choices.{Choice, Start, Develop, Outcome, Refused, Starts, Takes, outcome, start_row, taken, or_same, after, undivided}
 use Rattle.aw_term.specs.Artifacts.{Words}
 use Rattle.aw_term.specs.WellFormed.{Each, takes_of, SortFits, ChildFits, RuleFits, IsWellFormed}
 use Rattle.aw_base.specs.NodeNames.{is_start}
@@ -18,7 +17,7 @@ use Rattle.aw_iograph.specs.Dependence.{IO, HasNoCircle}
 use Rattle.aw_iograph.proofs.Members.{never}
 use Rattle.aw_accept.specs.Acyclic.{IsAcyclic}
 use Rattle.aw_accept.proofs.Fitting.{given_of}
-use Rattle.aw_accept.proofs.UndividedRuns.{undivided-acyclic}
+use Rattle.aw_accept.proofs.UndividedRuns.{undivided-acyclic, decode_on}
 use Rattle.aw_plain.specs.declared.row.Row as rows
 use Rattle.aw_plain.specs.RowView.{config_of}
 use Rattle.aw_plain.specs.Filled.{IsFilled, AreFilled}
@@ -62,36 +61,6 @@ start_takes roles [] s fits e = absurd cc
 start_takes roles (x ∷ xs) zero fits e = sym (fits.0.start e)
 start_takes roles (x ∷ xs) (suc s) fits e = start_takes roles xs s fits.1 e
 
--- the rule that is taken is that of the number
-first_takes : (b : Bool) (x : Outcome Value Ref) (a : Answer Ref) (rule : Rule) (bs : List Value) → cond b x (Refused a) ≡ Takes rule bs → x ≡ Takes rule bs
-first_takes true x a rule bs e = e
-first_takes false x a rule bs e = absurd cc
-
-deep_takes : (b : Bool) (x : Outcome Value Ref) (a : Answer Ref) (rule : Rule) (bs : List Value) → cond b (Refused a) x ≡ Takes rule bs → x ≡ Takes rule bs
-deep_takes true x a rule bs e = absurd cc
-deep_takes false x a rule bs e = e
-
-guard_takes : (n : Node) (r : Rule) (m : Matched Value Ref) (rule : Rule) (bs : List Value) → after_guard n r m ≡ Takes rule bs → r ≡ rule
-guard_takes n r (Yes xs) rule bs e = let f = deep_takes (deep n r) (Takes r xs) TooDeep rule bs e in cc
-guard_takes n r (Waits on) rule bs e = absurd cc
-guard_takes n r (Differs p) rule bs e = absurd cc
-guard_takes n r (Circle at) rule bs e = absurd cc
-
-rule_takes : (o : Option Rule) (n : Node) (args : List Ground) (q : Row) (rule : Rule) (bs : List Value) → at_rule o n args q ≡ Takes rule bs → o ≡ Some rule
-rule_takes None n args q rule bs e = absurd cc
-rule_takes (Some r) n args q rule bs e =
-    let guard = after_guard n r (match_all 1 r.patterns q.inherited) in
-    let f = first_takes (nat_eq r.sort q.sort) (cond (nat_eq (length args) r.params) guard (Refused Arguments)) NotItsRule rule bs e in
-    ap Some (guard_takes n r (match_all 1 r.patterns q.inherited) rule bs (first_takes (nat_eq (length args) r.params) guard Arguments rule bs f))
-
-state_takes : (s : State) (g : Grammar) (n : Node) (r : ℕ) (args : List Ground) (q : Row) (rule : Rule) (bs : List Value) → at_state s g n r args q ≡ Takes rule bs → slice_get g.rules r ≡ Some rule
-state_takes (Done a b) g n r args q rule bs e = absurd cc
-state_takes Pending g n r args q rule bs e = rule_takes (slice_get g.rules r) n args q rule bs e
-
-row_takes : (o : Option Row) (g : Grammar) (n : Node) (r : ℕ) (args : List Ground) (rule : Rule) (bs : List Value) → at_row o g n r args ≡ Takes rule bs → slice_get g.rules r ≡ Some rule
-row_takes None g n r args rule bs e = absurd cc
-row_takes (Some q) g n r args rule bs e = state_takes q.state g n r args q rule bs e
-
 module _ (w : Words) (g : Grammar) (fits : IsWellFormed w g) (c : Config) (filled : AreFilled g c) where
   filled_developed : (n : Node) (r : ℕ) (rule : Rule) (bound : List Value) (args : List Ground) → slice_get g.rules r ≡ Some rule → AreFilled g (develop n r rule bound args c)
   filled_developed n r rule bound args e =
@@ -104,7 +73,7 @@ module _ (w : Words) (g : Grammar) (fits : IsWellFormed w g) (c : Config) (fille
   filled_taken (Start s k) Starts e ok = each_insert (IsFilled g) (start_row g s k) c (start_takes g.roles g.sorts s fits.sorts ok) filled
   filled_taken (Start s k) (Takes rule bound) e ok = filled
   filled_taken (Develop n r args) Starts e ok = filled
-  filled_taken (Develop n r args) (Takes rule bound) e ok = filled_developed n r rule bound args (row_takes (row_of n c) g n r args rule bound e)
+  filled_taken (Develop n r args) (Takes rule bound) e ok = filled_developed n r rule bound args (decode_on g c (row_of n c) n r args rule bound refl e).rule_is
 
   -- a choice leaves rows filled
   pub filled_after : (x : Choice) → choice_ok g x ≡ true → AreFilled g (after g c x)

@@ -1,6 +1,7 @@
 -- Rows of one case stand together, and others are not touched.
 use Rattle.std.proofs.Common.{◌≡◌, ℕ, zero, suc, ◌<◌, ◌≤◌, List, [], ◌∷◌, ◌++◌, map, length, take, drop, get_or, Bool, true, false, ap, subst, sym, ◌∙◌, refl, arith, inl, inr}
-use Rattle.std.proofs.lemmas.List.{take-append-drop, map-append}
+use Rattle.std.proofs.lemmas.Bool.{not-true, not-false, cases_lt}
+use Rattle.std.proofs.lemmas.List.{take-append-drop, map-append, nil_from_length}
 use Rattle.std.specs.Prelude.{◌⊎◌, not}
 use Rattle.std.specs.Cmp.{IsStrictWeakOrder}
 use Rattle.std.specs.List.{AllWithin}
@@ -16,43 +17,33 @@ use Rattle.aw_plain.specs.RowView.{plain_row, config_of}
 use Rattle.aw_plain.specs.Ordered.{IsOrdered}
 use Rattle.aw_plain.specs.Cases.{IsSameCase, case_lt, AreApart, AreOutside}
 use Rattle.aw_plain.specs.Changes.{row_after}
-use Rattle.aw_plain.proofs.NodeOrder.{node_order, case_order, case_not_before, case_self}
-use Rattle.aw_plain.proofs.RowLemmas.{rows_far, not_true, not_false}
+use Rattle.aw_plain.proofs.NodeOrder.{node_order, case_order, before_cases, case_not_before, case_self}
+use Rattle.aw_plain.proofs.RowLemmas.{rows_far}
 use Rattle.aw_plain.proofs.CaseLemmas.{other_case, other_row}
-use Rattle.aw_plain.proofs.JobLemmas.{nil_from_length}
-
-before_cases : (n a b : Node) (x : Bool) → case_lt a n ≡ x → case_lt b a ≡ false → case_lt b n ≡ true → x ≡ true
-before_cases n a b true e up l = refl
-before_cases n a b false e up l = let z = case_order.chain b a n up e in absurd cc
 
 -- the rows of cases before a node's stand in front
 pub case_starts : (rows : List Row) (n : Node) → IsOrdered (config_of rows) → IsPartitionedBy (λ r. case_lt r.node n) rows
-case_starts rows n up i j d le l h = before_cases n (get_or rows i d).node (get_or rows j d).node _ refl (case_not_before (get_or rows j d).node (get_or rows i d).node (rows_far rows up i j d le l)) h
+case_starts rows n up i j d le l h = before_cases case_lt case_order n (get_or rows i d).node (get_or rows j d).node _ refl (case_not_before (get_or rows j d).node (get_or rows i d).node (rows_far rows up i j d le l)) h
 
 -- the rows of cases that a node's is not before stand in front
 pub case_ends : (rows : List Row) (n : Node) → IsOrdered (config_of rows) → IsPartitionedBy (λ r. not (case_lt n r.node)) rows
 case_ends rows n up i j d le l h =
-    ap not (case_order.chain n (get_or rows j d).node (get_or rows i d).node (not_true _ h) (case_not_before (get_or rows j d).node (get_or rows i d).node (rows_far rows up i j d le l)))
+    ap not (case_order.chain n (get_or rows j d).node (get_or rows i d).node (not-true _ h) (case_not_before (get_or rows j d).node (get_or rows i d).node (rows_far rows up i j d le l)))
 
 module _ (lt : Node → Node → Bool) (order : IsStrictWeakOrder lt) (n : Node) where
   -- the rows before it end where those after it begin, or further in front
-  meets : (x : Row) (xs : List Row) (i j : ℕ) → i ≤ length (x ∷ xs) → AllWithin (λ r. lt r.node n ≡ true) (x ∷ xs) 0 i → AllWithin (λ r. not (lt n r.node) ≡ false) (x ∷ xs) j (length (x ∷ xs)) → (i ≤ j) ⊎ (j < i) → i ≤ j
-  meets x xs i j le low high (inl h) = h
-  meets x xs i j le low high (inr h) =
+  meets : (x : Row) (xs : List Row) (i j : ℕ) → i ≤ length (x ∷ xs) → AllWithin (λ r. lt r.node n ≡ true) (x ∷ xs) 0 i → AllWithin (λ r. not (lt n r.node) ≡ false) (x ∷ xs) j (length (x ∷ xs)) → (j < i) ⊎ (i ≤ j) → i ≤ j
+  meets x xs i j le low high (inr h) = h
+  meets x xs i j le low high (inl h) =
       let y = get_or (x ∷ xs) j x in
       let a : lt y.node n ≡ true = low j x (omega arith) h in
-      let b : lt n y.node ≡ true = not_false _ (high j x (omega arith) (omega (arith, h, le))) in
+      let b : lt n y.node ≡ true = not-false _ (high j x (omega arith) (omega (arith, h, le))) in
       let c : lt n y.node ≡ false = order.one_way y.node n a in
       absurd cc
 
   pub order_of_ends : (rows : List Row) (i j : ℕ) → i ≤ length rows → AllWithin (λ r. lt r.node n ≡ true) rows 0 i → AllWithin (λ r. not (lt n r.node) ≡ false) rows j (length rows) → i ≤ j
   order_of_ends [] i j le low high = omega (arith, le)
-  order_of_ends (x ∷ xs) i j le low high = meets x xs i j le low high (two i j)
-    where
-      two : (i j : ℕ) → (i ≤ j) ⊎ (j < i)
-      two zero j = inl (omega arith)
-      two (suc i) zero = inr (omega arith)
-      two (suc i) (suc j) = elim (two i j) [ inl l ↦ inl (omega (arith, l)) | inr l ↦ inr (omega (arith, l)) ]
+  order_of_ends (x ∷ xs) i j le low high = meets x xs i j le low high (cases_lt j i)
 
 -- row by row
 in_front : (P : Q.Row → Type 0) (rows : List Row) (i : ℕ) → AllWithin (λ r. P (plain_row r)) rows 0 i → Each P (take i (config_of rows))
@@ -76,13 +67,13 @@ self n m e l =
 pub outside_node : (n : Node) (rows : List Row) (i j : ℕ) → AllWithin (λ r. node_lt r.node n ≡ true) rows 0 i → AllWithin (λ r. not (node_lt n r.node) ≡ false) rows j (length rows) → AreOutside (λ q. n ≡ q.node → ⊥) i j (config_of rows)
 outside_node n rows i j low high = (
   in_front _ rows i (λ k d a b e. self (get_or rows k d).node n (sym e) (low k d a b)),
-  behind _ rows j (λ k d a b e. self n (get_or rows k d).node e (not_false _ (high k d a b))),
+  behind _ rows j (λ k d a b e. self n (get_or rows k d).node e (not-false _ (high k d a b))),
 )
 
 pub outside_case : (n : Node) (rows : List Row) (i j : ℕ) → AllWithin (λ r. case_lt r.node n ≡ true) rows 0 i → AllWithin (λ r. not (case_lt n r.node) ≡ false) rows j (length rows) → AreOutside (λ q. IsSameCase n q.node → ⊥) i j (config_of rows)
 outside_case n rows i j low high = (
   in_front _ rows i (λ k d a b e. case_self (get_or rows k d).node n (sym e.0, sym e.1) (low k d a b)),
-  behind _ rows j (λ k d a b e. case_self n (get_or rows k d).node e (not_false _ (high k d a b))),
+  behind _ rows j (λ k d a b e. case_self n (get_or rows k d).node e (not-false _ (high k d a b))),
 )
 
 -- what follows for each row of a part

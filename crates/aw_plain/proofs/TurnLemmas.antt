@@ -1,6 +1,7 @@
 -- Choices in turn, and the undivided run of those that are taken.
 use Rattle.std.proofs.Common.{◌≡◌, ℕ, List, [], ◌∷◌, Option, Some, None, Bool, true, false, cond, nat_eq, length, ap, ◌∙◌, refl}
 use Rattle.std.specs.Prelude.{option_and_then}
+use Rattle.std.proofs.lemmas.Option.{same_Some}
 use Rattle.aw_term.specs.Trees.{Never}
 use Rattle.aw_term.specs.Names.{Node, Ref}
 use Rattle.aw_term.specs.Rules.{Ground, Value, Rule, Grammar}
@@ -87,8 +88,5 @@ first_taken g c d x xs false None h e later = absurd cc
 
 -- the choices of an undivided run are all taken
 pub takes_undivided : (g : Grammar) → TakesUndivided g
-takes_undivided g c d [] e = (refl, some_same e)
-  where
-    some_same : {a b : Config} → Some a ≡ Some b → a ≡ b
-    some_same e = cc
+takes_undivided g c d [] e = (refl, same_Some c d e)
 takes_undivided g c d (x ∷ xs) e = first_taken g c d x xs _ _ (alike g c x) e (λ z. takes_undivided g z d xs)

@@ -1,4 +1,3 @@
-pub mod LookUps
 pub mod NodeProps
 pub mod Outcomes
 pub mod Printing

@@ -1,5 +1,6 @@
 -- The printed name of a node as its parts spell it.
 use Rattle.std.proofs.Common.{◌≡◌, ℕ, ◌+◌, ◌≤◌, ◌<◌, ◌^◌, refl, ap, ◌∙◌, true, ◌&&◌, nat_le, nat_lt, List, [], ◌∷◌, ◌++◌, map, length, append_assoc, arith}
+use Rattle.std.proofs.lemmas.Bool.{lt-ltb}
 use Rattle.std.proofs.lemmas.Bool.Decides.{nat_tests}
 use Rattle.std.proofs.lemmas.Fmt.{decimal_digit}
 use Rattle.std.specs.List.{list_all}
@@ -9,7 +10,7 @@ use Rattle.aw_term.specs.Names.{Step, Node}
 use Rattle.aw_term.specs.Rules.{get}
 use Rattle.aw_term.specs.Artifacts.{Words, steps_text, node_text}
 use Rattle.aw_term.specs.WellFormed.{Each}
-use Rattle.aw_printed.proofs.LookUps.{each_get}
+use Rattle.aw_term.proofs.Eaches.{each_get}
 
 -- a step whose rule has a name, to one of at most 8 children
 pub record IsNamedStep (w : Words) (s : Step) : Type 0 where
@@ -46,12 +47,9 @@ steps_are_steps w (s ∷ steps) names each =
     ∙ ap (λ b. b && list_all is_step (map (step_parts w) steps)) (child_test s.child each.0.low each.0.high)
     ∙ steps_are_steps w steps names each.1
 
-word_test : (k : ℕ) → k < 2 ^ 64 → nat_lt k (2 ^ 64) ≡ true
-word_test k less = grind (arith, nat_tests)
-
 pub node_has_spelling : (w : Words) (n : Node) → Each (λ n. is_name n ≡ true) w.sorts → Each (λ n. is_name n ≡ true) w.rules → n.start < length w.sorts → n.case < 2 ^ 64 → Each (IsNamedStep w) n.steps → has_spelling (node_parts w n) ≡ true
 node_has_spelling w n sorts rules start case each =
     let named : is_name (get [] w.sorts n.start) ≡ true = each_get (λ n. is_name n ≡ true) [] w.sorts n.start sorts start in
     ap (λ b. b && (nat_lt n.case (2 ^ 64) && list_all is_step (map (step_parts w) n.steps))) named
-    ∙ ap (λ b. b && list_all is_step (map (step_parts w) n.steps)) (word_test n.case case)
+    ∙ ap (λ b. b && list_all is_step (map (step_parts w) n.steps)) (lt-ltb n.case (2 ^ 64) case)
     ∙ steps_are_steps w n.steps rules each

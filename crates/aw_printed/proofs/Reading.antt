@@ -1,6 +1,6 @@
 -- Reading the printed name of a valid node.
-use Rattle.std.proofs.Common.{◌≡◌, ℕ, zero, suc, ◌+◌, ◌≤◌, ◌<◌, refl, ap, ◌∙◌, Bool, true, false, cond, nat_eq, nat_lt, List, [], ◌∷◌, ◌++◌, map, length, Option, Some, None, is_some, option_map, option_and_then, slice_get, arith}
-use Rattle.std.proofs.lemmas.Bool.Decides.{nat_tests}
+use Rattle.std.proofs.Common.{◌≡◌, ℕ, zero, suc, ◌+◌, ◌≤◌, ◌<◌, refl, ap, ◌∙◌, Bool, true, false, cond, nat_eq, List, [], ◌∷◌, ◌++◌, map, length, Option, Some, None, is_some, option_map, option_and_then, slice_get, arith}
+use Rattle.std.proofs.lemmas.Bool.{le-ltb}
 use Rattle.std.proofs.lemmas.List.{length-map}
 use Rattle.std.proofs.lemmas.Option.{slice_get_within}
 use Rattle.aw_text.specs.Spelling.{is_name}
@@ -9,10 +9,11 @@ use Rattle.aw_term.specs.Names.{Step, Node}
 use Rattle.aw_term.specs.Rules.{Child, Rule, Sort, Grammar, get, child_at, sort_of_step, sort_after, sort_of}
 use Rattle.aw_term.specs.Artifacts.{Words}
 use Rattle.aw_term.specs.WellFormed.{Each, Differ, RuleFits, IsWellFormed}
+use Rattle.aw_term.proofs.Eaches.{each_left, each_right}
 use Rattle.aw_grammar.proofs.Fits.{each_at}
+use Rattle.aw_grammar.proofs.PlacedNames.{place_again}
 use Rattle.aw_base.specs.NodeNames.{Named, TooLong, NotDeclared, steps_named, misfit_or, first_misfit, is_start, fitted, with_steps, with_start, with_parts, node_read}
 use Rattle.aw_grammar.specs.Named.{number_named}
-use Rattle.aw_printed.proofs.LookUps.{each_left, each_right, place_again}
 use Rattle.aw_printed.proofs.Printing.{IsNamedStep, step_parts, node_parts, node_spelled, node_has_spelling}
 use Rattle.aw_printed.specs.Printed.{AreNamed, IsHeld, PrintedNodeIsRead}
 
@@ -84,15 +85,12 @@ started g n e = at_sort (slice_get g.sorts n.start) refl e
         let tests = by_start s.start e in
         record { declared = slice_get_within g.sorts n.start s at; start = ap is_start at ∙ tests.0; after = tests.1 }
 
-short : (k : ℕ) → k ≤ 250 → nat_lt 250 k ≡ false
-short k h = grind (arith, nat_tests)
-
 parts_again : (w : Words) (g : Grammar) (n : Node) → IsWellFormed w g → AreNamed w g → IsHeld n → Started g n → GoodSteps w g 0 n.start n.steps → with_parts w g (Some (node_parts w n)) ≡ Named n
 parts_again w g n formed named held begun good =
     let start = get [] w.sorts n.start in
     let steps = map (step_parts w) n.steps in
     let few : length steps ≤ 250 = omega (arith, held.steps, length-map n.steps (step_parts w)) in
-    ap (λ b. cond b TooLong (with_start w g n.case steps (number_named w.sorts start))) (short (length steps) few)
+    ap (λ b. cond b TooLong (with_start w g n.case steps (number_named w.sorts start))) (le-ltb 250 (length steps) few)
     ∙ ap (with_start w g n.case steps) (place_again w.sorts n.start formed.sorts_differ (omega (arith, begun.declared, named.sorts)))
     ∙ ap (λ b. cond b (with_steps g n.start n.case (steps_named w steps)) NotDeclared) begun.start
     ∙ ap (with_steps g n.start n.case) (rules_again w n.steps formed.rules_differ good.0)

@@ -1,5 +1,5 @@
 -- What follows from a reply.
-use Rattle.std.proofs.Common.{◌≡◌, ℕ, List, [], Some, None, refl, ap, ◌∙◌, subst, sym, inl, inr, IfSome}
+use Rattle.std.proofs.Common.{◌≡◌, ℕ, List, [], Some, None, refl, ap, ◌∙◌, subst, inl, inr, IfSome}
 use Rattle.std.specs.Prelude.{◌⊎◌}
 use Rattle.std.specs.declared.option.Option.{Option}
 use Rattle.aw_out.specs.Wires.{Content}
@@ -14,30 +14,6 @@ use Rattle.aw_prog.specs.Statuses.{IsReply, IsSilent}
 use Rattle.aw_prog.specs.Output.{Output, Writes, PastInputLimit, BadSpecification, IsCircular, BadSchedule, PastOutputLimit, IsOutputOf}
 use Rattle.aw_prog.specs.Replies.{ForInput, Replies, Ends, EndsWith, reply_with, WritesSome, HasText, IsGood, Says}
 use Rattle.aw_prog.proofs.OneOutputs.{one-output}
-
--- a reply is one, whatever the output
-is-reply : (output : Output) → IsReply (reply_with output).status
-is-reply (Writes text) = tt
-is-reply PastInputLimit = tt
-is-reply (BadSpecification why) = tt
-is-reply (IsCircular why) = tt
-is-reply (BadSchedule why) = tt
-is-reply PastOutputLimit = tt
-
-pub replies-status : (P : Output → Type 0) (said : Reply) → Replies P said → IsReply said.status
-replies-status P said says = rw says.2 (is-reply says.0)
-
--- a reply that leaves the sink alone has no text
-is-silent : (output : Output) → IsSilent (reply_with output).status → (reply_with output).text ≡ []
-is-silent (Writes text) silent = absurd silent
-is-silent PastInputLimit silent = refl
-is-silent (BadSpecification why) silent = absurd silent
-is-silent (IsCircular why) silent = absurd silent
-is-silent (BadSchedule why) silent = absurd silent
-is-silent PastOutputLimit silent = refl
-
-pub replies-silent : (P : Output → Type 0) (said : Reply) → Replies P said → IsSilent said.status → said.text ≡ []
-replies-silent P said says silent = rw says.2 (is-silent says.0 (rw says.2 at silent))
 
 -- a reply that is done has the text of its output
 replies-done : (P : Output → Type 0) (said : Reply) (Q : List ℕ → Type 0) (output : Output) → P output → said ≡ reply_with output → said.status ≡ Done → Q said.text → (text : List ℕ) × P (Writes text) × Q text

@@ -1,5 +1,4 @@
 pub mod Endings
-pub mod Printing
 pub mod Transcripts
 pub mod LineCounts
 pub mod Outputs

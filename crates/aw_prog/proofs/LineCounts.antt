@@ -1,5 +1,5 @@
 -- How many lines a text has, and that what is told of a line is told of one of them.
-use Rattle.std.proofs.Common.{◌≡◌, ℕ, suc, ◌+◌, ◌≤◌, ◌<◌, List, [], ◌∷◌, length, arith, cond, true, false, Bool, ◌==◌, Option, None, Some, refl, sym, ap, ◌∙◌, ◌-◌, drop, length-drop}
+use Rattle.std.proofs.Common.{◌≡◌, ℕ, suc, ◌+◌, ◌≤◌, ◌<◌, List, [], ◌∷◌, length, arith, cond, true, false, Bool, ◌==◌, ap, ◌∙◌, ◌-◌, drop, length-drop}
 use Rattle.std.specs.List.{slice_split}
 use Rattle.std.proofs.lemmas.List.Splits.{length-slice_split}
 use Rattle.std.proofs.lemmas.List.Sums.{count_by-le-length}

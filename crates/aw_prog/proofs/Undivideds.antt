@@ -1,6 +1,5 @@
 -- What the undivided run tells of the choices among some events, split into the first event and those behind it.
-use Rattle.std.proofs.Common.{◌≡◌, ℕ, ◌+◌, ◌<◌, List, [], ◌∷◌, ◌++◌, length, map, drop, refl, sym, ◌∙◌, ap, append_assoc, get_or}
-use Rattle.std.proofs.lemmas.List.{at_drop_more}
+use Rattle.std.proofs.Common.{◌≡◌, ℕ, ◌+◌, ◌<◌, List, ◌∷◌, ◌++◌, length, map, drop, refl, append_assoc, get_or}
 use Rattle.aw_term.specs.Rules.{Grammar}
 use Rattle.aw_term.specs.Configs.{Config}
 use Rattle.aw_term.specs.Artifacts.{Words}
@@ -11,6 +10,7 @@ use Rattle.aw_sched.specs.Events.{Chooses, Delivers, Settles, Lists}
 use Rattle.aw_sched.specs.declared.event.Event.{Event}
 use Rattle.aw_sched.specs.Answers.{event_seen}
 use Rattle.aw_prog.specs.Transcript.{choices_in, choice_lines, after_event}
+use Rattle.aw_prog.proofs.Transcripts.{event-drop}
 
 -- the lines of the choices among these events, from a configuration on, and then the artifacts
 abbrev pub undivided_from : Words → Grammar → Config → List P.Event → List ℕ
@@ -25,8 +25,4 @@ first-told w g c (Lists role) es = refl
 -- the event at a place, and those behind it
 pub undivided-drop : (w : Words) (g : Grammar) (c d : Config) (events : List Event) (i : ℕ) (event : Event) → i < length events → event ≡ get_or events i event → d ≡ after_event g c (event_seen event) →
     undivided_from w g c (map event_seen (drop i events)) ≡ choice_lines w g c (event_seen event) ++ undivided_from w g d (map event_seen (drop (i + 1) events))
-undivided-drop w g c d events i event lt is after =
-    at_drop_more (λ es. undivided_from w g c (map event_seen es)) events i event lt
-    ∙ ap (λ e. undivided_from w g c (map event_seen (e ∷ drop (i + 1) events))) (sym is)
-    ∙ first-told w g c (event_seen event) (map event_seen (drop (i + 1) events))
-    ∙ ap (λ k. choice_lines w g c (event_seen event) ++ undivided_from w g k (map event_seen (drop (i + 1) events))) (sym after)
+undivided-drop w g = event-drop g (choice_lines w g) (undivided_from w g) (first-told w g)

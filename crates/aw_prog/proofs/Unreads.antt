@@ -1,10 +1,10 @@
 -- What is said of a source that was not read to its end.
-use Rattle.std.proofs.Common.{◌≡◌, ℕ, ◌+◌, ◌<◌, List, ◌++◌, length, None, Some, Ok, Err, IfOk, refl, sym, ap, ◌∙◌, subst, arith, length-append}
+use Rattle.std.proofs.Common.{◌≡◌, ℕ, ◌+◌, ◌<◌, List, ◌++◌, length, None, Some, IfOk, refl, ap, ◌∙◌, arith, length-append}
 use Rattle.std.specs.declared.option.Option.{Option}
 use Rattle.std.specs.declared.result.Result.{Result}
 use Rattle.aw_out.specs.declared.error.ReadError.{ReadError}
 use Rattle.aw_out.specs.declared.error.ReadError.TheVariants as fault
-use Rattle.aw_out.specs.Edge.{Gives, GivesSome}
+use Rattle.aw_out.specs.Edge.{GivesSome}
 use Rattle.aw_prog.specs.declared.source.TheConstants.{INPUT_LIMIT}
 use Rattle.aw_prog.specs.declared.reading.Job.{Job}
 use Rattle.aw_prog.specs.declared.reply.Reply.{Reply}

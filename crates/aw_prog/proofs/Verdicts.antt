@@ -1,12 +1,13 @@
 -- Replies by what acceptance found.
-use Rattle.std.proofs.Common.{◌≡◌, ℕ, ◌+◌, List, length, Option, None, Some, Bool, true, false, nat_lt, MatchBool, refl, sym, ap, ◌∙◌, subst, Ok, Err, IfOk, codes}
+use Rattle.std.proofs.Common.{◌≡◌, ℕ, ◌+◌, List, None, Some, refl, ap, ◌∙◌, subst, IfOk}
 use Rattle.std.specs.declared.result.Result.{Result}
+use Rattle.std.proofs.lemmas.Result.{IfOk-weaker}
 use Rattle.aw_term.specs.Rules as R
 use Rattle.aw_term.specs.Artifacts.{Words}
 use Rattle.aw_grammar.specs.declared.grammar.Grammar.{Grammar}
 use Rattle.aw_grammar.specs.GrammarOf.{grammar_of, words_of, declarations_of}
 use Rattle.aw_grammar.specs.Declarations.{Declarations, grammar_in}
-use Rattle.aw_iograph.specs.declared.occ.Occ.{Occ}
+use Rattle.aw_grammar.proofs.Entries.{declared_words, declared_grammar}
 use Rattle.aw_iograph.specs.Dependence.{IO, HasNoCircle}
 use Rattle.aw_accept.specs.declared.refused.Fault.{Fault}
 use Rattle.aw_accept.specs.declared.refused.Refused.{Refused}
@@ -23,18 +24,17 @@ use Rattle.aw_prog.specs.declared.reply.Reply.{Reply}
 use Rattle.aw_prog.specs.declared.reply.Status.TheVariants.{Done}
 use Rattle.aw_sched.specs.Schedules.{read_lines}
 use Rattle.aw_prog.specs.declared.schedule.Telling.{Telling}
-use Rattle.aw_prog.specs.Output.{Output, Writes, BadSpecification, IsCircular, BadSchedule, ByFault, IfAccepted, TellsDependences, TellsSchedule, by_schedule}
+use Rattle.aw_prog.specs.Output.{Output, Writes, BadSpecification, IsCircular, BadSchedule, IfAccepted, TellsDependences, TellsSchedule, by_schedule}
 use Rattle.aw_prog.specs.Replies.{Replies, RefusesGrammar, reply, reply_with}
-use Rattle.aw_prog.proofs.Outputs.{words-declared, grammar-declared}
 
 -- the grammar is accepted
 pub accepted-then : (g : Grammar) (P : Output → Type 0) (output : Output) → HasNoCircle (grammar_of g) (IO (grammar_of g)) → P output → IfAccepted (declarations_of g) P output
-accepted-then g P output sound holds = (None, subst (λ (h : R.Grammar). LeastFault h None) (sym (grammar-declared g)) sound, holds)
+accepted-then g P output sound holds = (None, subst (λ (h : R.Grammar). LeastFault h None) (declared_grammar g) sound, holds)
 
 -- it has a circle
 pub circular-then : (g : Grammar) (P : Output → Type 0) (fault : Fault) → LeastFault (grammar_of g) (Some fault) → IfAccepted (declarations_of g) P (IsCircular (circle_text (words_of g) fault))
 circular-then g P fault least =
-    (Some fault, subst (λ (h : R.Grammar). LeastFault h (Some fault)) (sym (grammar-declared g)) least, ap (λ (w : Words). IsCircular (circle_text w fault)) (sym (words-declared g)))
+    (Some fault, subst (λ (h : R.Grammar). LeastFault h (Some fault)) (declared_grammar g) least, ap (λ (w : Words). IsCircular (circle_text w fault)) (declared_words g))
 
 refuses : (refused : Refused) (g : Grammar) (P : Output → Type 0) (said : Reply) → Tells g refused → RefusesGrammar refused said → Replies (IfAccepted (declarations_of g) P) said
 refuses (Circular grammar rule occ) g P said tells is =
@@ -44,13 +44,15 @@ refuses NoMemory g P said tells is = absurd is
 
 -- the refusal of a grammar is a reply
 pub refuses-grammar : {E : Type 0} (result : Result Reply E) (refused : Refused) (g : Grammar) (P : Output → Type 0) → Tells g refused → IfOk result (λ said. RefusesGrammar refused said) → IfOk result (λ said. Replies (IfAccepted (declarations_of g) P) said)
-refuses-grammar (Ok said) refused g P tells is = refuses refused g P said tells is
-refuses-grammar (Err error) refused g P tells is = tt
+refuses-grammar result refused g P tells = IfOk-weaker result _ _ (λ said is. refuses refused g P said tells is)
+
+-- what holds of each output
+pub reply-map : {E : Type 0} (result : Result Reply E) (P Q : Output → Type 0) → ((output : Output) → P output → Q output) → IfOk result (λ said. Replies P said) → IfOk result (λ said. Replies Q said)
+reply-map result P Q f = IfOk-weaker result _ _ (λ said is. (is.0, f is.0 is.1, is.2))
 
 -- the reply to an accepted grammar is one
 pub accepts-grammar : {E : Type 0} (result : Result Reply E) (g : Grammar) (P : Output → Type 0) → HasNoCircle (grammar_of g) (IO (grammar_of g)) → IfOk result (λ said. Replies P said) → IfOk result (λ said. Replies (IfAccepted (declarations_of g) P) said)
-accepts-grammar (Ok said) g P sound is = (is.0, accepted-then g P is.0 sound is.1, is.2)
-accepts-grammar (Err error) g P sound is = tt
+accepts-grammar result g P sound = reply-map result P (IfAccepted (declarations_of g) P) (λ output. accepted-then g P output sound)
 
 -- the text of an accepted grammar is written
 pub writes-dependences : (g : Grammar) (text : List ℕ) → TellsAccepted (words_of g) (grammar_of g) text → Replies (TellsDependences (declarations_of g)) (reply Done text)
@@ -58,7 +60,7 @@ writes-dependences g text tells = (
   Writes text,
   (
     text,
-    subst (λ (w : Words). TellsAccepted w (grammar_in (declarations_of g)) text) (sym (words-declared g)) (subst (λ (h : R.Grammar). TellsAccepted (words_of g) h text) (sym (grammar-declared g)) tells),
+    subst (λ (w : Words). TellsAccepted w (grammar_in (declarations_of g)) text) (declared_words g) (subst (λ (h : R.Grammar). TellsAccepted (words_of g) h text) (declared_grammar g) tells),
     refl,
   ),
   refl,
@@ -66,34 +68,22 @@ writes-dependences g text tells = (
 
 -- a reply to an equal output
 pub reply-same : {E : Type 0} (result : Result Reply E) (P : Output → Type 0) (output : Output) → P output → IfOk result (λ said. said ≡ reply_with output) → IfOk result (λ said. Replies P said)
-reply-same (Ok said) P output holds is = (output, holds, is)
-reply-same (Err error) P output holds is = tt
-
--- what holds of each output
-pub reply-map : {E : Type 0} (result : Result Reply E) (P Q : Output → Type 0) → ((output : Output) → P output → Q output) → IfOk result (λ said. Replies P said) → IfOk result (λ said. Replies Q said)
-reply-map (Ok said) P Q f is = (is.0, f is.0 is.1, is.2)
-reply-map (Err error) P Q f is = tt
-
--- a reply by another name
-pub IfOk-same : {E : Type 0} (result : Result Reply E) (a b : Reply) → b ≡ a → IfOk result (λ said. said ≡ a) → IfOk result (λ said. said ≡ b)
-IfOk-same (Ok said) a b is holds = holds ∙ sym is
-IfOk-same (Err error) a b is holds = tt
+reply-same result P output holds = IfOk-weaker result _ _ (λ said is. (output, holds, is))
 
 -- the reply that tells a schedule
 pub told-schedule : {E : Type 0} (result : Result Reply E) (telling : Telling) (d : Declarations) (before : ℕ) (schedule : List (List ℕ)) →
     IfOk result (λ said. said ≡ reply_with (by_schedule telling d before (read_lines d 1 schedule))) → IfOk result (λ said. Replies (TellsSchedule telling d before schedule) said)
-told-schedule (Ok said) telling d before schedule is = (by_schedule telling d before (read_lines d 1 schedule), refl, is)
-told-schedule (Err error) telling d before schedule is = tt
+told-schedule result telling d before schedule = reply-same result (TellsSchedule telling d before schedule) (by_schedule telling d before (read_lines d 1 schedule)) refl
 
 -- the refusal of a line by another name
 pub bad-line : {E : Type 0} (result : Result Reply E) (line line' : ℕ) (kind kind' : SpecKind) → line' ≡ line → kind' ≡ kind →
     IfOk result (λ said. said ≡ reply_with (BadSpecification (at_line line' (kind_name kind')))) → IfOk result (λ said. said ≡ reply_with (BadSpecification (at_line line (kind_name kind))))
 bad-line result line line' kind kind' same_line same_kind =
-    IfOk-same result (reply_with (BadSpecification (at_line line' (kind_name kind')))) (reply_with (BadSpecification (at_line line (kind_name kind))))
-    (sym (ap (λ n. reply_with (BadSpecification (at_line n (kind_name kind')))) same_line ∙ ap (λ (k : SpecKind). reply_with (BadSpecification (at_line line (kind_name k)))) same_kind))
+    IfOk-weaker result _ _
+    (λ said w. w ∙ (ap (λ n. reply_with (BadSpecification (at_line n (kind_name kind')))) same_line ∙ ap (λ (k : SpecKind). reply_with (BadSpecification (at_line line (kind_name k)))) same_kind))
 
 pub bad-event : {E : Type 0} (result : Result Reply E) (line line' before : ℕ) (kind kind' : SchedKind) → line' ≡ line → kind' ≡ kind →
     IfOk result (λ said. said ≡ reply_with (BadSchedule (at_line (before + line') (schedule_kind kind')))) → IfOk result (λ said. said ≡ reply_with (BadSchedule (at_line (before + line) (schedule_kind kind))))
 bad-event result line line' before kind kind' same_line same_kind =
-    IfOk-same result (reply_with (BadSchedule (at_line (before + line') (schedule_kind kind')))) (reply_with (BadSchedule (at_line (before + line) (schedule_kind kind))))
-    (sym (ap (λ n. reply_with (BadSchedule (at_line (before + n) (schedule_kind kind')))) same_line ∙ ap (λ (k : SchedKind). reply_with (BadSchedule (at_line (before + line) (schedule_kind k)))) same_kind))
+    IfOk-weaker result _ _
+    (λ said w. w ∙ (ap (λ n. reply_with (BadSchedule (at_line (before + n) (schedule_kind kind')))) same_line ∙ ap (λ (k : SchedKind). reply_with (BadSchedule (at_line (before + line) (schedule_kind k)))) same_kind))

@@ -1,5 +1,5 @@
 -- How a run can end, and what each end says of it.
-use Rattle.std.specs.Prelude.{◌≡◌, ℕ, List}
+use Rattle.std.specs.Prelude.{ℕ}
 use Rattle.aw_prog.specs.declared.reply.Status.{Status}
 use Rattle.aw_prog.specs.declared.reply.Status.TheVariants.{Done, Usage, BadSpec, Circular, BadSchedule, TooLarge, ReadFault, WriteFault, NetFault, NoMemory, TooLong}
 use Rattle.aw_prog.specs.declared.reply.Stop.{Stop}

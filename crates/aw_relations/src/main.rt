@@ -80,20 +80,48 @@ fn are_settled(alloc: Global, g: &Grammar) -> Result<bool, AllocError> {
     Ok(true)
 }
 
-/// Adds what is told of a grammar.
-fn push_told(alloc: Global, told: &mut Text, grammar: Grammar) -> Result<(), AllocError> {
-    push_all_flows(alloc, told, &grammar)?;
-    if !are_settled(alloc, &grammar)? {
-        return told.push_bytes(b"not settled\n");
-    }
+/// Adds the flows of each rule, and tells whether the dependences settle to themselves.
+fn push_flows_settled(alloc: Global, told: &mut Text, g: &Grammar) -> Result<bool, AllocError> {
+    push_all_flows(alloc, told, g)?;
+    are_settled(alloc, g)
+}
+
+/// Adds the line of a circle.
+fn push_circular(told: &mut Text, g: &Grammar, fault: Fault) -> Result<(), AllocError> {
+    told.push_bytes(b"circular ")?;
+    push_circle(told, g, fault)?;
+    told.push_bytes(b"\n")
+}
+
+/// Adds what a grammar is answered with.
+fn push_answer(alloc: Global, told: &mut Text, grammar: Grammar) -> Result<(), AllocError> {
     match accept(alloc, grammar) {
-        Ok(accepted) => told.push_bytes(accepted_text(alloc, &accepted)?.as_slice()),
+        Ok(accepted) => {
+            let text = accepted_text(alloc, &accepted);
+            drop(accepted);
+            told.push_bytes(text?.as_slice())
+        }
         Err(Refused::Circular { grammar, rule, occ }) => {
-            told.push_bytes(b"circular ")?;
-            push_circle(told, &grammar, Fault { rule, occ })?;
-            told.push_bytes(b"\n")
+            let pushed = push_circular(told, &grammar, Fault { rule, occ });
+            drop(grammar);
+            pushed
         }
         Err(Refused::NoMemory) => Err(AllocError),
+    }
+}
+
+/// Adds what is told of a grammar.
+fn push_told(alloc: Global, told: &mut Text, grammar: Grammar) -> Result<(), AllocError> {
+    match push_flows_settled(alloc, told, &grammar) {
+        Ok(true) => push_answer(alloc, told, grammar),
+        Ok(false) => {
+            drop(grammar);
+            told.push_bytes(b"not settled\n")
+        }
+        Err(fault) => {
+            drop(grammar);
+            Err(fault)
+        }
     }
 }
 

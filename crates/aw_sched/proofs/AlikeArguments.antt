@@ -1,5 +1,7 @@
 -- Arguments with their names looked up are like the terms that are written.
 use Rattle.std.proofs.Common.{◌≡◌, ℕ, zero, suc, ◌+◌, ◌≤◌, ◌<◌, refl, sym, ap, ◌∙◌, subst, Bool, true, false, ◌&&◌, ◌||◌, List, [], ◌∷◌, map, length, max, Option, Some, None, is_some, option_map, option_and_then, slice_get, arith, nat_lt, nat_le}
+use Rattle.std.proofs.Math.Bool.{and-true}
+use Rattle.std.proofs.lemmas.Bool.{and_parts, le-leb}
 use Rattle.std.proofs.lemmas.Bool.Decides.{nat_tests}
 use Rattle.std.proofs.lemmas.List.{length-map}
 use Rattle.aw_text.specs.Spelling.{is_content}
@@ -47,10 +49,6 @@ head_law cons x i n e =
     arity_at cons i n (slice_get cons i) refl (found_below cons i below)
     ∙ ap (λ o. has_arity n (option_and_then (λ k. slice_get cons k) o)) (e ∙ sym (number_is_place (names_of cons) x))
 
-and_true : (b : Bool) → (b && true) ≡ b
-and_true true = refl
-and_true false = refl
-
 word_alike : (cons : List declared.Con) (x : List ℕ) (g : Ground) (found : Option ℕ) → found ≡ number_named (names_of cons) x → option_map (λ c. let h : Ground = Made (Con c) Nil in h) found ≡ Some g → Alike cons (Word x) g
 word_alike cons x g None e h = cc
 word_alike cons x g (Some c) e h =
@@ -58,7 +56,7 @@ word_alike cons x g (Some c) e h =
     subst (Alike cons (Word x)) same (record {
       symbol = refl;
       level = refl;
-      head = λ fine. and_true (head_fits (arities_of cons) (Con c) 0) ∙ head_law cons x c 0 e;
+      head = λ fine. and-true (head_fits (arities_of cons) (Con c) 0) ∙ head_law cons x c 0 e;
     })
 
 apply_alike : (cons : List declared.Con) (x : List ℕ) (ts : Writtens) (g : Ground) (found : Option ℕ) (parts : Option (Trees Never)) → found ≡ number_named (names_of cons) x
@@ -85,12 +83,7 @@ literal_alike cons h g e =
     fits : (h : Head) → is_literal h ≡ true → (head_fits (arities_of cons) h 0 && true) ≡ true
     fits (Con c) f = cc
     fits (Num n) f = refl
-    fits (Text t) f = and_true (is_content t) ∙ f
-
-both_true : (a b : Bool) → (a && b) ≡ true → (a ≡ true) × (b ≡ true)
-both_true true true h = (refl, refl)
-both_true true false h = cc
-both_true false b h = cc
+    fits (Text t) f = and-true (is_content t) ∙ f
 
 then_alike : (cons : List declared.Con) (t : Written) (ts : Writtens) (gs : Trees Never) (first : Option Ground) (more : Option (Trees Never))
     → option_and_then (λ g. option_map (λ rest. More g rest) more) first ≡ Some gs
@@ -105,7 +98,7 @@ then_alike cons t ts gs (Some g) (Some ps) h one rest =
       symbol = ap (λ n. n + all_symbols ps) a.symbol ∙ ap (λ n. symbols_in t + n) b.symbol;
       level = ap (λ n. max n (all_nesting ps)) a.level ∙ ap (λ n. max (depth_of t) n) b.level;
       number = ap (λ n. suc n) b.number;
-      head = λ fine. let f = both_true (has_contents t) (parts_have_contents ts) fine in
+      head = λ fine. let f = and_parts (has_contents t) (parts_have_contents ts) fine in
           ap (λ c. c && all_heads_fit (arities_of cons) ps) (a.head f.0) ∙ ap (λ c. has_arities cons t && c) (b.head f.1);
     })
 
@@ -127,9 +120,6 @@ record AllAlike (cons : List declared.Con) (g : P.Grammar) (ts : List Written) (
   symbol : symbols_of gs ≡ symbols_in_all ts
   fit : all_have_contents ts ≡ true → depth_of_all ts ≤ 32 → grounds_ok g gs ≡ all_have_arities cons ts
 
-within : (n m : ℕ) → n ≡ m → m ≤ 32 → nat_le n 32 ≡ true
-within n m e h = grind (arith, nat_tests)
-
 fit_one : (a b c d : Bool) → b ≡ true → a ≡ c → ((a && b) && d) ≡ (c && d)
 fit_one true true true d e f = refl
 fit_one false true false d e f = refl
@@ -149,8 +139,8 @@ cons_alike cons g t ts found (Some x) (Some xs) k h one rest =
     subst (AllAlike cons g (t ∷ ts)) same (record {
       number = omega (arith, b.number);
       symbol = ap (λ n. n + symbols_of xs) a.symbol ∙ ap (λ n. symbols_in t + n) b.symbol;
-      fit = λ fine few. let f = both_true (has_contents t) (all_have_contents ts) fine in
-          fit_one (heads_fit g.arities x) (nat_le (nesting x) 32) (has_arities cons t) (grounds_ok g xs) (within (nesting x) (depth_of t) a.level (omega (arith, few)))
+      fit = λ fine few. let f = and_parts (has_contents t) (all_have_contents ts) fine in
+          fit_one (heads_fit g.arities x) (nat_le (nesting x) 32) (has_arities cons t) (grounds_ok g xs) (le-leb (nesting x) 32 (omega (arith, a.level, few)))
           (ap (λ ks. heads_fit ks x) k ∙ a.head f.0)
           ∙ ap (λ c. has_arities cons t && c) (b.fit f.1 (omega (arith, few)));
     })
@@ -162,19 +152,8 @@ all_alike cons g [] gs k h =
 all_alike cons g (t ∷ ts) gs k h =
     cons_alike cons g t ts gs (known_ground (names_of cons) t) (known_grounds (names_of cons) ts) k h (λ x e. alike cons t x e) (λ rest e. all_alike cons g ts rest k e)
 
-record Few (ts : List Written) : Type 0 where
-  args : length ts ≤ 8
-  symbol : symbols_in_all ts ≤ 256
-  level : depth_of_all ts ≤ 32
-
 few_of : (n m l : ℕ) → (nat_lt 8 n || (nat_lt 256 m || nat_lt 32 l)) ≡ false → (n ≤ 8) × ((m ≤ 256) × (l ≤ 32))
 few_of n m l h = (grind (arith, nat_tests), (grind (arith, nat_tests), grind (arith, nat_tests)))
-
-few_eight : (n m : ℕ) → n ≡ m → m ≤ 8 → nat_le n 8 ≡ true
-few_eight n m e h = grind (arith, nat_tests)
-
-few_symbols : (n m : ℕ) → n ≡ m → m ≤ 256 → nat_le n 256 ≡ true
-few_symbols n m e h = grind (arith, nat_tests)
 
 -- what tells whether the arguments of a choice keep their limits and arities tells the arities of what is written within the limits
 pub args_fit : (cons : List declared.Con) (g : P.Grammar) (ts : List Written) (gs : List Ground) → g.arities ≡ arities_of cons → known_grounds (names_of cons) ts ≡ Some gs
@@ -182,6 +161,6 @@ pub args_fit : (cons : List declared.Con) (g : P.Grammar) (ts : List Written) (g
 args_fit cons g ts gs k h fine past =
     let a = all_alike cons g ts gs k h in
     let few = few_of (length ts) (symbols_in_all ts) (depth_of_all ts) past in
-    ap (λ b. b && (nat_le (symbols_of gs) 256 && grounds_ok g gs)) (few_eight (length gs) (length ts) a.number few.0)
-    ∙ ap (λ b. b && grounds_ok g gs) (few_symbols (symbols_of gs) (symbols_in_all ts) a.symbol few.1.0)
+    ap (λ b. b && (nat_le (symbols_of gs) 256 && grounds_ok g gs)) (le-leb (length gs) 8 (omega (arith, a.number, few.0)))
+    ∙ ap (λ b. b && grounds_ok g gs) (le-leb (symbols_of gs) 256 (omega (arith, a.symbol, few.1.0)))
     ∙ a.fit fine few.1.1

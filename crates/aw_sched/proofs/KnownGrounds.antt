@@ -1,6 +1,7 @@
 -- Arguments with their names looked up, by their parts.
 use Rattle.std.proofs.Common.{◌≡◌, ℕ, ◌+◌, ◌≤◌, ◌<◌, ◌⊎◌, inl, inr, refl, sym, ap, ◌∙◌, Bool, true, false, ◌||◌, not, List, [], ◌∷◌, map, length, Option, Some, None, is_some, option_map, option_and_then, arith, nat_lt}
 use Rattle.std.specs.Prelude.{Result, Ok, Err, is_none, IsErrAnd, MatchOption}
+use Rattle.std.proofs.lemmas.Bool.{le-ltb}
 use Rattle.std.proofs.lemmas.Bool.Decides.{nat_tests}
 use Rattle.std.proofs.lemmas.List.{length-map}
 use Rattle.aw_term.specs.Trees as P
@@ -33,9 +34,6 @@ word_known cons x c parts e none =
     ap (option_map (λ k. let g : R.Ground = Made (P.Con k) Nil in g)) e
     ∙ ap Some (sym (ap (λ ps. ground_of (grounds.Con c ps)) none ∙ ground_con c []))
 
-parts_of : Option (List R.Ground) → ℕ → Option R.Ground
-parts_of found c = option_map (λ parts. Made (P.Con c) parts) (option_map join found)
-
 apply_is : (cons : List (List ℕ)) (x : List ℕ) (c : ℕ) (ts : List Written) → number_named cons x ≡ Some c
     → known_ground cons (Apply x (side_by_side ts)) ≡ option_map (λ parts. Made (P.Con c) parts) (option_map join (known_grounds cons ts))
 apply_is cons x c ts e =
@@ -67,16 +65,13 @@ room_is : (depth symbols : ℕ) (left : Option ℕ) → MatchOption left ((32 < 
 room_is depth symbols None h = past depth symbols h
 room_is depth symbols (Some n) h = within depth symbols n h.0 h.1
 
-few_test : (n : ℕ) → n ≤ 8 → nat_lt 8 n ≡ false
-few_test n h = grind (arith, nat_tests)
-
 pub past_is : {T : Type 0} (f : T → Written) (ts : List T) (left : Option ℕ) → length ts ≤ 8
     → MatchOption left ((32 < depth_of_all (map f ts)) ⊎ (256 < symbols_in_all (map f ts))) (λ n. (depth_of_all (map f ts) ≤ 32) × (n + symbols_in_all (map f ts) ≡ 256))
     → is_none left ≡ args_are_past (map f ts)
 past_is f ts left h room =
     let written = map f ts in
     room_is (depth_of_all written) (symbols_in_all written) left room
-    ∙ ap (λ b. b || (nat_lt 256 (symbols_in_all written) || nat_lt 32 (depth_of_all written))) (sym (ap (λ n. nat_lt 8 n) (length-map ts f) ∙ few_test (length ts) h))
+    ∙ ap (λ b. b || (nat_lt 256 (symbols_in_all written) || nat_lt 32 (depth_of_all written))) (sym (ap (λ n. nat_lt 8 n) (length-map ts f) ∙ le-ltb 8 (length ts) h))
 
 pub none_is : {A : Type 0} (o : Option A) (b : Bool) → is_some o ≡ not b → b ≡ is_none o
 none_is None true e = refl

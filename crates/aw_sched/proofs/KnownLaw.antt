@@ -1,6 +1,7 @@
 -- Looking names up finds just the arguments of which each name is that of a constructor.
 use Rattle.std.proofs.Common.{◌≡◌, ℕ, suc, refl, sym, ap, ◌∙◌, Bool, true, false, ◌&&◌, ◌||◌, not, cond, List, [], ◌∷◌, ◌++◌, map, length, Option, Some, None, is_some, option_map, option_and_then, arith, nat_lt}
-use Rattle.std.proofs.lemmas.Bool.Decides.{nat_tests}
+use Rattle.std.proofs.lemmas.Bool.{lt-ltb, le-ltb}
+use Rattle.std.proofs.lemmas.Option.{cond_some}
 use Rattle.aw_index.specs.Places.{place_of, number_of, or_else}
 use Rattle.aw_index.proofs.Lookups.{stands_is_placed}
 use Rattle.aw_term.specs.Trees.{Never, Con, Num, Made, Trees, Nil, More, bind, binds}
@@ -90,15 +91,9 @@ all_known_is names (t ∷ ts) =
 abbrev unknown : List (List ℕ) → List Written → Bool
 unknown names ts = not (all_known names ts) || nat_lt 0 (length (leaves_of (all_resolved names ts)))
 
-more_than_none : (n : ℕ) → nat_lt 0 (suc n) ≡ true
-more_than_none n = grind (arith, nat_tests)
-
-none_test : nat_lt 0 0 ≡ false
-none_test = grind (arith, nat_tests)
-
 some_leaves : {A : Type 0} (xs : List A) → nat_lt 0 (length xs) ≡ not (no_leaves xs)
-some_leaves [] = none_test
-some_leaves (x ∷ xs) = more_than_none (length xs)
+some_leaves [] = le-ltb 0 0 (omega arith)
+some_leaves (x ∷ xs) = lt-ltb 0 (suc (length xs)) (omega arith)
 
 unknown_is : {A : Type 0} (a : Bool) (xs : List A) → (not a || nat_lt 0 (length xs)) ≡ not (a && no_leaves xs)
 unknown_is true xs = some_leaves xs
@@ -108,10 +103,6 @@ from_none : (b : Bool) (gs : List Ground) → cond b (Some gs) None ≡ None →
 from_none true gs h = cc
 from_none false gs h = refl
 
-from_some : (b : Bool) (gs found : List Ground) → cond b (Some gs) None ≡ Some found → (not b ≡ false) × (gs ≡ found)
-from_some true gs found h = (refl, cc)
-from_some false gs found h = cc
-
 pub unknown_when : (names : List (List ℕ)) (ts : List Written) → known_grounds names ts ≡ None → unknown names ts ≡ true
 unknown_when names ts h =
     unknown_is (all_known names ts) (leaves_of (all_resolved names ts))
@@ -120,5 +111,5 @@ unknown_when names ts h =
 pub known_when : (names : List (List ℕ)) (ts : List Written) (found : List Ground) → known_grounds names ts ≡ Some found
     → (unknown names ts ≡ false) × (map (ground_named names) ts ≡ found)
 known_when names ts found h =
-    let both = from_some (all_fine names ts) (map (ground_named names) ts) found (sym (all_known_is names ts) ∙ h) in
-    (unknown_is (all_known names ts) (leaves_of (all_resolved names ts)) ∙ both.0, both.1)
+    let (fine, same) = cond_some (all_fine names ts) (map (ground_named names) ts) found (sym (all_known_is names ts) ∙ h) in
+    (unknown_is (all_known names ts) (leaves_of (all_resolved names ts)) ∙ ap not fine, same)

@@ -1,7 +1,8 @@
 -- What a line gives, where its names were looked up.
-use Rattle.std.proofs.Common.{◌≡◌, ℕ, ◌<◌, refl, sym, ap, ◌∙◌, Bool, true, false, ◌&&◌, ◌||◌, not, cond, List, [], ◌∷◌, map, length, Option, Some, None, slice_get, arith}
+use Rattle.std.proofs.Common.{◌≡◌, ℕ, ◌<◌, refl, sym, ap, ◌∙◌, Bool, true, false, ◌||◌, not, cond, List, [], ◌∷◌, map, length, Option, Some, None, slice_get, arith}
 use Rattle.std.specs.Prelude.{Err, is_none}
 use Rattle.std.proofs.lemmas.List.{length-map}
+use Rattle.std.proofs.lemmas.Bool.{or_right}
 use Rattle.aw_index.specs.Places.{number_of, stands}
 use Rattle.aw_term.specs.Names.{Node}
 use Rattle.aw_term.specs.Choices.{Start, Develop}
@@ -15,6 +16,7 @@ use Rattle.aw_grammar.specs.Kinds.{all_have_arities}
 use Rattle.aw_grammar.specs.GrammarView.{rule_of}
 use Rattle.aw_grammar.specs.GrammarOf.{grammar_of, words_of, declarations_of}
 use Rattle.aw_grammar.specs.Declarations.{grammar_in, words_in, con_names, rule_names}
+use Rattle.aw_grammar.proofs.Entries.{names_of_entries, declared_grammar, declared_words}
 use Rattle.aw_base.specs.NodeNames.{node_named, is_start}
 use Rattle.aw_grammar.specs.Named.{number_named}
 use Rattle.aw_base.specs.ChoiceFits.{args_ok}
@@ -27,7 +29,7 @@ use Rattle.aw_sched.specs.declared.fault.SchedKind.{SchedKind}
 use Rattle.aw_sched.specs.declared.fault.SchedKind.TheVariants.{Limit, Unknown, Arity, NotStart, Name}
 use Rattle.aw_sched.specs.declared.fault.LineFault.{LineFault}
 use Rattle.aw_sched.specs.declared.fault.LineFault.TheVariants.{Bad, NoMemory}
-use Rattle.aw_sched.proofs.LookedUp.{unnamed, named_stands, named_number, named_within, rule_names_same, grammar_same, words_same, found_below}
+use Rattle.aw_sched.proofs.LookedUp.{unnamed, named_stands, named_number, named_within, found_below}
 use Rattle.aw_sched.proofs.KnownLaw.{unknown_when, known_when}
 use Rattle.aw_sched.proofs.AlikeArguments.{args_fit}
 
@@ -92,7 +94,7 @@ four_name false false false true m e h = cc
 four_name false false false false m e h = refl
 
 node_same : (g : Grammar) (n : List ℕ) → node_named (words_in (declarations_of g)) (grammar_in (declarations_of g)) n ≡ node_named (words_of g) (grammar_of g) n
-node_same g n = λ i. node_named (words_same g i) (grammar_same g i) n
+node_same g n = sym (λ i. node_named (declared_words g i) (declared_grammar g i) n)
 
 abbrev unknown_of : Grammar → List ℕ → List Written → Bool
 unknown_of g rule args = not (stands rule (rule_names (declarations_of g))) || args_unknown (declarations_of g) args
@@ -126,12 +128,6 @@ choose_good g n rule args node i found e k a = (
       ∙ ap (λ gs. P.Chooses (Develop node i gs)) a.found,
 )
 
-all_three : (a b c : Bool) → a ≡ true → b ≡ true → c ≡ true → (a && (b && c)) ≡ true
-all_three true true true e f h = refl
-all_three true true false e f h = cc
-all_three true false c e f h = cc
-all_three false b c e f h = cc
-
 unknown_kind : (p u a : Bool) → p ≡ false → u ≡ true → three p u a ≡ Some Unknown
 unknown_kind p u a e f = ap (λ b. three b u a) e ∙ ap (λ b. three false b a) f
 
@@ -139,7 +135,7 @@ last_kind : (p u a : Bool) → p ≡ false → u ≡ false → three p u a ≡ c
 last_kind p u a e f = ap (λ b. three b u a) e ∙ ap (λ b. three false b a) f
 
 rule_stands : (g : Grammar) (rule : List ℕ) (b : Bool) → stands rule (words_of g).rules ≡ b → stands rule (rule_names (declarations_of g)) ≡ b
-rule_stands g rule b e = ap (stands rule) (rule_names_same g.sorts g.rules) ∙ e
+rule_stands g rule b e = ap (stands rule) (sym (names_of_entries g.sorts g.rules)) ∙ e
 
 pub rule_unknown : (g : Grammar) (rule : List ℕ) (args : List Written) → args_are_past args ≡ false → None ≡ number_named (words_of g).rules rule
     → args_kind (declarations_of g) rule args ≡ Some Unknown
@@ -147,15 +143,11 @@ rule_unknown g rule args e h =
     unknown_kind (args_are_past args) (unknown_of g rule args) (misfit_of g args) e
     (ap (λ b. not b || args_unknown (declarations_of g) args) (rule_stands g rule false (unnamed (words_of g).rules rule h)))
 
-or_true : (a b : Bool) → b ≡ true → (a || b) ≡ true
-or_true true b e = refl
-or_true false b e = e
-
 pub args_fault : (g : Grammar) (rule : List ℕ) (args : List Written) (fault : LineFault) → args_are_past args ≡ false
     → Finds (λ (found : List Ground). map ground_of found) (known_grounds (words_of g).cons args) (Err fault) → GivesArgs (declarations_of g) (grammar_of g) rule args (Err fault)
 args_fault g rule args (Bad k) e h =
     unknown_kind (args_are_past args) (unknown_of g rule args) (misfit_of g args) e
-    (or_true (not (stands rule (rule_names (declarations_of g)))) (args_unknown (declarations_of g) args) (unknown_when (words_of g).cons args h.0))
+    (or_right (not (stands rule (rule_names (declarations_of g)))) (args_unknown (declarations_of g) args) (unknown_when (words_of g).cons args h.0))
     ∙ ap Some (sym h.1)
 args_fault g rule args NoMemory e h = tt
 
@@ -180,7 +172,7 @@ args_found g rule args i found e h k fine good =
     let below : i < length (grammar_of g).rules = omega (arith, named_within names rule i h, length-map g.rules (λ (r : Rule). r.name), length-map g.rules (rule_of g.sorts)) in
     record {
       kind = found_known g rule args i found e h k fine ∙ ap (λ b. cond (not b) (Some Arity) None) good;
-      number = ap (number_of rule) (rule_names_same g.sorts g.rules) ∙ named_number names rule i h;
+      number = ap (number_of rule) (sym (names_of_entries g.sorts g.rules)) ∙ named_number names rule i h;
       found = (known_when (words_of g).cons args (map ground_of found) k).1;
       declared = found_below (grammar_of g).rules i below;
       fit = good;

@@ -8,6 +8,7 @@ ghost use Rattle.aw_grammar.specs.Named.{number_named};
 ghost use Rattle.aw_sched.specs.Grounds.{Finds, known_ground, known_grounds};
 
 use crate::fault::{LineFault, SchedKind};
+use aw_base::choice_fits::{MOST_ARGUMENTS, MOST_NESTING, MOST_SYMBOLS};
 use aw_base::{Grammar, Ground, Grounds, Lit, RawTerm, RawTerms, Text, room_after_all};
 use std::alloc::Global;
 
@@ -15,7 +16,7 @@ use std::alloc::Global;
 pub(crate) fn args_are_past(args: &RawTerms) -> bool
     ensures { result ≡ args_are_past (map written_of args.now) }
 {
-    args.len() > 8 || room_after_all(args, 32, 256).is_none()
+    args.len() > MOST_ARGUMENTS || room_after_all(args, MOST_NESTING, MOST_SYMBOLS).is_none()
 }
 
 fn con_named(g: &Grammar, name: &[u8]) -> Result<u16, LineFault>

@@ -1,5 +1,6 @@
 -- A grammar in which a node is fed by its own result is accepted: the laws speak of such.
 use Rattle.std.proofs.Common.{◌≡◌, ℕ, zero, suc, ◌<◌, Bool, true, false, [], ◌∷◌, Some, None, refl, sym, ap, ◌∙◌, subst, inl, inr, arith}
+use Rattle.std.proofs.lemmas.Option.{same_Some}
 use Rattle.aw_term.specs.Trees.{Never, Con, Leaf, Made, Nil, More, In}
 use Rattle.aw_term.specs.Rules.{Term, Child, Rule, get, child_at}
 use Rattle.aw_term.specs.WellFormed.{RuleFits, IsWellFormed}
@@ -10,6 +11,7 @@ use Rattle.aw_iograph.specs.Dependence.{Edge, text, call, io, IO, HasNoCircle}
 use Rattle.aw_iograph.proofs.Members.{never}
 use Rattle.aw_space.specs.Laws.{IsAccepted}
 use Rattle.aw_space.specs.Worked.{own_words, own_result}
+use Rattle.aw_iograph.proofs.Reaching.{rises}
 
 abbrev ok : Term
 ok = Made (Con 0) Nil
@@ -69,27 +71,19 @@ formed = record {
       children = tt;
     }
 
--- a number that rises with each step
-module _ (E : Occ → Occ → Type 0) (rank : Occ → ℕ) (up : (o u : Occ) → E o u → rank o < rank u) where
-  rises : {o u : Occ} → Plus E o u → rank o < rank u
-  rises (step e) = up _ _ e
-  rises (more e w) = let a = up _ _ e in let b = rises w in omega (arith, a, b)
-
-  no_round : (o : Occ) → Plus E o o → Never
-  no_round o w = let a = rises w in absurd (omega (arith, a))
-
-some_one : {A : Type 0} {a b : A} → Some a ≡ Some b → a ≡ b
-some_one e = cc
+-- where a number rises with each step no walk comes back
+no_round : (E : Occ → Occ → Type 0) (rank : Occ → ℕ) (up : (o u : Occ) → E o u → rank o < rank u) (o : Occ) → Plus E o o → Never
+no_round E rank up o w = let a = rises E rank up w in absurd (omega (arith, a))
 
 -- the rule that answers: from its inherited value to its first result
 body_from : (v : ℕ) (o : Occ) → get None (entries body) v ≡ Some o → (v ≡ 0) × (o ≡ inherited 0 1)
-body_from zero o e = (refl, sym (some_one e))
+body_from zero o e = (refl, sym (same_Some _ _ e))
 body_from (suc v) o e = absurd cc
 
 body_to : (k : ℕ) (b : Bool) (n : ℕ) (t : Term) → term_at body (record { child = k; result = b; number = n }) ≡ Some t → In 0 t → ◌≡◌ {A = Occ} (record { child = k; result = b; number = n }) (given 0 1)
 body_to zero true zero t e i = absurd cc
 body_to zero true (suc zero) t e i = refl
-body_to zero true (suc (suc zero)) t e i = never (subst (In 0) (sym (some_one e)) i)
+body_to zero true (suc (suc zero)) t e i = never (subst (In 0) (sym (same_Some _ _ e)) i)
 body_to zero true (suc (suc (suc n))) t e i = absurd cc
 body_to zero false n t e i = absurd cc
 body_to (suc k) true n t e i = absurd cc
@@ -138,8 +132,8 @@ rank o = rank_at o.child o.result o.number
 
 -- where a variable enters: the results of the child
 calls_from : (v : ℕ) (o : Occ) → get None (entries calls) v ≡ Some o → o ≡ given 1 (suc v)
-calls_from zero o e = sym (some_one e)
-calls_from (suc zero) o e = sym (some_one e)
+calls_from zero o e = sym (same_Some _ _ e)
+calls_from (suc zero) o e = sym (same_Some _ _ e)
 calls_from (suc (suc v)) o e = absurd cc
 
 low : (v : ℕ) → rank (given 1 (suc v)) < 3
@@ -150,14 +144,14 @@ calls_to : (v k : ℕ) (b : Bool) (n : ℕ) (t : Term) → term_at calls (record
 calls_to v zero true n t e i = low v
 calls_to v zero false n t e i = absurd cc
 calls_to v (suc zero) false zero t e i = absurd cc
-calls_to v (suc zero) false (suc zero) t e i = subst (λ v. rank (given 1 (suc v)) < 1) (sym (subst (In v) (sym (some_one e)) i)) (omega arith)
+calls_to v (suc zero) false (suc zero) t e i = subst (λ v. rank (given 1 (suc v)) < 1) (sym (subst (In v) (sym (same_Some _ _ e)) i)) (omega arith)
 calls_to v (suc zero) false (suc (suc n)) t e i = absurd cc
 calls_to v (suc (suc k)) false n t e i = absurd cc
 calls_to v (suc k) true n t e i = absurd cc
 
 the_child : (k : ℕ) (c : Child) → child_at calls.children k ≡ Some c → (k ≡ 1) × (c.sort ≡ 1)
 the_child zero c e = absurd cc
-the_child (suc zero) c e = (refl, sym (ap (λ (c : Child). c.sort) (some_one e)))
+the_child (suc zero) c e = (refl, sym (ap (λ (c : Child). c.sort) (same_Some _ _ e)))
 the_child (suc (suc k)) c e = absurd cc
 
 calls_up : (o u : Occ) → Edge calls (IO own_result) o u → rank o < rank u

@@ -1,54 +1,35 @@
 -- Two lists of the same choices make the same nodes and equations.
-use Rattle.std.proofs.Common.{◌≡◌, ℕ, ◌+◌, Bool, true, false, cond, List, [], ◌∷◌, ◌++◌, map, length, Option, Some, None, refl, sym, ap, ◌∙◌, subst, inl, inr}
-use Rattle.std.specs.Prelude.{slice_get, ◌⊎◌, nat_eq, option_and_then}
+use Rattle.std.proofs.Common.{◌≡◌, ℕ, Bool, true, false, cond, List, [], ◌∷◌, ◌++◌, map, Option, Some, None, refl, sym, ap, ◌∙◌, subst, inl, inr}
+use Rattle.std.specs.Prelude.{slice_get, ◌⊎◌}
+use Rattle.std.proofs.lemmas.Option.{same_Some, option_and_then_some}
 use Rattle.aw_term.specs.Names.{Node, node_eq, node_lt, Ref}
 use Rattle.aw_term.specs.Rules.{Term, Ground, Rule, Grammar}
 use Rattle.aw_term.specs.Configs.{State, Pending, Done}
-use Rattle.aw_term.specs.Choices.{Choice, Start, Develop, Answer, NotItsRule, Arguments, Outcome, Refused, Starts, Takes, after_guard, deep}
-use Rattle.aw_term.specs.Matching.{Matched, Yes, Waits, Differs, Circle}
+use Rattle.aw_term.specs.Choices.{Choice, Start, Develop, Outcome, Refused, Starts, Takes}
+use Rattle.aw_term.specs.Matching.{Yes}
 use Rattle.aw_store.specs.Equations.{Body, Equation, Map, find}
 use Rattle.aw_store.specs.Refs.{ref_eq}
 use Rattle.aw_apply.specs.Made.{Making, Call, made}
 use Rattle.aw_apply.specs.Guard.{guard_all}
 use Rattle.aw_iograph.specs.Graphs.{Member}
 use Rattle.aw_space.specs.Joint.{Held, held_of, insert_held, insert_all, mark, root_held, called_held, by_rule, by_state, by_held, Joint, empty_joint, joint_outcome, add_made, joint_taken, joint_run}
-use Rattle.aw_iograph.proofs.Members.{never}
-use Rattle.aw_term.specs.WellFormed.{Each}
-use Rattle.aw_accept.proofs.ConfigLemmas.{node_eq-true, node_eq-refl, Member-map, Member-mapped}
-use Rattle.aw_space.proofs.Chasing.{ref_eq-true}
-use Rattle.aw_accept.proofs.Pigeonholes.{each_mapped}
-use Rattle.aw_space.proofs.Numbering.{find-left_more, find-right_more, Lies, made-apart}
+use Rattle.aw_iograph.proofs.Members.{never, member_unmap, member_map}
+use Rattle.aw_accept.proofs.ConfigLemmas.{insert_cases, inserted_cases}
+use Rattle.aw_space.proofs.Numbering.{find-left_more, find-right_more, Holds-wider, made-holds}
 use Rattle.aw_space.proofs.Guarding.{guard_all-keeps, Final}
 use Rattle.aw_space.proofs.Substituting.{Holds}
-
-Extends : Map → Map → Type 0
-Extends k k' = (r : Ref) (b : Body) → find k r ≡ Some b → find k' r ≡ Some b
-
-held_cases : (b : Bool) (n : Node) (q h : Held) (o : Option Held) → node_eq n q.node ≡ b → cond b (Some q) o ≡ Some h → ((q ≡ h) × (n ≡ q.node)) ⊎ (o ≡ Some h)
-held_cases true n q h o e f = inl (cc, node_eq-true n q.node e)
-held_cases false n q h o e f = inr f
+use Rattle.aw_accept.proofs.Binding.{yes-inj}
+use Rattle.aw_accept.proofs.UndividedRuns.{found_cases, tests-take}
+use Rattle.aw_term.proofs.NodeTests.{node_is, node_self}
+use Rattle.aw_store.proofs.RefLemmas.{ref_eq-true}
 
 pub held_of-found : (n : Node) (hs : List Held) (h : Held) → held_of n hs ≡ Some h → Member h hs × (h.node ≡ n)
 held_of-found n [] h e = absurd cc
 held_of-found n (q ∷ qs) h e =
-    elim (held_cases (node_eq n q.node) n q h (held_of n qs) refl e) [
+    elim (found_cases (λ (q : Held). q.node) (node_eq n q.node) n q h (held_of n qs) refl e) [
       | inl x ↦ (inl (sym x.0), sym (ap (λ (h : Held). h.node) x.0) ∙ sym x.1)
       | inr x ↦ (let (m, f) = held_of-found n qs h x in (inr m, f))
     ]
-
-cond-takes : (b : Bool) (x : Outcome Ref Ref) (a : Answer Ref) (rule : Rule) (bound : List Ref) → cond b x (Refused a) ≡ Takes rule bound → (b ≡ true) × (x ≡ Takes rule bound)
-cond-takes true x a rule bound e = (refl, e)
-cond-takes false x a rule bound e = absurd cc
-
-deep-takes : (b : Bool) (x : Outcome Ref Ref) (a : Answer Ref) (rule : Rule) (bound : List Ref) → cond b (Refused a) x ≡ Takes rule bound → x ≡ Takes rule bound
-deep-takes true x a rule bound e = absurd cc
-deep-takes false x a rule bound e = e
-
-guard-takes : (n : Node) (ru : Rule) (m : Matched Ref Ref) (rule : Rule) (bound : List Ref) → after_guard n ru m ≡ Takes rule bound → (ru ≡ rule) × (m ≡ Yes bound)
-guard-takes n ru (Yes xs) rule bound e = let f = deep-takes (deep n ru) (Takes ru xs) _ rule bound e in (cc, cc)
-guard-takes n ru (Waits r) rule bound e = absurd cc
-guard-takes n ru (Differs r) rule bound e = absurd cc
-guard-takes n ru (Circle r) rule bound e = absurd cc
 
 -- what is known of a rule that is taken
 pub record Took (g : Grammar) (w : Joint) (n : Node) (r : ℕ) (args : List Ground) (rule : Rule) (bound : List Ref) : Type 0 where
@@ -62,9 +43,7 @@ pub record Took (g : Grammar) (w : Joint) (n : Node) (r : ℕ) (args : List Grou
 pub rule-takes : (g : Grammar) (o : Option Rule) (k : Map) (n : Node) (args : List Ground) (q : Held) (rule : Rule) (bound : List Ref) → by_rule o k n args q ≡ Takes rule bound → (o ≡ Some rule) × (guard_all k 1 rule.patterns q.inherited ≡ Yes bound)
 rule-takes g None k n args q rule bound e = absurd cc
 rule-takes g (Some ru) k n args q rule bound e =
-    let (a, f) = cond-takes (nat_eq ru.sort q.sort) (cond (nat_eq (length args) ru.params) (after_guard n ru (guard_all k 1 ru.patterns q.inherited)) (Refused Arguments)) NotItsRule rule bound e in
-    let (b, h) = cond-takes (nat_eq (length args) ru.params) (after_guard n ru (guard_all k 1 ru.patterns q.inherited)) Arguments rule bound f in
-    let (p, y) = guard-takes n ru (guard_all k 1 ru.patterns q.inherited) rule bound h in
+    let (p, a, b, y) = tests-take n ru q.sort args (guard_all k 1 ru.patterns q.inherited) rule bound e in
     (ap Some p, subst (λ (ru : Rule). guard_all k 1 ru.patterns q.inherited ≡ Yes bound) p y)
 
 pub state-takes : (g : Grammar) (s : State) (k : Map) (n : Node) (r : ℕ) (args : List Ground) (q : Held) (rule : Rule) (bound : List Ref) → by_state s g k n r args q ≡ Takes rule bound → (s ≡ Pending) × (slice_get g.rules r ≡ Some rule) × (guard_all k 1 rule.patterns q.inherited ≡ Yes bound)
@@ -113,10 +92,6 @@ Fixed g w (Develop n r args) =
 IsPartOf-at : (v w : Joint) → IsPartOf v w → (h : Held) → Is_at h v.held → Is_at h w.held
 IsPartOf-at v w p h (h', m, a, b, c, s) = let (h'', m', a', b', c', s') = p.held h' m in (h'', m', a ∙ a', b ∙ b', c ∙ c', goes_on h.state h'.state h''.state s s')
 
-pub Holds-more : (k k' : Map) → ((r : Ref) (b : Body) → find k r ≡ Some b → find k' r ≡ Some b) → (es : List Equation) → Holds k es → Holds k' es
-Holds-more k k' f [] h = tt
-Holds-more k k' f (e ∷ es) h = (f e.left e.body h.0, Holds-more k k' f es h.1)
-
 pub yes-kept : (k k' : Map) → ((r : Ref) (b : Body) → find k r ≡ Some b → find k' r ≡ Some b) → (ps : List Term) (rs bound : List Ref) → guard_all k 1 ps rs ≡ Yes bound → guard_all k' 1 ps rs ≡ Yes bound
 yes-kept k k' f ps rs bound e = guard_all-keeps k k' f 1 ps rs (subst Final (sym e) tt) ∙ e
 
@@ -132,17 +107,11 @@ Fixed-more g v w p (Develop n r args) (h, rule, bound, m, e, sd, f, y, hs, cs) =
       done_on h.state h'.state r args sd st,
       f,
       subst (λ i. guard_all w.equations 1 rule.patterns i ≡ Yes bound) c (yes-kept v.equations w.equations p.equations rule.patterns h.inherited bound y),
-      Holds-more v.equations w.equations p.equations _ hs,
+      Holds-wider v.equations w.equations p.equations _ hs,
       λ c m. IsPartOf-at v w p (called_held c) (cs c m),
     )
 
 -- members after a choice
-insert_cases : (b : Bool) (y r q : Held) (qs zs : List Held) → (Member y zs → (y ≡ r) ⊎ Member y qs) → Member y (cond b (r ∷ q ∷ qs) (q ∷ zs)) → (y ≡ r) ⊎ Member y (q ∷ qs)
-insert_cases true y r q qs zs f (inl e) = inl e
-insert_cases true y r q qs zs f (inr m) = inr m
-insert_cases false y r q qs zs f (inl e) = inr (inl e)
-insert_cases false y r q qs zs f (inr m) = elim (f m) [ inl e ↦ inl e | inr n ↦ inr (inr n) ]
-
 pub Member-insert_held : (y r : Held) (c : List Held) → Member y (insert_held r c) → (y ≡ r) ⊎ Member y c
 Member-insert_held y r [] (inl e) = inl e
 Member-insert_held y r [] (inr m) = inr m
@@ -152,13 +121,6 @@ pub Member-insert_all : (y : Held) (rs c : List Held) → Member y (insert_all r
 Member-insert_all y [] c m = inr m
 Member-insert_all y (r ∷ rs) c m =
     elim (Member-insert_all y rs (insert_held r c) m) [ inl n ↦ inl (inr n) | inr n ↦ elim (Member-insert_held y r c n) [ inl e ↦ inl (inl e) | inr o ↦ inr o ] ]
-
-inserted_cases : (b : Bool) (y r q : Held) (qs zs : List Held) → ((y ≡ r) ⊎ Member y qs → Member y zs) → (y ≡ r) ⊎ Member y (q ∷ qs) → Member y (cond b (r ∷ q ∷ qs) (q ∷ zs))
-inserted_cases true y r q qs zs f (inl e) = inl e
-inserted_cases true y r q qs zs f (inr m) = inr m
-inserted_cases false y r q qs zs f (inl e) = inr (f (inl e))
-inserted_cases false y r q qs zs f (inr (inl e)) = inl e
-inserted_cases false y r q qs zs f (inr (inr m)) = inr (f (inr m))
 
 pub Member-inserted_held : (y r : Held) (c : List Held) → (y ≡ r) ⊎ Member y c → Member y (insert_held r c)
 Member-inserted_held y r [] m = m
@@ -188,11 +150,11 @@ mark_state true s q f = inl (f refl)
 mark_state false s q f = inr refl
 
 pub mark_done : (n : Node) (s : State) (q : Held) → q.node ≡ n → (mark n s q).state ≡ s
-mark_done n s q e = ap (λ b. (cond b (record q { state = s }) q).state) (subst (λ m. node_eq n m ≡ true) (sym e) (node_eq-refl n))
+mark_done n s q e = ap (λ b. (cond b (record q { state = s }) q).state) (subst (λ m. node_eq n m ≡ true) (sym e) (node_self n))
 
 add_made-part : (w : Joint) (n : Node) (s : State) (m : Making) → ((h : Held) → Member h w.held → h.node ≡ n → h.state ≡ Pending) → IsPartOf w (add_made w n s m)
 add_made-part w n s m f = record {
-  held = λ h o. let (a, b, c) = marked n s h in (mark n s h, Member-all_held _ (map called_held m.calls) _ (inr (Member-mapped (mark n s) h w.held o)), sym a, sym b, sym c, mark_state (node_eq n h.node) s h (λ e. f h o (sym (node_eq-true n h.node e))));
+  held = λ h o. let (a, b, c) = marked n s h in (mark n s h, Member-all_held _ (map called_held m.calls) _ (inr (member_map (mark n s) h w.held o)), sym a, sym b, sym c, mark_state (node_eq n h.node) s h (λ e. f h o (sym (node_is n h.node e))));
   equations = find-left_more w.equations m.equations;
 }
 
@@ -208,24 +170,11 @@ pub option_cases : (k es : Map) (x : Ref) (b : Body) (o : Option Body) → find 
 option_cases k es x b None e f = inr (sym (find-right_more k es x e) ∙ f)
 option_cases k es x b (Some y) e f = inl (e ∙ (sym (find-left_more k es x y e) ∙ f))
 
-holds_past : (k fs : Map) (n : Node) → ((x : Ref) → x.node ≡ n → find k x ≡ None) → (xs : List Equation) → Each (λ (e : Equation). e.left.node ≡ n) xs → Holds fs xs → Holds (k ++ fs) xs
-holds_past k fs n free [] o h = tt
-holds_past k fs n free (x ∷ xs) o h = (find-right_more k fs x.left (free x.left o.0) ∙ h.0, holds_past k fs n free xs o.1 h.1)
-
-pub made-holds : (k : Map) (n : Node) (ri : ℕ) (r : Rule) (args : List Ground) (bound : List Ref) → ((x : Ref) → x.node ≡ n → find k x ≡ None) → Holds (k ++ (made n ri r args bound).equations) (made n ri r args bound).equations
-made-holds k n ri r args bound free =
-    let (e, a) = made-apart n ri r args bound in
-    let own = each_mapped (Lies n 1 e 1 (1 + length r.results)) (λ (e : Equation). e.left.node ≡ n) (λ x l. l.0) (made n ri r args bound).equations a.lie in
-    holds_past k (made n ri r args bound).equations n free (made n ri r args bound).equations own a.hold
-
-some-inj : {A : Type 0} {a b : A} → Some a ≡ Some b → a ≡ b
-some-inj e = cc
-
 -- a taken choice is fixed from then on
 step_fixed : (g : Grammar) (w : Joint) (c : Choice) (o : Outcome Ref Ref) (w' : Joint) → IsFit w → joint_outcome w g c ≡ o → joint_taken w c o ≡ Some w' → IsPartOf w w' × Fixed g w' c
 step_fixed g w c (Refused a) w' f e t = absurd cc
 step_fixed g w (Start s k) Starts w' f e t =
-    let p = some-inj t in (
+    let p = same_Some _ _ t in (
       subst (IsPartOf w) p (record {
         held = λ h m. (h, Member-inserted_held h (root_held s k) w.held (inr m), refl, refl, refl, inr refl);
         equations = λ r b e. e;
@@ -235,7 +184,7 @@ step_fixed g w (Start s k) Starts w' f e t =
 step_fixed g w (Start s k) (Takes rule bound) w' f e t = absurd cc
 step_fixed g w (Develop n r args) Starts w' f e t = absurd cc
 step_fixed g w (Develop n r args) (Takes rule bound) w' f e t =
-    let p = some-inj t in
+    let p = same_Some _ _ t in
     let T = takes g w n r args rule bound e in
     let part = add_made-part w n (Done r args) (made n r rule args bound) (λ h o e. ap (λ (h : Held). h.state) (f.apart h T.held o T.is_held (e ∙ sym T.node)) ∙ T.open_) in
     let (a, b, c) = marked n (Done r args) T.held in
@@ -245,14 +194,14 @@ step_fixed g w (Develop n r args) (Takes rule bound) w' f e t =
         mark n (Done r args) T.held,
         rule,
         bound,
-        Member-all_held _ (map called_held (made n r rule args bound).calls) _ (inr (Member-mapped (mark n (Done r args)) T.held w.held T.is_held)),
+        Member-all_held _ (map called_held (made n r rule args bound).calls) _ (inr (member_map (mark n (Done r args)) T.held w.held T.is_held)),
         a ∙ T.node,
         mark_done n (Done r args) T.held T.node,
         T.rule_is,
         subst (λ i. guard_all (w.equations ++ (made n r rule args bound).equations) 1 rule.patterns i ≡ Yes bound) (sym c)
             (yes-kept w.equations (w.equations ++ (made n r rule args bound).equations) (find-left_more w.equations (made n r rule args bound).equations) rule.patterns T.held.inherited bound T.yes),
         made-holds w.equations n r rule args bound free,
-        λ c o. (called_held c, Member-all_held (called_held c) (map called_held (made n r rule args bound).calls) (map (mark n (Done r args)) w.held) (inl (Member-mapped called_held c (made n r rule args bound).calls o)), refl, refl, refl, inr refl),
+        λ c o. (called_held c, Member-all_held (called_held c) (map called_held (made n r rule args bound).calls) (map (mark n (Done r args)) w.held) (inl (member_map called_held c (made n r rule args bound).calls o)), refl, refl, refl, inr refl),
       ),
     )
 
@@ -264,7 +213,7 @@ marked_on false s d u g f = g
 step_part : (g : Grammar) (v : Joint) (c : Choice) (o : Outcome Ref Ref) (v' w : Joint) → ((h h' : Held) → Member h w.held → Member h' w.held → h.node ≡ h'.node → h ≡ h') → joint_outcome v g c ≡ o → joint_taken v c o ≡ Some v' → IsPartOf v w → Fixed g w c → IsPartOf v' w
 step_part g v c (Refused a) v' w one_each e t p f = absurd cc
 step_part g v (Start s k) Starts v' w one_each e t p f =
-    subst (λ v. IsPartOf v w) (some-inj t) (record {
+    subst (λ v. IsPartOf v w) (same_Some _ _ t) (record {
       held = λ h m. elim (Member-insert_held h (root_held s k) v.held m) [ inl x ↦ subst (λ h. Is_at h w.held) (sym x) f | inr x ↦ p.held h x ];
       equations = p.equations;
     })
@@ -274,18 +223,18 @@ step_part g v (Develop n r args) (Takes rule bound) v' w one_each e t p (h, rule
     let T = takes g v n r args rule bound e in
     let (h1, m1, a, b, c, s1) = p.held T.held T.is_held in
     let same = one_each h1 h m1 m (sym a ∙ T.node ∙ sym nd) in
-    let rl : rule ≡ rule' = some-inj (sym T.rule_is ∙ ru) in
+    let rl : rule ≡ rule' = same_Some _ _ (sym T.rule_is ∙ ru) in
     let inh : T.held.inherited ≡ h.inherited = c ∙ ap (λ (h : Held). h.inherited) same in
     let y1 = yes-kept v.equations w.equations p.equations rule.patterns T.held.inherited bound T.yes in
     let y2 : guard_all w.equations 1 rule'.patterns h.inherited ≡ Yes bound = subst (λ i. guard_all w.equations 1 rule'.patterns i ≡ Yes bound) inh (subst (λ (u : Rule). guard_all w.equations 1 u.patterns T.held.inherited ≡ Yes bound) rl y1) in
-    let bd : bound ≡ bound' = yes_inj (sym y2 ∙ y) in
+    let bd : bound ≡ bound' = yes-inj (sym y2 ∙ y) in
     let mk : made n r rule args bound ≡ made n r rule' args bound' = λ i. made n r (rl i) args (bd i) in
     let hs' = subst (λ (m : Making). Holds w.equations m.equations) (sym mk) hs in
     let cs' = subst (λ (m : Making). (c : Call) → Member c m.calls → Is_at (called_held c) w.held) (sym mk) cs in
-    subst (λ v. IsPartOf v w) (some-inj t) (record {
+    subst (λ v. IsPartOf v w) (same_Some _ _ t) (record {
       held = λ z o. elim (Member-insert_all z (map called_held (made n r rule args bound).calls) (map (mark n (Done r args)) v.held) o) [
-        | inl x ↦ (let (d, x', q) = Member-map called_held z (made n r rule args bound).calls x in subst (λ z. Is_at z w.held) (sym q) (cs' d x'))
-        | inr x ↦ (let (d, x', q) = Member-map (mark n (Done r args)) z v.held x in
+        | inl x ↦ (let (d, x', q) = member_unmap called_held z (made n r rule args bound).calls x in subst (λ z. Is_at z w.held) (sym q) (cs' d x'))
+        | inr x ↦ (let (d, x', q) = member_unmap (mark n (Done r args)) z v.held x in
             let (a', b', c') = marked n (Done r args) d in
             let (u, mu, a2, b2, c2, s2) = p.held d x' in (
               u,
@@ -293,24 +242,20 @@ step_part g v (Develop n r args) (Takes rule bound) v' w one_each e t p (h, rule
               ap (λ (h : Held). h.node) q ∙ a' ∙ a2,
               ap (λ (h : Held). h.sort) q ∙ b' ∙ b2,
               ap (λ (h : Held). h.inherited) q ∙ c' ∙ c2,
-              subst (λ t. Goes_on t u.state) (sym (ap (λ (h : Held). h.state) q)) (marked_on (node_eq n d.node) (Done r args) d u s2 (λ e. let du = one_each u h mu m (sym a2 ∙ sym (node_eq-true n d.node e) ∙ sym nd) in ap (λ (h : Held). h.state) du ∙ sd)),
+              subst (λ t. Goes_on t u.state) (sym (ap (λ (h : Held). h.state) q)) (marked_on (node_eq n d.node) (Done r args) d u s2 (λ e. let du = one_each u h mu m (sym a2 ∙ sym (node_is n d.node e) ∙ sym nd) in ap (λ (h : Held). h.state) du ∙ sd)),
             ))
       ];
       equations = λ x b e. elim (option_cases v.equations (made n r rule args bound).equations x b (find v.equations x) refl e) [ inl z ↦ p.equations x b z | inr z ↦ find-in_holds w.equations (made n r rule args bound).equations x b hs' z ];
     })
-  where
-    yes_inj : {xs ys : List Ref} → ◌≡◌ {A = Matched Ref Ref} (Yes xs) (Yes ys) → xs ≡ ys
-    yes_inj e = cc
 
 module _ (g : Grammar) (Fit : Joint → Type 0) (fit_of : (w : Joint) → Fit w → IsFit w) (keep : (w w' : Joint) (c : Choice) → Fit w → joint_taken w c (joint_outcome w g c) ≡ Some w' → Fit w') where
-  next : (w : Joint) (c : Choice) (cs : List Choice) (z : Joint) (o : Option Joint) → joint_taken w c (joint_outcome w g c) ≡ o → option_and_then (λ v. joint_run g v cs) o ≡ Some z → (w' : Joint) × (joint_taken w c (joint_outcome w g c) ≡ Some w') × (joint_run g w' cs ≡ Some z)
-  next w c cs z None e f = absurd cc
-  next w c cs z (Some w') e f = (w', e, f)
+  first_taken : (w : Joint) (c : Choice) (cs : List Choice) (z : Joint) → joint_run g w (c ∷ cs) ≡ Some z → (w' : Joint) × (joint_taken w c (joint_outcome w g c) ≡ Some w') × (joint_run g w' cs ≡ Some z)
+  first_taken w c cs z e = option_and_then_some (λ v. joint_run g v cs) (joint_taken w c (joint_outcome w g c)) z e (λ w' t f. (w', t, f))
 
   run_part : (w : Joint) (cs : List Choice) (z : Joint) → Fit w → joint_run g w cs ≡ Some z → IsPartOf w z × Fit z
-  run_part w [] z f e = (subst (IsPartOf w) (some-inj e) (record { held = λ h m. (h, m, refl, refl, refl, inr refl); equations = λ r b e. e }), subst Fit (some-inj e) f)
+  run_part w [] z f e = (subst (IsPartOf w) (same_Some _ _ e) (record { held = λ h m. (h, m, refl, refl, refl, inr refl); equations = λ r b e. e }), subst Fit (same_Some _ _ e) f)
   run_part w (c ∷ cs) z f e =
-      let (w', t, e') = next w c cs z (joint_taken w c (joint_outcome w g c)) refl e in
+      let (w', t, e') = first_taken w c cs z e in
       let (p, q) = run_part w' cs z (keep w w' c f t) e' in
       let (s, x) = step_fixed g w c (joint_outcome w g c) w' (fit_of w f) refl t in
       (record { held = λ h m. IsPartOf-at w' z p h (s.held h m); equations = λ r b e. p.equations r b (s.equations r b e) }, q)
@@ -318,16 +263,16 @@ module _ (g : Grammar) (Fit : Joint → Type 0) (fit_of : (w : Joint) → Fit w 
   run_fixed : (w : Joint) (cs : List Choice) (z : Joint) → Fit w → joint_run g w cs ≡ Some z → (c : Choice) → Member c cs → Fixed g z c
   run_fixed w [] z f e c m = never m
   run_fixed w (d ∷ cs) z f e c m =
-      let (w', t, e') = next w d cs z (joint_taken w d (joint_outcome w g d)) refl e in
+      let (w', t, e') = first_taken w d cs z e in
       let f' = keep w w' d f t in
       let (p, q) = run_part w' cs z f' e' in
       let (s, x) = step_fixed g w d (joint_outcome w g d) w' (fit_of w f) refl t in
       elim m [ inl y ↦ subst (Fixed g z) (sym y) (Fixed-more g w' z p d x) | inr y ↦ run_fixed w' cs z f' e' c y ]
 
   run_within : (v : Joint) (ds : List Choice) (y w : Joint) → Fit w → IsPartOf v w → ((d : Choice) → Member d ds → Fixed g w d) → joint_run g v ds ≡ Some y → IsPartOf y w
-  run_within v [] y w f p h e = subst (λ y. IsPartOf y w) (some-inj e) p
+  run_within v [] y w f p h e = subst (λ y. IsPartOf y w) (same_Some _ _ e) p
   run_within v (d ∷ ds) y w f p h e =
-      let (v', t, e') = next v d ds y (joint_taken v d (joint_outcome v g d)) refl e in
+      let (v', t, e') = first_taken v d ds y e in
       run_within v' ds y w f (step_part g v d (joint_outcome v g d) v' w (fit_of w f).apart refl t p (h d (inl refl))) (λ d m. h d (inr m)) e'
 
   -- any order: each is a part of the other

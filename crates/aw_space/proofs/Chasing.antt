@@ -1,28 +1,18 @@
 -- Where a chase ends.
 use Rattle.std.proofs.Common.{◌≡◌, ℕ, zero, suc, ◌<◌, ◌≤◌, Bool, true, false, cond, List, [], ◌∷◌, map, length, Option, Some, None, refl, sym, ap, ◌∙◌, subst, inl, inr, arith}
 use Rattle.std.specs.Prelude.{◌⊎◌}
-use Rattle.std.proofs.lemmas.Bool.{eqb-true, cases_lt}
-use Rattle.aw_term.specs.Names.{Ref, Slot, Result, Part}
-use Rattle.aw_store.specs.Refs.{slot_eq, ref_eq}
+use Rattle.std.proofs.lemmas.Bool.{cases_lt}
+use Rattle.std.proofs.lemmas.List.{length-map}
+use Rattle.aw_term.specs.Names.{Ref}
+use Rattle.aw_store.specs.Refs.{ref_eq}
 use Rattle.aw_store.specs.Equations.{Body, Same, Is, Equation, Map, find}
 use Rattle.aw_store.specs.Chase.{Chased, Round, chase_on, chase_in, chase, End, At_body, At_missing, as_chased, Ends, stands, lacks, follows}
 use Rattle.aw_iograph.specs.Graphs.{Member, Plus, step, more}
 use Rattle.aw_term.specs.WellFormed.{Each, Later}
 use Rattle.aw_accept.proofs.Pigeonholes.{pigeon}
-use Rattle.aw_accept.proofs.ConfigLemmas.{and-true-both, node_eq-true}
-
-pub slot_eq-true : (a b : Slot) → slot_eq a b ≡ true → a ≡ b
-slot_eq-true (Result i) (Result j) e = ap Result (eqb-true i j e)
-slot_eq-true (Part i) (Part j) e = ap Part (eqb-true i j e)
-slot_eq-true (Result i) (Part j) e = absurd cc
-slot_eq-true (Part i) (Result j) e = absurd cc
-
-pub ref_eq-true : (a b : Ref) → ref_eq a b ≡ true → a ≡ b
-ref_eq-true a b e =
-    let (x, y) = and-true-both _ _ e in
-    let p = node_eq-true a.node b.node x in
-    let q = slot_eq-true a.slot b.slot y in
-    λ i. record { node = p i; slot = q i }
+use Rattle.aw_term.proofs.Eaches.{each_map}
+use Rattle.aw_store.proofs.RefLemmas.{ref_eq-true}
+use Rattle.aw_space.proofs.Unfolding.{same_to}
 
 abbrev pub lefts : Map → List Ref
 lefts k = map (λ (e : Equation). e.left) k
@@ -34,10 +24,6 @@ find_cases false r e es x p f = inr f
 pub find-left : (k : Map) (r : Ref) (b : Body) → find k r ≡ Some b → Member r (lefts k)
 find-left [] r b e = absurd cc
 find-left (q ∷ k) r b e = elim (find_cases (ref_eq r q.left) r q k b refl e) [ inl p ↦ inl p | inr f ↦ inr (find-left k r b f) ]
-
-length-lefts : (k : Map) → length (lefts k) ≡ length k
-length-lefts [] = refl
-length-lefts (e ∷ k) = ap suc (length-lefts k)
 
 pub ends-chase_in : (k : Map) (x : End) {n : ℕ} {r : Ref} → Ends k x n r → (m : ℕ) → n ≤ m → chase_in m k r ≡ as_chased x
 ends-chase_in k x (stands f e) zero le = ap (chase_on _ _) f ∙ ap as_chased (sym e)
@@ -58,10 +44,7 @@ SameStep k r s = find k r ≡ Some (Same s)
 step_of : (k : Map) (x : End) {n : ℕ} {r s : Ref} → Ends k x n r → SameStep k r s → (m : ℕ) × (n ≡ suc m) × Ends k x m s
 step_of k x (stands f e) g = absurd cc
 step_of k x (lacks f e) g = absurd cc
-step_of k x (follows {n = n} f d) g = let p : _ ≡ _ = same_inj f g in (n, refl, subst (λ s. Ends k x n s) p d)
-  where
-    same_inj : {o : Option Body} {s t : Ref} → o ≡ Some (Same s) → o ≡ Some (Same t) → s ≡ t
-    same_inj a b = cc
+step_of k x (follows {n = n} f d) g = let p : _ ≡ _ = same_to f g in (n, refl, subst (λ s. Ends k x n s) p d)
 
 walk_of : (k : Map) (x : End) {r s : Ref} → Plus (λ r s. find k r ≡ Some (Same s)) r s → (n : ℕ) → Ends k x n r → (m : ℕ) × (m < n) × Ends k x m s
 walk_of k x (step e) n d = let (m, p, d') = step_of k x d e in (m, omega (arith, p), d')
@@ -81,10 +64,6 @@ same_length k x (follows f d) (stands g e') = absurd cc
 same_length k x (follows f d) (lacks g e') = absurd cc
 same_length k x (follows f d) (follows g d') = let (m, p, d'') = step_of k x (follows g d') f in ap suc (same_length k x d d'') ∙ sym p
 
-pub each_mapped : {A : Type 0} (P Q : A → Type 0) → ((a : A) → P a → Q a) → (xs : List A) → Each P xs → Each Q xs
-each_mapped P Q f [] e = tt
-each_mapped P Q f (x ∷ xs) e = (f x e.0, each_mapped P Q f xs e.1)
-
 -- the references passed, but for the end
 passed : (k : Map) (x : End) {n : ℕ} {r : Ref} → Ends k x n r → (ys : List Ref) × (length ys ≡ n) × Each (λ y. Member y (lefts k)) ys × Later (Goes k x) ys × ((a : Ref) → SameStep k a r → (m : ℕ) → Ends k x m a → Each (Goes k x a) ys)
 passed k x (stands f e) = ([], refl, tt, tt, λ a s m d. tt)
@@ -96,7 +75,7 @@ passed k x (follows {n = n} {r = r} f d) =
       ap suc l,
       (find-left k r _ f, m),
       (here_all, t),
-      λ a s m' d'. (record { walk = step s; far = (m', d') }, each_mapped (Goes k x r) (Goes k x a) (λ y g. record { walk = more s g.walk; far = (m', d') }) ys here_all),
+      λ a s m' d'. (record { walk = step s; far = (m', d') }, each_map (Goes k x r) (Goes k x a) ys (λ y g. record { walk = more s g.walk; far = (m', d') }) here_all),
     )
 
 pub ends-within : (k : Map) (x : End) {n : ℕ} {r : Ref} → Ends k x n r → n ≤ length k
@@ -106,7 +85,7 @@ ends-within k x {n} {r} d = go (cases_lt (length k) n)
     go (inr le) = le
     go (inl lt) =
         let (ys, l, m, t, h) = passed k x d in
-        let (z, g) = pigeon (Goes k x) (lefts k) ys m t (omega (arith, lt, l, length-lefts k)) in
+        let (z, g) = pigeon (Goes k x) (lefts k) ys m t (omega (arith, lt, l, length-map k (λ (e : Equation). e.left))) in
         let (i, e) = g.far in
         let (j, le, e') = walk_of k x g.walk i e in
         absurd (omega (arith, le, same_length k x e e'))

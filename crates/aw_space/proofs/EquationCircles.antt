@@ -1,6 +1,7 @@
 -- A reference with a value is on no circle.
 use Rattle.std.proofs.Common.{◌≡◌, List, Option, Some, None, refl, sym, ◌∙◌, subst, inl, inr}
 use Rattle.std.specs.Prelude.{◌⊎◌}
+use Rattle.std.proofs.lemmas.Option.{same_Some}
 use Rattle.aw_term.specs.Trees.{Never, Tree, Trees}
 use Rattle.aw_term.specs.Names.{Ref}
 use Rattle.aw_term.specs.Configs.{Config}
@@ -25,14 +26,11 @@ module _ (k : Map) where
   free_from r h s (inr (step m)) w = h s m s (inl refl) w
   free_from r h s (inr (more m v)) w = h _ m s (inr v) w
 
-  body_one : {o : Option Body} {a b : Body} → o ≡ Some a → o ≡ Some b → a ≡ b
-  body_one e f = cc
-
   mutual
     free : {r : Ref} {t : Tree Ref} → Unfolds k r t → IsFree r
     free (missing f) = free_from _ (λ u m. let z : None ≡ Some m.0 = sym f ∙ m.1 in absurd cc)
-    free (same f d) = free_from _ (λ u m. elim (subst (λ b. Member u (mentions b)) (body_one m.1 f) m.2) [ inl e ↦ subst IsFree (sym e) (free d) | inr n ↦ never n ])
-    free (is f ds) = free_from _ (λ u m. all_free ds u (subst (λ b. Member u (mentions b)) (body_one m.1 f) m.2))
+    free (same f d) = free_from _ (λ u m. elim (subst (λ b. Member u (mentions b)) (same_Some _ _ (sym m.1 ∙ f)) m.2) [ inl e ↦ subst IsFree (sym e) (free d) | inr n ↦ never n ])
+    free (is f ds) = free_from _ (λ u m. all_free ds u (subst (λ b. Member u (mentions b)) (same_Some _ _ (sym m.1 ∙ f)) m.2))
 
     all_free : {rs : List Ref} {ts : Trees Ref} → UnfoldAll k rs ts → (u : Ref) → Member u rs → IsFree u
     all_free none u m = never m

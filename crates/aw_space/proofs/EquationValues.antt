@@ -1,23 +1,23 @@
 -- Each reference with an equation has a value, and its leaves are results of pending rows.
-use Rattle.std.proofs.Common.{◌≡◌, ℕ, suc, ◌+◌, ◌<◌, ◌≤◌, List, [], ◌∷◌, ◌++◌, map, length, Some, refl, sym, ap, ◌∙◌, subst, inl, inr, arith}
+use Rattle.std.proofs.Common.{◌≡◌, ℕ, suc, ◌<◌, ◌≤◌, List, [], ◌∷◌, ◌++◌, length, Some, refl, sym, subst, inl, inr}
 use Rattle.aw_term.specs.Trees.{Never, Tree, Leaf, Made, Trees, Nil, More, In, Ins, bind}
-use Rattle.aw_term.specs.Names.{Node, Ref, below, result, part}
-use Rattle.aw_term.specs.Rules.{Term, Ground, Value, Child, Rule, get, upto}
-use Rattle.aw_term.specs.Configs.{Pending, Done, Row, Config, child_rows, done_row, env, nothing, row_put, rounds, develop}
+use Rattle.aw_term.specs.Names.{Node, Ref, result, part}
+use Rattle.aw_term.specs.Rules.{Term, Ground, Value, Child, Rule, get}
+use Rattle.aw_term.specs.Configs.{Pending, Row, Config, env, nothing, rounds, develop}
 use Rattle.aw_term.specs.WellFormed.{Each}
 use Rattle.aw_store.specs.Equations.{Body, Equation, Map, find}
 use Rattle.aw_store.specs.Unfold.{Unfolds, UnfoldAll, same, is, none, one}
 use Rattle.aw_apply.specs.Made.{lay, lays, lay_list, lay_children, lay_result, lay_results, made}
 use Rattle.aw_iograph.specs.Graphs.{Member}
 use Rattle.aw_iograph.proofs.Members.{never, member_place}
-use Rattle.aw_accept.proofs.ConfigLemmas.{Chain, In-rounds, Member-rounded, Member-all_inserted, Member-mapped, Member-made_children, child_row, rounds-node, rounds-state, rounds-results-length, done_row-cases, length-mapped, length-upto}
-use Rattle.aw_accept.proofs.Developing.{Fate, sigma, added, fate_chain, fate_term, no_own}
-use Rattle.aw_space.proofs.Lists.{each_append}
+use Rattle.aw_accept.proofs.ConfigLemmas.{In-rounds}
+use Rattle.aw_accept.proofs.Developing.{Fate, sigma, fate_chain, fate_term, fate_new}
 use Rattle.aw_space.proofs.Chasing.{find-left, lefts}
 use Rattle.aw_space.proofs.Substituting.{Holds, Holds-left, Holds-right}
 use Rattle.aw_space.proofs.FlatSteps.{FlatTaking, value_changes, all_ok, made_holds, refs, Pairs-get}
 use Rattle.aw_space.proofs.AnyOrders.{option_cases}
 use Rattle.aw_space.proofs.Entering.{IsTermOf}
+use Rattle.aw_term.proofs.Eaches.{each_append}
 
 -- a result of a pending row
 abbrev pub IsOpen : Config → Ref → Type 0
@@ -90,44 +90,16 @@ module _ (rel : ℕ → ℕ → ℕ → Type 0) (c : Config) (q : Row) (ri : ℕ
   abbrev s : Ref → Value
   s = sigma rel c q ri r bs args T.plain
 
-  abbrev rows : Config
-  rows = added rel c q ri r bs args T.plain
-
   abbrev values : List Value
   values = env q.node ri r bs args
 
   abbrev f : ℕ → Ref
   f = get (part q.node 0) (refs rel c q ri r bs args k bound T)
 
-  -- a pending row stays, with its results
-  stays : (y : Row) (j : ℕ) (h : Ref) → Member y rows → y.state ≡ Pending → h ≡ result y.node j → 0 < j → j ≤ length y.results → IsOpen after h
-  stays y j h m st e low high = (
-    rounds (length r.results) (row_put s) y,
-    j,
-    Member-rounded (length r.results) (row_put s) y rows m,
-    rounds-state (length r.results) s y ∙ st,
-    e ∙ ap (λ n. result n j) (sym (rounds-node (length r.results) s y)),
-    low,
-    omega (arith, high, rounds-results-length (length r.results) s y),
-  )
-
-  -- what the rounds leave is a result of a pending row
-  left_open : (a h : Ref) → Chain s (length r.results) a h → Fate rel c q ri r bs args T.plain a → Fate rel c q ri r bs args T.plain h → IsOpen after h
-  left_open a h ch fa (inl (p, j, m, st, e, low, high)) =
-      elim (done_row-cases q.node (Done ri args) p) [
-        | inl g ↦ never (no_own rel c q ri r bs args T.plain a h ch fa (j, e ∙ ap (λ n. result n j) (sym g.0)))
-        | inr g ↦ stays p j h (Member-all_inserted p (child_rows q.node ri values 1 r.children) (map (done_row q.node (Done ri args)) c) (inr (subst (λ y. Member y (map (done_row q.node (Done ri args)) c)) g (Member-mapped (done_row q.node (Done ri args)) p c m)))) st e low high
-      ]
-  left_open a h ch fa (inr (i, l, d, e, low, high, z)) =
-      let o : 1 + i ≡ suc i = omega arith in
-      let m = subst (λ i. Member (child_row q.node ri values i d) (child_rows q.node ri values 1 r.children)) o (Member-made_children q.node ri values 1 r.children i d e) in
-      stays (child_row q.node ri values (suc i) d) l h (Member-all_inserted (child_row q.node ri values (suc i) d) (child_rows q.node ri values 1 r.children) (map (done_row q.node (Done ri args)) c) (inl m)) refl z low
-      (omega (arith, high, length-mapped (λ j. Leaf (result (below q.node ri (suc i)) j)) (upto 1 d.outs), length-upto 1 d.outs))
-
   rounds_open : (t : Tree Ref) → ((a : Ref) → In a t → Fate rel c q ri r bs args T.plain a) → (h : Ref) → In h (rounds (length r.results) (bind s) t) → IsOpen after h
   rounds_open t g h w =
       let (a, x, ch) = In-rounds (length r.results) s h t w in
-      left_open a h ch (g a x) (fate_chain rel c q ri r bs args T.plain ch (g a x))
+      fate_new rel c q ri r bs args T.plain a h ch (g a x) (fate_chain rel c q ri r bs args T.plain ch (g a x))
 
   variable_value : (v : ℕ) → v < length values → HasValue more_ after (f v)
   variable_value v lt =

@@ -9,20 +9,21 @@ use Rattle.aw_store.specs.Equations.{Equation, Map, find}
 use Rattle.aw_store.specs.Unfold.{Unfolds, missing}
 use Rattle.aw_apply.specs.Made.{lay, lay_list, lay_children, lay_result, lay_results, child_refs, made}
 use Rattle.aw_iograph.specs.Graphs.{Member}
-use Rattle.aw_iograph.proofs.Members.{never}
+use Rattle.aw_iograph.proofs.Members.{never, member_got}
 use Rattle.aw_accept.specs.Acyclic.{Pairs}
 use Rattle.aw_accept.proofs.Binding.{Pairs-append}
 use Rattle.aw_term.specs.WellFormed.{Each}
-use Rattle.aw_accept.proofs.ConfigLemmas.{node_eq-true, node_eq-refl, In-rounds}
-use Rattle.aw_accept.proofs.Pigeonholes.{each_mapped}
-use Rattle.aw_space.proofs.Numbering.{find-left_more, find-right_more, find-absent, Lies, made-apart}
+use Rattle.aw_accept.proofs.ConfigLemmas.{In-rounds}
+use Rattle.aw_space.proofs.Numbering.{find-left_more, find-right_more, find-absent, Lies, made-apart, made-holds}
 use Rattle.aw_space.specs.Laws.{AllUnfold}
 use Rattle.aw_space.proofs.Substituting.{Holds, Holds-left, Holds-right, lay-unfolds, lay_result-unfolds, rounds-leaf, VarOk, Answered, IsChange, substitute, variables_go, rounds-bind}
-use Rattle.aw_accept.proofs.Developing.{Taking, Known, sigma, fate_term, no_own, Member-at}
+use Rattle.aw_accept.proofs.Developing.{Taking, Known, sigma, fate_term, no_own}
 use Rattle.aw_space.proofs.Entering.{IsTermOf}
+use Rattle.aw_term.proofs.NodeTests.{node_is, node_self}
+use Rattle.aw_term.proofs.Eaches.{each_map}
 
 pub node_cases : (b : Bool) (n m : Node) → node_eq n m ≡ b → (n ≡ m) ⊎ (node_eq n m ≡ false)
-node_cases true n m e = inl (node_eq-true n m e)
+node_cases true n m e = inl (node_is n m e)
 node_cases false n m e = inr e
 
 mutual
@@ -100,23 +101,19 @@ module _ (rel : ℕ → ℕ → ℕ → Type 0) (c : Config) (q : Row) (ri : ℕ
   Bad x = (j : ℕ) × (x ≡ result n j)
 
   pub left_own : Each (λ (e : Equation). e.left.node ≡ n) es
-  left_own = let (e, a) = made-apart n ri r args bound in each_mapped (Lies n 1 e 1 (1 + length r.results)) (λ (e : Equation). e.left.node ≡ n) (λ x l. l.0) es a.lie
+  left_own = let (e, a) = made-apart n ri r args bound in each_map (Lies n 1 e 1 (1 + length r.results)) (λ (e : Equation). e.left.node ≡ n) es (λ x l. l.0) a.lie
 
   pub elsewhere : (x : Ref) → (x.node ≡ n → Never) → find k x ≡ None → find k' x ≡ None
-  elsewhere x h f = find-right_more k es x f ∙ find-absent es x (each_mapped (λ (e : Equation). e.left.node ≡ n) (λ (e : Equation). x ≡ e.left → Never) (λ e a p. h (ap (λ (r : Ref). r.node) p ∙ a)) es left_own)
-
-  holds_past : (xs : List Equation) → Each (λ (e : Equation). e.left.node ≡ n) xs → Holds es xs → Holds k' xs
-  holds_past [] o h = tt
-  holds_past (x ∷ xs) o h = (find-right_more k es x.left (T.own_free x.left o.0) ∙ h.0, holds_past xs o.1 h.1)
+  elsewhere x h f = find-right_more k es x f ∙ find-absent es x (each_map (λ (e : Equation). e.left.node ≡ n) (λ (e : Equation). x ≡ e.left → Never) es (λ e a p. h (ap (λ (r : Ref). r.node) p ∙ a)) left_own)
 
   pub made_holds : Holds k' es
-  made_holds = let (e, a) = made-apart n ri r args bound in holds_past es left_own a.hold
+  made_holds = made-holds k n ri r args bound T.own_free
 
   pub other_kept : (x : Ref) → node_eq n x.node ≡ false → s x ≡ Leaf x
   other_kept x e = ap (λ b. cond b (result_at (map (fill vals) r.results) x x.slot) (Leaf x)) e
 
   pub apart_no : (x : Ref) → node_eq n x.node ≡ false → x.node ≡ n → Never
-  apart_no x e p = let a = node_eq-refl n in let b = subst (λ m. node_eq n m ≡ false) p e in absurd cc
+  apart_no x e p = let a = node_self n in let b = subst (λ m. node_eq n m ≡ false) p e in absurd cc
 
   abbrev pub Ok : Ref → Tree Ref → Type 0
   Ok = VarOk k k' s Good Bad (get (part n 0) refs) (get nothing vals)
@@ -177,9 +174,9 @@ module _ (rel : ℕ → ℕ → ℕ → Type 0) (c : Config) (q : Row) (ri : ℕ
       let z : 1 + j ≡ suc j = omega arith in
       record {
         term = t;
-        value = ap (λ b. cond b (get nothing (map (fill vals) r.results) j) (Leaf (result n (suc j)))) (node_eq-refl n) ∙ g;
+        value = ap (λ b. cond b (get nothing (map (fill vals) r.results) j) (Leaf (result n (suc j)))) (node_self n) ∙ g;
         built = λ u w. lay_result-unfolds k' n (get (part n 0) refs) u t i' (suc j) (subst (λ j. Holds k' (lay_result n (get (part n 0) refs) i' j t).equations) z h') w;
-        variable = λ v w. Pairs-get Ok (part n 0) nothing refs vals v all_ok (T.in_range t (inl (Member-at r.results j t f)) v w);
+        variable = λ v w. Pairs-get Ok (part n 0) nothing refs vals v all_ok (T.in_range t (inl (member_got r.results j t f)) v w);
       }
 
   answer_at : (j : ℕ) → 0 < j → j ≤ length r.results → Answered k k' s Good Bad (get (part n 0) refs) (get nothing vals) (result n j)

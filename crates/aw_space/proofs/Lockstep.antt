@@ -1,5 +1,5 @@
 -- The joint configuration and the undivided one stay in step.
-use Rattle.std.proofs.Common.{◌≡◌, ℕ, suc, Bool, true, false, cond, List, [], ◌∷◌, ◌++◌, map, length, Option, Some, None, refl, sym, ap, ◌∙◌, subst, inl, inr, arith}
+use Rattle.std.proofs.Common.{◌≡◌, ℕ, suc, List, [], ◌∷◌, ◌++◌, map, length, Option, Some, None, refl, sym, ap, ◌∙◌, subst, inl, inr, arith}
 use Rattle.std.specs.Prelude.{slice_get, option_and_then}
 use Rattle.aw_term.specs.Trees.{Never, Leaf, In, bind}
 use Rattle.aw_term.specs.Names.{below, Node, node_eq, Ref, result, part, root}
@@ -17,19 +17,20 @@ use Rattle.aw_apply.specs.Made.{lay, lay_list, lay_children, lay_results, Making
 use Rattle.aw_space.specs.Joint.{Held, held_of, insert_held, insert_all, mark, root_held, called_held, Joint, empty_joint, joint_outcome, add_made, joint_taken, joint_run}
 use Rattle.aw_space.specs.Laws.{AllUnfold, Agree, AgreeWhereTaken}
 use Rattle.aw_space.proofs.Entering.{IsTermOf, VariablesEnter}
-use Rattle.aw_iograph.proofs.Members.{never}
+use Rattle.aw_iograph.proofs.Members.{never, member_got}
 use Rattle.aw_accept.proofs.Sources.{EntersAt, env_enters}
-use Rattle.aw_accept.proofs.ConfigLemmas.{child_row, rounds-inherited-list, rounds-results-list, rounds-node, rounds-sort, rounds-state, item-mapped, Member-inserted, done_row-cases}
-use Rattle.aw_accept.proofs.Developing.{Taking, Known, Member-at, Item-at, sigma}
+use Rattle.aw_accept.proofs.ConfigLemmas.{child_row, rounds-inherited-list, rounds-results-list, rounds-sort, rounds-state, item-mapped, Member-inserted, done_row-same}
+use Rattle.aw_accept.proofs.Developing.{Taking, Known, Item-at, sigma}
 use Rattle.aw_space.proofs.Chasing.{find-left, lefts}
 use Rattle.aw_space.proofs.Substituting.{Holds, Holds-left, Holds-right}
 use Rattle.aw_space.proofs.FlatSteps.{FlatTaking, value_changes, term_changes, child_ref_ok, made_holds, left_own}
 use Rattle.aw_accept.proofs.UndividedRuns.{Good, Decoded, decode_on, taking, kept_row, still_closed, own_closed, done-same, developed, started, held_none, row_of-none, empty_good}
 use Rattle.aw_space.proofs.AnyOrders.{option_cases, marked}
 use Rattle.aw_space.proofs.EquationValues.{HaveValues, have_values}
-use Rattle.aw_space.proofs.SideBySide.{insert_pairs, insert_all_pairs, look_up, map_pairs, map_right, rounds-map, out_at, Pairs-length}
+use Rattle.aw_space.proofs.SideBySide.{cond_pair, insert_pairs, insert_all_pairs, look_up, map_pairs, map_right, rounds-map, out_at, Pairs-length}
 use Rattle.aw_space.proofs.BoundParts.{match_all-parts}
 use Rattle.aw_space.proofs.OutcomesAlike.{OutLike, held_like, start_like, node_same}
+use Rattle.aw_term.proofs.RowParts.{rounds_node}
 
 module _ (g : Grammar) (fit : IsGivenGrammar g) (enter : VariablesEnter g) (ok : HasNoCircle g (IO g)) where
   pub record Lockstep (w : Joint) (c : Config) : Type 0 where
@@ -61,7 +62,7 @@ module _ (g : Grammar) (fit : IsGivenGrammar g) (enter : VariablesEnter g) (ok :
         go (Some b) f = let (p, m, e, s) = J.lefts x b f in never (h p m e s)
 
     rule_in : Member rule g.rules
-    rule_in = Member-at g.rules ri rule D.rule_is
+    rule_in = member_got g.rules ri rule D.rule_is
 
     T : FlatTaking (IO g) c q ri rule bs args k bound
     T = record {
@@ -107,13 +108,7 @@ module _ (g : Grammar) (fit : IsGivenGrammar g) (enter : VariablesEnter g) (ok :
     FF-results z = rounds-results-list M s z ∙ rounds-map M (bind s) z.results
 
     done_inherited : (p : Row) → (done_row q.node st p).inherited ≡ p.inherited
-    done_inherited p = elim (done_row-cases q.node st p) [ inl x ↦ ap (λ (r : Row). r.inherited) x.1 | inr x ↦ ap (λ (r : Row). r.inherited) x ]
-
-    state_cond : (b b' : Bool) (h : Held) (p : Row) → b ≡ b' → h.state ≡ p.state → (cond b (record h { state = st }) h).state ≡ (cond b' (record p { state = st }) p).state
-    state_cond true true h p e f = refl
-    state_cond false false h p e f = f
-    state_cond true false h p e f = absurd cc
-    state_cond false true h p e f = absurd cc
+    done_inherited p = done_row-same (λ (r : Row). r.inherited) q.node st p refl
 
     old_pair : (h : Held) (p : Row) → Member p c → Agree k h p → R (mark q.node st h) (done_row q.node st p)
     old_pair h p mp a =
@@ -121,9 +116,9 @@ module _ (g : Grammar) (fit : IsGivenGrammar g) (enter : VariablesEnter g) (ok :
         let (mn, ms, mi) = marked q.node st h in
         let ds = done-same g fit ok c n ri args rule bs J.good D p in
         record {
-          node = mn ∙ (a.node ∙ (sym ds.0 ∙ sym (rounds-node M s (done_row q.node st p))));
+          node = mn ∙ (a.node ∙ (sym ds.0 ∙ sym (rounds_node M s (done_row q.node st p))));
           sort = ms ∙ (a.sort ∙ (sym ds.1 ∙ sym (rounds-sort M s (done_row q.node st p))));
-          state = state_cond (node_eq q.node h.node) (node_eq q.node p.node) h p (ap (node_eq q.node) a.node) a.state ∙ sym (rounds-state M s (done_row q.node st p));
+          state = cond_pair (λ (h : Held) (p : Row). h.state ≡ p.state) (node_eq q.node h.node) (node_eq q.node p.node) (record h { state = st }) h (record p { state = st }) p (ap (node_eq q.node) a.node) refl a.state ∙ sym (rounds-state M s (done_row q.node st p));
           inherited = subst (λ rs. AllUnfold k1 rs (FF (done_row q.node st p)).inherited) (sym mi)
               (subst (λ ts. AllUnfold k1 h.inherited ts) (sym (FF-inherited (done_row q.node st p) ∙ ap (map (λ t. G t)) (done_inherited p)))
               (map_right (λ r t. Unfolds k r t) (λ r t. Unfolds k1 r t) (λ t. G t) h.inherited p.inherited (λ r t mt u. changes r t u (λ x i. J.good.1.whole p mp x (inl (t, mt, i)))) a.inherited));
@@ -159,7 +154,7 @@ module _ (g : Grammar) (fit : IsGivenGrammar g) (enter : VariablesEnter g) (ok :
         let z = child_row q.node ri vals i d in
         let (j', f) = at 0 d refl in (
           record {
-            node = sym (rounds-node M s (child_row q.node ri vals i d));
+            node = sym (rounds_node M s (child_row q.node ri vals i d));
             sort = sym (rounds-sort M s (child_row q.node ri vals i d));
             state = sym (rounds-state M s (child_row q.node ri vals i d));
             inherited = subst (λ ts. AllUnfold k1 a.roots ts) (sym (FF-inherited (child_row q.node ri vals i d))) (arg_pairs d.args l (λ t m. inr (j', d, f, m)) (Holds-left k1 a.equations (lay_children q.node ri refs (suc i) a.next cs).equations h));
@@ -180,7 +175,7 @@ module _ (g : Grammar) (fit : IsGivenGrammar g) (enter : VariablesEnter g) (ok :
 
     before_rounds : Pairs R (insert_all (map called_held m.calls) (map (mark q.node st) w.held)) (insert_rows (child_rows q.node ri vals 1 rule.children) (map (done_row q.node st) c))
     before_rounds =
-        insert_all_pairs R (λ h z a. a.node ∙ rounds-node M s z) (map called_held m.calls) (child_rows q.node ri vals 1 rule.children) (map (mark q.node st) w.held) (map (done_row q.node st) c)
+        insert_all_pairs R (λ h z a. a.node ∙ rounds_node M s z) (map called_held m.calls) (child_rows q.node ri vals 1 rule.children) (map (mark q.node st) w.held) (map (done_row q.node st) c)
         (child_pairs rule.children 1 (lay_list q.node (λ (x : Never). elim x [ ]) 1 args).next (λ j d e. (j, e)) calls_hold)
         (map_pairs (λ h p. Agree k h p) R (mark q.node st) (done_row q.node st) w.held c (λ h p mp a. old_pair h p mp a) J.pairs)
 
@@ -198,10 +193,10 @@ module _ (g : Grammar) (fit : IsGivenGrammar g) (enter : VariablesEnter g) (ok :
         elim (option_cases k m.equations x b (find k x) refl f) [
           | inl a ↦
               (let (p, mp, e, np) = J.lefts x b a in
-              (FF (done_row q.node st p), kept_row g fit ok c n ri args rule bs J.good D p mp, e ∙ (sym (done-same g fit ok c n ri args rule bs J.good D p).0 ∙ sym (rounds-node M s _)), still_closed g fit ok c n ri args rule bs J.good D p np))
+              (FF (done_row q.node st p), kept_row g fit ok c n ri args rule bs J.good D p mp, e ∙ (sym (done-same g fit ok c n ri args rule bs J.good D p).0 ∙ sym (rounds_node M s _)), still_closed g fit ok c n ri args rule bs J.good D p np))
           | inr a ↦
               (let e = left_there m.equations x (left_own (IO g) c q ri rule bs args k bound T) (find-left m.equations x b a) in
-              (FF (done_row q.node st q), kept_row g fit ok c n ri args rule bs J.good D q D.held, e ∙ (sym (done-same g fit ok c n ri args rule bs J.good D q).0 ∙ sym (rounds-node M s _)), own_closed g fit ok c n ri args rule bs J.good D q refl))
+              (FF (done_row q.node st q), kept_row g fit ok c n ri args rule bs J.good D q D.held, e ∙ (sym (done-same g fit ok c n ri args rule bs J.good D q).0 ∙ sym (rounds_node M s _)), own_closed g fit ok c n ri args rule bs J.good D q refl))
         ]
 
     pub develop_lockstep : Lockstep (add_made w n (Done ri args) (made n ri rule args bound)) (develop n ri rule bs args c)

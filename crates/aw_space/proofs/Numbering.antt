@@ -1,27 +1,18 @@
 -- The equations of one choice have different left sides.
 use Rattle.std.proofs.Common.{◌≡◌, ℕ, suc, ◌+◌, ◌<◌, ◌≤◌, Bool, true, false, cond, List, [], ◌∷◌, ◌++◌, length, Option, Some, None, refl, sym, ap, ◌∙◌, subst, arith}
-use Rattle.std.specs.Prelude.{◌&&◌}
 use Rattle.aw_term.specs.Trees.{Never, Tree, Leaf, Made, Trees, Nil, More}
 use Rattle.aw_term.specs.Names.{Node, Ref, Slot, Result, Part, result, part}
 use Rattle.aw_term.specs.Rules.{Term, Ground, Child, Rule, get}
-use Rattle.aw_store.specs.Refs.{slot_eq, ref_eq}
+use Rattle.aw_store.specs.Refs.{ref_eq}
 use Rattle.aw_store.specs.Equations.{Body, Same, Is, Equation, Map, find}
 use Rattle.aw_apply.specs.Made.{lay, lays, lay_list, lay_children, lay_result, lay_results, child_refs, made}
 use Rattle.aw_iograph.proofs.Members.{never}
 use Rattle.aw_term.specs.WellFormed.{Each, Later}
-use Rattle.aw_space.proofs.Lists.{each_in, later-append}
-use Rattle.aw_accept.proofs.ConfigLemmas.{node_eq-refl}
-use Rattle.aw_space.proofs.Chasing.{ref_eq-true}
-use Rattle.aw_accept.proofs.Pigeonholes.{each_mapped}
+use Rattle.aw_space.proofs.Lists.{later-append}
 use Rattle.aw_space.proofs.Substituting.{Holds}
-use Rattle.std.proofs.lemmas.Bool.{eq-eqb}
-
-slot_eq-refl : (s : Slot) → slot_eq s s ≡ true
-slot_eq-refl (Result j) = eq-eqb j j refl
-slot_eq-refl (Part k) = eq-eqb k k refl
-
-pub ref_eq-refl : (r : Ref) → ref_eq r r ≡ true
-ref_eq-refl r = let a = node_eq-refl r.node in let b = slot_eq-refl r.slot in λ i. a i && b i
+use Rattle.aw_accept.proofs.Fitting.{each_member}
+use Rattle.aw_store.proofs.RefLemmas.{ref_eq-self, ref_eq-true}
+use Rattle.aw_term.proofs.Eaches.{each_map, each_append}
 
 absent_cases : (b : Bool) (r : Ref) (e : Equation) (o : Option Body) → ref_eq r e.left ≡ b → (r ≡ e.left → Never) → cond b (Some e.body) o ≡ o
 absent_cases true r e o f n = never (n (ref_eq-true r e.left f))
@@ -69,11 +60,7 @@ covers-apart : (a b e c d f : ℕ) (s : Slot) → Covers a b c d s → Covers b 
 covers-apart a b e c d f (Part i) h g = absurd (omega (arith, h.1, g.0))
 covers-apart a b e c d f (Result j) h g = absurd (omega (arith, h.1, g.0))
 
-Each-append : {A : Type 0} (P : A → Type 0) (xs ys : List A) → Each P xs → Each P ys → Each P (xs ++ ys)
-Each-append P [] ys a b = b
-Each-append P (x ∷ xs) ys a b = (a.0, Each-append P xs ys a.1 b)
-
-Holds-wider : (k k' : Map) → ((r : Ref) (b : Body) → find k r ≡ Some b → find k' r ≡ Some b) → (es : List Equation) → Holds k es → Holds k' es
+pub Holds-wider : (k k' : Map) → ((r : Ref) (b : Body) → find k r ≡ Some b → find k' r ≡ Some b) → (es : List Equation) → Holds k es → Holds k' es
 Holds-wider k k' f [] h = tt
 Holds-wider k k' f (e ∷ es) h = (f e.left e.body h.0, Holds-wider k k' f es h.1)
 
@@ -91,21 +78,21 @@ absent_from n a b e c d f (x ∷ es) r l h = ((λ p. covers-apart a b e c d f r.
 
 pub Apart-append : (n : Node) (a b e c d f : ℕ) (es fs : List Equation) → a ≤ b → b ≤ e → c ≤ d → d ≤ f → Apart n a b c d es → Apart n b e d f fs → Apart n a e c f (es ++ fs)
 Apart-append n a b e c d f es fs p q u v x y = record {
-  lie = Each-append (Lies n a e c f) es fs
-      (each_mapped (Lies n a b c d) (Lies n a e c f) (λ z h. (h.0, covers-wider a b c d a e c f (omega arith) (omega arith) (omega arith) (omega arith) z.left.slot h.1)) es x.lie)
-      (each_mapped (Lies n b e d f) (Lies n a e c f) (λ z h. (h.0, covers-wider b e d f a e c f (omega arith) (omega arith) (omega arith) (omega arith) z.left.slot h.1)) fs y.lie);
+  lie = each_append (Lies n a e c f) es fs
+      (each_map (Lies n a b c d) (Lies n a e c f) es (λ z h. (h.0, covers-wider a b c d a e c f (omega arith) (omega arith) (omega arith) (omega arith) z.left.slot h.1)) x.lie)
+      (each_map (Lies n b e d f) (Lies n a e c f) fs (λ z h. (h.0, covers-wider b e d f a e c f (omega arith) (omega arith) (omega arith) (omega arith) z.left.slot h.1)) y.lie);
   hold = Holds-append (es ++ fs) es fs
       (Holds-wider es (es ++ fs) (find-left_more es fs) es x.hold)
       (Holds-past es fs fs
-      (each_mapped (Lies n b e d f) (λ (z : Equation). find es z.left ≡ None) (λ z h. find-absent es z.left (absent_from n a b e c d f es z.left x.lie h.1)) fs y.lie)
+      (each_map (Lies n b e d f) (λ (z : Equation). find es z.left ≡ None) fs (λ z h. find-absent es z.left (absent_from n a b e c d f es z.left x.lie h.1)) y.lie)
       y.hold);
   differ = later-append (λ (e f : Equation). e.left ≡ f.left → Never) es fs x.differ y.differ
-      (λ u v i j q. let l = each_in (Lies n a b c d) es u x.lie i in let r = each_in (Lies n b e d f) fs v y.lie j in
+      (λ u v i j q. let l = each_member (Lies n a b c d) es u x.lie i in let r = each_member (Lies n b e d f) fs v y.lie j in
       covers-apart a b e c d f v.left.slot (subst (λ (r : Ref). Covers a b c d r.slot) q l.1) r.1);
 }
 
 one_apart : (n : Node) (a b c d : ℕ) (e : Equation) → Lies n a b c d e → Apart n a b c d (e ∷ [])
-one_apart n a b c d e l = record { lie = (l, tt); hold = (ap (λ b. cond b (Some e.body) None) (ref_eq-refl e.left), tt); differ = (tt, tt) }
+one_apart n a b c d e l = record { lie = (l, tt); hold = (ap (λ b. cond b (Some e.body) None) (ref_eq-self e.left), tt); differ = (tt, tt) }
 
 none_apart : (n : Node) (a c : ℕ) → Apart n a a c c []
 none_apart n a c = record { lie = tt; hold = tt; differ = tt }
@@ -177,3 +164,10 @@ made-apart n ri r args bound =
       Apart-append n 1 a.next e 1 1 (1 + length r.results) a.equations (c.equations ++ lay_results n f c.next 1 r.results) le (omega (arith, le', le'')) (omega arith) (omega arith) x
           (Apart-append n a.next c.next e 1 1 (1 + length r.results) c.equations (lay_results n f c.next 1 r.results) le' le'' (omega arith) (omega arith) y z),
     )
+
+-- and they hold behind equations that have none of the node
+pub made-holds : (k : Map) (n : Node) (ri : ℕ) (r : Rule) (args : List Ground) (bound : List Ref) → ((x : Ref) → x.node ≡ n → find k x ≡ None) → Holds (k ++ (made n ri r args bound).equations) (made n ri r args bound).equations
+made-holds k n ri r args bound free =
+    let (e, a) = made-apart n ri r args bound in
+    let es = (made n ri r args bound).equations in
+    Holds-past k es es (each_map (Lies n 1 e 1 (1 + length r.results)) (λ (e : Equation). find k e.left ≡ None) es (λ x l. free x.left l.0) a.lie) a.hold

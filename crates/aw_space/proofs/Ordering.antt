@@ -1,48 +1,32 @@
 -- Nodes are in a strict order, and lists that keep it.
 use Rattle.std.proofs.Common.{◌≡◌, ℕ, ◌<◌, Bool, true, false, cond, List, [], ◌∷◌, refl, sym, ◌∙◌, subst, inl, inr, arith}
 use Rattle.std.specs.Prelude.{◌⊎◌, ◌&&◌, ◌||◌, nat_eq, nat_lt}
-use Rattle.std.proofs.lemmas.Bool.{eqb-true, eq-eqb, ltb-true, lt-ltb, cases_lt}
+use Rattle.std.proofs.lemmas.Bool.{eqb-true, eq-eqb, ltb-true, lt-ltb, cases_lt, or_cases, or_left, or_right, and_from, and_parts}
 use Rattle.aw_term.specs.Trees.{Never}
 use Rattle.aw_term.specs.Names.{Step, Node, steps_lt, node_lt}
 use Rattle.aw_term.specs.Configs.{Row, Config, insert_row}
 use Rattle.aw_iograph.specs.Graphs.{Member}
 use Rattle.aw_iograph.proofs.Members.{never}
 use Rattle.aw_term.specs.WellFormed.{Each, Later}
-use Rattle.aw_accept.proofs.ConfigLemmas.{and-true-both, Member-insert_row}
-use Rattle.aw_accept.proofs.Pigeonholes.{each_mapped}
-use Rattle.aw_space.proofs.Lists.{each_in, each_of}
+use Rattle.aw_accept.proofs.ConfigLemmas.{Member-insert_row}
+use Rattle.aw_space.proofs.Lists.{each_of}
+use Rattle.aw_accept.proofs.Fitting.{each_member}
+use Rattle.aw_term.proofs.Eaches.{each_map}
 
 L : ℕ → ℕ → Bool → Bool
 L x y r = nat_lt x y || (nat_eq x y && r)
 
-or-true : (a b : Bool) → (a || b) ≡ true → (a ≡ true) ⊎ (b ≡ true)
-or-true true b e = inl refl
-or-true false b e = inr e
-
-or-left : (a b : Bool) → a ≡ true → (a || b) ≡ true
-or-left true b e = refl
-or-left false b e = absurd cc
-
-or-right : (a b : Bool) → b ≡ true → (a || b) ≡ true
-or-right true b e = refl
-or-right false b e = e
-
-and-both : (a b : Bool) → a ≡ true → b ≡ true → (a && b) ≡ true
-and-both true true e f = refl
-and-both true false e f = absurd cc
-and-both false b e f = absurd cc
-
 L-true : (x y : ℕ) (r : Bool) → L x y r ≡ true → (x < y) ⊎ ((x ≡ y) × (r ≡ true))
 unfolding L
-L-true x y r e = elim (or-true (nat_lt x y) (nat_eq x y && r) e) [ inl a ↦ inl (ltb-true x y a) | inr a ↦ (let (b, c) = and-true-both (nat_eq x y) r a in inr (eqb-true x y b, c)) ]
+L-true x y r e = elim (or_cases (nat_lt x y) (nat_eq x y && r) e) [ inl a ↦ inl (ltb-true x y a) | inr a ↦ (let (b, c) = and_parts (nat_eq x y) r a in inr (eqb-true x y b, c)) ]
 
 L-lt : (x y : ℕ) (r : Bool) → x < y → L x y r ≡ true
 unfolding L
-L-lt x y r h = or-left (nat_lt x y) (nat_eq x y && r) (lt-ltb x y h)
+L-lt x y r h = or_left (nat_lt x y) (nat_eq x y && r) (lt-ltb x y h)
 
 L-eq : (x y : ℕ) (r : Bool) → x ≡ y → r ≡ true → L x y r ≡ true
 unfolding L
-L-eq x y r h e = or-right (nat_lt x y) (nat_eq x y && r) (and-both (nat_eq x y) r (eq-eqb x y h) e)
+L-eq x y r h e = or_right (nat_lt x y) (nat_eq x y && r) (and_from (nat_eq x y) r (eq-eqb x y h) e)
 
 L-no : (x : ℕ) (r : Bool) → (r ≡ true → Never) → L x x r ≡ true → Never
 L-no x r h e = elim (L-true x x r e) [ inl a ↦ absurd (omega arith) | inr a ↦ h a.1 ]
@@ -118,10 +102,10 @@ abbrev pub IsInOrder : Config → Type 0
 IsInOrder c = Later Before c
 
 order_cases : (b : Bool) (r q : Row) (qs zs : Config) → node_lt r.node q.node ≡ b → (r.node ≡ q.node → Never) → IsInOrder (q ∷ qs) → IsInOrder zs → Each (λ z. (z ≡ r) ⊎ Member z qs) zs → IsInOrder (cond b (r ∷ q ∷ qs) (q ∷ zs))
-order_cases true r q qs zs e n o oz z = ((e, each_mapped (Before q) (Before r) (λ x h. node-trans r.node q.node x.node e h) qs o.0), o)
+order_cases true r q qs zs e n o oz z = ((e, each_map (Before q) (Before r) qs (λ x h. node-trans r.node q.node x.node e h) o.0), o)
 order_cases false r q qs zs e n o oz z =
     let after : node_lt q.node r.node ≡ true = elim (node-tri r.node q.node) [ inl x ↦ absurd cc | inr x ↦ elim x [ inl y ↦ never (n y) | inr y ↦ y ] ] in
-    (each_mapped (λ z. (z ≡ r) ⊎ Member z qs) (Before q) (λ x h. elim h [ inl a ↦ subst (λ x. Before q x) (sym a) after | inr m ↦ each_in (Before q) qs x o.0 m ]) zs z, oz)
+    (each_map (λ z. (z ≡ r) ⊎ Member z qs) (Before q) zs (λ x h. elim h [ inl a ↦ subst (λ x. Before q x) (sym a) after | inr m ↦ each_member (Before q) qs x o.0 m ]) z, oz)
 
 pub insert-in_order : (r : Row) (c : Config) → ((p : Row) → Member p c → r.node ≡ p.node → Never) → IsInOrder c → IsInOrder (insert_row r c)
 insert-in_order r [] f o = (tt, tt)
@@ -137,8 +121,8 @@ same_rows (p ∷ c) [] o u f g = never (f p (inl refl)).1
 same_rows (p ∷ c) (q ∷ d) o u f g =
     let e : p ≡ q = heads (f p (inl refl)) (g q (inl refl)) in
     let t = same_rows c d o.1 u.1
-    (λ x m. let (y, my, xy) = f x (inr m) in (y, tail_of x y q d my xy (λ yq. node-no p.node (subst (λ (r : Row). node_lt p.node r.node ≡ true) (xy ∙ (yq ∙ sym e)) (each_in (Before p) c x o.0 m))), xy))
-    (λ y m. let (x, mx, xy) = g y (inr m) in (x, tail_of y x p c mx (sym xy) (λ xp. node-no q.node (subst (λ (r : Row). node_lt q.node r.node ≡ true) (sym xy ∙ (xp ∙ e)) (each_in (Before q) d y u.0 m))), xy)) in
+    (λ x m. let (y, my, xy) = f x (inr m) in (y, tail_of x y q d my xy (λ yq. node-no p.node (subst (λ (r : Row). node_lt p.node r.node ≡ true) (xy ∙ (yq ∙ sym e)) (each_member (Before p) c x o.0 m))), xy))
+    (λ y m. let (x, mx, xy) = g y (inr m) in (x, tail_of y x p c mx (sym xy) (λ xp. node-no q.node (subst (λ (r : Row). node_lt q.node r.node ≡ true) (sym xy ∙ (xp ∙ e)) (each_member (Before q) d y u.0 m))), xy)) in
     λ i. e i ∷ t i
   where
     tail_of : (x y q : Row) (d : Config) → Member y (q ∷ d) → x ≡ y → (y ≡ q → Never) → Member y d
@@ -149,6 +133,6 @@ same_rows (p ∷ c) (q ∷ d) o u f g =
     heads (y, inl a, py) h = py ∙ a
     heads (y, inr a, py) (x, inl b, xq) = sym b ∙ xq
     heads (y, inr a, py) (x, inr b, xq) =
-        let up : node_lt q.node p.node ≡ true = subst (λ (r : Row). node_lt q.node r.node ≡ true) (sym py) (each_in (Before q) d y u.0 a) in
-        let down : node_lt p.node q.node ≡ true = subst (λ (r : Row). node_lt p.node r.node ≡ true) xq (each_in (Before p) c x o.0 b) in
+        let up : node_lt q.node p.node ≡ true = subst (λ (r : Row). node_lt q.node r.node ≡ true) (sym py) (each_member (Before q) d y u.0 a) in
+        let down : node_lt p.node q.node ≡ true = subst (λ (r : Row). node_lt p.node r.node ≡ true) xq (each_member (Before p) c x o.0 b) in
         never (node-no p.node (node-trans p.node q.node p.node down up))

@@ -1,5 +1,5 @@
 -- What a choice leads to over references is what it leads to over trees.
-use Rattle.std.proofs.Common.{◌≡◌, ℕ, Bool, true, false, cond, List, length, Option, Some, None, refl, sym, ap, subst}
+use Rattle.std.proofs.Common.{◌≡◌, ℕ, List, length, Option, Some, None, refl, sym, ap, subst}
 use Rattle.std.specs.Prelude.{slice_get, nat_eq}
 use Rattle.aw_term.specs.Trees.{Never}
 use Rattle.aw_term.specs.Names.{Node, Ref}
@@ -13,7 +13,7 @@ use Rattle.aw_space.specs.Joint.{Held, by_rule, by_state, by_held, by_root}
 use Rattle.aw_space.specs.Laws.{AllUnfold, Agree}
 use Rattle.aw_iograph.proofs.Members.{never}
 use Rattle.aw_space.proofs.Guarding.{Like, guard_all-match}
-use Rattle.aw_space.proofs.SideBySide.{LikeOption}
+use Rattle.aw_space.proofs.SideBySide.{cond_pair, LikeOption}
 
 -- the same answer
 abbrev pub OutLike : Map → Outcome Ref Ref → Outcome Value Ref → Type 0
@@ -22,14 +22,8 @@ OutLike k Starts Starts = Unit {0}
 OutLike k (Takes r xs) (Takes r' ts) = (r ≡ r') × AllUnfold k xs ts
 OutLike k _ _ = Never
 
-out_cond : (k : Map) (b b' : Bool) (x x' : Outcome Ref Ref) (y y' : Outcome Value Ref) → b ≡ b' → OutLike k x y → OutLike k x' y' → OutLike k (cond b x x') (cond b' y y')
-out_cond k true true x x' y y' e p q = p
-out_cond k false false x x' y y' e p q = q
-out_cond k true false x x' y y' e p q = absurd cc
-out_cond k false true x x' y y' e p q = absurd cc
-
 guard_like : (k : Map) (n : Node) (ru : Rule) (m : Matched Ref Ref) (m' : Matched Value Ref) → Like k m m' → OutLike k (after_guard n ru m) (after_guard n ru m')
-guard_like k n ru (Yes rs) (Yes ts) l = out_cond k (deep n ru) (deep n ru) (Refused TooDeep) (Takes ru rs) (Refused TooDeep) (Takes ru ts) refl refl (refl, l)
+guard_like k n ru (Yes rs) (Yes ts) l = cond_pair (OutLike k) (deep n ru) (deep n ru) (Refused TooDeep) (Takes ru rs) (Refused TooDeep) (Takes ru ts) refl refl (refl, l)
 guard_like k n ru (Waits r) (Waits s) l = λ i. WaitsFor (l i)
 guard_like k n ru (Differs p) (Differs q) l = λ i. Mismatch (l i)
 guard_like k n ru (Yes rs) (Waits s) l = never l
@@ -46,8 +40,8 @@ guard_like k n ru (Circle r) m' l = never l
 rule_like : (k : Map) (o : Option Rule) (n : Node) (args : List Ground) (h : Held) (q : Row) → Agree k h q → OutLike k (by_rule o k n args h) (at_rule o n args q)
 rule_like k None n args h q a = refl
 rule_like k (Some ru) n args h q a =
-    out_cond k (nat_eq ru.sort h.sort) (nat_eq ru.sort q.sort) _ _ _ _ (ap (nat_eq ru.sort) a.sort)
-    (out_cond k (nat_eq (length args) ru.params) (nat_eq (length args) ru.params) _ _ _ _ refl
+    cond_pair (OutLike k) (nat_eq ru.sort h.sort) (nat_eq ru.sort q.sort) _ _ _ _ (ap (nat_eq ru.sort) a.sort)
+    (cond_pair (OutLike k) (nat_eq (length args) ru.params) (nat_eq (length args) ru.params) _ _ _ _ refl
     (guard_like k n ru (guard_all k 1 ru.patterns h.inherited) (match_all 1 ru.patterns q.inherited) (guard_all-match k 1 ru.patterns h.inherited q.inherited a.inherited)) refl) refl
 
 state_like : (g : Grammar) (k : Map) (s : State) (n : Node) (ri : ℕ) (args : List Ground) (h : Held) (q : Row) → Agree k h q → OutLike k (by_state s g k n ri args h) (at_state s g n ri args q)

@@ -1,6 +1,7 @@
 -- Any order gives the same configuration.
 use Rattle.std.proofs.Common.{◌≡◌, ℕ, zero, suc, ◌+◌, true, List, [], ◌∷◌, map, length, Option, Some, None, refl, sym, ap, ◌∙◌, subst, inl, inr, arith}
-use Rattle.std.specs.Prelude.{slice_get, option_and_then}
+use Rattle.std.specs.Prelude.{slice_get}
+use Rattle.std.proofs.lemmas.Option.{same_Some, option_and_then_some}
 use Rattle.aw_term.specs.Trees.{Never}
 use Rattle.aw_term.specs.Names.{below, Node, node_lt, Ref, result, root}
 use Rattle.aw_term.specs.Rules.{Value, Child, Grammar}
@@ -14,18 +15,17 @@ use Rattle.aw_store.specs.Unfold.{Unfolds}
 use Rattle.aw_space.specs.Joint.{Held, Joint, empty_joint, joint_outcome, joint_taken, joint_run}
 use Rattle.aw_space.proofs.Entering.{VariablesEnter}
 use Rattle.aw_space.specs.Laws.{Agree, AllUnfold}
-use Rattle.aw_iograph.proofs.Members.{never}
+use Rattle.aw_iograph.proofs.Members.{never, member_unmap}
 use Rattle.aw_term.specs.WellFormed.{Each, Later}
-use Rattle.aw_accept.proofs.ConfigLemmas.{below-child, Member-map, Member-child_rows, done_row-cases, Member-insert_row}
+use Rattle.aw_accept.proofs.ConfigLemmas.{below-child, Member-child_rows, Member-insert_row}
 use Rattle.aw_accept.proofs.UndividedRuns.{Good, decode_on, taking, held_none, row_of-none, empty_good, taken-good}
 use Rattle.aw_space.proofs.Unfolding.{one_value}
 use Rattle.aw_space.proofs.Lockstep.{Lockstep, LikeStates, run_lockstep, step_lockstep, answers_agree, empty_lockstep}
 use Rattle.aw_space.proofs.AnyOrders.{IsFit, IsPartOf, Goes_on, any_order}
 use Rattle.aw_space.proofs.Ordering.{Before, IsInOrder, insert-in_order, same_rows, node-no}
-use Rattle.aw_space.proofs.Lists.{each_in, each_of}
-
-some-inj : {A : Type 0} {a b : A} → Some a ≡ Some b → a ≡ b
-some-inj e = cc
+use Rattle.aw_space.proofs.Lists.{each_of}
+use Rattle.aw_term.proofs.RowParts.{done_node}
+use Rattle.aw_accept.proofs.Fitting.{each_member}
 
 module _ (k k' : Map) (more_ : (r : Ref) (b : Body) → find k r ≡ Some b → find k' r ≡ Some b) (fewer : (r : Ref) → find k r ≡ None → find k' r ≡ None) where
   list_values : (rs : List Ref) (ts us : List Value) → AllUnfold k rs ts → AllUnfold k' rs us → ts ≡ us
@@ -59,7 +59,7 @@ insert_rows-in_order : (rs : List Row) (c : Config) → Later (λ (a b : Row). a
 insert_rows-in_order [] c l f o = o
 insert_rows-in_order (r ∷ rs) c l f o =
     insert_rows-in_order rs (insert_row r c) l.1
-    (λ x m p mp e. elim (Member-insert_row p r c mp) [ inl a ↦ each_in (λ (b : Row). r.node ≡ b.node → Never) rs x l.0 m (sym (ap (λ (r : Row). r.node) a) ∙ sym e) | inr a ↦ f x (inr m) p a e ])
+    (λ x m p mp e. elim (Member-insert_row p r c mp) [ inl a ↦ each_member (λ (b : Row). r.node ≡ b.node → Never) rs x l.0 m (sym (ap (λ (r : Row). r.node) a) ∙ sym e) | inr a ↦ f x (inr m) p a e ])
     (insert-in_order r c (λ p m. f r (inl refl) p m) o)
 
 later_children : (n : Node) (ri : ℕ) (e : List Value) (k : ℕ) (cs : List Child) → Later (λ (a b : Row). a.node ≡ b.node → Never) (child_rows n ri e k cs)
@@ -69,27 +69,24 @@ later_children n ri e k (c ∷ cs) = (each_of (λ (b : Row). below n ri k ≡ b.
     no_self : (k j : ℕ) → k ≡ suc k + j → Never
     no_self k j e = absurd (omega arith)
 
-done-node : (n : Node) (s : State) (p : Row) → (done_row n s p).node ≡ p.node
-done-node n s p = elim (done_row-cases n s p) [ inl x ↦ ap (λ (r : Row). r.node) x.1 | inr x ↦ ap (λ (r : Row). r.node) x ]
-
 module _ (g : Grammar) (fit : IsGivenGrammar g) (enter : VariablesEnter g) (ok : HasNoCircle g (IO g)) where
   taken-in_order : (c : Config) (x : Choice) (o : Outcome Value Ref) (d : Config) → Good g fit ok c → IsInOrder c → outcome g c x ≡ o → taken g c x o ≡ Some d → IsInOrder d
   taken-in_order c x (Refused a) d good i e t = absurd cc
   taken-in_order c (Start s k) Starts d good i e t =
-      subst IsInOrder (some-inj t) (insert-in_order (start_row g s k) c (λ p m f. row_of-none (root s k) c (held_none g fit ok (row_of (root s k) c) e) p m (sym f)) i)
+      subst IsInOrder (same_Some _ _ t) (insert-in_order (start_row g s k) c (λ p m f. row_of-none (root s k) c (held_none g fit ok (row_of (root s k) c) e) p m (sym f)) i)
   taken-in_order c (Start s k) (Takes rule bs) d good i e t = absurd cc
   taken-in_order c (Develop n ri args) Starts d good i e t = absurd cc
   taken-in_order c (Develop n ri args) (Takes rule bs) d good i e t =
       let D = decode_on g c (row_of n c) n ri args rule bs refl e in
       let P = taking g fit ok c n ri args rule bs good D in
-      subst IsInOrder (some-inj t)
+      subst IsInOrder (same_Some _ _ t)
       (rounds-in_order (length rule.results) (row_put _) (λ r. refl) _
       (insert_rows-in_order _ (map (done_row n (Done ri args)) c) (later_children n ri _ 1 rule.children)
       (λ x m p mp f.
       let (j, dd, h, z) = Member-child_rows x n ri _ 1 rule.children m in
-      let (p0, m0, eq) = Member-map (done_row n (Done ri args)) p c mp in
-      P.fresh p0 m0 (1 + j) (sym (done-node n (Done ri args) p0) ∙ (sym (ap (λ (r : Row). r.node) eq) ∙ (sym f ∙ (ap (λ (r : Row). r.node) z ∙ ap (λ n. below n ri (1 + j)) (sym D.node))))))
-      (map-in_order (done_row n (Done ri args)) (done-node n (Done ri args)) c i)))
+      let (p0, m0, eq) = member_unmap (done_row n (Done ri args)) p c mp in
+      P.fresh p0 m0 (1 + j) (sym (done_node n (Done ri args) p0) ∙ (sym (ap (λ (r : Row). r.node) eq) ∙ (sym f ∙ (ap (λ (r : Row). r.node) z ∙ ap (λ n. below n ri (1 + j)) (sym D.node))))))
+      (map-in_order (done_row n (Done ri args)) (done_node n (Done ri args)) c i)))
 
   pub record Fit (w : Joint) : Type 0 where
     pub config : Config
@@ -112,7 +109,7 @@ module _ (g : Grammar) (fit : IsGivenGrammar g) (enter : VariablesEnter g) (ok :
   clash : (k : Map) (x : Held) (hs : List Held) (q : Row) (c : Config) → Pairs (λ h q. Agree k h q) (x ∷ hs) (q ∷ c) → IsInOrder (q ∷ c) → (y : Held) → Member y hs → y.node ≡ x.node → Never
   clash k x hs q c p o y m e =
       let (z, mz, az) = row_for k hs c p.1 y m in
-      node-no q.node (subst (λ n. node_lt q.node n ≡ true) (sym az.node ∙ (e ∙ p.0.node)) (each_in (Before q) c z o.0 mz))
+      node-no q.node (subst (λ n. node_lt q.node n ≡ true) (sym az.node ∙ (e ∙ p.0.node)) (each_member (Before q) c z o.0 mz))
 
   pub held_apart : (k : Map) (hs : List Held) (c : Config) → Pairs (λ h q. Agree k h q) hs c → IsInOrder c → (h h' : Held) → Member h hs → Member h' hs → h.node ≡ h'.node → h ≡ h'
   held_apart k [] c p o h h' m m' e = never m
@@ -139,7 +136,7 @@ module _ (g : Grammar) (fit : IsGivenGrammar g) (enter : VariablesEnter g) (ok :
   keep_on : (w w' : Joint) (x : Choice) (f : Fit w) (o : Option Joint) (o' : Option Config) → taken g f.config x (outcome g f.config x) ≡ o' → LikeStates g fit enter ok o o' → o ≡ Some w' → Fit w'
   keep_on w w' x f None o' e l t = absurd cc
   keep_on w w' x f (Some v) (Some d) e l t =
-      subst Fit (some-inj t) (record { config = d; joint = l; in_order = taken-in_order f.config x (outcome g f.config x) d f.joint.good f.in_order refl e })
+      subst Fit (same_Some _ _ t) (record { config = d; joint = l; in_order = taken-in_order f.config x (outcome g f.config x) d f.joint.good f.in_order refl e })
   keep_on w w' x f (Some v) None e l t = never l
 
   pub keep : (w w' : Joint) (x : Choice) → Fit w → joint_taken w x (joint_outcome w g x) ≡ Some w' → Fit w'
@@ -151,18 +148,14 @@ module _ (g : Grammar) (fit : IsGivenGrammar g) (enter : VariablesEnter g) (ok :
   fit_empty = record { config = []; joint = empty_lockstep g fit enter ok; in_order = tt }
 
   undivided-in_order : (c : Config) (xs : List Choice) (z : Config) → Good g fit ok c → IsInOrder c → undivided g c xs ≡ Some z → IsInOrder z
-  undivided-in_order c [] z good i e = subst IsInOrder (some-inj e) i
+  undivided-in_order c [] z good i e = subst IsInOrder (same_Some _ _ e) i
   undivided-in_order c (x ∷ xs) z good i e =
-      let (d, t, f) = next c x xs z (taken g c x (outcome g c x)) refl e in
-      undivided-in_order d xs z (taken-good g fit ok c x (outcome g c x) d good refl t) (taken-in_order c x (outcome g c x) d good i refl t) f
-    where
-      next : (c : Config) (x : Choice) (xs : List Choice) (z : Config) (o : Option Config) → taken g c x (outcome g c x) ≡ o → option_and_then (λ d. undivided g d xs) o ≡ Some z → (d : Config) × (taken g c x (outcome g c x) ≡ Some d) × (undivided g d xs ≡ Some z)
-      next c x xs z None e f = absurd cc
-      next c x xs z (Some d) e f = (d, e, f)
+      option_and_then_some (λ d. undivided g d xs) (taken g c x (outcome g c x)) z e
+      (λ d t f. undivided-in_order d xs z (taken-good g fit ok c x (outcome g c x) d good refl t) (taken-in_order c x (outcome g c x) d good i refl t) f)
 
   whole_like : (o : Option Joint) (o' : Option Config) (c : Config) → LikeStates g fit enter ok o o' → o' ≡ Some c → (w : Joint) × (o ≡ Some w) × Lockstep g fit enter ok w c
   whole_like None None c l e = absurd cc
-  whole_like (Some w) (Some d) c l e = (w, refl, subst (λ c. Lockstep g fit enter ok w c) (some-inj e) l)
+  whole_like (Some w) (Some d) c l e = (w, refl, subst (λ c. Lockstep g fit enter ok w c) (same_Some _ _ e) l)
   whole_like None (Some d) c l e = never l
   whole_like (Some w) None c l e = absurd cc
 

@@ -1,6 +1,9 @@
 -- Held nodes and rows side by side, and other lists side by side.
 use Rattle.std.proofs.Common.{◌≡◌, ℕ, zero, suc, ◌+◌, Bool, true, false, cond, List, [], ◌∷◌, map, length, Option, Some, None, refl, sym, ap, ◌∙◌, inl, inr, arith}
 use Rattle.std.specs.Prelude.{slice_get}
+use Rattle.std.proofs.lemmas.Option.{same_Some}
+use Rattle.std.proofs.lemmas.List.{map-id}
+use Rattle.std.proofs.lemmas.Simd.{map-map}
 use Rattle.aw_term.specs.Trees.{Never}
 use Rattle.aw_term.specs.Names.{Node, node_eq, node_lt}
 use Rattle.aw_term.specs.Rules.{Value, upto}
@@ -11,18 +14,16 @@ use Rattle.aw_iograph.specs.Occurrences.{item}
 use Rattle.aw_space.specs.Joint.{Held, held_of, insert_held, insert_all}
 use Rattle.aw_iograph.proofs.Members.{never}
 
-some-inj : {A : Type 0} {a b : A} → Some a ≡ Some b → a ≡ b
-some-inj e = cc
-
-pairs_cond : {A B : Type 0} (R : A → B → Type 0) (b b' : Bool) (x u : List A) (y v : List B) → b ≡ b' → Pairs R x y → Pairs R u v → Pairs R (cond b x u) (cond b' y v)
-pairs_cond R true true x u y v e p q = p
-pairs_cond R false false x u y v e p q = q
-pairs_cond R true false x u y v e p q = absurd cc
-pairs_cond R false true x u y v e p q = absurd cc
+-- what holds of the first and of the second holds of either choice
+pub cond_pair : {A B : Type 0} (R : A → B → Type 0) (b b' : Bool) (x u : A) (y v : B) → b ≡ b' → R x y → R u v → R (cond b x u) (cond b' y v)
+cond_pair R true true x u y v e p q = p
+cond_pair R false false x u y v e p q = q
+cond_pair R true false x u y v e p q = absurd cc
+cond_pair R false true x u y v e p q = absurd cc
 
 out_from : (f : ℕ → Value) (i l j : ℕ) (t : Value) → slice_get (map f (upto i l)) j ≡ Some t → t ≡ f (i + j)
 out_from f i zero j t e = absurd cc
-out_from f i (suc l) zero t e = let z : i ≡ i + 0 = omega arith in sym (some-inj e) ∙ ap f z
+out_from f i (suc l) zero t e = let z : i ≡ i + 0 = omega arith in sym (same_Some _ _ e) ∙ ap f z
 out_from f i (suc l) (suc j) t e = let z : suc i + j ≡ i + suc j = omega arith in out_from f (suc i) l j t e ∙ ap f z
 
 pub out_at : (f : ℕ → Value) (l j : ℕ) (t : Value) → item (map f (upto 1 l)) j ≡ Some t → t ≡ f j
@@ -37,7 +38,7 @@ module _ (R : Held → Row → Type 0) (same : (h : Held) (q : Row) → R h q �
   insert_pairs h r (q ∷ qs) (z ∷ zs) a p =
       let s = same h r a in
       let t = same q z p.0 in
-      pairs_cond R (node_lt h.node q.node) (node_lt r.node z.node) (h ∷ q ∷ qs) (q ∷ insert_held h qs) (r ∷ z ∷ zs) (z ∷ insert_row r zs) (λ i. node_lt (s i) (t i)) (a, (p.0, p.1)) (p.0, insert_pairs h r qs zs a p.1)
+      cond_pair (Pairs R) (node_lt h.node q.node) (node_lt r.node z.node) (h ∷ q ∷ qs) (q ∷ insert_held h qs) (r ∷ z ∷ zs) (z ∷ insert_row r zs) (λ i. node_lt (s i) (t i)) (a, (p.0, p.1)) (p.0, insert_pairs h r qs zs a p.1)
 
   pub insert_all_pairs : (rs : List Held) (ss : List Row) (hs : List Held) (qs : Config) → Pairs R rs ss → Pairs R hs qs → Pairs R (insert_all rs hs) (insert_rows ss qs)
   insert_all_pairs [] [] hs qs a p = p
@@ -51,17 +52,11 @@ module _ (R : Held → Row → Type 0) (same : (h : Held) (q : Row) → R h q �
   LikeOption None (Some q) = Never
   LikeOption (Some h) None = Never
 
-  like_cond : (b b' : Bool) (h : Held) (q : Row) (o : Option Held) (o' : Option Row) → b ≡ b' → R h q → LikeOption o o' → LikeOption (cond b (Some h) o) (cond b' (Some q) o')
-  like_cond true true h q o o' e p l = p
-  like_cond false false h q o o' e p l = l
-  like_cond true false h q o o' e p l = absurd cc
-  like_cond false true h q o o' e p l = absurd cc
-
   pub look_up : (n : Node) (hs : List Held) (qs : Config) → Pairs R hs qs → LikeOption (held_of n hs) (row_of n qs)
   look_up n [] [] p = tt
   look_up n [] (q ∷ qs) p = never p
   look_up n (h ∷ hs) [] p = never p
-  look_up n (h ∷ hs) (q ∷ qs) p = like_cond (node_eq n h.node) (node_eq n q.node) h q (held_of n hs) (row_of n qs) (ap (node_eq n) (same h q p.0)) p.0 (look_up n hs qs p.1)
+  look_up n (h ∷ hs) (q ∷ qs) p = cond_pair LikeOption (node_eq n h.node) (node_eq n q.node) (Some h) (held_of n hs) (Some q) (row_of n qs) (ap (node_eq n) (same h q p.0)) p.0 (look_up n hs qs p.1)
 
 pub map_pairs : {A B C D : Type 0} (P : A → B → Type 0) (R : C → D → Type 0) (f : A → C) (g : B → D) (xs : List A) (ys : List B) → ((a : A) (b : B) → Member b ys → P a b → R (f a) (g b)) → Pairs P xs ys → Pairs R (map f xs) (map g ys)
 map_pairs P R f g [] [] h p = tt
@@ -74,14 +69,6 @@ map_right P R g [] [] h p = tt
 map_right P R g [] (y ∷ ys) h p = never p
 map_right P R g (x ∷ xs) [] h p = never p
 map_right P R g (x ∷ xs) (y ∷ ys) h p = (h x y (inl refl) p.0, map_right P R g xs ys (λ a b m. h a b (inr m)) p.1)
-
-map-id : {A : Type 0} (xs : List A) → map (λ x. x) xs ≡ xs
-map-id [] = refl
-map-id (x ∷ xs) = ap (λ ys. x ∷ ys) (map-id xs)
-
-map-map : {A B C : Type 0} (g : B → C) (f : A → B) (xs : List A) → map g (map f xs) ≡ map (λ x. g (f x)) xs
-map-map g f [] = refl
-map-map g f (x ∷ xs) = ap (λ ys. g (f x) ∷ ys) (map-map g f xs)
 
 pub rounds-map : {A : Type 0} (m : ℕ) (f : A → A) (xs : List A) → rounds m (map f) xs ≡ map (λ x. rounds m f x) xs
 rounds-map zero f xs = sym (map-id xs)

@@ -7,7 +7,7 @@ use Rattle.aw_store.specs.Equations.{Body, Same, Is, Map, find}
 use Rattle.aw_store.specs.Unfold.{Unfolds, UnfoldAll, missing, same, is, none, one, unfold_all, unfold_on, unfold_in}
 
 -- one value for a reference
-same_to : {o : Option Body} {a b : Ref} → o ≡ Some (Same a) → o ≡ Some (Same b) → a ≡ b
+pub same_to : {o : Option Body} {a b : Ref} → o ≡ Some (Same a) → o ≡ Some (Same b) → a ≡ b
 same_to e f = cc
 
 is_to : {o : Option Body} {h h' : Head} {rs rs' : List Ref} → o ≡ Some (Is h rs) → o ≡ Some (Is h' rs') → (h ≡ h') × (rs ≡ rs')

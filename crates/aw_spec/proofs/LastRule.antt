@@ -1,27 +1,23 @@
 -- The last item of a list, and the rule that was declared last.
-use Rattle.std.proofs.Common.{◌≡◌, ℕ, zero, suc, ◌+◌, ◌≤◌, refl, sym, ◌∙◌, ap, List, [], ◌∷◌, ◌++◌, map, length, slice_get, arith, Option, Some, None, length-append}
+use Rattle.std.proofs.Common.{◌≡◌, ℕ, zero, suc, ◌+◌, ◌≤◌, sym, ◌∙◌, ap, List, [], ◌∷◌, ◌++◌, map, length, slice_get, arith, Option, Some, None, length-append}
 use Rattle.std.proofs.lemmas.List.{length-map}
-use Rattle.aw_term.specs.WellFormed.{RuleFits}
-use Rattle.aw_grammar.specs.declared.fault.DeclKind.{DeclKind}
+use Rattle.std.proofs.lemmas.Option.{same_Some}
 use Rattle.aw_grammar.specs.declared.rule.Sort.{Sort}
 use Rattle.aw_grammar.specs.declared.rule.Rule.{Rule}
-use Rattle.aw_grammar.specs.Declarations.{Declarations, entry_of, with_rule}
+use Rattle.aw_grammar.specs.Declarations.{entry_of, with_rule}
 use Rattle.aw_grammar.specs.GrammarView.{sorts_of, child_of, rule_of}
 use Rattle.aw_grammar.specs.Kinds.{rule_kind}
 use Rattle.aw_grammar.specs.Written.{WrittenRule}
 use Rattle.aw_face.specs.declared.faces.FaceKind.{FaceKind}
 use Rattle.aw_face.specs.Faces.{rule_fault}
 use Rattle.aw_spec.specs.Lines.{RuleLine}
-use Rattle.aw_spec.specs.Reading.{Spec, Step, On, says, declaring, keeping, if_kept}
+use Rattle.aw_spec.specs.Reading.{Spec, says, declaring, keeping, if_kept}
 
 -- what the last item of a list is mapped to
 pub at_last : {A B : Type 0} (f : A → B) (xs : List A) (front : List B) (y : B) (i : ℕ) (x : A) → i + 1 ≡ length xs → map f xs ≡ front ++ y ∷ [] → slice_get xs i ≡ Some x → f x ≡ y
 at_last f [] front y i x l e g = absurd (omega arith)
-at_last f (a ∷ []) [] y zero x l e g = ap f (sym (the_same a x g)) ∙ first f a [] y [] e
+at_last f (a ∷ []) [] y zero x l e g = ap f (sym (same_Some a x g)) ∙ first f a [] y [] e
   where
-    the_same : {A : Type 0} (a x : A) → Some a ≡ Some x → a ≡ x
-    the_same a x g = cc
-
     first : {A B : Type 0} (f : A → B) (a : A) (bs : List B) (y : B) (cs : List B) → f a ∷ bs ≡ y ∷ cs → f a ≡ y
     first f a bs y cs e = cc
 at_last f (a ∷ []) (b ∷ bs) y zero x l e g = absurd (omega (arith, ap length e, length-append bs (y ∷ [])))

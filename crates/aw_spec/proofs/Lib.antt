@@ -1,11 +1,9 @@
-pub mod Declared
 pub mod KeptFaces
+pub mod KeptLines
 pub mod LastRule
-pub mod LineFaults
 pub mod LineSteps
 pub mod PieceCuts
 pub mod ReadLines
 pub mod SoundLines
 pub mod SpelledLines
 pub mod Stages
-pub mod Words

@@ -1,9 +1,9 @@
 -- Reading on by one line.
 use Rattle.std.proofs.Common.{◌≡◌, ℕ, zero, suc, ◌+◌, ◌-◌, ◌≤◌, refl, sym, ap, ◌∙◌, add-one, Bool, true, false, cond, ◌==◌, List, [], ◌∷◌, drop, length, length-drop, arith, Option, Some, None, option_map, unwrap_or}
-use Rattle.std.proofs.lemmas.List.{drop-drop}
+use Rattle.std.proofs.lemmas.List.{drop-drop, drop_all}
 use Rattle.aw_text.specs.Spelling.{cut, with_front}
 use Rattle.aw_lex.specs.Lines.{first_line}
-use Rattle.aw_spec.specs.Reading.{Draft, LineRead, Next, Reading, read_line, after_line, read_lines}
+use Rattle.aw_spec.specs.Reading.{Draft, LineRead, Next, read_line, after_line, read_lines}
 
 one_read : (d : Draft) (n : ℕ) (line : List ℕ) (left lines : List (List ℕ)) (r : LineRead) → left ≡ line ∷ lines → read_line d line ≡ r → read_lines d n left ≡ after_line d (suc n) r (λ next. read_lines next (suc n) lines)
 one_read d n line left lines r e h = ap (read_lines d n) e ∙ ap (λ x. after_line d (suc n) x (λ next. read_lines next (suc n) lines)) h
@@ -60,11 +60,7 @@ line_behind (b ∷ bs) x e = by_cut (cut 10 (b ∷ bs)) refl e
     by_cut : (o : Option (List ℕ × List ℕ)) → cut 10 (b ∷ bs) ≡ o → Some x ≡ Some (unwrap_or o (b ∷ bs, [])) → IsBehind x.1 (b ∷ bs)
     by_cut None h k =
         let same : ◌≡◌ {A = List ℕ × List ℕ} x (b ∷ bs, []) = cc in
-        (length (b ∷ bs), ap (λ (p : List ℕ × List ℕ). p.1) same ∙ sym (all_dropped (b ∷ bs)))
-      where
-        all_dropped : (xs : List ℕ) → drop (length xs) xs ≡ []
-        all_dropped [] = refl
-        all_dropped (y ∷ ys) = all_dropped ys
+        (length (b ∷ bs), ap (λ (p : List ℕ × List ℕ). p.1) same ∙ sym (drop_all (length (b ∷ bs)) (b ∷ bs) (omega arith)))
     by_cut (Some halves) h k =
         let same : x ≡ halves = cc in
         let found = cut_behind 10 (b ∷ bs) halves h in

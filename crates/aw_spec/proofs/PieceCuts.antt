@@ -1,5 +1,6 @@
 -- Pieces of a line, cut at the first `;`.
-use Rattle.std.proofs.Common.{◌≡◌, ℕ, suc, ◌+◌, refl, sym, ◌∙◌, ap, Bool, true, false, cond, List, [], ◌∷◌, ◌++◌, map, take, drop, Option, Some, None, position, option_map, append_assoc, nat_eq, nat_lt, not, length, arith}
+use Rattle.std.proofs.Common.{◌≡◌, ℕ, suc, ◌+◌, refl, sym, ◌∙◌, ap, Bool, true, false, cond, List, [], ◌∷◌, ◌++◌, take, drop, Option, Some, None, position, option_map, nat_lt, not, length, arith}
+use Rattle.std.proofs.lemmas.Bool.{lt-ltb}
 use Rattle.std.proofs.lemmas.Bool.Decides.{nat_tests}
 use Rattle.std.specs.List.{position_or_len}
 use Rattle.aw_lex.specs.declared.token.Token.{Token}
@@ -7,9 +8,8 @@ use Rattle.aw_lex.specs.declared.token.TokenKind.{TokenKind}
 use Rattle.aw_lex.specs.declared.token.TokenKind.TheVariants as kinds
 use Rattle.aw_grammar.specs.Written.{WrittenChild}
 use Rattle.aw_form.specs.Lexemes.{Lexeme, lexeme, lexemes, said, slice}
-use Rattle.aw_form.specs.Forms.{◌>>=◌}
-use Rattle.aw_spec.specs.ReadLine.{is_semicolon, pieces, in_front, child_of, children_of}
-use Rattle.aw_spec.specs.Pieces.{parts_children, pieces_behind}
+use Rattle.aw_spec.specs.ReadLine.{is_semicolon, pieces, in_front}
+use Rattle.aw_spec.specs.Pieces.{parts_children}
 
 said_semicolon : (kind : TokenKind) (bytes : List ℕ) → is_semicolon (said kind bytes) ≡ parts_children kind
 said_semicolon kinds.Name bytes = refl
@@ -30,24 +30,20 @@ later_cut line t ts (Some i) = refl
 abbrev if_below : ℕ → ℕ → Option ℕ
 if_below n k = cond (nat_lt k n) (Some k) None
 
-below_suc : (k n : ℕ) → nat_lt (suc k) (suc n) ≡ nat_lt k n
-below_suc k n = grind (arith, nat_tests)
-
-none_up : (n : ℕ) → nat_lt 0 (suc n) ≡ true
-none_up n = grind (arith, nat_tests)
-
 shifted : (k : ℕ) (b : Bool) → cond b (Some (suc k)) None ≡ option_map (λ i. suc i) (cond b (Some k) None)
 shifted k true = refl
 shifted k false = refl
 
 one_up : (n k j : ℕ) → j ≡ suc k → if_below (suc n) j ≡ option_map (λ i. suc i) (if_below n k)
-one_up n k j e = ap (if_below (suc n)) e ∙ ap (λ b. cond b (Some (suc k)) None) (below_suc k n) ∙ shifted k (nat_lt k n)
+one_up n k j e =
+    let same : nat_lt (suc k) (suc n) ≡ nat_lt k n = grind (arith, nat_tests) in
+    ap (if_below (suc n)) e ∙ ap (λ b. cond b (Some (suc k)) None) same ∙ shifted k (nat_lt k n)
 
 place_step : {X : Type 0} (p : X → Bool) (x : X) (xs : List X) → position p (x ∷ xs) ≡ cond (p x) (Some 0) (option_map (λ i. suc i) (position p xs))
 place_step p x xs =
     let k = position_or_len p xs in
     elim (p x) as (λ t. if_below (suc (length xs)) (cond (not t) (1 + k) 0) ≡ cond t (Some 0) (option_map (λ i. suc i) (position p xs))) [
-      | true ↦ ap (λ t. cond t (Some 0) None) (none_up (length xs))
+      | true ↦ ap (λ t. cond t (Some 0) None) (lt-ltb 0 (suc (length xs)) (omega arith))
       | false ↦ one_up (length xs) k (1 + k) (omega arith)
     ]
 
@@ -68,10 +64,3 @@ pieces_by_cut line (t ∷ ts) =
 -- children that were read before, and those that are left
 abbrev pub behind : List WrittenChild → Option (List WrittenChild) → Option (List WrittenChild)
 behind children rest = option_map (λ more. children ++ more) rest
-
-one_more : (children : List WrittenChild) (c : WrittenChild) (rest : Option (List WrittenChild)) → behind children (rest >>= (λ more. Some (c ∷ more))) ≡ behind (children ++ c ∷ []) rest
-one_more children c None = refl
-one_more children c (Some more) = ap Some (sym (append_assoc children (c ∷ []) more))
-
-pub no_child : (children : List WrittenChild) (piece : List Lexeme) (others : List (List Lexeme)) → child_of piece ≡ None → behind children (children_of (piece ∷ others)) ≡ None
-no_child children piece others e = ap (λ (o : Option WrittenChild). behind children (o >>= (λ child. children_of others >>= (λ more. Some (child ∷ more))))) e

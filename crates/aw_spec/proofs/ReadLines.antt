@@ -1,44 +1,27 @@
 -- A line that is spelled is read again.
-use Rattle.std.proofs.Common.{◌≡◌, ◌≢◌, ℕ, Bool, true, false, cond, List, [], ◌∷◌, ◌++◌, Option, None, Some, option_map, option_and_then, codes, nat_eq, refl, sym, ap, ◌∙◌, append_assoc, append-nil, arith}
+use Rattle.std.proofs.Common.{◌≡◌, ℕ, false, cond, List, [], ◌∷◌, ◌++◌, Option, Some, option_map, refl, sym, ap, ◌∙◌, append_assoc, append-nil, arith}
 use Rattle.aw_term.specs.Trees as P
 use Rattle.aw_term.specs.WellFormed.{Each}
+use Rattle.aw_term.proofs.Eaches.{each_append}
 use Rattle.aw_grammar.specs.Written.{Written, Word, Apply, Literal, Writtens, Empty, Then, WrittenChild, WrittenRule, side_by_side}
-use Rattle.aw_form.specs.Lexemes.{Lexeme, Name, Number, Node, Quoted, Mark}
-use Rattle.aw_form.specs.Laws.{IsWritten, AreWritten}
-use Rattle.aw_form.specs.Terms.{spelling, spellings, spellings_behind, literal_spelling, terms_up_to, names_of}
-use Rattle.aw_form.specs.Forms.{◌>>=◌, name, mark, end, terms_between, names_between, terms_in_braces, names_in_braces}
+use Rattle.aw_form.specs.Lexemes.{Lexeme, Name, Mark}
+use Rattle.aw_form.specs.Laws.{AreWritten}
+use Rattle.aw_form.specs.Terms.{spelling, spellings, spellings_behind, names_of}
+use Rattle.aw_form.specs.Forms.{◌>>=◌, name, terms_between, names_between, terms_in_braces, names_in_braces}
 use Rattle.aw_form.proofs.ReadsSpelled.{reads_spelled}
 use Rattle.aw_spec.specs.Laws.{IsWrittenChild, IsWrittenLine}
 use Rattle.aw_spec.specs.Lines.{Line, RoleLine, ConLine, SortLine, StartLine, OfferLine, UseLine, RuleLine, ScheduleLine, as_words, in_parentheses, in_angles, params_spelling, child_spelling, behind_child, children_spelling, rule_spelling, line_spelling}
-use Rattle.aw_spec.specs.ReadLine.{child_of, is_semicolon, in_front, pieces, children_of, rest_of_rule, rule_line, line_of}
+use Rattle.aw_spec.specs.ReadLine.{child_of, is_semicolon, in_front, pieces, children_of, rest_of_rule, line_of}
 use Rattle.aw_spec.proofs.SpelledLines.{parenthesised, angled}
 
 pub then : {A B : Type 0} (o : Option A) (x : A) (f : A → Option B) (y : Option B) → o ≡ Some x → f x ≡ y → (o >>= f) ≡ y
 then o x f y e h = ap (λ k. k >>= f) e ∙ h
 
-paren_is_no_open : ◌≢◌ {A = ℕ} 41 40
-paren_is_no_open = λ e. omega (arith, e)
-
-paren_is_no_comma : ◌≢◌ {A = ℕ} 41 44
-paren_is_no_comma = λ e. omega (arith, e)
-
-angle_is_no_open : ◌≢◌ {A = ℕ} 62 40
-angle_is_no_open = λ e. omega (arith, e)
-
-angle_is_no_comma : ◌≢◌ {A = ℕ} 62 44
-angle_is_no_comma = λ e. omega (arith, e)
-
-brace_is_no_open : ◌≢◌ {A = ℕ} 125 40
-brace_is_no_open = λ e. omega (arith, e)
-
-brace_is_no_comma : ◌≢◌ {A = ℕ} 125 44
-brace_is_no_comma = λ e. omega (arith, e)
-
 terms_in_parentheses : (ts : List Written) (rest : List Lexeme) → AreWritten (side_by_side ts) → terms_between 40 41 (in_parentheses ts ++ rest) ≡ Some (ts, rest)
-terms_in_parentheses ts rest w = ap (terms_between 40 41) (sym (parenthesised ts rest)) ∙ reads_spelled 41 ts rest paren_is_no_open paren_is_no_comma w
+terms_in_parentheses ts rest w = ap (terms_between 40 41) (sym (parenthesised ts rest)) ∙ reads_spelled 41 ts rest (λ e. omega (arith, e)) (λ e. omega (arith, e)) w
 
 terms_in_angles : (ts : List Written) (rest : List Lexeme) → AreWritten (side_by_side ts) → terms_between 60 62 (in_angles ts ++ rest) ≡ Some (ts, rest)
-terms_in_angles ts rest w = ap (terms_between 60 62) (sym (angled ts rest)) ∙ reads_spelled 62 ts rest angle_is_no_open angle_is_no_comma w
+terms_in_angles ts rest w = ap (terms_between 60 62) (sym (angled ts rest)) ∙ reads_spelled 62 ts rest (λ e. omega (arith, e)) (λ e. omega (arith, e)) w
 
 words_written : (ns : List (List ℕ)) → AreWritten (side_by_side (as_words ns))
 words_written [] = tt
@@ -59,7 +42,7 @@ params_read (n ∷ ns) rest =
     let left = Mark 58 ∷ rest in
     let words = as_words (n ∷ ns) in
     let read : terms_in_braces (params_spelling (n ∷ ns) ++ left) ≡ Some (words, left) =
-    ap (λ k. terms_in_braces (Mark 123 ∷ k)) (append_assoc (spellings (side_by_side words)) (Mark 125 ∷ []) left) ∙ reads_spelled 125 words left brace_is_no_open brace_is_no_comma (words_written (n ∷ ns)) in
+    ap (λ k. terms_in_braces (Mark 123 ∷ k)) (append_assoc (spellings (side_by_side words)) (Mark 125 ∷ []) left) ∙ reads_spelled 125 words left (λ e. omega (arith, e)) (λ e. omega (arith, e)) (words_written (n ∷ ns)) in
     then (terms_in_braces (params_spelling (n ∷ ns) ++ left)) (words, left) (λ terms. names_of terms.0 >>= λ names. Some (names, terms.1)) (Some (n ∷ ns, left)) read
     (then (names_of words) (n ∷ ns) (λ names. Some (names, left)) (Some (n ∷ ns, left)) (names_of_words (n ∷ ns)) refl)
 
@@ -74,8 +57,7 @@ abbrev IsUncut : List Lexeme → Type 0
 IsUncut ls = Each (λ l. is_semicolon l ≡ false) ls
 
 uncut_both : (xs ys : List Lexeme) → IsUncut xs → IsUncut ys → IsUncut (xs ++ ys)
-uncut_both [] ys h k = k
-uncut_both (x ∷ xs) ys h k = (h.0, uncut_both xs ys h.1 k)
+uncut_both xs ys h k = each_append (λ l. is_semicolon l ≡ false) xs ys h k
 
 mutual
   uncut_term : (t : Written) → IsUncut (spelling t)

@@ -1,91 +1,21 @@
 -- Lines that tokens spell declare names; their words are names, and their texts are contents.
-use Rattle.std.proofs.Common.{◌≡◌, ℕ, Bool, true, false, cond, ◌&&◌, List, [], ◌∷◌, ◌++◌, Option, None, Some, option_map, codes, nat_eq, refl, sym, ap, ◌∙◌, subst}
-use Rattle.aw_text.specs.Spelling.{is_name, is_content}
+use Rattle.std.proofs.Common.{◌≡◌, ℕ, Bool, true, false, cond, ◌&&◌, List, [], ◌∷◌, ◌++◌, Option, None, Some, option_map, nat_eq, refl, subst}
+use Rattle.std.proofs.lemmas.Bool.{and_parts, and_from}
+use Rattle.std.proofs.lemmas.Option.{same_Some}
+use Rattle.aw_text.specs.Spelling.{is_name}
 use Rattle.aw_term.specs.WellFormed.{Each}
-use Rattle.aw_grammar.specs.Written.{Written, Word, Apply, Literal, WrittenChild, WrittenRule, side_by_side}
-use Rattle.aw_grammar.specs.Terms.{has_contents, all_have_contents, are_names, args_of, results_of, uses_of, terms_of}
+use Rattle.aw_grammar.specs.Written.{Written, Word, Apply, Literal, WrittenChild, WrittenRule}
+use Rattle.aw_grammar.specs.Terms.{all_have_contents, are_names, args_of, results_of, uses_of}
+use Rattle.aw_grammar.proofs.Contents.{contents_append}
 use Rattle.aw_form.specs.Lexemes.{Lexeme, Name, Number, Node, Quoted, Mark}
-use Rattle.aw_form.specs.Terms.{Expected, TermOrEnd, TermOnly, nothing_read, read_terms, spellings, terms_up_to, some_terms_up_to, names_of}
+use Rattle.aw_form.specs.Terms.{names_of}
 use Rattle.aw_form.specs.Forms.{◌>>=◌, name, number, mark, end, only, terms_between, names_between, terms_in_braces, names_in_braces}
 use Rattle.aw_form.specs.Sound.{IsSound}
-use Rattle.aw_form.proofs.SoundTerms.{texts_are_contents}
-use Rattle.aw_form.proofs.SpelledIfRead.{spelled_if_read, some_spelled_if_read}
+use Rattle.aw_form.proofs.SoundForms.{AreSound, name_sound, mark_sound, TermsSound, between_sound, braces_sound}
+use Rattle.aw_form.proofs.Steps.{bound, chosen}
 use Rattle.aw_spec.specs.Lines.{Line, RoleLine, ConLine, SortLine, StartLine, OfferLine, UseLine, RuleLine, ScheduleLine}
 use Rattle.aw_spec.specs.Declares.{IsDeclared}
 use Rattle.aw_spec.specs.ReadLine.{child_of, is_semicolon, in_front, pieces, children_of, rest_of_rule, role_line, con_line, sort_line, start_line, offer_line, use_line, rule_line, by_word, line_of}
-
-abbrev AreSound : List Lexeme → Type 0
-AreSound ls = Each IsSound ls
-
-pub bound : {A B P : Type 0} (o : Option A) (f : A → Option B) (y : B) → (o >>= f) ≡ Some y → ((x : A) → o ≡ Some x → f x ≡ Some y → P) → P
-bound None f y e k = cc
-bound (Some x) f y e k = k x refl e
-
-behind_each : {A : Type 0} (P : A → Type 0) (xs ys : List A) → Each P (xs ++ ys) → Each P ys
-behind_each P [] ys h = h
-behind_each P (x ∷ xs) ys h = behind_each P xs ys h.1
-
-same_pair : {A B : Type 0} (x y : A × B) → Some x ≡ Some y → x ≡ y
-same_pair x y e = cc
-
-name_sound : (ls : List Lexeme) (x : List ℕ × List Lexeme) → AreSound ls → name ls ≡ Some x → (is_name x.0 ≡ true) × AreSound x.1
-name_sound [] x s e = cc
-name_sound (Name n ∷ ls) x s e = subst (λ (y : List ℕ × List Lexeme). (is_name y.0 ≡ true) × AreSound y.1) (same_pair (n, ls) x e) (s.0, s.1)
-name_sound (Number n ∷ ls) x s e = cc
-name_sound (Node n ∷ ls) x s e = cc
-name_sound (Quoted n ∷ ls) x s e = cc
-name_sound (Mark n ∷ ls) x s e = cc
-
-if_mark : (b : Bool) (ls rest : List Lexeme) → cond b (Some ls) None ≡ Some rest → ls ≡ rest
-if_mark true ls rest e = cc
-if_mark false ls rest e = cc
-
-mark_sound : (byte : ℕ) (ls rest : List Lexeme) → AreSound ls → mark byte ls ≡ Some rest → AreSound rest
-mark_sound byte [] rest s e = cc
-mark_sound byte (Mark b ∷ ls) rest s e = subst AreSound (if_mark (nat_eq b byte) ls rest e) s.1
-mark_sound byte (Name n ∷ ls) rest s e = cc
-mark_sound byte (Number n ∷ ls) rest s e = cc
-mark_sound byte (Node n ∷ ls) rest s e = cc
-mark_sound byte (Quoted n ∷ ls) rest s e = cc
-
-abbrev TermsSound : List Written × List Lexeme → Type 0
-TermsSound x = (all_have_contents x.0 ≡ true) × AreSound x.1
-
-rest_sound : (close : ℕ) (ls : List Lexeme) (ts : List Written) (rest : List Lexeme) → AreSound ls → ls ≡ spellings (side_by_side ts) ++ Mark close ∷ rest → AreSound rest
-rest_sound close ls ts rest s e =
-    let behind : AreSound (Mark close ∷ rest) = behind_each IsSound (spellings (side_by_side ts)) (Mark close ∷ rest) (subst AreSound e s) in behind.1
-
-up_to_sound : (close : ℕ) (ls : List Lexeme) (x : List Written × List Lexeme) → AreSound ls → terms_up_to close ls ≡ Some x → TermsSound x
-up_to_sound close ls x s e = (texts_are_contents close TermOrEnd ls x.0 x.1 tt s e, rest_sound close ls x.0 x.1 s (spelled_if_read close ls x.0 x.1 e))
-
-some_up_to_sound : (close : ℕ) (ls : List Lexeme) (x : List Written × List Lexeme) → AreSound ls → some_terms_up_to close ls ≡ Some x → TermsSound x
-some_up_to_sound close ls x s e = (texts_are_contents close TermOnly ls x.0 x.1 tt s e, rest_sound close ls x.0 x.1 s (some_spelled_if_read close ls x.0 x.1 e))
-
-between_sound : (start close : ℕ) (ls : List Lexeme) (x : List Written × List Lexeme) → AreSound ls → terms_between start close ls ≡ Some x → TermsSound x
-between_sound start close ls x s e = bound (mark start ls) (λ inside. terms_up_to close inside) x e (λ inside found next. up_to_sound close inside x (mark_sound start ls inside s found) next)
-
-no_terms : (ls : List Lexeme) (x : List Written × List Lexeme) → AreSound ls → Some ([], ls) ≡ Some x → TermsSound x
-no_terms ls x s e = subst TermsSound (same_pair ([], ls) x e) (refl, s)
-
-braces_sound : (ls : List Lexeme) (x : List Written × List Lexeme) → AreSound ls → terms_in_braces ls ≡ Some x → TermsSound x
-braces_sound [] x s e = no_terms [] x tt e
-braces_sound (Mark b ∷ ls) x s e = by_test (nat_eq b 123) e
-  where
-    by_test : (t : Bool) → cond t (some_terms_up_to 125 ls) (Some ([], Mark b ∷ ls)) ≡ Some x → TermsSound x
-    by_test true h = some_up_to_sound 125 ls x s.1 h
-    by_test false h = no_terms (Mark b ∷ ls) x s h
-braces_sound (Name n ∷ ls) x s e = no_terms (Name n ∷ ls) x s e
-braces_sound (Number n ∷ ls) x s e = no_terms (Number n ∷ ls) x s e
-braces_sound (Node n ∷ ls) x s e = no_terms (Node n ∷ ls) x s e
-braces_sound (Quoted n ∷ ls) x s e = no_terms (Quoted n ∷ ls) x s e
-
-and_left : (a b : Bool) → (a && b) ≡ true → a ≡ true
-and_left true b e = refl
-and_left false b e = cc
-
-and_right : (a b : Bool) → (a && b) ≡ true → b ≡ true
-and_right true b e = e
-and_right false b e = cc
 
 with_name : (n : List ℕ) (ts : List Written) (o : Option (List (List ℕ))) (xs : List (List ℕ)) → names_of ts ≡ o → is_name n ≡ true
     → ((ns : List (List ℕ)) → names_of ts ≡ Some ns → are_names ns ≡ true) → option_map (λ ns. n ∷ ns) o ≡ Some xs → are_names xs ≡ true
@@ -98,7 +28,8 @@ names_named : (ts : List Written) (xs : List (List ℕ)) → all_have_contents t
 names_named [] xs h e =
     let same : ◌≡◌ {A = List (List ℕ)} [] xs = cc in subst (λ ys. are_names ys ≡ true) same refl
 names_named (Word n ∷ ts) xs h e =
-    with_name n ts (names_of ts) xs refl (and_left (is_name n) (all_have_contents ts) h) (λ ns f. names_named ts ns (and_right (is_name n) (all_have_contents ts) h) f) e
+    let (named, rest) = and_parts _ _ h in
+    with_name n ts (names_of ts) xs refl named (λ ns f. names_named ts ns rest f) e
 names_named (Apply n us ∷ ts) xs h e = cc
 names_named (Literal l ∷ ts) xs h e = cc
 
@@ -108,7 +39,7 @@ NamesSound x = (are_names x.0 ≡ true) × AreSound x.1
 with_names : (terms : List Written × List Lexeme) (x : List (List ℕ) × List Lexeme) → TermsSound terms → (names_of terms.0 >>= λ names. Some (names, terms.1)) ≡ Some x → NamesSound x
 with_names terms x s e =
     bound (names_of terms.0) (λ names. Some (names, terms.1)) x e
-    (λ names found next. subst NamesSound (same_pair (names, terms.1) x next) (names_named terms.0 names s.0 found, s.1))
+    (λ names found next. subst NamesSound (same_Some (names, terms.1) x next) (names_named terms.0 names s.0 found, s.1))
 
 names_in_braces_sound : (ls : List Lexeme) (x : List (List ℕ) × List Lexeme) → AreSound ls → names_in_braces ls ≡ Some x → NamesSound x
 names_in_braces_sound ls x s e = bound (terms_in_braces ls) (λ terms. names_of terms.0 >>= λ names. Some (names, terms.1)) x e (λ terms found next. with_names terms x (braces_sound ls terms s found) next)
@@ -136,13 +67,9 @@ pieces_sound : (ls : List Lexeme) → AreSound ls → Each AreSound (pieces ls)
 pieces_sound [] s = (tt, tt)
 pieces_sound (l ∷ ls) s = elim (is_semicolon l) as (λ b. Each AreSound (cond b ([] ∷ pieces ls) (in_front l (pieces ls)))) [ true ↦ (tt, pieces_sound ls s.1) | false ↦ front_sound l (pieces ls) s.0 (pieces_sound ls s.1) ]
 
-both : (ts us : List Written) → all_have_contents ts ≡ true → all_have_contents us ≡ true → all_have_contents (ts ++ us) ≡ true
-both [] us h k = k
-both (t ∷ ts) us h k = λ i. and_left (has_contents t) (all_have_contents ts) h i && both ts us (and_right (has_contents t) (all_have_contents ts) h) k i
-
 both_named : (xs ys : List (List ℕ)) → are_names xs ≡ true → are_names ys ≡ true → are_names (xs ++ ys) ≡ true
 both_named [] ys h k = k
-both_named (x ∷ xs) ys h k = λ i. and_left (is_name x) (are_names xs) h i && both_named xs ys (and_right (is_name x) (are_names xs) h) k i
+both_named (x ∷ xs) ys h k = let (first, rest) = and_parts _ _ h in and_from _ _ first (both_named xs ys rest k)
 
 abbrev ChildrenFine : List WrittenChild → Type 0
 ChildrenFine cs = (all_have_contents (args_of cs) ≡ true) × (are_names (results_of cs) ≡ true)
@@ -155,7 +82,7 @@ children_fine (p ∷ ps) cs s e =
     let same : ◌≡◌ {A = List WrittenChild} (c ∷ more) cs = cc in
     let first = child_fine p c s.0 found in
     let later = children_fine ps more s.1 read in
-    subst ChildrenFine same (both c.args (args_of more) first.0 later.0, both_named c.results (results_of more) first.1 later.1)))
+    subst ChildrenFine same (contents_append c.args (args_of more) first.0 later.0, both_named c.results (results_of more) first.1 later.1)))
 
 rest_fine : (ls : List Lexeme) (cs : List WrittenChild) → AreSound ls → rest_of_rule ls ≡ Some cs → ChildrenFine cs
 rest_fine [] cs s e =
@@ -211,11 +138,7 @@ rule_declared ls l s e =
     let pattern = between_sound 40 41 sort.1 patterns behind_sort.1 f5 in
     let result = between_sound 60 62 patterns.1 results pattern.1 f6 in
     let subtasks = rest_fine results.1 children result.1 f7 in
-    subst IsDeclared same (first.0, (both patterns.0 (uses_of rule) pattern.0 (both (args_of children) results.0 subtasks.0 result.0), both_named params.0 (results_of children) behind_params.0 subtasks.1)))))))))
-
-chosen : (t : Bool) (x y : Option Line) (l : Line) → (x ≡ Some l → IsDeclared l) → (y ≡ Some l → IsDeclared l) → cond t x y ≡ Some l → IsDeclared l
-chosen true x y l f g e = f e
-chosen false x y l f g e = g e
+    subst IsDeclared same (first.0, (contents_append patterns.0 (uses_of rule) pattern.0 (contents_append (args_of children) results.0 subtasks.0 result.0), both_named params.0 (results_of children) behind_params.0 subtasks.1)))))))))
 
 word_declared : (w : List ℕ) (ls : List Lexeme) (l : Line) → AreSound ls → by_word w ls ≡ Some l → IsDeclared l
 word_declared w ls l s =

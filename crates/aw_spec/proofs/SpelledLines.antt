@@ -1,25 +1,21 @@
 -- What was read as a line is spelled so.
-use Rattle.std.proofs.Common.{◌≡◌, ℕ, Bool, true, false, cond, ◌&&◌, List, [], ◌∷◌, ◌++◌, Option, None, Some, option_map, option_and_then, codes, nat_eq, refl, sym, ap, ◌∙◌, subst, append_assoc, append-nil, arith}
-use Rattle.aw_term.specs.Trees.{Never, nats_eq}
+use Rattle.std.proofs.Common.{◌≡◌, ℕ, Bool, true, false, cond, List, [], ◌∷◌, ◌++◌, Option, None, Some, option_map, codes, nat_eq, refl, sym, ap, ◌∙◌, subst, append_assoc, append-nil}
+use Rattle.std.proofs.lemmas.Bool.{eqb-true, and_parts}
+use Rattle.std.proofs.lemmas.Option.{same_Some}
+use Rattle.aw_term.specs.Trees.{nats_eq}
 use Rattle.aw_grammar.specs.Written.{Written, Word, Apply, Literal, WrittenChild, WrittenRule, side_by_side}
 use Rattle.aw_form.specs.Lexemes.{Lexeme, Name, Number, Node, Quoted, Mark}
-use Rattle.aw_form.specs.Terms.{spellings, terms_up_to, some_terms_up_to, name_of, names_of}
+use Rattle.aw_form.specs.Terms.{spellings, terms_up_to, some_terms_up_to, names_of}
 use Rattle.aw_form.specs.Forms.{◌>>=◌, name, number, mark, end, only, terms_between, names_between, terms_in_braces, names_in_braces}
 use Rattle.aw_form.proofs.SpelledIfRead.{spelled_if_read, some_spelled_if_read}
 use Rattle.aw_form.proofs.SomeTerms.{IsNonempty, some_terms}
-use Rattle.aw_spec.specs.Lines.{Line, RoleLine, ConLine, SortLine, StartLine, OfferLine, UseLine, RuleLine, ScheduleLine, as_words, in_parentheses, in_angles, params_spelling, child_spelling, behind_child, children_spelling, rule_spelling, line_spelling}
+use Rattle.aw_form.proofs.Steps.{bound}
+use Rattle.aw_spec.specs.Lines.{Line, RoleLine, ConLine, SortLine, StartLine, OfferLine, UseLine, RuleLine, ScheduleLine, as_words, in_parentheses, in_angles, params_spelling, child_spelling, behind_child, children_spelling, line_spelling}
 use Rattle.aw_spec.specs.ReadLine.{child_of, is_semicolon, in_front, pieces, children_of, rest_of_rule, role_line, con_line, sort_line, start_line, offer_line, use_line, rule_line, by_word, line_of}
-use Rattle.aw_spec.proofs.SoundLines.{bound}
-
-same_pair : {A B : Type 0} (x y : A × B) → Some x ≡ Some y → x ≡ y
-same_pair x y e = cc
-
-is_one : (m n : ℕ) → nat_eq m n ≡ true → m ≡ n
-is_one m n h = grind (arith, h)
 
 name_is : (ls : List Lexeme) (x : List ℕ × List Lexeme) → name ls ≡ Some x → ls ≡ Name x.0 ∷ x.1
 name_is [] x e = cc
-name_is (Name n ∷ ls) x e = ap (λ (p : List ℕ × List Lexeme). Name p.0 ∷ p.1) (same_pair (n, ls) x e)
+name_is (Name n ∷ ls) x e = ap (λ (p : List ℕ × List Lexeme). Name p.0 ∷ p.1) (same_Some (n, ls) x e)
 name_is (Number n ∷ ls) x e = cc
 name_is (Node n ∷ ls) x e = cc
 name_is (Quoted n ∷ ls) x e = cc
@@ -27,14 +23,14 @@ name_is (Mark n ∷ ls) x e = cc
 
 number_is : (ls : List Lexeme) (x : ℕ × List Lexeme) → number ls ≡ Some x → ls ≡ Number x.0 ∷ x.1
 number_is [] x e = cc
-number_is (Number n ∷ ls) x e = ap (λ (p : ℕ × List Lexeme). Number p.0 ∷ p.1) (same_pair (n, ls) x e)
+number_is (Number n ∷ ls) x e = ap (λ (p : ℕ × List Lexeme). Number p.0 ∷ p.1) (same_Some (n, ls) x e)
 number_is (Name n ∷ ls) x e = cc
 number_is (Node n ∷ ls) x e = cc
 number_is (Quoted n ∷ ls) x e = cc
 number_is (Mark n ∷ ls) x e = cc
 
 marked : (byte b : ℕ) (ls rest : List Lexeme) (t : Bool) → nat_eq b byte ≡ t → cond t (Some ls) None ≡ Some rest → Mark b ∷ ls ≡ Mark byte ∷ rest
-marked byte b ls rest true h e = let same : ls ≡ rest = cc in ap (λ m. Mark m ∷ ls) (is_one b byte h) ∙ ap (λ k. Mark byte ∷ k) same
+marked byte b ls rest true h e = let same : ls ≡ rest = cc in ap (λ m. Mark m ∷ ls) (eqb-true b byte h) ∙ ap (λ k. Mark byte ∷ k) same
 marked byte b ls rest false h e = cc
 
 mark_is : (byte : ℕ) (ls rest : List Lexeme) → mark byte ls ≡ Some rest → ls ≡ Mark byte ∷ rest
@@ -74,7 +70,7 @@ names_between_is start close ls x e =
     bound (terms_between start close ls) (λ terms. names_of terms.0 >>= λ names. Some (names, terms.1)) x e (λ terms found next.
     bound (names_of terms.0) (λ names. Some (names, terms.1)) x next (λ names listed last.
     between_is start close ls terms found ∙ ap (λ ts. Mark start ∷ (spellings (side_by_side ts) ++ Mark close ∷ terms.1)) (words_are terms.0 names listed)
-    ∙ ap (λ (p : NamesRead). Mark start ∷ (spellings (side_by_side (as_words p.0)) ++ Mark close ∷ p.1)) (same_pair (names, terms.1) x last)))
+    ∙ ap (λ (p : NamesRead). Mark start ∷ (spellings (side_by_side (as_words p.0)) ++ Mark close ∷ p.1)) (same_Some (names, terms.1) x last)))
 
 abbrev TermsRead : Type 0
 TermsRead = List Written × List Lexeme
@@ -95,22 +91,22 @@ braced ls terms (n ∷ ns) e h =
 
 by_brace : (b : ℕ) (ls : List Lexeme) (terms : TermsRead) (names : List (List ℕ)) (t : Bool) → nat_eq b 123 ≡ t → cond t (some_terms_up_to 125 ls) (Some ([], Mark b ∷ ls)) ≡ Some terms → terms.0 ≡ as_words names →
     Mark b ∷ ls ≡ params_spelling names ++ terms.1
-by_brace b ls terms names true h e w = ap (λ m. Mark m ∷ ls) (is_one b 123 h) ∙ braced ls terms names e w
-by_brace b ls terms names false h e w = unbraced (Mark b ∷ ls) terms names (same_pair ([], Mark b ∷ ls) terms e) w
+by_brace b ls terms names true h e w = ap (λ m. Mark m ∷ ls) (eqb-true b 123 h) ∙ braced ls terms names e w
+by_brace b ls terms names false h e w = unbraced (Mark b ∷ ls) terms names (same_Some ([], Mark b ∷ ls) terms e) w
 
 braces_front : (ls : List Lexeme) (terms : TermsRead) (names : List (List ℕ)) → terms_in_braces ls ≡ Some terms → terms.0 ≡ as_words names → ls ≡ params_spelling names ++ terms.1
-braces_front [] terms names e h = unbraced [] terms names (same_pair ([], []) terms e) h
+braces_front [] terms names e h = unbraced [] terms names (same_Some ([], []) terms e) h
 braces_front (Mark b ∷ ls) terms names e h = by_brace b ls terms names (nat_eq b 123) refl e h
-braces_front (Name n ∷ ls) terms names e h = unbraced (Name n ∷ ls) terms names (same_pair ([], Name n ∷ ls) terms e) h
-braces_front (Number n ∷ ls) terms names e h = unbraced (Number n ∷ ls) terms names (same_pair ([], Number n ∷ ls) terms e) h
-braces_front (Node n ∷ ls) terms names e h = unbraced (Node n ∷ ls) terms names (same_pair ([], Node n ∷ ls) terms e) h
-braces_front (Quoted n ∷ ls) terms names e h = unbraced (Quoted n ∷ ls) terms names (same_pair ([], Quoted n ∷ ls) terms e) h
+braces_front (Name n ∷ ls) terms names e h = unbraced (Name n ∷ ls) terms names (same_Some ([], Name n ∷ ls) terms e) h
+braces_front (Number n ∷ ls) terms names e h = unbraced (Number n ∷ ls) terms names (same_Some ([], Number n ∷ ls) terms e) h
+braces_front (Node n ∷ ls) terms names e h = unbraced (Node n ∷ ls) terms names (same_Some ([], Node n ∷ ls) terms e) h
+braces_front (Quoted n ∷ ls) terms names e h = unbraced (Quoted n ∷ ls) terms names (same_Some ([], Quoted n ∷ ls) terms e) h
 
 braces_are : (ls : List Lexeme) (x : NamesRead) → names_in_braces ls ≡ Some x → ls ≡ params_spelling x.0 ++ x.1
 braces_are ls x e =
     bound (terms_in_braces ls) (λ terms. names_of terms.0 >>= λ names. Some (names, terms.1)) x e (λ terms found next.
     bound (names_of terms.0) (λ names. Some (names, terms.1)) x next (λ names listed last.
-    braces_front ls terms names found (words_are terms.0 names listed) ∙ ap (λ (p : NamesRead). params_spelling p.0 ++ p.1) (same_pair (names, terms.1) x last)))
+    braces_front ls terms names found (words_are terms.0 names listed) ∙ ap (λ (p : NamesRead). params_spelling p.0 ++ p.1) (same_Some (names, terms.1) x last)))
 
 pub parenthesised : (ts : List Written) (rest : List Lexeme) → Mark 40 ∷ (spellings (side_by_side ts) ++ Mark 41 ∷ rest) ≡ in_parentheses ts ++ rest
 parenthesised ts rest = ap (λ k. Mark 40 ∷ k) (sym (append_assoc (spellings (side_by_side ts)) (Mark 41 ∷ []) rest))
@@ -137,7 +133,7 @@ front_behind l [] ls e = cc
 front_behind l (p ∷ ps) ls e = let same : p ++ behind_pieces ps ≡ ls = cc in ap (λ k. Mark 59 ∷ l ∷ k) same
 
 semicolon_is : (l : Lexeme) → is_semicolon l ≡ true → l ≡ Mark 59
-semicolon_is (Mark b) h = ap Mark (is_one b 59 h)
+semicolon_is (Mark b) h = ap Mark (eqb-true b 59 h)
 semicolon_is (Name n) h = cc
 semicolon_is (Number n) h = cc
 semicolon_is (Node n) h = cc
@@ -163,7 +159,7 @@ behind_mark ls [] e = cc
 behind_mark ls (c ∷ cs) e = let same : ls ≡ child_spelling c ++ behind_child cs = cc in ap (λ k. Mark 61 ∷ k) same
 
 by_equals : (b : ℕ) (ls : List Lexeme) (cs : List WrittenChild) (t : Bool) → nat_eq b 61 ≡ t → cond t (children_of (pieces ls)) None ≡ Some cs → Mark b ∷ ls ≡ children_spelling cs
-by_equals b ls cs true h e = ap (λ m. Mark m ∷ ls) (is_one b 61 h) ∙ behind_mark ls cs (sym (pieces_join ls) ∙ children_are (pieces ls) cs e)
+by_equals b ls cs true h e = ap (λ m. Mark m ∷ ls) (eqb-true b 61 h) ∙ behind_mark ls cs (sym (pieces_join ls) ∙ children_are (pieces ls) cs e)
 by_equals b ls cs false h e = cc
 
 rest_is : (ls : List Lexeme) (cs : List WrittenChild) → rest_of_rule ls ≡ Some cs → ls ≡ children_spelling cs
@@ -221,19 +217,11 @@ rule_is ls l e =
     let behind_params = ap (λ k. params_spelling params.0 ++ k) (mark_is 58 params.1 colon f3 ∙ behind_colon) in
     ap (λ k. Name (codes "rule") ∷ k) (name_is ls n f1 ∙ ap (λ k. Name n.0 ∷ k) (braces_are n.1 params f2 ∙ behind_params)) ∙ ap line_spelling same)))))))
 
-and_right : (a b : Bool) → (a && b) ≡ true → b ≡ true
-and_right true b e = e
-and_right false b e = cc
-
-and_left : (a b : Bool) → (a && b) ≡ true → a ≡ true
-and_left true b e = refl
-and_left false b e = cc
-
 same_word : (v w : List ℕ) → nats_eq v w ≡ true → v ≡ w
 same_word [] [] h = refl
 same_word [] (y ∷ ys) h = cc
 same_word (x ∷ xs) [] h = cc
-same_word (x ∷ xs) (y ∷ ys) h = λ i. is_one x y (and_left (nat_eq x y) (nats_eq xs ys) h) i ∷ same_word xs ys (and_right (nat_eq x y) (nats_eq xs ys) h) i
+same_word (x ∷ xs) (y ∷ ys) h = let (first, rest) = and_parts _ _ h in λ i. eqb-true x y first i ∷ same_word xs ys rest i
 
 tested : (w k : List ℕ) (ls : List Lexeme) (x y : Option Line) (l : Line) (t : Bool) → nats_eq w k ≡ t → (x ≡ Some l → Name k ∷ ls ≡ line_spelling l) → (y ≡ Some l → Name w ∷ ls ≡ line_spelling l) → cond t x y ≡ Some l → Name w ∷ ls ≡ line_spelling l
 tested w k ls x y l true h f g e = ap (λ v. Name v ∷ ls) (same_word w k h) ∙ f e

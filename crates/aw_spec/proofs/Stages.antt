@@ -1,11 +1,8 @@
 -- Lines of early kinds declare neither sorts nor rules.
-use Rattle.std.proofs.Common.{◌≡◌, ℕ, ◌<◌, ◌≤◌, zero, refl, subst, Bool, true, false, cond, List, [], ◌∷◌, ◌++◌, map, length, arith, Option, None, Some}
+use Rattle.std.proofs.Common.{◌≡◌, ℕ, ◌<◌, subst, true, false, cond, [], ◌∷◌, ◌++◌, length, arith, Option, None, Some}
 use Rattle.aw_grammar.specs.declared.fault.DeclKind.{DeclKind}
-use Rattle.aw_grammar.specs.Declarations.{Declarations, with_role, with_con, with_sort, with_start}
-use Rattle.aw_grammar.specs.Kinds.{role_kind, con_kind, sort_kind, start_kind}
+use Rattle.aw_grammar.specs.Declarations.{Declarations}
 use Rattle.aw_face.specs.Faces.{is_offered, is_used}
-use Rattle.aw_grammar.specs.Declarations.{sort_names}
-use Rattle.aw_grammar.specs.Named.{number_named}
 use Rattle.aw_spec.specs.declared.fault.SpecKind.TheVariants.{Double}
 use Rattle.aw_spec.specs.Lines.{Line, RoleLine, ConLine, SortLine, StartLine, OfferLine, UseLine, RuleLine, ScheduleLine}
 use Rattle.aw_spec.specs.Reading.{Spec, Step, On, Wrong, Stop, declaring, offering, using_by, using_sort, says, stage_of}
@@ -62,7 +59,3 @@ keeps_no_sorts s after line e h z = held (λ d. length d.sorts ≡ 0) (says s li
 
 pub keeps_no_rules : (s after : Spec) (line : Line) → says s line ≡ On after → stage_of line < 7 → length s.declared.rules ≡ 0 → length after.declared.rules ≡ 0
 keeps_no_rules s after line e h z = held (λ d. length d.rules ≡ 0) (says s line) after e (no_rules s line h z)
-
-pub none_in : {A : Type 0} (xs : List A) → length xs ≡ 0 → xs ≡ []
-none_in [] h = refl
-none_in (x ∷ xs) h = absurd (omega arith)

@@ -37,6 +37,12 @@ Adds (Ok draft) comes = comes ≡ On (spec_so_far draft)
 Adds (Err (Bad kind)) comes = comes ≡ Wrong kind
 Adds (Err NoMemory) comes = Unit {0}
 
+-- The same of a draft that was changed in place.
+abbrev pub AddsTo : Draft → Result Unit LineFault → Step → Type 0
+AddsTo draft (Ok done) comes = comes ≡ On (spec_so_far draft)
+AddsTo draft (Err (Bad kind)) comes = comes ≡ Wrong kind
+AddsTo draft (Err NoMemory) comes = Unit {0}
+
 -- The answer is what the line says behind a specification, unless memory ran out.
 abbrev pub Says : Spec → Result Said LineFault → Step → Type 0
 Says s (Ok (said.On draft)) comes = comes ≡ On (spec_so_far draft)

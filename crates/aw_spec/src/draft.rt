@@ -1,5 +1,5 @@
 //! A specification as far as it has been read.
-ghost use Rattle.std.specs.Prelude.{◌≡◌, ◌≤◌, ◌++◌, ◌∷◌, ◌<◌, ◌-◌, [], true, ℕ, List, length, map, slice_get, IfSome, Some, option_map};
+ghost use Rattle.std.specs.Prelude.{◌≡◌, ◌≤◌, ◌++◌, ◌∷◌, ◌<◌, ◌-◌, [], true, ℕ, List, length, map, slice_get, IfSome, OnOk, Ok, Err, Some, option_map};
 ghost use Rattle.std.specs.Option.{option_copied};
 ghost use Rattle.aw_text.specs.Spelling.{is_name};
 ghost use Rattle.aw_grammar.specs.Declarations.{Entry};
@@ -11,7 +11,7 @@ ghost use Rattle.aw_face.specs.Faces as face;
 ghost use Rattle.aw_spec.specs.Lines as lines;
 ghost use Rattle.aw_spec.specs.Reading.{says, stage_of, decl_kind, face_kind};
 ghost use Rattle.aw_spec.specs.Views.{line_seen};
-ghost use Rattle.aw_spec.specs.LineAnswers.{Adds, Says, spec_so_far};
+ghost use Rattle.aw_spec.specs.LineAnswers.{Adds, AddsTo, Says, spec_so_far};
 ghost use Rattle.aw_spec.specs.Declares.{IsDeclared};
 
 use crate::fault::SpecKind;
@@ -179,35 +179,63 @@ impl Draft {
         Ok(Draft { grammar, faces })
     }
 
-    fn add_offer(self, sort: Text) -> Result<Draft, LineFault>
-        ensures { Adds result (says (spec_so_far self) (lines.OfferLine sort)) }
+    /// Adds an offer; the draft is of no use after a fault.
+    fn push_offer(&mut self, sort: &Text) -> Result<(), LineFault>
+        ensures { AddsTo self.new result (says (spec_so_far self.old) (lines.OfferLine sort.now)) }
     {
-        let Draft { grammar, mut faces } = self;
-        let Some(sort) = grammar.sort_named(sort.as_slice()) else {
+        let Some(sort) = self.grammar.sort_named(sort.as_slice()) else {
             return Err(LineFault::Bad(SpecKind::Unknown));
         };
-        if is_offered(sort, faces.offers.as_slice()) {
+        if is_offered(sort, self.faces.offers.as_slice()) {
             return Err(LineFault::Bad(SpecKind::Double));
         }
-        faces.offers.push(sort)?;
-        Ok(Draft { grammar, faces })
+        self.faces.offers.push(sort)?;
+        Ok(())
     }
 
-    fn add_use(self, role: Text, sort: Text) -> Result<Draft, LineFault>
-        ensures { Adds result (says (spec_so_far self) (lines.UseLine role sort)) }
+    fn add_offer(mut self, sort: Text) -> Result<Draft, LineFault>
+        ensures { Adds result (says (spec_so_far self) (lines.OfferLine sort)) }
     {
-        let Draft { grammar, mut faces } = self;
-        let Some(role) = grammar.role_named(role.as_slice()) else {
+        let pushed = self.push_offer(&sort);
+        self.kept(pushed)
+    }
+
+    /// Adds a use; the draft is of no use after a fault.
+    fn push_use(&mut self, role: &Text, sort: &Text) -> Result<(), LineFault>
+        ensures { AddsTo self.new result (says (spec_so_far self.old) (lines.UseLine role.now sort.now)) }
+    {
+        let Some(role) = self.grammar.role_named(role.as_slice()) else {
             return Err(LineFault::Bad(SpecKind::Unknown));
         };
-        let Some(sort) = grammar.sort_named(sort.as_slice()) else {
+        let Some(sort) = self.grammar.sort_named(sort.as_slice()) else {
             return Err(LineFault::Bad(SpecKind::Unknown));
         };
-        if is_used(role, sort, faces.uses.as_slice()) {
+        if is_used(role, sort, self.faces.uses.as_slice()) {
             return Err(LineFault::Bad(SpecKind::Double));
         }
-        faces.uses.push(Using { role, sort })?;
-        Ok(Draft { grammar, faces })
+        self.faces.uses.push(Using { role, sort })?;
+        Ok(())
+    }
+
+    fn add_use(mut self, role: Text, sort: Text) -> Result<Draft, LineFault>
+        ensures { Adds result (says (spec_so_far self) (lines.UseLine role sort)) }
+    {
+        let pushed = self.push_use(&role, &sort);
+        self.kept(pushed)
+    }
+
+    /// The draft, if what was added to it was without fault.
+    fn kept(self, added: Result<(), LineFault>) -> Result<Draft, LineFault>
+        ensures ok { OnOk added (result ≡ Ok self) }
+        ensures err { (fault : LineFault) → added ≡ Err fault → result ≡ Err fault }
+    {
+        match added {
+            Ok(()) => Ok(self),
+            Err(fault) => {
+                drop(self);
+                Err(fault)
+            }
+        }
     }
 
     fn add_rule(self, rule: RawRule) -> Result<Draft, LineFault>
@@ -220,7 +248,10 @@ impl Draft {
         let grammar = grammar.add_rule(rule)?;
         match last_fault(&grammar, &faces) {
             None => Ok(Draft { grammar, faces }),
-            Some((_, kind)) => Err(LineFault::Bad(face_kind(kind))),
+            Some((_, kind)) => {
+                drop(grammar);
+                Err(LineFault::Bad(face_kind(kind)))
+            }
         }
     }
 

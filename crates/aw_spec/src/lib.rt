@@ -9,6 +9,7 @@ pub mod parse;
 pub mod read;
 pub mod reader;
 pub mod spec_text;
+pub mod spelled;
 
 pub use fault::{SpecFault, SpecKind};
 pub use line::SpecLine;

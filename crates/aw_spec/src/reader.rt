@@ -4,10 +4,10 @@ ghost use Rattle.std.specs.Prelude.{◌≡◌, ◌<◌, length};
 use crate::draft::{Draft, LineFault, Said};
 use crate::fault::SpecKind;
 use crate::line::SpecLine;
-use crate::parse::parse_line;
+use crate::spelled::spelled_line;
 use aw_base::{Grammar, Numbers};
 use aw_face::{Faces, Usings};
-use aw_lex::{is_passed_over, tokens};
+use aw_lex::is_passed_over;
 use std::alloc::Global;
 
 /// The lines so far: what they say, and the stage of the last, or 0.
@@ -56,6 +56,7 @@ impl Reader {
         let Reader { draft, stage: last } = self;
         let stage = line.stage();
         if stage < last {
+            drop(draft);
             return Err(LineFault::Bad(SpecKind::Order));
         }
         match draft.says(line)? {
@@ -71,8 +72,12 @@ impl Reader {
         if is_passed_over(line) {
             return Ok(AfterLine::Next(self));
         }
-        let tokens = tokens(alloc, line)?;
-        let spelled = parse_line(alloc, line, tokens.as_slice())?;
-        self.in_order(spelled)
+        match spelled_line(alloc, line) {
+            Ok(spelled) => self.in_order(spelled),
+            Err(fault) => {
+                drop(self);
+                Err(fault)
+            }
+        }
     }
 }

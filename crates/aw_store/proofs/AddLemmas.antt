@@ -1,7 +1,8 @@
 -- Adding an equation to a list, and the equations that are ready.
 use Rattle.std.proofs.Common.{◌≡◌, ℕ, zero, suc, ◌+◌, ◌<◌, ◌≤◌, Bool, true, false, cond, List, [], ◌∷◌, ◌++◌, length, map, take, get_or, Option, Some, None, refl, ap, sym, ◌∙◌, subst, arith, Contains}
 use Rattle.std.specs.Prelude.{is_none}
-use Rattle.std.proofs.lemmas.List.{take_more, map-append}
+use Rattle.std.proofs.lemmas.List.{take_more, map_push}
+use Rattle.std.proofs.lemmas.Bool.{and_parts}
 use Rattle.aw_term.specs.Names.{Ref}
 use Rattle.aw_store.specs.Refs.{ref_eq}
 use Rattle.aw_store.specs.Equations as P
@@ -10,7 +11,7 @@ use Rattle.aw_store.specs.EquationView.{equation_of}
 use Rattle.aw_store.specs.NamedRefs.{has_names_of, has_names}
 use Rattle.aw_store.specs.ListStore.{lacking}
 use Rattle.aw_store.specs.declared.equation.Equation.{Equation}
-use Rattle.aw_store.proofs.RefLemmas.{both, ref_eq-true, ref_eq-self}
+use Rattle.aw_store.proofs.RefLemmas.{ref_eq-true, ref_eq-self}
 use Rattle.aw_store.proofs.NameLemmas.{has_names-push}
 
 -- Members
@@ -19,8 +20,8 @@ has_names-member ns k e w = at_place k w.0 w.1 w.2
   where
     at_place : (k : Map) (i : ℕ) → i < length k → get_or k i e ≡ e → has_names ns k ≡ true → has_names_of ns e ≡ true
     at_place [] i l f v = absurd (omega (arith, l))
-    at_place (x ∷ k) zero l f v = ap (has_names_of ns) (sym f) ∙ (both (has_names_of ns x) _ v).0
-    at_place (x ∷ k) (suc i) l f v = at_place k i (omega (arith, l)) f (both (has_names_of ns x) _ v).1
+    at_place (x ∷ k) zero l f v = ap (has_names_of ns) (sym f) ∙ (and_parts (has_names_of ns x) _ v).0
+    at_place (x ∷ k) (suc i) l f v = at_place k i (omega (arith, l)) f (and_parts (has_names_of ns x) _ v).1
 
 some_found : (b : Bool) (x : P.Body) (o : Option P.Body) → is_none o ≡ false → is_none (cond b (Some x) o) ≡ false
 some_found true x o e = refl
@@ -122,10 +123,7 @@ kept_room k old new e n most w f l m = subst (λ x. (n + 1) + lacking (k ++ equa
 pub member_lacks : (k ready : Map) (e : P.Equation) → Contains ready e → find k e.left ≡ None → 1 ≤ lacking k ready
 member_lacks k ready e m f = omega (arith, lacking-one k ready e (ap is_none f) (member_found ready e m))
 
-pub map-push : (es : List Equation) (e : Equation) → map equation_of (es ++ e ∷ []) ≡ map equation_of es ++ equation_of e ∷ []
-map-push es e = map-append equation_of es (e ∷ [])
-
 pub has_names-take : (ns : List Ref) (es : List Equation) (i : ℕ) (e : Equation) → i < length es → e ≡ get_or es i e → has_names ns (map equation_of (take i es)) ≡ true → has_names_of ns (equation_of e) ≡ true → has_names ns (map equation_of (take (i + 1) es)) ≡ true
 has_names-take ns es i e l f w v =
-    ap (λ x. has_names ns (map equation_of x)) (take_more es i e l ∙ ap (λ x. take i es ++ x ∷ []) (sym f)) ∙ ap (has_names ns) (map-push (take i es) e)
+    ap (λ x. has_names ns (map equation_of x)) (take_more es i e l ∙ ap (λ x. take i es ++ x ∷ []) (sym f)) ∙ ap (has_names ns) (map_push equation_of (take i es) e)
     ∙ has_names-push ns (map equation_of (take i es)) (equation_of e) w v

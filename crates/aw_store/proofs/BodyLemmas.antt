@@ -10,12 +10,6 @@ use Rattle.aw_store.specs.declared.equation.Body.{Body}
 use Rattle.aw_store.specs.declared.equation.Body.TheVariants.{Same, Con, Num, Text}
 use Rattle.aw_store.specs.contracts.equation.BodyPartialEq.TheImpl as bodies
 
-abbrev back : P.Body → Body
-back (P.Same r) = Same r
-back (P.Is (T.Con c) parts) = Con c parts
-back (P.Is (T.Num n) parts) = Num n
-back (P.Is (T.Text t) parts) = Text t
-
 pub body_exact : (a b : Body) → Decides ((bodies.ghosts).eq a b) (a ≡ b)
 body_exact (Same r) (Same s) = Decides-like _ (ap Same) (λ e. cc) (ref_exact r s ((reference.ghosts).eq r s) refl)
 body_exact (Con c p) (Con d q) = Decides-like _ (λ z. λ i. Con (z.0 i) (z.1 i)) (λ e. ((cc), (cc))) (Decides-and _ _ (Decides-eqb c d) (pointwise_decides (λ a b. ref_exact a b ((reference.ghosts).eq a b) refl) p q))

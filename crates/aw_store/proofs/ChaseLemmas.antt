@@ -1,6 +1,7 @@
 -- Following equations from slot to slot.
 use Rattle.std.proofs.Common.{◌≡◌, ℕ, zero, suc, ◌+◌, ◌-◌, ◌<◌, List, [], ◌∷◌, length, Option, Some, None, refl, ap, sym, ◌∙◌, subst, arith}
 use Rattle.std.specs.Prelude.{slice_get}
+use Rattle.std.proofs.lemmas.Option.{same_Some}
 use Rattle.aw_term.specs.Trees.{Head}
 use Rattle.aw_term.specs.Names.{Ref}
 use Rattle.aw_store.specs.Equations.{Body, Same, Is, Map, find}
@@ -45,13 +46,10 @@ pub record Chasing (names : List Ref) (k : Map) (slot i at : ℕ) : Type 0 where
   pub named : slice_get names at ≡ Some name
   pub rest : (r : Ref) → slice_get names slot ≡ Some r → chase_in (length k - i) k name ≡ chase k r
 
-same_some : {A : Type 0} (x y : A) (o : Option A) → o ≡ Some x → o ≡ Some y → x ≡ y
-same_some x y o e f = cc
-
 pub chasing_start : (names : List Ref) (k : Map) (slot : ℕ) → slot < length names → Chasing names k slot 0 slot
 chasing_start names k slot l =
     let (x, e) = name_at names slot l in
-    record { name = x; named = e; rest = λ r f. ap (λ n. chase_in n k x) (let z : length k - 0 ≡ length k = omega arith in z) ∙ ap (chase k) (same_some x r _ e f) }
+    record { name = x; named = e; rest = λ r f. ap (λ n. chase_in n k x) (let z : length k - 0 ≡ length k = omega arith in z) ∙ ap (chase k) (same_Some x r (sym e ∙ f)) }
 
 pub chasing_on : (names : List Ref) (k : Map) (slot i at next : ℕ) (c : Chasing names k slot i at) → i < length k → IsLookAt names (find k c.name) (look.On next) → Chasing names k slot (i + 1) next
 chasing_on names k slot i at next c l w =

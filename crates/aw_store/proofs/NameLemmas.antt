@@ -1,19 +1,14 @@
 -- Lists of named references.
-use Rattle.std.proofs.Common.{◌≡◌, ℕ, zero, suc, ◌+◌, ◌<◌, Bool, true, false, List, [], ◌∷◌, ◌++◌, length, take, get_or, Some, refl, ap, sym, ◌∙◌, inl, inr, arith, append_assoc}
+use Rattle.std.proofs.Common.{◌≡◌, ℕ, zero, suc, ◌+◌, ◌<◌, Bool, true, false, List, [], ◌∷◌, ◌++◌, length, take, get_or, Some, refl, ap, sym, ◌∙◌, inl, inr, append_assoc}
 use Rattle.std.specs.Prelude.{slice_get, ◌⊎◌, ◌||◌, if◌then◌else◌, Result, Ok, Err, IsOk, OnOk}
+use Rattle.std.proofs.lemmas.Bool.{and_parts, and_from, both_ways, or_right}
 use Rattle.std.proofs.lemmas.List.{take_more}
+use Rattle.std.proofs.lemmas.Option.{slice_get_read}
 use Rattle.aw_term.specs.Names.{Ref}
 use Rattle.aw_store.specs.Refs.{ref_eq}
 use Rattle.aw_store.specs.Equations.{Equation, Map, mentions}
 use Rattle.aw_store.specs.NamedRefs.{is_named, all_named, has_names_of, has_names, with_name, IsNamedOnce, Grows}
-use Rattle.aw_store.proofs.RefLemmas.{both, and_true, ref_eq-self}
-
-pub true_or_false : (b : Bool) → b ≡ true → b ≡ false → ⊥
-true_or_false b e f = cc
-
-or_right : (a b : Bool) → b ≡ true → (a || b) ≡ true
-or_right true b e = refl
-or_right false b e = e
+use Rattle.aw_store.proofs.RefLemmas.{ref_eq-self}
 
 pub grows_more : (a b c : List Ref) → Grows a b → Grows b c → Grows a c
 grows_more a b c (m, e) (n, f) = (m ++ n, f ∙ ap (λ x. x ++ n) e ∙ append_assoc a m n)
@@ -32,31 +27,31 @@ is_named-grown ns ms r (m, e) w = ap (λ x. is_named x r) e ∙ is_named-append 
 pub all_named-grown : (ns ms rs : List Ref) → Grows ns ms → all_named ns rs ≡ true → all_named ms rs ≡ true
 all_named-grown ns ms [] g w = refl
 all_named-grown ns ms (r ∷ rs) g w =
-    let (a, b) = both _ _ w in
-    and_true _ _ (is_named-grown ns ms r g a) (all_named-grown ns ms rs g b)
+    let (a, b) = and_parts _ _ w in
+    and_from _ _ (is_named-grown ns ms r g a) (all_named-grown ns ms rs g b)
 
 pub has_names_of-grown : (ns ms : List Ref) (e : Equation) → Grows ns ms → has_names_of ns e ≡ true → has_names_of ms e ≡ true
 has_names_of-grown ns ms e g w =
-    let (a, b) = both _ _ w in
-    and_true _ _ (is_named-grown ns ms e.left g a) (all_named-grown ns ms (mentions e.body) g b)
+    let (a, b) = and_parts _ _ w in
+    and_from _ _ (is_named-grown ns ms e.left g a) (all_named-grown ns ms (mentions e.body) g b)
 
 pub has_names-grown : (ns ms : List Ref) (k : Map) → Grows ns ms → has_names ns k ≡ true → has_names ms k ≡ true
 has_names-grown ns ms [] g w = refl
 has_names-grown ns ms (e ∷ k) g w =
-    let (a, b) = both _ _ w in
-    and_true _ _ (has_names_of-grown ns ms e g a) (has_names-grown ns ms k g b)
+    let (a, b) = and_parts _ _ w in
+    and_from _ _ (has_names_of-grown ns ms e g a) (has_names-grown ns ms k g b)
 
 pub has_names-push : (ns : List Ref) (k : Map) (e : Equation) → has_names ns k ≡ true → has_names_of ns e ≡ true → has_names ns (k ++ e ∷ []) ≡ true
-has_names-push ns [] e w v = and_true _ _ v refl
+has_names-push ns [] e w v = and_from _ _ v refl
 has_names-push ns (x ∷ k) e w v =
-    let (a, b) = both _ _ w in
-    and_true _ _ a (has_names-push ns k e b v)
+    let (a, b) = and_parts _ _ w in
+    and_from _ _ a (has_names-push ns k e b v)
 
 pub all_named-push : (ns rs : List Ref) (r : Ref) → all_named ns rs ≡ true → is_named ns r ≡ true → all_named ns (rs ++ r ∷ []) ≡ true
-all_named-push ns [] r w v = and_true _ _ v refl
+all_named-push ns [] r w v = and_from _ _ v refl
 all_named-push ns (x ∷ rs) r w v =
-    let (a, b) = both _ _ w in
-    and_true _ _ a (all_named-push ns rs r b v)
+    let (a, b) = and_parts _ _ w in
+    and_from _ _ a (all_named-push ns rs r b v)
 
 -- Slots
 pub is_named-at : (ns : List Ref) (i : ℕ) (r : Ref) → slice_get ns i ≡ Some r → is_named ns r ≡ true
@@ -66,8 +61,8 @@ is_named-at (n ∷ ns) (suc i) r e = or_right (ref_eq r n) _ (is_named-at ns i r
 
 pub named_part : (ns rs : List Ref) (k : ℕ) (r : Ref) → all_named ns rs ≡ true → slice_get rs k ≡ Some r → is_named ns r ≡ true
 named_part ns [] k r w e = absurd cc
-named_part ns (x ∷ rs) zero r w e = let (a, b) = both (is_named ns x) _ w in let f : x ≡ r = cc in ap (is_named ns) (sym f) ∙ a
-named_part ns (x ∷ rs) (suc k) r w e = let (a, b) = both (is_named ns x) _ w in named_part ns rs k r b e
+named_part ns (x ∷ rs) zero r w e = let (a, b) = and_parts (is_named ns x) _ w in let f : x ≡ r = cc in ap (is_named ns) (sym f) ∙ a
+named_part ns (x ∷ rs) (suc k) r w e = let (a, b) = and_parts (is_named ns x) _ w in named_part ns rs k r b e
 
 pub slice_get-last : {A : Type 0} (xs : List A) (x : A) → slice_get (xs ++ x ∷ []) (length xs) ≡ Some x
 slice_get-last [] x = refl
@@ -80,7 +75,7 @@ pushed (z ∷ xs) x y zero e = inl e
 pushed (z ∷ xs) x y (suc i) e = elim (pushed xs x y i e) [ inl p ↦ inl p | inr p ↦ inr (ap suc p.0, p.1) ]
 
 not_there : (ns : List Ref) (r q : Ref) (i : ℕ) → is_named ns r ≡ false → r ≡ q → slice_get ns i ≡ Some q → ⊥
-not_there ns r q i w e f = true_or_false (is_named ns r) (is_named-at ns i r (f ∙ ap Some (sym e))) w
+not_there ns r q i w e f = both_ways (is_named ns r) w (is_named-at ns i r (f ∙ ap Some (sym e)))
 
 pub once_push : (ns : List Ref) (r : Ref) → IsNamedOnce ns → is_named ns r ≡ false → IsNamedOnce (ns ++ r ∷ [])
 once_push ns r o w i j q e f =
@@ -94,16 +89,14 @@ all_named-take ns rs i r l e w v = ap (all_named ns) (take_more rs i r l ∙ ap 
 
 -- a reference of a list whose references are named
 pub named_at : (ns rs : List Ref) (i : ℕ) (r : Ref) → i < length rs → r ≡ get_or rs i r → all_named ns rs ≡ true → is_named ns r ≡ true
-named_at ns [] i r l e w = absurd (omega (arith, l))
-named_at ns (x ∷ rs) zero r l e w = let (a, b) = both (is_named ns x) _ w in ap (is_named ns) e ∙ a
-named_at ns (x ∷ rs) (suc i) r l e w = let (a, b) = both (is_named ns x) _ w in named_at ns rs i r (omega (arith, l)) e b
+named_at ns rs i r l e w = named_part ns rs i r w (slice_get_read rs (length rs) i r refl l e)
 
 pub not_ok : {T E : Type 0} (r : Result T E) (e : E) → r ≡ Err e → IsOk r → ⊥
 not_ok (Ok x) e p w = cc
 not_ok (Err x) e p w = cc
 
 pub names_both : {T E : Type 0} (r : Result T E) (ns : List Ref) (e : Equation) → is_named ns e.left ≡ true → OnOk r (all_named ns (mentions e.body) ≡ true) → OnOk r (has_names_of ns e ≡ true)
-names_both (Ok x) ns e a w = and_true _ _ a w
+names_both (Ok x) ns e a w = and_from _ _ a w
 names_both (Err x) ns e a w = w
 
 -- a name that is there is not named again

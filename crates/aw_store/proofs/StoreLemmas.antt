@@ -2,6 +2,7 @@
 use Rattle.std.proofs.Common.{◌≡◌, ℕ, ◌<◌, Bool, true, false, List, [], ◌∷◌, ◌++◌, length, map, get_or, Option, Some, None, refl, ap, sym, ◌∙◌, subst, arith, cond}
 use Rattle.std.specs.Prelude.{slice_get, option_map, option_and_then, nat_le}
 use Rattle.std.proofs.lemmas.Option.{slice_get-get_or, slice_get_within}
+use Rattle.std.proofs.lemmas.Bool.{and_parts, and_from}
 use Rattle.aw_term.specs.Names.{Ref}
 use Rattle.aw_store.specs.Refs.{ref_eq}
 use Rattle.aw_store.specs.Equations as P
@@ -12,7 +13,6 @@ use Rattle.aw_store.specs.StoreView.{has_few, all_few, IsKindOf}
 use Rattle.aw_store.specs.declared.facts.Kind.{Kind}
 use Rattle.aw_store.specs.declared.equation.Body.{Body}
 use Rattle.aw_store.specs.declared.equation.Equation.{Equation}
-use Rattle.aw_store.proofs.RefLemmas.{both, and_true}
 
 -- the body of a name, and of its slot
 pub at_slot : (es s : List Equation) (names : List Ref) (slot : ℕ) (n : Ref) (o : Option Body) → s ≡ es → n ≡ get_or names slot n → slot < length names → option_map body_of o ≡ find (map equation_of s) n → body_at (map equation_of es) names slot ≡ option_map body_of o
@@ -29,13 +29,13 @@ live_slot k names slot n l = by_name (slice_get names slot) refl l
     by_name (Some r) e l = slice_get_within names slot r e
 
 found_names : (b : Bool) (names : List Ref) (e : P.Equation) (k : Map) (r : Ref) (x : P.Body) → cond b (Some e.body) (find k r) ≡ Some x → has_names_of names e ≡ true → (find k r ≡ Some x → all_named names (mentions x) ≡ true) → all_named names (mentions x) ≡ true
-found_names true names e k r x f w go = let p : e.body ≡ x = cc in ap (λ y. all_named names (mentions y)) (sym p) ∙ (both (is_named names e.left) _ w).1
+found_names true names e k r x f w go = let p : e.body ≡ x = cc in ap (λ y. all_named names (mentions y)) (sym p) ∙ (and_parts (is_named names e.left) _ w).1
 found_names false names e k r x f w go = go f
 
 pub find-named : (names : List Ref) (k : Map) (r : Ref) (x : P.Body) → has_names names k ≡ true → find k r ≡ Some x → all_named names (mentions x) ≡ true
 find-named names [] r x w f = absurd cc
 find-named names (e ∷ k) r x w f =
-    let (a, b) = both (has_names_of names e) _ w in
+    let (a, b) = and_parts (has_names_of names e) _ w in
     found_names (ref_eq r e.left) names e k r x f a (find-named names k r x b)
 
 found_few : (b : Bool) (e : P.Equation) (k : Map) (r : Ref) (x : P.Body) → cond b (Some e.body) (find k r) ≡ Some x → has_few e ≡ true → (find k r ≡ Some x → nat_le (length (mentions x)) 8 ≡ true) → nat_le (length (mentions x)) 8 ≡ true
@@ -45,14 +45,14 @@ found_few false e k r x f w go = go f
 pub find-few : (k : Map) (r : Ref) (x : P.Body) → all_few k ≡ true → find k r ≡ Some x → nat_le (length (mentions x)) 8 ≡ true
 find-few [] r x w f = absurd cc
 find-few (e ∷ k) r x w f =
-    let (a, b) = both (has_few e) _ w in
+    let (a, b) = and_parts (has_few e) _ w in
     found_few (ref_eq r e.left) e k r x f a (find-few k r x b)
 
 pub all_few-push : (k : Map) (e : P.Equation) → all_few k ≡ true → has_few e ≡ true → all_few (k ++ e ∷ []) ≡ true
-all_few-push [] e w v = and_true _ _ v refl
+all_few-push [] e w v = and_from _ _ v refl
 all_few-push (x ∷ k) e w v =
-    let (a, b) = both (has_few x) _ w in
-    and_true _ _ a (all_few-push k e b v)
+    let (a, b) = and_parts (has_few x) _ w in
+    and_from _ _ a (all_few-push k e b v)
 
 -- a body that is found at a slot
 pub found_named : (names : List Ref) (k : Map) (slot : ℕ) (x : P.Body) → has_names names k ≡ true → body_at k names slot ≡ Some x → all_named names (mentions x) ≡ true

@@ -100,15 +100,29 @@ fn push_schedule_verdict(
     }
 }
 
+/// Adds what is told of a good specification, and of the schedule behind it.
+fn push_spec_verdict(
+    alloc: Global,
+    told: &mut Text,
+    spec: &SpecText,
+    schedule: &[u8],
+) -> Result<(), AllocError>
+    requires { FacesFit (spec_of spec.now.grammar spec.now.faces) }
+{
+    if is_read_again(alloc, spec)? {
+        return push_schedule_verdict(alloc, told, spec, schedule);
+    }
+    told.push_bytes(b"specification read otherwise")
+}
+
 /// Adds what is told of an input.
 fn push_verdict(alloc: Global, told: &mut Text, input: &[u8]) -> Result<(), AllocError> {
     match read_spec(alloc, input) {
         Ok(spec) => {
             read_fits();
-            if is_read_again(alloc, &spec)? {
-                return push_schedule_verdict(alloc, told, &spec, &input[spec.rest..]);
-            }
-            told.push_bytes(b"specification read otherwise")
+            let pushed = push_spec_verdict(alloc, told, &spec, &input[spec.rest..]);
+            drop(spec);
+            pushed
         }
         Err(SpecFault::Bad { line, kind }) => {
             push_place(told, b"specification", line, kind.name())

@@ -1,1 +1,5 @@
+pub mod Eaches
+pub mod Joined
+pub mod NodeTests
+pub mod RowParts
 pub mod ViewLemmas

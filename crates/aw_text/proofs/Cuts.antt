@@ -8,10 +8,10 @@ use Rattle.aw_text.specs.Spelling.{cut, with_front}
 abbrev pub round : List ℕ → ℕ → List ℕ × List ℕ
 round bs at = (take at bs, drop (suc at) bs)
 
-abbrev if_below : ℕ → ℕ → Option ℕ
+abbrev pub if_below : ℕ → ℕ → Option ℕ
 if_below n k = cond (nat_lt k n) (Some k) None
 
-below_suc : (k n : ℕ) → nat_lt (suc k) (suc n) ≡ nat_lt k n
+pub below_suc : (k n : ℕ) → nat_lt (suc k) (suc n) ≡ nat_lt k n
 below_suc k n = grind (arith, nat_tests)
 
 round_step : (b : ℕ) (bs : List ℕ) (k : ℕ) (t : Bool)
@@ -26,7 +26,7 @@ one_up b bs k j e =
     ∙ ap (λ t. option_map (round (b ∷ bs)) (cond t (Some (suc k)) None)) (sym (below_suc k (length bs)))
     ∙ ap (λ m. option_map (round (b ∷ bs)) (if_below (suc (length bs)) m)) (sym e)
 
-none_up : (n : ℕ) → nat_lt 0 (suc n) ≡ true
+pub none_up : (n : ℕ) → nat_lt 0 (suc n) ≡ true
 none_up n = grind (arith, nat_tests)
 
 pub cut_by_place : (mark : ℕ) (bs : List ℕ) → option_map (round bs) (position (λ b. b == mark) bs) ≡ cut mark bs

@@ -1,4 +1,3 @@
-pub mod Checks
 pub mod Cuts
 pub mod NodeNames
 pub mod Numbers

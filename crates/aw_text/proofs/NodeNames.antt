@@ -1,11 +1,11 @@
 -- A node name that is printed is read again.
 use Rattle.std.proofs.Common.{◌≡◌, ℕ, suc, ◌+◌, ◌-◌, ◌^◌, ◌≤◌, ◌<◌, refl, sym, ◌∙◌, ap, inl, inr, Bool, true, false, cond, not, ◌==◌, ◌&&◌, ◌||◌, List, [], ◌∷◌, ◌++◌, map, length, arith, Option, Some, None, option_map, option_and_then, nat_le, nat_lt, append_assoc, append-nil}
+use Rattle.std.proofs.lemmas.Bool.{not-true, and_parts, ltb-true, eq-eqb}
 use Rattle.std.proofs.lemmas.Bool.Decides.{nat_tests, eqb_tells}
 use Rattle.std.proofs.lemmas.List.Folds.{list_all-append}
 use Rattle.std.specs.List.{list_all}
 use Rattle.std.specs.Fmt.{decimal}
 use Rattle.aw_text.specs.Spelling.{cut, with_front, is_name, is_name_byte, is_digit, is_letter, is_step, has_spelling, spelled_steps, spelled_name, parts, parts_of_name, name_from, start_of, step_of, steps_of, child_of, number_of}
-use Rattle.aw_text.proofs.Checks.{both_true}
 use Rattle.aw_text.proofs.Cuts.{split_after, split_by_cut}
 use Rattle.aw_text.proofs.Numbers.{number_again, decimal_digits}
 
@@ -13,25 +13,18 @@ use Rattle.aw_text.proofs.Numbers.{number_again, decimal_digits}
 abbrev pub lacks : ℕ → List ℕ → Bool
 lacks mark bs = list_all (λ b. not (b == mark)) bs
 
-not_true : (t : Bool) → not t ≡ true → t ≡ false
-not_true true h = absurd cc
-not_true false h = refl
-
-same : (mark : ℕ) → (mark == mark) ≡ true
-same mark = grind (arith, nat_tests)
-
 cut_here : (mark : ℕ) (front rest : List ℕ) → lacks mark front ≡ true → cut mark (front ++ mark ∷ rest) ≡ Some (front, rest)
-cut_here mark [] rest h = ap (λ t. cond t (Some ([], rest)) (option_map (with_front mark) (cut mark rest))) (same mark)
+cut_here mark [] rest h = ap (λ t. cond t (Some ([], rest)) (option_map (with_front mark) (cut mark rest))) (eq-eqb mark mark refl)
 cut_here mark (b ∷ bs) rest h =
-    let each = both_true (not (b == mark)) (lacks mark bs) h in
-    ap (λ t. cond t (Some ([], bs ++ mark ∷ rest)) (option_map (with_front b) (cut mark (bs ++ mark ∷ rest)))) (not_true (b == mark) each.0)
+    let each = and_parts (not (b == mark)) (lacks mark bs) h in
+    ap (λ t. cond t (Some ([], bs ++ mark ∷ rest)) (option_map (with_front b) (cut mark (bs ++ mark ∷ rest)))) (not-true (b == mark) each.0)
     ∙ ap (option_map (with_front b)) (cut_here mark bs rest each.1)
 
 cut_nowhere : (mark : ℕ) (bs : List ℕ) → lacks mark bs ≡ true → cut mark bs ≡ None
 cut_nowhere mark [] h = refl
 cut_nowhere mark (b ∷ bs) h =
-    let each = both_true (not (b == mark)) (lacks mark bs) h in
-    ap (λ t. cond t (Some ([], bs)) (option_map (with_front b) (cut mark bs))) (not_true (b == mark) each.0)
+    let each = and_parts (not (b == mark)) (lacks mark bs) h in
+    ap (λ t. cond t (Some ([], bs)) (option_map (with_front b) (cut mark bs))) (not-true (b == mark) each.0)
     ∙ ap (option_map (with_front b)) (cut_nowhere mark bs each.1)
 
 -- the bytes of names and of numbers are no marks
@@ -41,7 +34,7 @@ differs test mark b fails holds = elim (eqb_tells b mark) [ inl p ↦ absurd (cc
 all_differ : (test : ℕ → Bool) (mark : ℕ) (bs : List ℕ) → test mark ≡ false → list_all test bs ≡ true → lacks mark bs ≡ true
 all_differ test mark [] fails h = refl
 all_differ test mark (b ∷ bs) fails h =
-    let each = both_true (test b) (list_all test bs) h in
+    let each = and_parts (test b) (list_all test bs) h in
     ap (λ t. t && lacks mark bs) (differs test mark b fails each.0) ∙ all_differ test mark bs fails each.1
 
 letter_is_byte : (b : ℕ) → is_letter b ≡ true → is_name_byte b ≡ true
@@ -50,8 +43,8 @@ letter_is_byte b h = ap (λ t. (t || is_digit b) || b == 95) h
 name_bytes : (bs : List ℕ) → is_name bs ≡ true → list_all is_name_byte bs ≡ true
 name_bytes [] h = absurd cc
 name_bytes (b ∷ bs) h =
-    let short = both_true (nat_le (suc (length bs)) 64) (is_letter b && list_all is_name_byte bs) h in
-    let each = both_true (is_letter b) (list_all is_name_byte bs) short.1 in
+    let short = and_parts (nat_le (suc (length bs)) 64) (is_letter b && list_all is_name_byte bs) h in
+    let each = and_parts (is_letter b) (list_all is_name_byte bs) short.1 in
     ap (λ t. t && list_all is_name_byte bs) (letter_is_byte b each.0) ∙ each.1
 
 name_lacks : (mark : ℕ) (bs : List ℕ) → is_name_byte mark ≡ false → is_name bs ≡ true → lacks mark bs ≡ true
@@ -78,8 +71,8 @@ child_lacks mark child h = let e : not ((48 + child) == mark) ≡ true = grind (
 
 step_again : (step : List ℕ × ℕ) → is_step step ≡ true → step_of (step_part step) ≡ Some step
 step_again step h =
-    let each = both_true (is_name step.0) (nat_le 1 step.1 && nat_le step.1 8) h in
-    let bounds = both_true (nat_le 1 step.1) (nat_le step.1 8) each.1 in
+    let each = and_parts (is_name step.0) (nat_le 1 step.1 && nat_le step.1 8) h in
+    let bounds = and_parts (nat_le 1 step.1) (nat_le step.1 8) each.1 in
     let read : List ℕ × List ℕ → Option (List ℕ × ℕ) =
     λ halves. cond (is_name halves.0) (option_map (λ child. (halves.0, child)) (child_of halves.1)) None in
     ap (option_and_then read) (cut_here 46 step.0 ((48 + step.1) ∷ []) (name_lacks 46 step.0 refl each.0))
@@ -88,14 +81,14 @@ step_again step h =
 
 step_lacks : (step : List ℕ × ℕ) → is_step step ≡ true → lacks 47 (step_part step) ≡ true
 step_lacks step h =
-    let each = both_true (is_name step.0) (nat_le 1 step.1 && nat_le step.1 8) h in
+    let each = and_parts (is_name step.0) (nat_le 1 step.1 && nat_le step.1 8) h in
     joined_lacks 47 step.0 (46 ∷ (48 + step.1) ∷ []) (name_lacks 47 step.0 refl each.0) (child_lacks 47 step.1 (omega arith))
 
 parts_again : (part : List ℕ) (steps : List (List ℕ × ℕ)) → lacks 47 part ≡ true → list_all is_step steps ≡ true → parts (part ++ spelled_steps steps) ≡ part ∷ map step_part steps
 parts_again part [] h k =
     ap parts (append-nil part) ∙ split_by_cut 47 part ∙ ap (split_after 47 part) (cut_nowhere 47 part h)
 parts_again part (step ∷ steps) h k =
-    let each = both_true (is_step step) (list_all is_step steps) k in
+    let each = and_parts (is_step step) (list_all is_step steps) k in
     let rest = step.0 ++ (46 ∷ (48 + step.1) ∷ spelled_steps steps) in
     let joined : rest ≡ step_part step ++ spelled_steps steps = sym (append_assoc step.0 (46 ∷ (48 + step.1) ∷ []) (spelled_steps steps)) in
     split_by_cut 47 (part ++ 47 ∷ rest)
@@ -106,7 +99,7 @@ parts_again part (step ∷ steps) h k =
 steps_again : (steps : List (List ℕ × ℕ)) → list_all is_step steps ≡ true → steps_of (map step_part steps) ≡ Some steps
 steps_again [] h = refl
 steps_again (step ∷ steps) h =
-    let each = both_true (is_step step) (list_all is_step steps) h in
+    let each = and_parts (is_step step) (list_all is_step steps) h in
     ap (option_and_then (λ s. option_map (λ more. s ∷ more) (steps_of (map step_part steps)))) (step_again step each.0)
     ∙ ap (option_map (λ more. step ∷ more)) (steps_again steps each.1)
 
@@ -122,17 +115,14 @@ start_lacks : (start : List ℕ) (case : ℕ) → is_name start ≡ true → cas
 start_lacks start case h k =
     joined_lacks 47 start (35 ∷ decimal case) (name_lacks 47 start refl h) (all_differ is_digit 47 (decimal case) refl (decimal_digits case k))
 
-word_of : (n : ℕ) → nat_lt n (2 ^ 64) ≡ true → n < 2 ^ 64
-word_of n h = grind (arith, nat_tests)
-
 pub name_again : (name : List ℕ × ℕ × List (List ℕ × ℕ)) → has_spelling name ≡ true → parts_of_name (spelled_name name) ≡ Some name
 name_again name h =
     let start = name.0 in
     let case = name.1 in
     let steps = name.2 in
-    let each = both_true (is_name start) (nat_lt case (2 ^ 64) && list_all is_step steps) h in
-    let others = both_true (nat_lt case (2 ^ 64)) (list_all is_step steps) each.1 in
-    let word = word_of case others.0 in
+    let each = and_parts (is_name start) (nat_lt case (2 ^ 64) && list_all is_step steps) h in
+    let others = and_parts (nat_lt case (2 ^ 64)) (list_all is_step steps) each.1 in
+    let word = ltb-true case (2 ^ 64) others.0 in
     let whole : List ℕ × ℕ → Option (List ℕ × ℕ × List (List ℕ × ℕ)) =
     λ s. option_map (λ trail. (s.0, s.1, trail)) (steps_of (map step_part steps)) in
     ap parts_of_name (sym (append_assoc start (35 ∷ decimal case) (spelled_steps steps)))

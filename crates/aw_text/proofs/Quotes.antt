@@ -1,9 +1,9 @@
 -- A text between quotes, byte by byte.
 use Rattle.std.proofs.Common.{◌≡◌, ℕ, ◌+◌, ◌<◌, refl, sym, ◌∙◌, ap, Bool, true, false, cond, List, [], ◌∷◌, ◌++◌, length, arith, Option, Some, None, option_map, option_and_then, nat_le, ◌==◌, suc, subst, inl, inr, ◌&&◌, ◌||◌, not, IfSome, IfOk, Result, Ok, Err, flat_map, append_assoc, length-append}
+use Rattle.std.proofs.lemmas.Bool.{lt-leb, and_parts}
 use Rattle.std.proofs.lemmas.Bool.Decides.{nat_tests, eqb_tells}
 use Rattle.std.specs.List.{list_all}
 use Rattle.aw_text.specs.Spelling.{with_front, content_before_quote, text_behind_quote, whole, unquoted, quoted, spelled, escaped, stands_for_itself, is_content, is_content_byte}
-use Rattle.aw_text.proofs.Checks.{both_true, long_is_false}
 
 -- what follows the closing quote, where k bytes of the content stand before
 abbrev pub end_after : ℕ → Option (List ℕ × List ℕ) → Option (List ℕ)
@@ -47,7 +47,7 @@ whole_one_more front b (Some text) =
 
 pub whole_too_long : (front : List ℕ) (o : Option (List ℕ × List ℕ)) → 1024 < length front → whole_after front o ≡ None
 whole_too_long front None h = refl
-whole_too_long front (Some text) h = ap (λ t. cond t (whole (front ++ text.0, text.1)) None) (long_is_false (length front) (length text.0) h)
+whole_too_long front (Some text) h = ap (λ t. cond t (whole (front ++ text.0, text.1)) None) (lt-leb (length front + length text.0) 1024 (omega (arith, h)))
 
 -- What is printed is read again.
 pub plain_piece : (b : ℕ) (rest : List ℕ) → (b == 34) ≡ false → (b == 92) ≡ false → stands_for_itself b ≡ true
@@ -84,14 +84,14 @@ close_here (b ∷ bs) = refl
 content_again : (c rest : List ℕ) → list_all is_content_byte c ≡ true → content_before_quote (flat_map spelled c ++ 34 ∷ rest) ≡ Some (c, rest)
 content_again [] rest h = close_here rest
 content_again (b ∷ bs) rest h =
-    let parts = both_true (is_content_byte b) (list_all is_content_byte bs) h in
+    let parts = and_parts (is_content_byte b) (list_all is_content_byte bs) h in
     ap content_before_quote (append_assoc (spelled b) (flat_map spelled bs) (34 ∷ rest))
     ∙ piece_again b (flat_map spelled bs ++ 34 ∷ rest) parts.0
     ∙ ap (option_map (with_front b)) (content_again bs rest parts.1)
 
 pub text_again : (c rest : List ℕ) → is_content c ≡ true → text_behind_quote (flat_map spelled c ++ 34 ∷ rest) ≡ Some (c, rest)
 text_again c rest h =
-    let parts = both_true (nat_le (length c) 1024) (list_all is_content_byte c) h in
+    let parts = and_parts (nat_le (length c) 1024) (list_all is_content_byte c) h in
     ap (option_and_then (λ text. cond (nat_le (length text.0) 1024) (Some text) None)) (content_again c rest parts.1)
     ∙ ap (λ t. cond t (Some (c, rest)) None) parts.0
 

@@ -1,7 +1,7 @@
 -- The test of a pair tells whether the relation has it.
-use Rattle.std.proofs.Common.{◌≡◌, ◌↔◌, ℕ, ◌<◌, ◌≤◌, Bool, true, false, ◌&&◌, IsTrue, Option, None, Some, nat_lt, nat_le, slice_get, refl, ap, ◌∙◌, arith, List, Ok, Err, IfOk}
+use Rattle.std.proofs.Common.{◌≡◌, ◌↔◌, ℕ, ◌<◌, ◌≤◌, Bool, true, ◌&&◌, IsTrue, Option, None, Some, nat_lt, nat_le, slice_get, ap, ◌∙◌, List, Ok, Err, IfOk}
 use Rattle.std.specs.declared.result.Result.{Result}
-use Rattle.std.proofs.lemmas.Bool.Decides.{nat_tests}
+use Rattle.std.proofs.lemmas.Bool.{and_parts, and_from, ltb-true, leb-true, lt-ltb, le-leb}
 use Rattle.aw_grammar.specs.declared.grammar.Grammar.{Grammar}
 use Rattle.aw_grammar.specs.GrammarOf.{grammar_of, words_of}
 use Rattle.aw_iograph.specs.declared.io.Io.{Io}
@@ -10,25 +10,11 @@ use Rattle.aw_accept.specs.Circular.{IsRelation}
 use Rattle.aw_told.specs.Told.{TellsAccepted, accepted_text}
 use Rattle.aw_told.specs.PairTests.{is_number, is_set, has_pair}
 
-both : (a b : Bool) → a && b ≡ true → (a ≡ true) × (b ≡ true)
-both true b e = (refl, e)
-both false b e = absurd (cc (e))
-
-join : (a b : Bool) → a ≡ true → b ≡ true → a && b ≡ true
-join true b e f = f
-join false b e f = absurd (cc (e))
-
-above-none : (i : ℕ) → nat_lt 0 i ≡ true → 0 < i
-above-none i e = grind (arith, nat_tests)
-
-up-to-eight : (i : ℕ) → nat_le i 8 ≡ true → i ≤ 8
-up-to-eight i e = grind (arith, nat_tests)
-
 number-of : (i : ℕ) → is_number i ≡ true → IsNumber i
-number-of i e = let tests = both (nat_lt 0 i) (nat_le i 8) e in record { counted = above-none i tests.0; few = up-to-eight i tests.1 }
+number-of i e = let tests = and_parts (nat_lt 0 i) (nat_le i 8) e in record { counted = ltb-true 0 i tests.0; few = leb-true i 8 tests.1 }
 
 number-test : (i : ℕ) → 0 < i → i ≤ 8 → is_number i ≡ true
-number-test i counted few = let e : nat_lt 0 i ≡ true = grind (arith, nat_tests) in let f : nat_le i 8 ≡ true = grind (arith, nat_tests) in join _ _ e f
+number-test i counted few = and_from _ _ (lt-ltb 0 i counted) (le-leb i 8 few)
 
 set-of : (mark : Option Bool) → is_set mark ≡ true → mark ≡ Some true
 set-of None e = absurd (cc (e))
@@ -37,11 +23,11 @@ set-of (Some mark) e = ap Some e
 pub pair-test : (io : Io) (s i j : ℕ) → IsTrue (has_pair io s i j) ↔ Has io s i j
 pair-test io s i j = (
   (λ e.
-      let first = both (is_number i) (is_number j && is_set (slice_get io.marks.items (mark_of s i j))) e in
-      let next = both (is_number j) (is_set (slice_get io.marks.items (mark_of s i j))) first.1 in
+      let first = and_parts (is_number i) (is_number j && is_set (slice_get io.marks.items (mark_of s i j))) e in
+      let next = and_parts (is_number j) (is_set (slice_get io.marks.items (mark_of s i j))) first.1 in
       record { inherited = number-of i first.0; result = number-of j next.0; marked = set-of _ next.1 }),
   (λ has.
-      join _ _ (number-test i has.inherited.counted has.inherited.few) (join _ _ (number-test j has.result.counted has.result.few) (ap is_set has.marked))),
+      and_from _ _ (number-test i has.inherited.counted has.inherited.few) (and_from _ _ (number-test j has.result.counted has.result.few) (ap is_set has.marked))),
 )
 
 -- the text of a relation that is that of the grammar tells it

@@ -1,14 +1,8 @@
 -- Adding at the end of a text, one part after the other.
-use Rattle.std.proofs.Common.{◌≡◌, ℕ, zero, suc, ◌+◌, ◌<◌, List, [], ◌∷◌, ◌++◌, length, get_or, take, map, Result, Ok, Err, refl, sym, ap, ◌∙◌, append_assoc, arith}
-use Rattle.std.specs.Prelude.{OnOk}
+use Rattle.std.proofs.Common.{◌≡◌, ℕ, zero, suc, ◌+◌, ◌<◌, List, [], ◌∷◌, ◌++◌, length, get_or, take, map, sym, ap, ◌∙◌, append_assoc, arith}
 use Rattle.std.specs.List.{flat_map}
 use Rattle.std.proofs.lemmas.List.{take_more, flat_map_more}
-use Rattle.std.proofs.lemmas.List.Concat.{flat_map-cons}
 use Rattle.aw_term.specs.WellFormed.{Each}
-
-pub then_ok : {A E P Q : Type 0} (result : Result A E) → (P → Q) → OnOk result P → OnOk result Q
-then_ok (Ok x) f h = f h
-then_ok (Err e) f h = tt
 
 -- one more of a list
 pub one_more : {A : Type 0} (spelled : A → List ℕ) (xs : List A) (i : ℕ) (x : A) (old text new : List ℕ) → i < length xs → x ≡ get_or xs i x → text ≡ old ++ flat_map spelled (take i xs) → new ≡ text ++ spelled x
@@ -19,10 +13,6 @@ one_more spelled xs i x old text new lt is so_far e =
 
 pub two : (old a b : List ℕ) (middle new : List ℕ) → middle ≡ old ++ a → new ≡ middle ++ b → new ≡ old ++ (a ++ b)
 two old a b middle new e f = f ∙ ap (λ t. t ++ b) e ∙ append_assoc old a b
-
-pub of_seen : {A B : Type 0} (spelled : B → List ℕ) (view : A → B) (xs : List A) → flat_map (λ x. spelled (view x)) xs ≡ flat_map spelled (map view xs)
-of_seen spelled view [] = refl
-of_seen spelled view (x ∷ xs) = flat_map-cons (λ y. spelled (view y)) x xs ∙ ap (λ t. spelled (view x) ++ t) (of_seen spelled view xs) ∙ sym (flat_map-cons spelled (view x) (map view xs))
 
 pub each_at : {A B : Type 0} (P : B → Type 0) (view : A → B) (xs : List A) (i : ℕ) (x : A) → i < length xs → Each P (map view xs) → P (view (get_or xs i x))
 each_at P view [] i x lt h = absurd (none i lt)

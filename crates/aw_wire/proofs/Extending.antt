@@ -4,7 +4,7 @@ use Rattle.std.proofs.lemmas.Bool.{ltb-false, le-ltb}
 use Rattle.std.proofs.lemmas.List.{take-append-le, drop-append-le, length-append, length-drop}
 use Rattle.std.specs.Int.{Width, byte_len, from_be_bytes}
 use Rattle.aw_wire.specs.Reading.{Fault, Short, Bad, Reader, ◌>>=◌, byte, number, such_that, both, seen, times, counted}
-use Rattle.aw_wire.proofs.Laws.{bind_ok, guard_ok, rule_ok, ok_is}
+use Rattle.aw_wire.proofs.Laws.{bind_ok, guard_ok, rule_ok, ok_is, ok_not_err}
 
 pub record Extends {A : Type 0} (read : Reader A) : Type 0 where
   pub ok : (bytes : List ℕ) (x : A) (rest more : List ℕ) → read bytes ≡ Ok (x, rest) → read (bytes ++ more) ≡ Ok (x, rest ++ more)
@@ -26,9 +26,10 @@ byte_shorter (b ∷ bytes) x rest e = ap (λ (p : ℕ × List ℕ). suc (length 
 pub byte_extends : Extends byte
 byte_extends = record { ok = byte_ok; bad = byte_bad; shorter = λ bytes x rest e. let h = byte_shorter bytes x rest e in omega arith }
 
-short_or_ok : {A : Type 0} (b : Bool) (x : A × List ℕ) (left : ℕ) → cond b (Err Short) (Ok x) ≡ Err (Bad left) → ⊥
-short_or_ok true x left e = absurd cc
-short_or_ok false x left e = absurd cc
+-- what is bad was long enough
+pub long_bad : {A : Type 0} (b : Bool) (read : Result A Fault) (left : ℕ) → cond b (Err Short) read ≡ Err (Bad left) → (b ≡ false) × (read ≡ Err (Bad left))
+long_bad true read left e = absurd cc
+long_bad false read left e = (refl, e)
 
 -- a front of n bytes is the same in more bytes
 pub still_long : (n : ℕ) (bytes more : List ℕ) → n ≤ length bytes → ltb (length (bytes ++ more)) n ≡ false
@@ -50,11 +51,11 @@ number_shorter w bytes x rest e =
 pub number_extends : (w : Width) → Extends (number w)
 number_extends w = record {
   ok = number_ok w;
-  bad = λ bytes more left e. absurd (short_or_ok (ltb (length bytes) (byte_len w)) (from_be_bytes w (take (byte_len w) bytes), drop (byte_len w) bytes) left e);
+  bad = λ bytes more left e. absurd (ok_not_err (from_be_bytes w (take (byte_len w) bytes), drop (byte_len w) bytes) (Bad left) (long_bad (ltb (length bytes) (byte_len w)) (Ok _) left e).1);
   shorter = number_shorter w;
 }
 
-abbrev fault_of : (A : Type 0) → Fault → Result A Fault
+abbrev pub fault_of : (A : Type 0) → Fault → Result A Fault
 fault_of A d = Err d
 
 bind_bad : {A B : Type 0} (r : Result A Fault) (f : A → Result B Fault) (left : ℕ) → (r >>= f) ≡ Err (Bad left) → (r ≡ Err (Bad left)) ⊎ ((x : A) × (r ≡ Ok x) × (f x ≡ Err (Bad left)))
@@ -157,6 +158,24 @@ nothing_shorter bytes x rest e = absurd cc
 
 pub nothing_extends : {A : Type 0} → Extends {A = A} nothing
 nothing_extends = record { ok = nothing_ok; bad = λ bytes more left e. (suc (length (bytes ++ more)), refl); shorter = nothing_shorter }
+
+-- behind a tag of up to 3 each one reads its own, and behind a greater one nothing has a place
+abbrev pub by_tag : {A : Type 0} → Reader A → Reader A → Reader A → Reader A → ℕ → Reader A
+by_tag a b c d zero = a
+by_tag a b c d (suc zero) = b
+by_tag a b c d (suc (suc zero)) = c
+by_tag a b c d (suc (suc (suc zero))) = d
+by_tag a b c d (suc (suc (suc (suc n)))) = nothing
+
+pub by_tag_extends : {A : Type 0} {a b c d : Reader A} → Extends a → Extends b → Extends c → Extends d → Extends (next byte (by_tag a b c d))
+by_tag_extends {A} {a} {b} {c} {d} h i j k = next_extends byte_extends each
+  where
+    each : (n : ℕ) → Extends (by_tag a b c d n)
+    each zero = h
+    each (suc zero) = i
+    each (suc (suc zero)) = j
+    each (suc (suc (suc zero))) = k
+    each (suc (suc (suc (suc n)))) = nothing_extends
 
 pub seen_extends : {A B : Type 0} {r : Reader A} (f : A → B) → Extends r → Extends (seen f r)
 seen_extends f h = via (λ bytes. refl) (next_extends h (λ x. given_extends (f x)))

@@ -1,12 +1,15 @@
 -- What is read of texts and arguments is spelled so, and what is spelled so is read.
-use Rattle.std.proofs.Common.{◌≡◌, ℕ, zero, suc, ◌+◌, ◌-◌, ◌<◌, ◌≤◌, ◌^◌, max, Bool, true, false, ◌&&◌, List, [], ◌∷◌, ◌++◌, length, Ok, refl, sym, ap, subst, ◌∙◌, append_assoc, arith}
+use Rattle.std.proofs.Common.{◌≡◌, ℕ, zero, suc, ◌+◌, ◌-◌, ◌<◌, ◌≤◌, ◌^◌, max, true, List, [], ◌∷◌, ◌++◌, length, Ok, refl, sym, ap, subst, ◌∙◌, append_assoc, arith}
 use Rattle.std.specs.List.{flat_map, list_all}
 use Rattle.std.specs.Int.{w16, to_be_bytes}
-use Rattle.std.proofs.lemmas.List.Concat.{flat_map-cons}
+use Rattle.std.proofs.lemmas.Bool.{and_parts, and_from, leb-true, le-leb}
+use Rattle.std.proofs.lemmas.List.{map-id}
+use Rattle.std.proofs.lemmas.List.Concat.{flat_map-cons, flat_map_single}
 use Rattle.aw_text.specs.Spelling.{is_content_byte}
 use Rattle.aw_term.specs.Trees.{Never, Head, Con, Num, Text, Leaf, Made, Trees, Nil, More, join, count}
 use Rattle.aw_term.specs.Rules.{Ground}
 use Rattle.aw_term.specs.WellFormed.{Each, symbols, all_symbols, symbols_of, nesting, all_nesting}
+use Rattle.aw_term.proofs.Joined.{count_join, symbols_join}
 use Rattle.aw_wire.specs.Bytes.{AreBytes}
 use Rattle.aw_wire.specs.Reading.{◌>>=◌, byte, number, such_that, both}
 use Rattle.aw_wire.specs.Names.{is_at_most}
@@ -14,43 +17,30 @@ use Rattle.aw_wire.specs.Texts.{spelled_text, text}
 use Rattle.aw_wire.specs.Grounds.{spelled_head, spelled_ground, spelled_parts, spelled_grounds, head, in_turn, with_parts, ground, arguments}
 use Rattle.aw_wire.specs.Ranges.{TextSized, TextInRange, HeadSized, HeadInRange, GroundSized, PartsSized, HeadsInRange, PartsInRange, GroundInRange, GroundsSized, GroundsInRange}
 use Rattle.aw_wire.proofs.Laws.{Law, Takes, Takes-then, Takes-tag, AreBytes-rest, bind_ok, ok_is, byte_law, number16, number64, such_that_law, both_law, seen_taken, seen_again, restated, counted_law}
-use Rattle.aw_wire.proofs.NameLaws.{le_holds, le_tests}
 use Rattle.aw_wire.proofs.Turns.{ground_step}
 
 -- ---- texts
-
-singles : (bytes : List ℕ) → flat_map (λ b. b ∷ []) bytes ≡ bytes
-singles [] = refl
-singles (b ∷ bytes) = flat_map-cons (λ c. c ∷ []) b bytes ∙ ap (λ (t : List ℕ). b ∷ t) (singles bytes)
-
-and_holds : (a b : Bool) → (a && b) ≡ true → (a ≡ true) × (b ≡ true)
-and_holds true b e = (refl, e)
-and_holds false b e = absurd cc
-
-both_true : (a b : Bool) → a ≡ true → b ≡ true → (a && b) ≡ true
-both_true true b e f = f
-both_true false b e f = e
 
 abbrev AreContent : List ℕ → Type 0
 AreContent bytes = Each (λ b. Unit {0} × (is_content_byte b ≡ true)) bytes
 
 content_holds : (bytes : List ℕ) → list_all is_content_byte bytes ≡ true → AreContent bytes
 content_holds [] e = tt
-content_holds (b ∷ bytes) e = let p = and_holds (is_content_byte b) (list_all is_content_byte bytes) e in ((tt, p.0), content_holds bytes p.1)
+content_holds (b ∷ bytes) e = let p = and_parts (is_content_byte b) (list_all is_content_byte bytes) e in ((tt, p.0), content_holds bytes p.1)
 
 content_tests : (bytes : List ℕ) → AreContent bytes → list_all is_content_byte bytes ≡ true
 content_tests [] h = refl
-content_tests (b ∷ bytes) h = both_true (is_content_byte b) (list_all is_content_byte bytes) h.0.1 (content_tests bytes h.1)
+content_tests (b ∷ bytes) h = and_from (is_content_byte b) (list_all is_content_byte bytes) h.0.1 (content_tests bytes h.1)
 
 pub text_law : Law text spelled_text TextSized TextInRange
 unfolding text
-text_law = restated spelled_text TextSized TextInRange (λ t. ap (λ (u : List ℕ). to_be_bytes w16 (length t) ++ u) (singles t))
-    (λ t sized range. (sized.1, both_true (is_at_most 1024 (length t)) (list_all is_content_byte t) range.0.1 (content_tests t range.1)))
-    (λ t sized range. let p = and_holds (is_at_most 1024 (length t)) (list_all is_content_byte t) range in ((short t p.0, sized), ((tt, p.0), content_holds t p.1)))
+text_law = restated spelled_text TextSized TextInRange (λ t. ap (λ (u : List ℕ). to_be_bytes w16 (length t) ++ u) (flat_map_single (λ b. b) t ∙ map-id t))
+    (λ t sized range. (sized.1, and_from (is_at_most 1024 (length t)) (list_all is_content_byte t) range.0.1 (content_tests t range.1)))
+    (λ t sized range. let p = and_parts (is_at_most 1024 (length t)) (list_all is_content_byte t) range in ((short t p.0, sized), ((tt, p.0), content_holds t p.1)))
     (counted_law (such_that_law (is_at_most 1024) number16) (such_that_law is_content_byte byte_law))
   where
     short : (t : List ℕ) → is_at_most 1024 (length t) ≡ true → length t < 2 ^ 16
-    short t e = let le = le_holds 1024 (length t) e in omega arith
+    short t e = let le = leb-true (length t) 1024 e in omega arith
 
 -- ---- heads
 
@@ -66,7 +56,7 @@ head_taken [] x rest fits e = absurd cc
 head_taken (zero ∷ bytes) x rest fits e = absurd cc
 head_taken (suc zero ∷ bytes) x rest fits e =
     let t = seen_taken (λ y. (Con y.0, y.1)) con_law bytes x rest (AreBytes-rest 1 bytes fits) e in
-    subst (HeadTakes (1 ∷ bytes) rest) t.1 (Takes-tag 1 bytes (to_be_bytes w16 t.0.0 ++ t.0.1 ∷ []) rest t.2, t.3.0, le_holds 8 t.0.1 t.4.1.1)
+    subst (HeadTakes (1 ∷ bytes) rest) t.1 (Takes-tag 1 bytes (to_be_bytes w16 t.0.0 ++ t.0.1 ∷ []) rest t.2, t.3.0, leb-true t.0.1 8 t.4.1.1)
 head_taken (suc (suc zero) ∷ bytes) x rest fits e =
     let t = seen_taken (λ n. (Num n, 0)) number64 bytes x rest (AreBytes-rest 2 bytes fits) e in
     subst (HeadTakes (2 ∷ bytes) rest) t.1 (Takes-tag 2 bytes _ rest t.2, t.3, refl)
@@ -77,7 +67,7 @@ head_taken (suc (suc (suc (suc b))) ∷ bytes) x rest fits e = absurd cc
 
 head_again : (h : Head) (n : ℕ) (rest : List ℕ) → HeadSized h → HeadInRange h n → head (spelled_head h n ++ rest) ≡ Ok ((h, n), rest)
 unfolding head
-head_again (Con c) n rest sized range = seen_again (λ y. (Con y.0, y.1)) con_law (c, n) rest (sized, omega arith) (tt, (tt, le_tests 8 n range))
+head_again (Con c) n rest sized range = seen_again (λ y. (Con y.0, y.1)) con_law (c, n) rest (sized, omega arith) (tt, (tt, le-leb n 8 range))
 head_again (Num m) n rest sized range = seen_again (λ k. (Num k, 0)) number64 m rest sized tt ∙ ap (λ k. Ok ((Num m, k), rest)) (sym range)
 head_again (Text t) n rest sized range = seen_again (λ u. (Text u, 0)) text_law t rest sized range.1 ∙ ap (λ k. Ok ((Text t, k), rest)) (sym range.0)
 
@@ -116,17 +106,9 @@ turn_taken levels item (suc n) allowed bytes xs rest fits e =
     adds a b left middle allowed e f = omega arith
 
 -- the parts of a constructor as a list
-pub count_join : (ts : List Ground) → count (join ts) ≡ length ts
-count_join [] = refl
-count_join (t ∷ ts) = ap suc (count_join ts)
-
 pub parts_join : (ts : List Ground) → spelled_parts (join ts) ≡ flat_map spelled_ground ts
 parts_join [] = refl
 parts_join (t ∷ ts) = ap (λ (u : List ℕ). spelled_ground t ++ u) (parts_join ts) ∙ sym (flat_map-cons spelled_ground t ts)
-
-symbols_join : (ts : List Ground) → all_symbols (join ts) ≡ symbols_of ts
-symbols_join [] = refl
-symbols_join (t ∷ ts) = ap (λ n. symbols t + n) (symbols_join ts)
 
 sized_join : (ts : List Ground) → Each GroundSized ts → PartsSized (join ts)
 sized_join [] h = tt
@@ -262,7 +244,7 @@ arguments_taken bytes ts rest fits e =
     subst (λ (y : List Ground × List ℕ). ArgumentsTake bytes y.0 y.1) (ok_is (b.0.0.0, b.0.1) (ts, rest) b.2) (
       subst (λ n. Takes bytes (n ∷ flat_map spelled_ground b.0.0.0) b.0.1) (sym turn.many) (Takes-then bytes (a.0.0 ∷ []) a.0.1 (flat_map spelled_ground b.0.0.0) b.0.1 front.0 turn.text),
       turn.sized,
-      (few (length b.0.0.0) a.0.0 turn.many (le_holds 8 a.0.0 front.2.1), within (symbols_of b.0.0.0) b.0.0.1 turn.uses, turn.range),
+      (few (length b.0.0.0) a.0.0 turn.many (leb-true a.0.0 8 front.2.1), within (symbols_of b.0.0.0) b.0.0.1 turn.uses, turn.range),
     )
   where
     few : (n m : ℕ) → n ≡ m → m ≤ 8 → n ≤ 8
@@ -274,7 +256,7 @@ arguments_taken bytes ts rest fits e =
 arguments_again : (ts : List Ground) (rest : List ℕ) → GroundsSized ts → GroundsInRange ts → arguments (spelled_grounds ts ++ rest) ≡ Ok (ts, rest)
 unfolding arguments
 arguments_again ts rest sized range =
-    rw (le_tests 8 (length ts) range.0, turn_again ts 32 256 (256 - symbols_of ts) rest sized range.2 (allowance (symbols_of ts) range.1)) refl
+    rw (le-leb (length ts) 8 range.0, turn_again ts 32 256 (256 - symbols_of ts) rest sized range.2 (allowance (symbols_of ts) range.1)) refl
   where
     allowance : (n : ℕ) → n ≤ 256 → 256 ≡ n + (256 - n)
     allowance n h = omega arith

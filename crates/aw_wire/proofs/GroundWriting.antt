@@ -4,16 +4,18 @@ use Rattle.std.specs.Prelude.{OnOk}
 use Rattle.std.specs.List.{flat_map}
 use Rattle.std.specs.Int.{w16, to_be_bytes}
 use Rattle.std.proofs.lemmas.List.{length-map}
+use Rattle.std.proofs.lemmas.Result.{on_ok_weaker}
 use Rattle.aw_term.specs.Trees.{Made, Con, join, count}
 use Rattle.aw_term.specs.Rules.{Ground}
 use Rattle.aw_term.specs.WellFormed.{Each}
 use Rattle.aw_term.specs.Views.{ground_of}
 use Rattle.aw_term.specs.declared.ground.Ground as grounds
+use Rattle.aw_term.proofs.Joined.{count_join}
 use Rattle.aw_term.proofs.ViewLemmas.{ground_con}
 use Rattle.aw_wire.specs.Grounds.{spelled_head, spelled_ground, spelled_parts}
 use Rattle.aw_wire.specs.Ranges.{HeadsInRange, PartsInRange}
-use Rattle.aw_wire.proofs.GroundLaws.{count_join, parts_join}
-use Rattle.aw_wire.proofs.Adding.{then_ok, two}
+use Rattle.aw_wire.proofs.GroundLaws.{parts_join}
+use Rattle.aw_wire.proofs.Adding.{two}
 
 parts_each : (ts : List Ground) → PartsInRange (join ts) → Each HeadsInRange ts
 parts_each [] h = tt
@@ -32,7 +34,7 @@ con_added r g c parts qs n k old t1 t2 t3 new is qs-is n-is few e1 e2 e3 others 
     let number : k ≡ count (join us) = few (subst (λ m. m ≤ 8) many known.0) ∙ sym many in
     let front : t3 ≡ old ++ spelled_head (Con c) (count (join us)) =
     two old (1 ∷ []) (to_be_bytes w16 c ++ count (join us) ∷ []) t1 t3 e1 (two t1 (to_be_bytes w16 c) (count (join us) ∷ []) t2 t3 e2 (e3 ∙ ap (λ m. t2 ++ m ∷ []) number)) in
-    then_ok r
+    on_ok_weaker r
     (λ e. two old (spelled_head (Con c) (count (join us))) (spelled_parts (join us)) t3 new front
     (e ∙ ap (λ ps. t3 ++ flat_map spelled_ground (map ground_of ps)) qs-is ∙ ap (λ t. t3 ++ t) (sym (parts_join us)))
     ∙ ap (λ t. old ++ spelled_ground t) (sym view))

@@ -29,20 +29,23 @@ pub bind_ok : {A B : Type 0} (r : Result A Fault) (f : A → Result B Fault) (y 
 bind_ok (Ok x) f y e = (x, refl, e)
 bind_ok (Err d) f y e = absurd cc
 
+pub ok_is : {A E : Type 0} (x y : A) → ◌≡◌ {A = Result A E} (Ok x) (Ok y) → x ≡ y
+ok_is x y e = cc
+
 -- a test that did not fail
+pub guard_is : {A : Type 0} (b : Bool) (d : Fault) (read : Result A Fault) (x : A) → cond b (Err d) read ≡ Ok x → (b ≡ false) × (read ≡ Ok x)
+guard_is true d read x e = absurd cc
+guard_is false d read x e = (refl, e)
+
 pub guard_ok : {A : Type 0} (b : Bool) (d : Fault) (x y : A) → cond b (Err d) (Ok x) ≡ Ok y → (b ≡ false) × (x ≡ y)
-guard_ok true d x y e = absurd cc
-guard_ok false d x y e = (refl, cc)
+guard_ok b d x y e = let (off, read) = guard_is b d (Ok x) y e in (off, ok_is x y read)
 
 pub rule_ok : {A : Type 0} (b : Bool) (d : Fault) (x y : A) → cond b (Ok x) (Err d) ≡ Ok y → (b ≡ true) × (x ≡ y)
 rule_ok true d x y e = (refl, cc)
 rule_ok false d x y e = absurd cc
 
-abbrev done : {A : Type 0} → A → Result A Fault
-done x = Ok x
-
-pub ok_is : {A : Type 0} (x y : A) → done x ≡ done y → x ≡ y
-ok_is x y e = cc
+pub ok_not_err : {A E : Type 0} (x : A) (d : E) → ◌≡◌ {A = Result A E} (Ok x) (Err d) → ⊥
+ok_not_err x d e = absurd cc
 
 -- what a reader took from the front
 pub record Takes (bytes text rest : List ℕ) : Type 0 where

@@ -1,6 +1,6 @@
 -- What is read of names is spelled so, and what is spelled so is read.
-use Rattle.std.proofs.Common.{◌≡◌, ℕ, zero, suc, ◌<◌, ◌≤◌, ◌^◌, true, List, [], ◌∷◌, ◌++◌, length, Ok, refl, subst, arith}
-use Rattle.std.proofs.lemmas.Bool.Decides.{nat_tests}
+use Rattle.std.proofs.Common.{◌≡◌, ℕ, zero, suc, ◌<◌, ◌≤◌, ◌^◌, true, List, [], ◌∷◌, ◌++◌, length, nat_le, Ok, refl, subst, arith}
+use Rattle.std.proofs.lemmas.Bool.{and_parts, and_from, leb-true, le-leb}
 use Rattle.std.specs.List.{flat_map}
 use Rattle.std.specs.Int.{w16, to_be_bytes}
 use Rattle.aw_term.specs.Names.{Step, Slot, Result, Part}
@@ -11,17 +11,11 @@ use Rattle.aw_wire.specs.Names.{spelled_step, spelled_node, spelled_slot, spelle
 use Rattle.aw_wire.specs.Ranges.{From1To, StepSized, StepInRange, NodeSized, NodeInRange, SlotSized, SlotInRange, RefSized, RefInRange, RefsSized, RefsInRange}
 use Rattle.aw_wire.proofs.Laws.{Law, Takes, Takes-tag, AreBytes-rest, byte_law, number16, number64, such_that_law, both_law, seen_law, seen_taken, seen_again, restated, counted_law}
 
-pub le_holds : (most n : ℕ) → is_at_most most n ≡ true → n ≤ most
-le_holds most n e = grind (arith, nat_tests)
-
-pub le_tests : (most n : ℕ) → n ≤ most → is_at_most most n ≡ true
-le_tests most n e = grind (arith, nat_tests)
-
 from_holds : (most n : ℕ) → is_from_1_to most n ≡ true → From1To most n
-from_holds most n e = (grind (arith, nat_tests), grind (arith, nat_tests))
+from_holds most n e = let (low, high) = and_parts (nat_le 1 n) (nat_le n most) e in (leb-true 1 n low, leb-true n most high)
 
 from_tests : (most n : ℕ) → From1To most n → is_from_1_to most n ≡ true
-from_tests most n h = let low = h.0 in let high = h.1 in grind (arith, nat_tests)
+from_tests most n h = and_from (nat_le 1 n) (nat_le n most) (le-leb 1 n h.0) (le-leb n most h.1)
 
 pub step_law : Law step spelled_step StepSized StepInRange
 unfolding step
@@ -39,8 +33,8 @@ spelled_trail ss = length ss ∷ flat_map spelled_step ss
 
 trail_law : Law trail spelled_trail TrailSized TrailInRange
 unfolding trail
-trail_law = restated spelled_trail TrailSized TrailInRange (λ ss. refl) (λ ss sized range. (sized.1, (le_holds 250 (length ss) range.0.1, range.1)))
-    (λ ss sized range. ((omega (arith, range.0), sized), ((tt, le_tests 250 (length ss) range.0), range.1)))
+trail_law = restated spelled_trail TrailSized TrailInRange (λ ss. refl) (λ ss sized range. (sized.1, (leb-true (length ss) 250 range.0.1, range.1)))
+    (λ ss sized range. ((omega (arith, range.0), sized), ((tt, le-leb (length ss) 250 range.0), range.1)))
     (counted_law (such_that_law (is_at_most 250) byte_law) step_law)
 
 pub node_law : Law node spelled_node NodeSized NodeInRange
@@ -82,6 +76,6 @@ reference_law = seen_law (λ r. record { node = r.0; slot = r.1 }) (λ r. (r.nod
 
 pub references_law : Law references spelled_refs RefsSized RefsInRange
 unfolding references
-references_law = restated spelled_refs RefsSized RefsInRange (λ rs. refl) (λ rs sized range. (sized.1, (le_holds 8 (length rs) range.0.1, range.1)))
-    (λ rs sized range. ((omega (arith, range.0), sized), ((tt, le_tests 8 (length rs) range.0), range.1)))
+references_law = restated spelled_refs RefsSized RefsInRange (λ rs. refl) (λ rs sized range. (sized.1, (leb-true (length rs) 8 range.0.1, range.1)))
+    (λ rs sized range. ((omega (arith, range.0), sized), ((tt, le-leb (length rs) 8 range.0), range.1)))
     (counted_law (such_that_law (is_at_most 8) byte_law) reference_law)

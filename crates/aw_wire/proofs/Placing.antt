@@ -6,19 +6,13 @@ use Rattle.aw_wire.specs.Reading as reading
 use Rattle.aw_wire.specs.Reading.{Reader}
 use Rattle.aw_wire.specs.Placed.{Fault, placed, Decodes, Finds, IsFound}
 use Rattle.aw_wire.specs.declared.fault.MsgFault.{MsgFault}
-use Rattle.aw_wire.proofs.Laws.{Law}
+use Rattle.aw_wire.proofs.Laws.{Law, ok_is}
 
 abbrev found : {A : Type 0} → A → ℕ → Result (A × ℕ) Fault
 found x n = Ok (x, n)
 
-abbrev done : {A : Type 0} → A × ℕ → Result (A × ℕ) Fault
-done x = Ok x
-
-pair_is : {A : Type 0} (x y : A × ℕ) → done x ≡ done y → x ≡ y
-pair_is x y e = cc
-
 found_is : {A : Type 0} (x y : A) (n m : ℕ) → found x n ≡ found y m → (x ≡ y) × (n ≡ m)
-found_is {A} x y n m e = let p = pair_is (x, n) (y, m) e in (ap (λ (q : A × ℕ). q.0) p, ap (λ (q : A × ℕ). q.1) p)
+found_is {A} x y n m e = let p = ok_is (x, n) (y, m) e in (ap (λ (q : A × ℕ). q.0) p, ap (λ (q : A × ℕ). q.1) p)
 
 is_read : {A : Type 0} (bytes : List ℕ) (read : Result (A × List ℕ) reading.Fault) (x : A) (n : ℕ) → placed bytes read ≡ Ok (x, n) → (rest : List ℕ) × (read ≡ Ok (x, rest)) × (length bytes - length rest ≡ n)
 is_read bytes (Ok y) x n e = (y.1, ap (λ z. Ok (z, y.1)) (found_is y.0 x (length bytes - length y.1) n e).0, (found_is y.0 x (length bytes - length y.1) n e).1)

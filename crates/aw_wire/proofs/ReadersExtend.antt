@@ -11,7 +11,7 @@ use Rattle.aw_wire.specs.Names.{is_at_most, is_from_1_to, step, trail, node, slo
 use Rattle.aw_wire.specs.Texts.{text}
 use Rattle.aw_wire.specs.Grounds.{head, in_turn, no_term, with_parts, ground, arguments}
 use Rattle.aw_wire.specs.Choices.{choice}
-use Rattle.aw_wire.proofs.Extending.{Extends, next, next_extends, via, nothing, nothing_extends, given_extends, byte_extends, number_extends, such_that_extends, seen_extends, both_extends, counted_extends}
+use Rattle.aw_wire.proofs.Extending.{Extends, next, next_extends, via, nothing, nothing_extends, given_extends, by_tag, by_tag_extends, byte_extends, number_extends, such_that_extends, seen_extends, both_extends, counted_extends}
 
 pub at_most_extends : (most : ℕ) → Extends (such_that (is_at_most most) byte)
 at_most_extends most = such_that_extends (is_at_most most) byte_extends
@@ -34,24 +34,19 @@ slot_number_extends : (most : ℕ) → Extends (such_that (is_from_1_to most) (n
 slot_number_extends most = such_that_extends (is_from_1_to most) (number_extends w16)
 
 abbrev behind_slot : ℕ → Reader Slot
-behind_slot zero = seen ResultSlot (such_that (is_from_1_to 8) (number w16))
-behind_slot (suc zero) = seen Part (such_that (is_from_1_to 512) (number w16))
-behind_slot (suc (suc b)) = nothing
-
-behind_slot_extends : (b : ℕ) → Extends (behind_slot b)
-behind_slot_extends zero = seen_extends ResultSlot (slot_number_extends 8)
-behind_slot_extends (suc zero) = seen_extends Part (slot_number_extends 512)
-behind_slot_extends (suc (suc b)) = nothing_extends
+behind_slot = by_tag (seen ResultSlot (such_that (is_from_1_to 8) (number w16))) (seen Part (such_that (is_from_1_to 512) (number w16))) nothing nothing
 
 slot_is : (bytes : List ℕ) → slot bytes ≡ next byte behind_slot bytes
 unfolding slot
 slot_is [] = refl
 slot_is (zero ∷ bytes) = refl
 slot_is (suc zero ∷ bytes) = refl
-slot_is (suc (suc b) ∷ bytes) = refl
+slot_is (suc (suc zero) ∷ bytes) = refl
+slot_is (suc (suc (suc zero)) ∷ bytes) = refl
+slot_is (suc (suc (suc (suc b))) ∷ bytes) = refl
 
 slot_extends : Extends slot
-slot_extends = via slot_is (next_extends byte_extends behind_slot_extends)
+slot_extends = via slot_is (by_tag_extends (seen_extends ResultSlot (slot_number_extends 8)) (seen_extends Part (slot_number_extends 512)) nothing_extends nothing_extends)
 
 pub reference_extends : Extends reference
 unfolding reference
@@ -68,18 +63,7 @@ unfolding text
 text_extends = counted_extends (such_that_extends (is_at_most 1024) (number_extends w16)) (such_that_extends is_content_byte byte_extends)
 
 abbrev behind_head : ℕ → Reader (Head × ℕ)
-behind_head zero = nothing
-behind_head (suc zero) = seen (λ x. (Con x.0, x.1)) (both (number w16) (such_that (is_at_most 8) byte))
-behind_head (suc (suc zero)) = seen (λ n. (Num n, 0)) (number w64)
-behind_head (suc (suc (suc zero))) = seen (λ t. (Text t, 0)) text
-behind_head (suc (suc (suc (suc b)))) = nothing
-
-behind_head_extends : (b : ℕ) → Extends (behind_head b)
-behind_head_extends zero = nothing_extends
-behind_head_extends (suc zero) = seen_extends _ (both_extends (number_extends w16) (at_most_extends 8))
-behind_head_extends (suc (suc zero)) = seen_extends _ (number_extends w64)
-behind_head_extends (suc (suc (suc zero))) = seen_extends _ text_extends
-behind_head_extends (suc (suc (suc (suc b)))) = nothing_extends
+behind_head = by_tag nothing (seen (λ x. (Con x.0, x.1)) (both (number w16) (such_that (is_at_most 8) byte))) (seen (λ n. (Num n, 0)) (number w64)) (seen (λ t. (Text t, 0)) text)
 
 head_is : (bytes : List ℕ) → head bytes ≡ next byte behind_head bytes
 unfolding head
@@ -91,7 +75,7 @@ head_is (suc (suc (suc zero)) ∷ bytes) = refl
 head_is (suc (suc (suc (suc b))) ∷ bytes) = refl
 
 head_extends : Extends head
-head_extends = via head_is (next_extends byte_extends behind_head_extends)
+head_extends = via head_is (by_tag_extends nothing_extends (seen_extends _ (both_extends (number_extends w16) (at_most_extends 8))) (seen_extends _ (number_extends w64)) (seen_extends _ text_extends))
 
 in_turn_extends : {A : Type 0} {item : ℕ → Reader (A × ℕ)} → ((allowed : ℕ) → Extends (item allowed)) → (n allowed : ℕ) → Extends (in_turn item n allowed)
 in_turn_extends h zero allowed = via (λ bytes. refl) (given_extends ([], allowed))
@@ -120,21 +104,16 @@ arguments_extends = via (λ bytes. refl) (next_extends (at_most_extends 8) (λ n
 -- ---- choices
 
 abbrev behind_choice : ℕ → Reader Choice
-behind_choice zero = seen (λ c. Start c.0 c.1) (both (number w16) (number w64))
-behind_choice (suc zero) = seen (λ c. Develop c.0 c.1.0 c.1.1) (both node (both (number w16) arguments))
-behind_choice (suc (suc b)) = nothing
-
-behind_choice_extends : (b : ℕ) → Extends (behind_choice b)
-behind_choice_extends zero = seen_extends _ (both_extends (number_extends w16) (number_extends w64))
-behind_choice_extends (suc zero) = seen_extends _ (both_extends node_extends (both_extends (number_extends w16) arguments_extends))
-behind_choice_extends (suc (suc b)) = nothing_extends
+behind_choice = by_tag (seen (λ c. Start c.0 c.1) (both (number w16) (number w64))) (seen (λ c. Develop c.0 c.1.0 c.1.1) (both node (both (number w16) arguments))) nothing nothing
 
 choice_is : (bytes : List ℕ) → choice bytes ≡ next byte behind_choice bytes
 unfolding choice
 choice_is [] = refl
 choice_is (zero ∷ bytes) = refl
 choice_is (suc zero ∷ bytes) = refl
-choice_is (suc (suc b) ∷ bytes) = refl
+choice_is (suc (suc zero) ∷ bytes) = refl
+choice_is (suc (suc (suc zero)) ∷ bytes) = refl
+choice_is (suc (suc (suc (suc b))) ∷ bytes) = refl
 
 pub choice_extends : Extends choice
-choice_extends = via choice_is (next_extends byte_extends behind_choice_extends)
+choice_extends = via choice_is (by_tag_extends (seen_extends _ (both_extends (number_extends w16) (number_extends w64))) (seen_extends _ (both_extends node_extends (both_extends (number_extends w16) arguments_extends))) nothing_extends nothing_extends)

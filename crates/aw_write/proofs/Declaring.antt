@@ -1,12 +1,13 @@
 -- The lines of a well-formed specification lead from nothing to the specification.
-use Rattle.std.proofs.Common.{◌≡◌, ℕ, zero, suc, ◌<◌, ◌≤◌, nat_eq, nat_lt, nat_le, refl, sym, ap, ◌∙◌, subst, Bool, true, false, cond, not, ◌&&◌, ◌||◌, List, [], ◌∷◌, ◌++◌, length, map, Option, Some, None, option_and_then, slice_get, arith, append_assoc, length-append}
-use Rattle.std.proofs.lemmas.List.{map-append}
-use Rattle.std.proofs.lemmas.Bool.{eqb-true}
+use Rattle.std.proofs.Common.{◌≡◌, ℕ, suc, ◌<◌, ◌≤◌, nat_eq, nat_lt, refl, sym, ap, ◌∙◌, subst, Bool, true, false, cond, not, ◌&&◌, ◌||◌, List, [], ◌∷◌, ◌++◌, length, map, Option, Some, None, option_and_then, slice_get, arith, append_assoc, length-append}
+use Rattle.std.proofs.lemmas.List.{map-append, length-map}
+use Rattle.std.proofs.lemmas.Bool.{eqb-true, ne_eqb, lt-leb, le-ltb, or_from}
 use Rattle.std.specs.List.{list_any}
 use Rattle.aw_index.specs.Places.{place_of, or_else, stands}
 use Rattle.aw_term.specs.Rules as P
 use Rattle.aw_term.specs.Rules.{get}
 use Rattle.aw_term.specs.WellFormed.{Each, Later, Differ, RuleFits, SortFits}
+use Rattle.aw_term.proofs.Eaches.{each_map}
 use Rattle.aw_grammar.specs.declared.rule.Con as decl
 use Rattle.aw_grammar.specs.declared.rule.Sort.{Sort}
 use Rattle.aw_grammar.specs.declared.raw.RawCon.{RawCon}
@@ -15,7 +16,7 @@ use Rattle.aw_grammar.specs.declared.fault.DeclKind.TheVariants.{Inherits}
 use Rattle.aw_grammar.specs.GrammarView.{sort_of, sorts_of}
 use Rattle.aw_grammar.specs.Declarations.{Entry, Declarations, con_names, sort_names, rule_names, grammar_in, with_role, with_con, with_sort, with_start, with_start_at, with_rule, entry_of}
 use Rattle.aw_grammar.specs.Kinds.{start_kind, start_kind_of, role_tests, con_tests, sort_tests}
-use Rattle.aw_grammar.proofs.RuleTold.{either_false}
+use Rattle.aw_grammar.proofs.PlacedNames.{place_again}
 use Rattle.aw_face.specs.declared.faces.Using.{Using}
 use Rattle.aw_face.specs.declared.faces.FaceKind.{FaceKind}
 use Rattle.aw_face.specs.Faces.{is_offered, is_used, rule_fault, at_rule, rules_fault, face_fault}
@@ -25,7 +26,7 @@ use Rattle.aw_spec.specs.Reading.{Spec, no_spec, On, Wrong, declaring, offering,
 use Rattle.aw_write.specs.SpecLines.{named_rule, con_line, sort_line, start_line, start_lines, offer_line, use_line}
 use Rattle.aw_grammar.specs.Variables.{VariablesFit}
 use Rattle.aw_write.specs.Writable.{VariablesNamed, AreApart}
-use Rattle.aw_write.proofs.Placed.{each_mid, place_again, number_again, stands_at, new_name, place_mid}
+use Rattle.aw_write.proofs.Placed.{each_mid, number_again, stands_at, new_name, place_mid}
 use Rattle.aw_write.proofs.NamedRules.{no_kind, entry_again, no_fault}
 use Rattle.aw_write.proofs.Leading.{Through, through_none, through_line, through_same, all_through}
 
@@ -48,12 +49,6 @@ pub record Fine (d : Declarations) : Type 0 where
 below_all : {A : Type 0} (all pre : List A) (x : A) (post : List A) (n : ℕ) → all ≡ pre ++ x ∷ post → length all ≤ n → length pre < n
 below_all all pre x post n e h = omega (arith, ap length e, length-append pre (x ∷ post))
 
-not_past : (m n : ℕ) → n < m → nat_le m n ≡ false
-not_past m n h = grind arith
-
-past : (m n : ℕ) → n ≤ m → nat_lt m n ≡ false
-past m n h = grind arith
-
 split_names : {A : Type 0} (name : A → List ℕ) (all pre : List A) (x : A) (post : List A) → all ≡ pre ++ x ∷ post → Differ (map name all) → stands (name x) (map name pre) ≡ false
 split_names name all pre x post e differ = new_name (map name pre) (name x) (map name post) (subst Differ (ap (map name) e ∙ map-append name pre (x ∷ post)) differ)
 
@@ -66,7 +61,7 @@ role_said : (all pre : List (List ℕ)) (x : List ℕ) (post : List (List ℕ)) 
 role_said all pre x post few differ e =
     let s = with_roles pre in
     ap (λ k. declaring s k (with_role s.declared x))
-    (no_kind (role_tests s.declared x) (not_past 64 (length pre) (below_all all pre x post 64 e few), (new_name pre x post (subst Differ e differ), tt)))
+    (no_kind (role_tests s.declared x) (lt-leb 64 (length pre) (below_all all pre x post 64 e few), (new_name pre x post (subst Differ e differ), tt)))
 
 pub roles_lead : (roles : List (List ℕ)) → length roles ≤ 64 → Differ roles → Through 1 no_spec (map (λ name. RoleLine name) roles) (with_roles roles)
 roles_lead roles few differ = all_through 1 (λ name. RoleLine name) with_roles roles (λ x. refl) (λ pre x post e. role_said roles pre x post few differ e)
@@ -83,7 +78,7 @@ con_said roles all pre c post few differ small e =
     let raw : RawCon = record { name = c.name; arity = c.arity } in
     ap (λ k. declaring s k (with_con s.declared raw))
     (no_kind (con_tests s.declared raw) (
-      either_false _ _ (not_past 1024 (length pre) (below_all all pre c post 1024 e few)) (past 8 c.arity (each_mid (λ (k : decl.Con). k.arity ≤ 8) pre c post (subst (Each (λ (k : decl.Con). k.arity ≤ 8)) e small))),
+      or_from _ _ (lt-leb 1024 (length pre) (below_all all pre c post 1024 e few)) (le-ltb 8 c.arity (each_mid (λ (k : decl.Con). k.arity ≤ 8) pre c post (subst (Each (λ (k : decl.Con). k.arity ≤ 8)) e small))),
       (split_names (λ (k : decl.Con). k.name) all pre c post e differ, tt),
     ))
 
@@ -102,20 +97,16 @@ names_unstarted : (sorts : List Sort) → map (λ (s : Sort). s.name) (map unsta
 names_unstarted [] = refl
 names_unstarted (s ∷ sorts) = ap (λ ns. s.name ∷ ns) (names_unstarted sorts)
 
-length_unstarted : (sorts : List Sort) → length (map unstarted sorts) ≡ length sorts
-length_unstarted [] = refl
-length_unstarted (s ∷ sorts) = ap (λ n. suc n) (length_unstarted sorts)
-
 sort_said : (roles : List (List ℕ)) (cons : List decl.Con) (all pre : List Sort) (s : Sort) (post : List Sort) → Differ roles → length all ≤ 256 → Differ (map (λ (t : Sort). t.name) all) → Each (λ (t : Sort). SortFits (length roles) (sort_of t)) all → all ≡ pre ++ s ∷ post →
     says (with_sorts roles cons (map unstarted pre)) (sort_line roles s) ≡ On (with_sorts roles cons (map unstarted (pre ++ s ∷ [])))
 sort_said roles cons all pre s post roles_differ few differ fit e =
     let at = with_sorts roles cons (map unstarted pre) in
     let raw : RawSort = record { name = s.name; role = get [] roles s.role; takes = s.takes; gives = s.gives } in
     let fits = each_mid (λ (t : Sort). SortFits (length roles) (sort_of t)) pre s post (subst (Each (λ (t : Sort). SortFits (length roles) (sort_of t))) e fit) in
-    let few_before : length (map unstarted pre) < 256 = omega (arith, length_unstarted pre, below_all all pre s post 256 e few) in
+    let few_before : length (map unstarted pre) < 256 = omega (arith, length-map pre unstarted, below_all all pre s post 256 e few) in
     ap (λ k. declaring at k (with_sort at.declared raw))
     (no_kind (sort_tests at.declared raw) (
-      either_false _ _ (not_past 256 (length (map unstarted pre)) few_before) (either_false _ _ (past 8 s.takes fits.few_takes) (past 8 s.gives fits.few_gives)),
+      or_from _ _ (lt-leb 256 (length (map unstarted pre)) few_before) (or_from _ _ (le-ltb 8 s.takes fits.few_takes) (le-ltb 8 s.gives fits.few_gives)),
       (
         ap (stands s.name) (names_unstarted pre) ∙ split_names (λ (t : Sort). t.name) all pre s post e differ,
         (ap not (stands_at roles s.role roles_differ fits.declared), tt),
@@ -150,7 +141,7 @@ start_said roles cons done s left new none started =
     let sorts = done ++ unstarted s ∷ rest in
     let name = λ (t : Sort). t.name in
     let placed : place_of s.name (map name sorts) ≡ Some (length done) =
-    ap (place_of s.name) (map-append name done (unstarted s ∷ rest)) ∙ place_mid (map name done) s.name (map name rest) new ∙ ap Some (length_names done) in
+    ap (place_of s.name) (map-append name done (unstarted s ∷ rest)) ∙ place_mid (map name done) s.name (map name rest) new ∙ ap Some (length-map done name) in
     let kept : start_kind at.declared s.name ≡ None =
     ap (λ o. start_kind_of (option_and_then (λ i. slice_get sorts i) o)) placed ∙ ap start_kind_of (get_mid done (unstarted s) rest) ∙ ap (λ n. cond (nat_lt 0 n) (Some Inherits) None) none in
     ap (λ k. declaring at k (with_start at.declared s.name)) kept
@@ -158,10 +149,6 @@ start_said roles cons done s left new none started =
     ∙ ap (λ ss. On (with_sorts roles cons ss)) (started_mid done (unstarted s) rest)
     ∙ ap (λ b. On (with_sorts roles cons (done ++ record s { start = b } ∷ rest))) (sym started)
     ∙ ap (λ ss. On (with_sorts roles cons ss)) (sym (append_assoc done (s ∷ []) rest))
-  where
-    length_names : (ss : List Sort) → length (map (λ (t : Sort). t.name) ss) ≡ length ss
-    length_names [] = refl
-    length_names (t ∷ ss) = ap (λ n. suc n) (length_names ss)
 
 start_leads : (roles : List (List ℕ)) (cons : List decl.Con) (done : List Sort) (s : Sort) (left : List Sort) → stands s.name (map (λ (t : Sort). t.name) done) ≡ false → SortFits (length roles) (sort_of s) → (b : Bool) → s.start ≡ b →
     Through 4 (partly roles cons done (s ∷ left)) (cond b (StartLine s.name ∷ []) []) (partly roles cons (done ++ s ∷ []) left)
@@ -201,28 +188,15 @@ before_mid : {A : Type 0} (R : A → A → Type 0) (pre : List A) (x : A) (post 
 before_mid R [] x post later = tt
 before_mid R (y ∷ pre) x post later = (each_mid (R y) pre x post later.0, before_mid R pre x post later.1)
 
-each_as : {A : Type 0} (P Q : A → Type 0) (xs : List A) → ((x : A) → P x → Q x) → Each P xs → Each Q xs
-each_as P Q [] f each = tt
-each_as P Q (x ∷ xs) f each = (f x each.0, each_as P Q xs f each.1)
-
-other_number : (m n : ℕ) → (m ≡ n → ⊥) → nat_eq m n ≡ false
-other_number m n h = by_test (nat_eq m n) refl
-  where
-    by_test : (t : Bool) → nat_eq m n ≡ t → nat_eq m n ≡ false
-    by_test true e = absurd (h (eqb-true m n e))
-    by_test false e = e
-
-named_below : (sorts : List Sort) (i : ℕ) → i < length sorts → i < length (map (λ (s : Sort). s.name) sorts)
-named_below [] i h = h
-named_below (s ∷ sorts) zero h = omega arith
-named_below (s ∷ sorts) (suc i) h = omega (arith, named_below sorts i (omega arith))
+pub named_below : (sorts : List Sort) (i : ℕ) → i < length sorts → i < length (map (λ (s : Sort). s.name) sorts)
+named_below sorts i h = omega (arith, h, length-map sorts (λ (s : Sort). s.name))
 
 offer_said : (d : Declarations) (all pre : List ℕ) (o : ℕ) (post : List ℕ) → Differ (sort_names d) → Each (λ sort. sort < length d.sorts) all → Later (λ a b. a ≡ b → ⊥) all → all ≡ pre ++ o ∷ post →
     says (with_offers d pre) (offer_line (sort_names d) o) ≡ On (with_offers d (pre ++ o ∷ []))
 offer_said d all pre o post differ declared once e =
     let s = with_offers d pre in
     let less = each_mid (λ sort. sort < length d.sorts) pre o post (subst (Each (λ sort. sort < length d.sorts)) e declared) in
-    let new : is_offered o pre ≡ false = none_any (λ a. nat_eq a o) pre (each_as (λ a. a ≡ o → ⊥) (λ a. nat_eq a o ≡ false) pre (λ a h. other_number a o h) (before_mid (λ a b. a ≡ b → ⊥) pre o post (subst (Later (λ a b. a ≡ b → ⊥)) e once))) in
+    let new : is_offered o pre ≡ false = none_any (λ a. nat_eq a o) pre (each_map (λ a. a ≡ o → ⊥) (λ a. nat_eq a o ≡ false) pre (λ a h. ne_eqb a o h) (before_mid (λ a b. a ≡ b → ⊥) pre o post (subst (Later (λ a b. a ≡ b → ⊥)) e once))) in
     ap (offering s) (place_again (sort_names d) o differ (named_below d.sorts o less))
     ∙ ap (λ b. cond b (Wrong kind.Double) (On (with_offers d (pre ++ o ∷ [])))) new
 
@@ -242,7 +216,7 @@ other_use : (u v : Using) → AreApart u v → (nat_eq u.role v.role && nat_eq u
 other_use u v h = by_test (nat_eq u.role v.role) refl
   where
     by_test : (t : Bool) → nat_eq u.role v.role ≡ t → (nat_eq u.role v.role && nat_eq u.sort v.sort) ≡ false
-    by_test true e = ap (λ b. b && nat_eq u.sort v.sort) e ∙ other_number u.sort v.sort (h (eqb-true u.role v.role e))
+    by_test true e = ap (λ b. b && nat_eq u.sort v.sort) e ∙ ne_eqb u.sort v.sort (h (eqb-true u.role v.role e))
     by_test false e = ap (λ b. b && nat_eq u.sort v.sort) e
 
 use_said : (d : Declarations) (offers : List ℕ) (all pre : List Using) (u : Using) (post : List Using) → Differ d.roles → Differ (sort_names d) → Each (IsDeclaredUse d) all → Later AreApart all → all ≡ pre ++ u ∷ post →
@@ -252,7 +226,7 @@ use_said d offers all pre u post roles_differ differ declared once e =
     let less = each_mid (IsDeclaredUse d) pre u post (subst (Each (IsDeclaredUse d)) e declared) in
     let new : is_used u.role u.sort pre ≡ false =
     none_any (λ (v : Using). nat_eq v.role u.role && nat_eq v.sort u.sort) pre
-    (each_as (λ v. AreApart v u) (λ v. (nat_eq v.role u.role && nat_eq v.sort u.sort) ≡ false) pre (λ v h. other_use v u h) (before_mid AreApart pre u post (subst (Later AreApart) e once))) in
+    (each_map (λ v. AreApart v u) (λ v. (nat_eq v.role u.role && nat_eq v.sort u.sort) ≡ false) pre (λ v h. other_use v u h) (before_mid AreApart pre u post (subst (Later AreApart) e once))) in
     ap (λ o. using_by s o (place_of (get [] (sort_names d) u.sort) (sort_names d))) (place_again d.roles u.role roles_differ less.0)
     ∙ ap (using_sort s u.role) (place_again (sort_names d) u.sort differ (named_below d.sorts u.sort less.1))
     ∙ ap (λ b. cond b (Wrong kind.Double) (On (with_uses d offers (pre ++ u ∷ [])))) new
@@ -310,7 +284,7 @@ rule_said s fine kept pre e post all =
       patterns = f.patterns;
       results = f.results;
       enter = f.enter;
-      children = each_as _ _ r.children (λ c h. record { declared = h.declared; takes = h.takes; gives = h.gives; terms = h.terms; enter = h.enter }) f.children;
+      children = each_map _ _ r.children (λ c h. record { declared = h.declared; takes = h.takes; gives = h.gives; terms = h.terms; enter = h.enter }) f.children;
     }
 
 pub rules_lead : (s : Spec) → Fine s.declared → face_fault (grammar_in s.declared) s.offers s.uses ≡ None →

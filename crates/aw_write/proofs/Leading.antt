@@ -1,7 +1,7 @@
 -- Lines that lead from one draft to another are read so from their text.
-use Rattle.std.proofs.Common.{◌≡◌, ℕ, suc, ◌+◌, ◌≤◌, nat_lt, refl, sym, ap, ◌∙◌, subst, Bool, true, false, cond, ◌==◌, not, List, [], ◌∷◌, ◌++◌, map, length, Some, option_map, arith, append_assoc, append-nil}
+use Rattle.std.proofs.Common.{◌≡◌, ℕ, suc, ◌+◌, ◌≤◌, refl, sym, ap, ◌∙◌, subst, true, false, cond, ◌==◌, not, List, [], ◌∷◌, ◌++◌, map, length, Some, option_map, arith, append_assoc, append-nil}
+use Rattle.std.proofs.lemmas.Bool.{and_parts, not-true, le-ltb}
 use Rattle.aw_text.specs.Spelling.{cut, with_front}
-use Rattle.aw_text.proofs.Checks.{both_true}
 use Rattle.aw_text.proofs.NodeNames.{lacks}
 use Rattle.aw_lex.specs.Lines.{lines_of, passed_over}
 use Rattle.aw_lex.specs.Tokens.{tokens_of}
@@ -21,15 +21,11 @@ use Rattle.aw_write.proofs.SaysTerms.{IsSpelledTerm, AreSpelledParts, IsSpelledC
 
 -- lines cut at their line feeds
 
-not_true : (t : Bool) → not t ≡ true → t ≡ false
-not_true true h = absurd cc
-not_true false h = refl
-
 cut_here : (front rest : List ℕ) → lacks 10 front ≡ true → cut 10 (front ++ 10 ∷ rest) ≡ Some (front, rest)
 cut_here [] rest h = refl
 cut_here (b ∷ bs) rest h =
-    let each = both_true (not (b == 10)) (lacks 10 bs) h in
-    ap (λ t. cond t (Some ([], bs ++ 10 ∷ rest)) (option_map (with_front b) (cut 10 (bs ++ 10 ∷ rest)))) (not_true (b == 10) each.0)
+    let each = and_parts (not (b == 10)) (lacks 10 bs) h in
+    ap (λ t. cond t (Some ([], bs ++ 10 ∷ rest)) (option_map (with_front b) (cut 10 (bs ++ 10 ∷ rest)))) (not-true (b == 10) each.0)
     ∙ ap (option_map (with_front b)) (cut_here bs rest each.1)
 
 pub lines_again : (ls : List Line) → Each IsSpelledLine ls → lines_of (text_of_lines ls) ≡ map line_text ls
@@ -115,12 +111,9 @@ Through k s ls t = Between k k s ls t
 pub through_none : (k : ℕ) (s : Spec) → Through k s [] s
 through_none k s = λ stage h. (stage, h, refl)
 
-not_before : (m n : ℕ) → n ≤ m → nat_lt m n ≡ false
-not_before m n h = grind arith
-
 step_on : (s t : Spec) (stage : ℕ) (l : Line) → stage ≤ stage_of l → says s l ≡ On t → in_order (record { spec = s; stage = stage }) l ≡ Next (record { spec = t; stage = stage_of l })
 step_on s t stage l h e =
-    ap (λ b. cond b (Fault Order) (at_stage (stage_of l) (says s l))) (not_before (stage_of l) stage h) ∙ ap (at_stage (stage_of l)) e
+    ap (λ b. cond b (Fault Order) (at_stage (stage_of l) (says s l))) (le-ltb (stage_of l) stage h) ∙ ap (at_stage (stage_of l)) e
 
 pub through_line : (k : ℕ) (s t : Spec) (l : Line) → stage_of l ≡ k → says s l ≡ On t → Through k s (l ∷ []) t
 through_line k s t l at e = λ stage h. (stage_of l, omega (arith, at), (record { spec = t; stage = stage_of l }, step_on s t stage l (omega (arith, at, h)) e, refl))

@@ -1,11 +1,12 @@
 -- Tokens at the front of bytes: names, numbers, texts and marks.
 use Rattle.std.proofs.Common.{◌≡◌, ℕ, suc, ◌+◌, ◌-◌, ◌<◌, ◌^◌, refl, sym, ◌∙◌, ap, Bool, true, false, cond, ◌==◌, ◌&&◌, ◌||◌, not, List, [], ◌∷◌, ◌++◌, take, length, arith, Some, None, is_some, option_map, append_assoc, length-append, nat_le, flat_map, subst, inl, inr}
+use Rattle.std.proofs.Math.Seq.{take-append_seam}
+use Rattle.std.proofs.lemmas.Bool.{and_parts}
 use Rattle.std.proofs.lemmas.Bool.Decides.{nat_tests, eqb_tells}
 use Rattle.std.proofs.lemmas.List.Folds.{list_all-append}
 use Rattle.std.specs.List.{list_all}
 use Rattle.std.specs.Fmt.{decimal}
 use Rattle.aw_text.specs.Spelling.{is_letter, is_digit, is_name, is_name_byte, is_content, is_content_byte, number_of, node_name, quoted, spelled, text_behind_quote}
-use Rattle.aw_text.proofs.Checks.{both_true}
 use Rattle.aw_text.proofs.NodeNames.{lacks}
 use Rattle.aw_text.proofs.Numbers.{number_again, decimal_digits}
 use Rattle.aw_text.proofs.Quotes.{text_again}
@@ -23,12 +24,8 @@ word_until : (w bs : List ℕ) → list_all is_word_byte w ≡ true → Ends bs 
 word_until [] [] h e = refl
 word_until [] (b ∷ bs) h e = ap (λ t. cond t (suc (word_len bs)) 0) e
 word_until (b ∷ w) bs h e =
-    let each = both_true (is_word_byte b) (list_all is_word_byte w) h in
+    let each = and_parts (is_word_byte b) (list_all is_word_byte w) h in
     ap (λ t. cond t (suc (word_len (w ++ bs))) 0) each.0 ∙ ap (λ n. suc n) (word_until w bs each.1 e)
-
-take_front : (w bs : List ℕ) → take (length w) (w ++ bs) ≡ w
-take_front [] bs = refl
-take_front (b ∷ w) bs = ap (λ xs. b ∷ xs) (take_front w bs)
 
 -- a byte with which a word may begin
 pub record Begins (b : ℕ) : Type 0 where
@@ -55,14 +52,14 @@ word_front b w bs kind begins h e k =
     ∙ ap (λ t. cond t text (cond (is_word_byte b) word front.Bad)) begins.quote
     ∙ ap (λ t. cond t word front.Bad) begins.word
     ∙ ap (λ n. front_of_word n (kind_of_word (take n all))) len
-    ∙ ap (λ xs. front_of_word (length (b ∷ w)) (kind_of_word xs)) (take_front (b ∷ w) bs)
+    ∙ ap (λ xs. front_of_word (length (b ∷ w)) (kind_of_word xs)) (take-append_seam (b ∷ w) bs)
     ∙ ap (front_of_word (length (b ∷ w))) k
 
 -- what holds of a byte that passes a test holds of all that do
 all_pass : (p q : ℕ → Bool) → ((b : ℕ) → p b ≡ true → q b ≡ true) → (bs : List ℕ) → list_all p bs ≡ true → list_all q bs ≡ true
 all_pass p q f [] h = refl
 all_pass p q f (b ∷ bs) h =
-    let each = both_true (p b) (list_all p bs) h in
+    let each = and_parts (p b) (list_all p bs) h in
     ap (λ t. t && list_all q bs) (f b each.0) ∙ all_pass p q f bs each.1
 
 name_is_word : (b : ℕ) → is_name_byte b ≡ true → is_word_byte b ≡ true
@@ -83,16 +80,16 @@ digit_is_word b h = (digit_begins b h).word
 pub name_front : (n bs : List ℕ) → is_name n ≡ true → Ends bs → front_of (n ++ bs) ≡ front.Token kinds.Name (length n)
 name_front [] bs h e = cc
 name_front (b ∷ n) bs h e =
-    let short = both_true (nat_le (length (b ∷ n)) 64) (is_letter b && list_all is_name_byte n) h in
-    let each = both_true (is_letter b) (list_all is_name_byte n) short.1 in
+    let short = and_parts (nat_le (length (b ∷ n)) 64) (is_letter b && list_all is_name_byte n) h in
+    let each = and_parts (is_letter b) (list_all is_name_byte n) short.1 in
     word_front b n bs kinds.Name (letter_begins b each.0) (all_pass is_name_byte is_word_byte name_is_word n each.1) e
     (ap (λ t. cond t (Some kinds.Name) (cond (is_some (number_of (b ∷ n))) (Some kinds.Number) (cond (node_name (b ∷ n)) (Some kinds.Node) None))) h)
 
 pub name_unbroken : (n : List ℕ) → is_name n ≡ true → lacks 10 n ≡ true
 name_unbroken [] h = refl
 name_unbroken (b ∷ n) h =
-    let short = both_true (nat_le (length (b ∷ n)) 64) (is_letter b && list_all is_name_byte n) h in
-    let each = both_true (is_letter b) (list_all is_name_byte n) short.1 in
+    let short = and_parts (nat_le (length (b ∷ n)) 64) (is_letter b && list_all is_name_byte n) h in
+    let each = and_parts (is_letter b) (list_all is_name_byte n) short.1 in
     ap (λ t. t && lacks 10 n) (letter_is_kept b each.0) ∙ all_pass is_name_byte (λ x. not (x == 10)) name_is_kept n each.1
 
 pub some_name : (n : List ℕ) → is_name n ≡ true → 0 < length n
@@ -109,7 +106,7 @@ never_both false b = refl
 digits_front : (ds bs : List ℕ) → list_all is_digit ds ≡ true → is_some (number_of ds) ≡ true → Ends bs → front_of (ds ++ bs) ≡ front.Token kinds.Number (length ds)
 digits_front [] bs h k e = cc
 digits_front (d ∷ ds) bs h k e =
-    let each = both_true (is_digit d) (list_all is_digit ds) h in
+    let each = and_parts (is_digit d) (list_all is_digit ds) h in
     let bytes = list_all is_name_byte ds in
     let rest = cond (node_name (d ∷ ds)) (Some kinds.Node) None in
     let none : is_name (d ∷ ds) ≡ false = ap (λ t. nat_le (length (d ∷ ds)) 64 && (t && bytes)) (no_letter d each.0) ∙ never_both (nat_le (length (d ∷ ds)) 64) bytes in
@@ -151,12 +148,12 @@ spelled_unbroken b h =
 contents_unbroken : (t : List ℕ) → list_all is_content_byte t ≡ true → lacks 10 (flat_map spelled t) ≡ true
 contents_unbroken [] h = refl
 contents_unbroken (b ∷ t) h =
-    let each = both_true (is_content_byte b) (list_all is_content_byte t) h in
+    let each = and_parts (is_content_byte b) (list_all is_content_byte t) h in
     list_all-append (λ x. not (x == 10)) (spelled b) (flat_map spelled t) ∙ ap (λ u. u && lacks 10 (flat_map spelled t)) (spelled_unbroken b each.0) ∙ contents_unbroken t each.1
 
 pub text_unbroken : (t : List ℕ) → is_content t ≡ true → lacks 10 (quoted t) ≡ true
 text_unbroken t h =
-    let parts = both_true (nat_le (length t) 1024) (list_all is_content_byte t) h in
+    let parts = and_parts (nat_le (length t) 1024) (list_all is_content_byte t) h in
     list_all-append (λ x. not (x == 10)) (flat_map spelled t) (34 ∷ []) ∙ ap (λ u. u && true) (contents_unbroken t parts.1)
 
 pub mark_front : (m : ℕ) (bs : List ℕ) → is_blank m ≡ false → is_mark m ≡ true → front_of (m ∷ bs) ≡ front.Token (kinds.Mark m) 1

@@ -1,11 +1,14 @@
 -- A rule that fits, with its names, is without fault, and is declared as itself.
-use Rattle.std.proofs.Common.{◌≡◌, ℕ, zero, suc, ◌+◌, ◌-◌, ◌<◌, ◌≤◌, nat_eq, nat_lt, nat_le, refl, sym, ap, ◌∙◌, subst, Bool, true, false, cond, not, ◌&&◌, List, [], ◌∷◌, ◌++◌, length, map, take, drop, Some, None, option_and_then, slice_get, arith, length-drop}
-use Rattle.std.proofs.lemmas.List.{take-append-drop}
+use Rattle.std.proofs.Common.{◌≡◌, ℕ, zero, suc, ◌+◌, ◌-◌, ◌<◌, ◌≤◌, refl, sym, ap, ◌∙◌, subst, Bool, true, false, cond, List, [], ◌∷◌, ◌++◌, length, map, take, drop, Some, None, option_and_then, slice_get, arith, length-drop}
+use Rattle.std.proofs.Math.Seq.{take-add}
+use Rattle.std.proofs.lemmas.List.{length-map, length-take-le, take_all, take-append-drop}
+use Rattle.std.proofs.lemmas.Bool.{and_from, or_from, not_from_true, eq-eqb, le-ltb, lt-leb}
 use Rattle.aw_index.specs.Places.{stands, all_stand, has_double}
 use Rattle.aw_term.specs.Rules as P
 use Rattle.aw_term.specs.Rules.{Term, get, upto}
 use Rattle.aw_term.specs.Choices.{gives_of}
 use Rattle.aw_term.specs.WellFormed.{Each, Differ, leaves_of, child_symbols, outs_of, takes_of, TermFits, ChildFits, RuleFits, SortFits}
+use Rattle.aw_term.proofs.Eaches.{each_append}
 use Rattle.aw_grammar.specs.declared.rule.Con as decl
 use Rattle.aw_grammar.specs.declared.rule.Sort.{Sort}
 use Rattle.aw_grammar.specs.GrammarView.{sort_of, sorts_of}
@@ -15,53 +18,16 @@ use Rattle.aw_grammar.specs.Declarations.{Entry, Declarations, con_names, sort_n
 use Rattle.aw_grammar.specs.Kinds.{first_kind, sort_called, takes_and_gives, children_fit, child_sorts, all_known, all_have_arities, rule_kind, rule_tests, is_past_counts, is_past_terms}
 use Rattle.aw_grammar.specs.declared.fault.DeclKind.{DeclKind}
 use Rattle.aw_grammar.proofs.NoKind.{NoneHolds}
-use Rattle.aw_grammar.proofs.RuleTold.{either_false}
 use Rattle.aw_grammar.proofs.Appends.{known_append, arities_append, depth_append, symbols_append, variables_append, all_append}
-use Rattle.aw_grammar.proofs.Growth.{each_append}
+use Rattle.aw_grammar.proofs.PlacedNames.{place_again}
 use Rattle.aw_write.specs.SpecLines.{named, named_children, later_variables, named_rule}
 use Rattle.aw_grammar.specs.Variables.{VariablesFit}
-use Rattle.aw_write.proofs.Placed.{place_again, number_again, stands_at, no_double, none_stands, each_take, each_drop, all_stand_at, gets_in_turn}
+use Rattle.aw_write.proofs.Placed.{number_again, stands_at, no_double, none_stands, each_take, each_drop, all_stand_at, gets_in_turn, each_upto}
 use Rattle.aw_write.proofs.NamedTerms.{names_in, arities_in, AllWell, all_well}
-
-and_true : (a b : Bool) → a ≡ true → b ≡ true → (a && b) ≡ true
-and_true a b h k = ap (λ x. x && b) h ∙ k
-
-not_false : (a : Bool) → a ≡ true → not a ≡ false
-not_false a h = ap not h
 
 pub no_kind : (tests : List (Bool × DeclKind)) → NoneHolds tests → first_kind tests ≡ None
 no_kind [] h = refl
 no_kind (test ∷ tests) h = ap (λ b. cond b (Some test.1) (first_kind tests)) h.0 ∙ no_kind tests h.1
-
--- lists
-
-length_map : {A B : Type 0} (f : A → B) (xs : List A) → length (map f xs) ≡ length xs
-length_map f [] = refl
-length_map f (x ∷ xs) = ap (λ n. suc n) (length_map f xs)
-
-take_all : {A : Type 0} (n : ℕ) (xs : List A) → length xs ≡ n → take n xs ≡ xs
-take_all zero [] h = refl
-take_all zero (x ∷ xs) h = absurd (omega arith)
-take_all (suc n) [] h = refl
-take_all (suc n) (x ∷ xs) h = ap (λ ys. x ∷ ys) (take_all n xs (omega arith))
-
-take_none : {A : Type 0} (n : ℕ) → ◌≡◌ {A = List A} (take n []) []
-take_none zero = refl
-take_none (suc n) = refl
-
-take_both : {A : Type 0} (m n : ℕ) (xs : List A) → take m xs ++ take n (drop m xs) ≡ take (m + n) xs
-take_both zero n xs =
-    let same : n ≡ zero + n = omega arith in
-    ap (λ k. take k xs) same
-take_both (suc m) n [] = take_none n ∙ sym (take_none (suc m + n))
-take_both (suc m) n (x ∷ xs) =
-    let same : suc (m + n) ≡ suc m + n = omega arith in
-    ap (λ ys. x ∷ ys) (take_both m n xs) ∙ ap (λ k. take k (x ∷ xs)) same
-
-length_take : {A : Type 0} (n : ℕ) (xs : List A) → n ≤ length xs → length (take n xs) ≡ n
-length_take zero xs h = refl
-length_take (suc n) [] h = absurd (omega arith)
-length_take (suc n) (x ∷ xs) h = ap (λ k. suc k) (length_take n xs (omega arith))
 
 -- sorts
 
@@ -78,9 +44,6 @@ sort_at (s ∷ sorts) (suc i) h =
     let at = sort_at sorts i (omega arith) in
     record { sort = at.sort; found = at.found; seen = at.seen; below = omega (arith, at.below) }
 
-same_number : (m n : ℕ) → m ≡ n → nat_eq m n ≡ true
-same_number m n e = grind (arith, e)
-
 -- the sort at a place, by its name, takes and gives what it says
 has_sort : (sorts : List Sort) (i takes gives : ℕ) → Differ (map (λ (s : Sort). s.name) sorts) → i < length (sorts_of sorts) → takes ≡ takes_of (slice_get (sorts_of sorts) i) → gives ≡ gives_of (slice_get (sorts_of sorts) i) →
     takes_and_gives (sort_called (get [] (map (λ (s : Sort). s.name) sorts) i) sorts) takes gives ≡ true
@@ -88,7 +51,7 @@ has_sort sorts i takes gives differ less t g =
     let at = sort_at sorts i less in
     ap (λ o. takes_and_gives (option_and_then (λ k. slice_get sorts k) o) takes gives) (place_again (map (λ (s : Sort). s.name) sorts) i differ at.below)
     ∙ ap (λ o. takes_and_gives o takes gives) at.found
-    ∙ and_true _ _ (same_number _ _ (sym (t ∙ ap takes_of at.seen))) (same_number _ _ (sym (g ∙ ap gives_of at.seen)))
+    ∙ and_from _ _ (eq-eqb _ _ (sym (t ∙ ap takes_of at.seen))) (eq-eqb _ _ (sym (g ∙ ap gives_of at.seen)))
 
 -- children
 
@@ -128,26 +91,22 @@ children_well g cons sorts vars left ga gs on (c ∷ cs) fits enough =
     let less : c.sort < length (sorts_of sorts) = subst (λ ss. c.sort < length ss) gs f.declared in
     let at = sort_at sorts c.sort less in
     record {
-      known = known_append names args others ∙ and_true _ _ terms.known rest.known;
-      arities = arities_append cons args others ∙ and_true _ _ terms.arities rest.arities;
+      known = known_append names args others ∙ and_from _ _ terms.known rest.known;
+      arities = arities_append cons args others ∙ and_from _ _ terms.arities rest.arities;
       enter = ap (λ ns. all_stand ns vars) (variables_append names args others) ∙ all_append vars (leaves_of (all_resolved names args)) (leaves_of (all_resolved names others))
-          ∙ and_true _ _ (used_terms_enter cons vars c.args on.vars_differ f.enter terms) rest.enter;
+          ∙ and_from _ _ (used_terms_enter cons vars c.args on.vars_differ f.enter terms) rest.enter;
       depth = omega (arith, depth_append args others, terms.depth, rest.depth);
       symbols = symbols_append args others ∙ (λ i. terms.symbols i + rest.symbols i);
-      stand = and_true _ _ (stands_at sort_names c.sort on.sorts_differ at.below) rest.stand;
-      fit = and_true _ _
+      stand = and_from _ _ (stands_at sort_names c.sort on.sorts_differ at.below) rest.stand;
+      fit = and_from _ _
           (has_sort sorts c.sort (length args) (length (take c.outs left)) on.sorts_differ less
-          (length_map (named names vars) c.args ∙ f.takes ∙ ap (λ ss. takes_of (slice_get ss c.sort)) gs) (length_take c.outs left first ∙ f.gives ∙ ap (λ ss. gives_of (slice_get ss c.sort)) gs))
+          (length-map c.args (named names vars) ∙ f.takes ∙ ap (λ ss. takes_of (slice_get ss c.sort)) gs) (length-take-le c.outs left first ∙ f.gives ∙ ap (λ ss. gives_of (slice_get ss c.sort)) gs))
           rest.fit;
-      back = λ i. record { sort = number_again sort_names c.sort on.sorts_differ at.below i; args = terms.back i; outs = length_take c.outs left first i } ∷ rest.back i;
-      outs = ap (λ ns. take c.outs left ++ ns) rest.outs ∙ take_both c.outs (outs_of cs) left;
+      back = λ i. record { sort = number_again sort_names c.sort on.sorts_differ at.below i; args = terms.back i; outs = length-take-le c.outs left first i } ∷ rest.back i;
+      outs = ap (λ ns. take c.outs left ++ ns) rest.outs ∙ sym (take-add c.outs (outs_of cs) left);
     }
 
 -- the rule
-
-each_upto : (i k n : ℕ) → i + k ≤ n → Each (λ v. v < n) (upto i k)
-each_upto i zero n h = tt
-each_upto i (suc k) n h = (omega arith, each_upto (suc i) k n (omega arith))
 
 -- the parts of a rule with its names
 record RuleParts (d : Declarations) (e : Entry) : Type 0 where
@@ -180,10 +139,10 @@ rule_parts d e cons_differ sorts_differ fits vars =
       children = children;
       enter =
           (λ i. (patterns.leaves ∙ ap (map (get [] names)) fits.numbered ∙ gets_in_turn [] names 0 k (omega (arith, count))) i
-          ++ (take r.params later ++ (children.outs ∙ take_all (outs_of r.children) rest rest_length) i))
+          ++ (take r.params later ++ (children.outs ∙ take_all (outs_of r.children) rest (omega (arith, rest_length))) i))
           ∙ ap (λ ns. take k names ++ ns) (take-append-drop r.params later ∙ behind)
           ∙ take-append-drop k names;
-      params = length_take r.params later (omega (arith, later_length));
+      params = length-take-le r.params later (omega (arith, later_length));
     }
 
 -- it is declared as itself
@@ -208,12 +167,6 @@ entry_again d e cons_differ sorts_differ fits vars =
 
 -- counts
 
-past : (m n : ℕ) → n ≤ m → nat_lt m n ≡ false
-past m n h = grind arith
-
-not_past : (m n : ℕ) → n < m → nat_le m n ≡ false
-not_past m n h = grind arith
-
 few_of_sort : (roles : ℕ) (sorts : List Sort) (i : ℕ) → Each (λ s. SortFits roles (sort_of s)) sorts → (takes_of (slice_get (sorts_of sorts) i) ≤ 8) × (gives_of (slice_get (sorts_of sorts) i) ≤ 8)
 few_of_sort roles [] i each = (omega arith, omega arith)
 few_of_sort roles (s ∷ sorts) zero each = (each.0.few_takes, each.0.few_gives)
@@ -237,8 +190,8 @@ no_fault d e cons_differ sorts_differ sorts_fit fits vars few new =
     let uses = args_of kids ++ w.results in
     let few_of = few_of_sort (length d.roles) d.sorts r.sort sorts_fit in
     let at = sort_at d.sorts r.sort fits.declared in
-    let few_patterns : length w.patterns ≤ 8 = omega (arith, length_map (named names e.vars) r.patterns, fits.takes, few_of.0) in
-    let few_results : length w.results ≤ 8 = omega (arith, length_map (named names e.vars) r.results, fits.gives, few_of.1) in
+    let few_patterns : length w.patterns ≤ 8 = omega (arith, length-map r.patterns (named names e.vars), fits.takes, few_of.0) in
+    let few_results : length w.results ≤ 8 = omega (arith, length-map r.results (named names e.vars), fits.gives, few_of.1) in
     let few_params : length w.params ≤ 8 = omega (arith, parts.params, fits.few_params) in
     let few_children : length w.children ≤ 8 = omega (arith, length_children names sorts e.vars (drop r.params later) r.children, fits.few_children) in
     let depth : depth_of_all (terms_of w) ≤ 32 = omega (arith, depth_append w.patterns uses, depth_append (args_of kids) w.results, parts.patterns.depth, parts.children.depth, parts.results.depth) in
@@ -251,34 +204,34 @@ no_fault d e cons_differ sorts_differ sorts_fit fits vars few new =
     (each_take (λ v. stands v names ≡ false) (outs_of r.children) (drop r.params later)
     (each_drop (λ v. stands v names ≡ false) r.params later (each_drop (λ v. stands v names ≡ false) (length e.vars - (r.params + outs_of r.children)) e.vars vars.free)))) in
     let known : all_known names (terms_of w) ≡ true =
-    known_append names w.patterns uses ∙ and_true _ _ parts.patterns.known (known_append names (args_of kids) w.results ∙ and_true _ _ parts.children.known parts.results.known) in
+    known_append names w.patterns uses ∙ and_from _ _ parts.patterns.known (known_append names (args_of kids) w.results ∙ and_from _ _ parts.children.known parts.results.known) in
     let arities : all_have_arities d.cons (terms_of w) ≡ true =
-    arities_append d.cons w.patterns uses ∙ and_true _ _ parts.patterns.arities (arities_append d.cons (args_of kids) w.results ∙ and_true _ _ parts.children.arities parts.results.arities) in
+    arities_append d.cons w.patterns uses ∙ and_from _ _ parts.patterns.arities (arities_append d.cons (args_of kids) w.results ∙ and_from _ _ parts.children.arities parts.results.arities) in
     let results_enter = used_terms_enter d.cons e.vars r.results vars.differ (subst (λ n. Each (λ v. v < n) (leaves_of r.results)) (sym vars.count) fits.enter) parts.results in
     let enter : all_stand (leaves_of (all_resolved names uses)) (entering names w) ≡ true =
     ap (all_stand (leaves_of (all_resolved names uses))) parts.enter ∙ ap (λ ns. all_stand ns e.vars) (variables_append names (args_of kids) w.results)
-    ∙ all_append e.vars (leaves_of (all_resolved names (args_of kids))) (leaves_of (all_resolved names w.results)) ∙ and_true _ _ parts.children.enter results_enter in
+    ∙ all_append e.vars (leaves_of (all_resolved names (args_of kids))) (leaves_of (all_resolved names w.results)) ∙ and_from _ _ parts.children.enter results_enter in
     no_kind (rule_tests d w) (
-      either_false (is_past_counts d w) (is_past_terms w)
-          (either_false _ _ (not_past 1024 (length d.rules) few)
-          (either_false _ _ (past 8 (length w.patterns) few_patterns) (either_false _ _ (past 8 (length w.results) few_results) (either_false _ _ (past 8 (length w.params) few_params) (past 8 (length w.children) few_children)))))
-          (either_false _ _ (past 32 (depth_of_all (terms_of w)) depth) (past 256 (symbols_in_all (terms_of w)) symbols)),
+      or_from (is_past_counts d w) (is_past_terms w)
+          (or_from _ _ (lt-leb 1024 (length d.rules) few)
+          (or_from _ _ (le-ltb 8 (length w.patterns) few_patterns) (or_from _ _ (le-ltb 8 (length w.results) few_results) (or_from _ _ (le-ltb 8 (length w.params) few_params) (le-ltb 8 (length w.children) few_children)))))
+          (or_from _ _ (le-ltb 32 (depth_of_all (terms_of w)) depth) (le-ltb 256 (symbols_in_all (terms_of w)) symbols)),
       (
-        past 64 (length (entering names w)) entering_few,
+        le-ltb 64 (length (entering names w)) entering_few,
         (
           new,
           (
             none_stands (w.params ++ results_of kids) names apart,
             (
-              either_false _ _ (not_false _ (stands_at sorts r.sort sorts_differ at.below)) (either_false _ _ (not_false _ parts.children.stand) (not_false _ known)),
+              or_from _ _ (not_from_true _ (stands_at sorts r.sort sorts_differ at.below)) (or_from _ _ (not_from_true _ parts.children.stand) (not_from_true _ known)),
               (
-                either_false _ _
-                    (not_false _ (has_sort d.sorts r.sort (length w.patterns) (length w.results) sorts_differ fits.declared (length_map (named names e.vars) r.patterns ∙ fits.takes) (length_map (named names e.vars) r.results ∙ fits.gives)))
-                    (either_false _ _ (not_false _ parts.children.fit) (not_false _ arities)),
+                or_from _ _
+                    (not_from_true _ (has_sort d.sorts r.sort (length w.patterns) (length w.results) sorts_differ fits.declared (length-map r.patterns (named names e.vars) ∙ fits.takes) (length-map r.results (named names e.vars) ∙ fits.gives)))
+                    (or_from _ _ (not_from_true _ parts.children.fit) (not_from_true _ arities)),
                 (
                   ap has_double parts.enter ∙ no_double e.vars vars.differ,
                   (
-                    not_false _ enter,
+                    not_from_true _ enter,
                     tt,
                   ),
                 ),

@@ -1,33 +1,27 @@
 -- Terms with their names are known, have their arities, and are resolved to the terms.
-use Rattle.std.proofs.Common.{◌≡◌, ℕ, zero, suc, ◌+◌, ◌<◌, ◌≤◌, max, nat_eq, refl, sym, ap, ◌∙◌, Bool, true, false, ◌&&◌, List, [], ◌∷◌, ◌++◌, length, map, Some, option_and_then, slice_get, arith}
+use Rattle.std.proofs.Common.{◌≡◌, ℕ, zero, suc, ◌+◌, ◌<◌, ◌≤◌, max, nat_eq, refl, sym, ap, ◌∙◌, true, false, List, [], ◌∷◌, ◌++◌, length, map, Some, option_and_then, slice_get, arith}
 use Rattle.std.proofs.lemmas.List.{map-append}
+use Rattle.std.proofs.lemmas.Bool.{and_parts, and_from, eqb-true}
 use Rattle.aw_text.specs.Spelling.{is_content}
 use Rattle.aw_index.specs.Places.{number_of, stands}
 use Rattle.aw_index.proofs.Lookups.{no_place}
 use Rattle.aw_term.specs.Trees.{Head, Con, Num, Text, Tree, Leaf, Made, Trees, Nil, More, bind, binds, count}
 use Rattle.aw_term.specs.Rules.{Term, get}
 use Rattle.aw_term.specs.WellFormed.{Each, Differ, leaves, all_leaves, leaves_of, symbols, all_symbols, symbols_of, nesting, all_nesting, head_fits, heads_fit, all_heads_fit, TermFits}
+use Rattle.aw_term.proofs.Eaches.{each_get, each_left, each_right}
 use Rattle.aw_grammar.specs.declared.rule.Con as decl
 use Rattle.aw_grammar.specs.Terms.{symbols_in, symbols_in_parts, symbols_in_all, depth_of, depth_of_parts, depth_of_all}
 use Rattle.aw_grammar.specs.Resolved.{word_tree, resolved, resolved_parts, all_resolved, numbered}
 use Rattle.aw_grammar.specs.Kinds.{is_known, parts_are_known, all_known, has_arity, count_parts, has_arities, parts_have_arities, all_have_arities}
-use Rattle.aw_grammar.proofs.Growth.{each_left, each_right}
+use Rattle.aw_grammar.proofs.PlacedNames.{place_again}
 use Rattle.aw_write.specs.SpecLines.{named, named_parts}
-use Rattle.aw_write.proofs.Placed.{each_get, place_again, number_again, stands_at}
+use Rattle.aw_write.proofs.Placed.{number_again, stands_at}
 
 abbrev pub names_in : List decl.Con → List (List ℕ)
 names_in cons = map (λ (c : decl.Con). c.name) cons
 
 abbrev pub arities_in : List decl.Con → List ℕ
 arities_in cons = map (λ (c : decl.Con). c.arity) cons
-
-both : (a b : Bool) → (a && b) ≡ true → (a ≡ true) × (b ≡ true)
-both true true h = (refl, refl)
-both true false h = cc
-both false b h = cc
-
-and_true : (a b : Bool) → a ≡ true → b ≡ true → (a && b) ≡ true
-and_true a b h k = ap (λ x. x && b) h ∙ k
 
 -- a constructor that fits is declared
 pub record Found (cons : List decl.Con) (c n : ℕ) : Type 0 where
@@ -78,7 +72,7 @@ variable_well cons vars v free =
     }
 
 never_zero : (k : ℕ) → nat_eq (suc k) 0 ≡ true → ⊥
-never_zero k h = let e : suc k ≡ 0 = grind (arith, h) in absurd (omega (arith, e))
+never_zero k h = absurd (omega (arith, eqb-true (suc k) 0 h))
 
 made_well : (cons : List decl.Con) (vars : List (List ℕ)) → Differ (names_in cons) → (h : Head) (ts : Trees ℕ) → head_fits (arities_in cons) h (count ts) ≡ true → WellParts cons vars ts → Well cons vars (Made h ts)
 made_well cons vars differ (Con c) Nil fits parts =
@@ -99,8 +93,8 @@ made_well cons vars differ (Con c) (More t ts) fits parts =
     let x = get [] names c in
     let size = count_parts (named_parts names vars all) in
     record {
-      known = and_true _ _ (stands_at names c differ f.below) parts.known;
-      arities = and_true _ _
+      known = and_from _ _ (stands_at names c differ f.below) parts.known;
+      arities = and_from _ _
           (ap (λ o. has_arity size (option_and_then (λ i. slice_get cons i) o)) (place_again names c differ f.below)
           ∙ ap (has_arity size) f.at ∙ ap (nat_eq f.con.arity) parts.count ∙ f.arity)
           parts.arities;
@@ -111,24 +105,24 @@ made_well cons vars differ (Con c) (More t ts) fits parts =
 made_well cons vars differ (Num n) Nil fits parts = record { known = refl; arities = refl; same = refl; depth = refl; symbols = refl }
 made_well cons vars differ (Num n) (More t ts) fits parts = absurd (never_zero (count ts) fits)
 made_well cons vars differ (Text t) Nil fits parts = record { known = refl; arities = refl; same = refl; depth = refl; symbols = refl }
-made_well cons vars differ (Text x) (More t ts) fits parts = absurd (never_zero (count ts) (both (nat_eq (count (More t ts)) 0) (is_content x) fits).0)
+made_well cons vars differ (Text x) (More t ts) fits parts = absurd (never_zero (count ts) (and_parts (nat_eq (count (More t ts)) 0) (is_content x) fits).0)
 
 mutual
   well : (cons : List decl.Con) (vars : List (List ℕ)) → Differ (names_in cons) → Each (λ v. stands v (names_in cons) ≡ false) vars → (t : Term) → heads_fit (arities_in cons) t ≡ true → Each (λ v. v < length vars) (leaves t) → Well cons vars t
   well cons vars differ free (Leaf v) fits below = variable_well cons vars v (each_get (λ x. stands x (names_in cons) ≡ false) [] vars v free below.0)
   well cons vars differ free (Made h ts) fits below =
-      let parts = both (head_fits (arities_in cons) h (count ts)) (all_heads_fit (arities_in cons) ts) fits in
+      let parts = and_parts (head_fits (arities_in cons) h (count ts)) (all_heads_fit (arities_in cons) ts) fits in
       made_well cons vars differ h ts parts.0 (parts_well cons vars differ free ts parts.1 below)
 
   parts_well : (cons : List decl.Con) (vars : List (List ℕ)) → Differ (names_in cons) → Each (λ v. stands v (names_in cons) ≡ false) vars → (ts : Trees ℕ) → all_heads_fit (arities_in cons) ts ≡ true → Each (λ v. v < length vars) (all_leaves ts) → WellParts cons vars ts
   parts_well cons vars differ free Nil fits below = record { known = refl; arities = refl; same = refl; depth = refl; symbols = refl; count = refl }
   parts_well cons vars differ free (More t ts) fits below =
-      let parts = both (heads_fit (arities_in cons) t) (all_heads_fit (arities_in cons) ts) fits in
+      let parts = and_parts (heads_fit (arities_in cons) t) (all_heads_fit (arities_in cons) ts) fits in
       let first = well cons vars differ free t parts.0 (each_left (λ v. v < length vars) (leaves t) (all_leaves ts) below) in
       let rest = parts_well cons vars differ free ts parts.1 (each_right (λ v. v < length vars) (leaves t) (all_leaves ts) below) in
       record {
-        known = and_true _ _ first.known rest.known;
-        arities = and_true _ _ first.arities rest.arities;
+        known = and_from _ _ first.known rest.known;
+        arities = and_from _ _ first.arities rest.arities;
         same = λ i. More (first.same i) (rest.same i);
         depth = λ i. max (first.depth i) (rest.depth i);
         symbols = λ i. first.symbols i + rest.symbols i;
@@ -174,8 +168,8 @@ all_well cons vars differ apart free (t ∷ ts) fit below =
     let first = well cons vars differ free t fit.0.heads here in
     let rest = all_well cons vars differ apart free ts fit.1 (each_right (λ v. v < length vars) (leaves t) (leaves_of ts) below) in
     record {
-      known = and_true _ _ first.known rest.known;
-      arities = and_true _ _ first.arities rest.arities;
+      known = and_from _ _ first.known rest.known;
+      arities = and_from _ _ first.arities rest.arities;
       leaves = (λ i. (ap leaves first.same ∙ leaves_named vars t) i ++ rest.leaves i) ∙ sym (map-append (get [] vars) (leaves t) (leaves_of ts));
       depth = omega (arith, first.depth, fit.0.depth, rest.depth);
       symbols = λ i. first.symbols i + rest.symbols i;

@@ -1,36 +1,17 @@
 -- The places of names among names that differ.
-use Rattle.std.proofs.Common.{◌≡◌, ◌≢◌, ℕ, zero, suc, ◌+◌, ◌<◌, ◌≤◌, refl, sym, ap, ◌∙◌, subst, Bool, true, false, cond, ◌||◌, ◌&&◌, List, [], ◌∷◌, ◌++◌, length, map, take, drop, Some, is_some, option_map, arith, append_assoc}
+use Rattle.std.proofs.Common.{◌≡◌, ◌≢◌, ℕ, zero, suc, ◌+◌, ◌<◌, ◌≤◌, refl, sym, ap, ◌∙◌, subst, true, false, cond, ◌||◌, ◌&&◌, List, [], ◌∷◌, ◌++◌, length, map, take, drop, Some, is_some, option_map, arith, append_assoc}
+use Rattle.std.proofs.lemmas.Bool.{or_parts}
 use Rattle.aw_index.specs.Places.{is_same, place_of, or_else, number_of, stands, stands_again, has_double, any_stands, all_stand}
-use Rattle.aw_index.proofs.Same.{same_self, same_is}
+use Rattle.aw_index.proofs.Same.{same_self}
 use Rattle.aw_index.proofs.Lookups.{stands_is_placed}
 use Rattle.aw_term.specs.Rules.{get, upto}
 use Rattle.aw_term.specs.WellFormed.{Each, Differ}
-
-pub each_get : {A : Type 0} (P : A → Type 0) (d : A) (xs : List A) (i : ℕ) → Each P xs → i < length xs → P (get d xs i)
-each_get P d [] i each less = absurd (omega (arith, less))
-each_get P d (x ∷ xs) zero each less = each.0
-each_get P d (x ∷ xs) (suc i) each less = each_get P d xs i each.1 (omega (arith, less))
+use Rattle.aw_term.proofs.Eaches.{each_right}
+use Rattle.aw_grammar.proofs.PlacedNames.{not_same, place_again}
 
 -- of the one that stands between others
 pub each_mid : {A : Type 0} (P : A → Type 0) (pre : List A) (x : A) (post : List A) → Each P (pre ++ x ∷ post) → P x
-each_mid P [] x post each = each.0
-each_mid P (y ∷ pre) x post each = each_mid P pre x post each.1
-
-pub not_same : (x y : List ℕ) → y ≢ x → is_same x y ≡ false
-not_same x y apart = by_test (is_same x y) refl
-  where
-    by_test : (t : Bool) → is_same x y ≡ t → is_same x y ≡ false
-    by_test true e = absurd (apart (sym (same_is x y e)))
-    by_test false e = e
-
-pub place_again : (names : List (List ℕ)) (i : ℕ) → Differ names → i < length names → place_of (get [] names i) names ≡ Some i
-place_again [] i differ less = absurd (omega (arith, less))
-place_again (x ∷ xs) zero differ less = ap (λ b. cond b (Some 0) (option_map (λ k. suc k) (place_of x xs))) (same_self x)
-place_again (x ∷ xs) (suc i) differ less =
-    let name = get [] xs i in
-    let apart : x ≢ name = each_get (λ b. x ≢ b) [] xs i differ.0 (omega (arith, less)) in
-    ap (λ b. cond b (Some 0) (option_map (λ k. suc k) (place_of name xs))) (not_same name x apart)
-    ∙ ap (option_map (λ k. suc k)) (place_again xs i differ.1 (omega (arith, less)))
+each_mid P pre x post each = (each_right P pre (x ∷ post) each).0
 
 pub number_again : (names : List (List ℕ)) (i : ℕ) → Differ names → i < length names → number_of (get [] names i) names ≡ i
 number_again names i differ less = ap (or_else (length names)) (place_again names i differ less)
@@ -48,14 +29,9 @@ new_name (y ∷ pre) x post differ =
 pub place_mid : (pre : List (List ℕ)) (x : List ℕ) (post : List (List ℕ)) → stands x pre ≡ false → place_of x (pre ++ x ∷ post) ≡ Some (length pre)
 place_mid [] x post h = ap (λ b. cond b (Some 0) (option_map (λ k. suc k) (place_of x post))) (same_self x)
 place_mid (y ∷ pre) x post h =
-    let parts = either (is_same x y) (stands x pre) h in
+    let parts = or_parts (is_same x y) (stands x pre) h in
     ap (λ b. cond b (Some 0) (option_map (λ k. suc k) (place_of x (pre ++ x ∷ post)))) parts.0
     ∙ ap (λ o. option_map (λ k. suc k) o) (place_mid pre x post parts.1)
-  where
-    either : (a b : Bool) → (a || b) ≡ false → (a ≡ false) × (b ≡ false)
-    either false false e = (refl, refl)
-    either true b e = cc
-    either false true e = cc
 
 none_again : (seen xs : List (List ℕ)) → Differ (seen ++ xs) → stands_again seen xs ≡ false
 none_again seen [] differ = refl
@@ -96,3 +72,7 @@ pub gets_in_turn : {A : Type 0} (d : A) (xs : List A) (i k : ℕ) → i + k ≤ 
 gets_in_turn d xs i zero less = refl
 gets_in_turn d xs i (suc k) less =
     ap (λ ys. get d xs i ∷ ys) (gets_in_turn d xs (suc i) k (omega (arith, less))) ∙ ap (take (suc k)) (sym (drop_get d xs i (omega (arith, less))))
+
+pub each_upto : (i k n : ℕ) → i + k ≤ n → Each (λ v. v < n) (upto i k)
+each_upto i zero n h = tt
+each_upto i (suc k) n h = (omega arith, each_upto (suc i) k n (omega arith))

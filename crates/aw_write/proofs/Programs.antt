@@ -11,6 +11,7 @@ use Rattle.aw_grammar.specs.declared.rule.Sort.{Sort}
 use Rattle.aw_grammar.specs.declared.rule.Rule.{Rule}
 use Rattle.aw_grammar.specs.GrammarView.{rule_of}
 use Rattle.aw_grammar.specs.GrammarOf.{grammar_of, words_of, entry, declarations_of}
+use Rattle.aw_grammar.proofs.Entries.{declared_grammar, declared_words}
 use Rattle.aw_grammar.specs.Variables.{VariablesFit}
 use Rattle.aw_face.specs.declared.faces.Faces.{Faces}
 use Rattle.aw_spec.specs.declared.fault.SpecFault.{SpecFault}
@@ -20,7 +21,6 @@ use Rattle.aw_spec.specs.Answers.{Spells}
 use Rattle.aw_spec.specs.Lines.{Line}
 use Rattle.aw_spec.specs.Reading.{Spec, Reading, Good, specification}
 use Rattle.aw_spec.specs.Views.{spec_of}
-use Rattle.aw_spec.proofs.Declared.{declared_grammar, declared_words}
 use Rattle.aw_write.specs.LineTexts.{text_of_lines}
 use Rattle.aw_write.specs.SpecLines.{spec_lines, written}
 use Rattle.aw_write.specs.Writable.{SmallNumbers, VariablesNamed, FacesFit}

@@ -1,16 +1,12 @@
 -- Texts that grow by children and by rules.
-use Rattle.std.proofs.Common.{◌≡◌, ℕ, zero, suc, ◌+◌, ◌≤◌, refl, sym, ap, ◌∙◌, subst, List, [], ◌∷◌, ◌++◌, length, map, drop, slice_get, Option, Some, None, IfSome, Bor, append_assoc, append-nil, add-one, arith}
-use Rattle.std.proofs.lemmas.List.{length-map}
-use Rattle.std.proofs.Math.Logic.{∥∥₁_elim}
-use Rattle.std.specs.Coded.{le_prop}
-use Rattle.aw_term.specs.Rules as P
-use Rattle.aw_term.specs.WellFormed.{Each, RuleFits}
+use Rattle.std.proofs.Common.{◌≡◌, ℕ, ◌+◌, sym, ap, ◌∙◌, subst, List, [], ◌∷◌, ◌++◌, map, drop, slice_get, Some, None, append_assoc, append-nil}
+use Rattle.aw_term.specs.WellFormed.{Each}
 use Rattle.aw_grammar.specs.declared.rule.Sort.{Sort}
 use Rattle.aw_grammar.specs.declared.rule.Rule.{Rule}
 use Rattle.aw_grammar.specs.GrammarOf.{entry}
-use Rattle.aw_grammar.specs.GrammarView.{child_of, rule_of}
 use Rattle.aw_grammar.specs.Declarations.{Entry}
 use Rattle.aw_grammar.specs.Written.{WrittenChild}
+use Rattle.aw_face.proofs.RuleSteps.{at_next, past_end}
 use Rattle.aw_spec.specs.Lines.{Line, RuleLine}
 use Rattle.aw_write.specs.LineTexts.{child_text, children_behind, text_of_lines}
 use Rattle.aw_write.specs.SpecLines.{named_rule}
@@ -21,30 +17,9 @@ abbrev pub separated_children : List ℕ → List WrittenChild → List ℕ
 separated_children separator [] = []
 separated_children separator (c ∷ cs) = separator ++ (child_text c ++ children_behind cs)
 
-pub few_children : (g : P.Grammar) (sorts : List Sort) (found : Option (Bor Rule)) → IfSome found (λ r. ∥ RuleFits g (rule_of sorts r.now) ∥₁) → IfSome found (λ r. length r.now.children ≤ 8)
-few_children g sorts None h = tt
-few_children g sorts (Some r) h = ∥∥₁_elim h le_prop (λ w. omega (arith, w.few_children, length-map r.now.children (child_of sorts)))
-
 -- the lines of some rules
 abbrev pub lines_of_rules : List (List ℕ) → List (List ℕ) → List Sort → List Rule → List Line
 lines_of_rules cons sort_names sorts rules = map (λ (e : Entry). RuleLine (named_rule cons sort_names e)) (map (entry sorts) rules)
-
-at_place : {A : Type 0} (xs : List A) (i : ℕ) (x : A) → slice_get xs i ≡ Some x → drop i xs ≡ x ∷ drop (suc i) xs
-at_place [] i x e = cc
-at_place (y ∷ ys) zero x e = first y x ys e
-  where
-    first : {A : Type 0} (y x : A) (ys : List A) → Some y ≡ Some x → y ∷ ys ≡ x ∷ ys
-    first y x ys e = let same : y ≡ x = cc in ap (λ z. z ∷ ys) same
-at_place (y ∷ ys) (suc i) x e = at_place ys i x e
-
-past_end : {A : Type 0} (xs : List A) (i : ℕ) → None ≡ slice_get xs i → drop i xs ≡ []
-past_end [] zero e = refl
-past_end [] (suc i) e = refl
-past_end (y ∷ ys) zero e = cc
-past_end (y ∷ ys) (suc i) e = past_end ys i e
-
-at_next : {A : Type 0} (xs : List A) (i : ℕ) (x : A) → slice_get xs i ≡ Some x → drop i xs ≡ x ∷ drop (i + 1) xs
-at_next xs i x e = at_place xs i x e ∙ ap (λ n. x ∷ drop n xs) (sym (add-one i))
 
 -- one rule more
 pub rules_go_on : (cons sort_names : List (List ℕ)) (sorts : List Sort) (rules : List Rule) (i : ℕ) (r : Rule) (text new all : List ℕ) → slice_get rules i ≡ Some r → new ≡ text ++ text_of_lines (RuleLine (named_rule cons sort_names (entry sorts r)) ∷ []) →

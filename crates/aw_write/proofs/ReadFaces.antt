@@ -1,27 +1,24 @@
 -- The faces of a specification that was read name what is declared, and each offer and each use once.
-use Rattle.std.proofs.Common.{◌≡◌, ℕ, zero, suc, ◌+◌, ◌<◌, ◌≤◌, nat_eq, nat_lt, refl, sym, ap, ◌∙◌, subst, Bool, true, false, cond, ◌&&◌, ◌||◌, List, [], ◌∷◌, ◌++◌, length, map, Option, Some, None, Result, Ok, Err, arith, length-append}
+use Rattle.std.proofs.Common.{◌≡◌, ℕ, zero, suc, ◌<◌, ◌≤◌, nat_eq, refl, ap, subst, Bool, true, false, cond, ◌&&◌, List, [], ◌∷◌, ◌++◌, length, Option, Some, None, arith, length-append}
 use Rattle.std.proofs.lemmas.List.{length-map}
+use Rattle.std.proofs.lemmas.Bool.{or_parts, and_from, both_ways, eq-eqb, eqb-false}
 use Rattle.std.specs.List.{list_any}
-use Rattle.aw_lex.specs.declared.token.Token.{Token}
-use Rattle.aw_lex.specs.Lines.{passed_over}
-use Rattle.aw_lex.specs.Tokens.{tokens_of}
 use Rattle.aw_index.specs.Places.{number_of}
 use Rattle.aw_index.proofs.Lookups.{place_within}
 use Rattle.aw_term.specs.WellFormed.{Each, Later}
+use Rattle.aw_term.proofs.Eaches.{each_push, each_map}
 use Rattle.aw_grammar.specs.declared.rule.Sort.{Sort}
 use Rattle.aw_grammar.specs.declared.fault.DeclKind.{DeclKind}
 use Rattle.aw_grammar.specs.Written.{WrittenRule}
 use Rattle.aw_grammar.specs.Named.{number_named}
 use Rattle.aw_grammar.specs.Declarations.{Declarations, sort_names, with_start_at, with_rule, grammar_in}
-use Rattle.aw_grammar.proofs.Growth.{each_push, each_map}
-use Rattle.aw_form.specs.Lexemes.{lexemes}
 use Rattle.aw_face.specs.declared.faces.Using.{Using}
 use Rattle.aw_face.specs.declared.faces.FaceKind.{FaceKind}
 use Rattle.aw_face.specs.Faces.{is_offered, is_used, face_fault}
 use Rattle.aw_spec.specs.declared.fault.SpecKind.TheVariants as kind
 use Rattle.aw_spec.specs.Lines.{Line, RoleLine, ConLine, SortLine, StartLine, OfferLine, UseLine, RuleLine, ScheduleLine}
-use Rattle.aw_spec.specs.ReadLine.{line_of}
-use Rattle.aw_spec.specs.Reading.{Spec, Draft, Step, On, Wrong, Stop, declaring, offering, using_sort, using_by, if_kept, keeping, says, stage_of, LineRead, Next, Fault, End, at_stage, in_order, if_line, if_tokens, read_line, Reading, Good, Faulty, after_line, read_lines, no_draft, specification}
+use Rattle.aw_spec.specs.Reading.{Spec, Draft, On, Wrong, declaring, offering, using_by, if_kept, keeping, says, Good, no_draft, specification}
+use Rattle.aw_spec.proofs.KeptLines.{reading_keeps}
 use Rattle.aw_write.specs.Writable.{AreApart, FacesFit}
 
 abbrev AreOther : ℕ → ℕ → Type 0
@@ -54,22 +51,11 @@ later_push R (y ∷ xs) x later each = (each_push (R y) xs x later.0 each.0, lat
 none_holds : {A : Type 0} (p : A → Bool) (P : A → Type 0) → ((a : A) → p a ≡ false → P a) → (xs : List A) → list_any p xs ≡ false → Each P xs
 none_holds p P f [] h = tt
 none_holds p P f (x ∷ xs) h =
-    let parts = neither (p x) (list_any p xs) h in
+    let parts = or_parts (p x) (list_any p xs) h in
     (f x parts.0, none_holds p P f xs parts.1)
-  where
-    neither : (a b : Bool) → (a || b) ≡ false → (a ≡ false) × (b ≡ false)
-    neither false false e = (refl, refl)
-    neither true b e = cc
-    neither false true e = cc
-
-is_other : (a b : ℕ) → nat_eq a b ≡ false → a ≡ b → ⊥
-is_other a b h e = let same : nat_eq a b ≡ true = grind (arith, e) in cc
 
 is_apart : (u v : Using) → (nat_eq u.role v.role && nat_eq u.sort v.sort) ≡ false → AreApart u v
-is_apart u v h er es =
-    let r : nat_eq u.role v.role ≡ true = grind (arith, er) in
-    let s : nat_eq u.sort v.sort ≡ true = grind (arith, es) in
-    let both : (nat_eq u.role v.role && nat_eq u.sort v.sort) ≡ true = ap (λ b. b && nat_eq u.sort v.sort) r ∙ s in cc
+is_apart u v h er es = both_ways _ h (and_from _ _ (eq-eqb u.role v.role er) (eq-eqb u.sort v.sort es))
 
 length_start : (sorts : List Sort) (i : ℕ) → length (with_start_at sorts i) ≡ length sorts
 length_start [] i = refl
@@ -94,7 +80,7 @@ offered_sound : (s after : Spec) (i : ℕ) (t : Bool) → is_offered i s.offers 
 offered_sound s after i true h less e sound = cc
 offered_sound s after i false h less e sound = subst IsSound (on_is (record s { offers = s.offers ++ i ∷ [] }) after e) (record {
   offers = each_push (λ sort. sort < length s.declared.sorts) s.offers i sound.offers less;
-  offered_once = later_push AreOther s.offers i sound.offered_once (none_holds (λ o. nat_eq o i) (λ o. AreOther o i) (λ o k. is_other o i k) s.offers h);
+  offered_once = later_push AreOther s.offers i sound.offered_once (none_holds (λ o. nat_eq o i) (λ o. AreOther o i) (λ o k. eqb-false o i k) s.offers h);
   uses = sound.uses;
   used_once = sound.used_once;
 })
@@ -136,47 +122,7 @@ said_sound s after (UseLine role sort) e sound = use_sound s after role sort (nu
 said_sound s after (RuleLine rule) e sound = rule_sound s after rule _ e sound
 said_sound s after ScheduleLine e sound = cc
 
--- reading on
-
-next_is : (x y : Draft) → Next x ≡ Next y → x ≡ y
-next_is x y e = cc
-
-stage_sound : (stage : ℕ) (x : Step) (next : Draft) → at_stage stage x ≡ Next next → ((after : Spec) → x ≡ On after → IsSound after) → IsSound next.spec
-stage_sound stage (On s) next e f = subst (λ (d : Draft). IsSound d.spec) (next_is (record { spec = s; stage = stage }) next e) (f s refl)
-stage_sound stage (Wrong kind) next e f = cc
-stage_sound stage Stop next e f = cc
-
-order_sound : (d next : Draft) (line : Line) (t : Bool) → cond t (Fault kind.Order) (at_stage (stage_of line) (says d.spec line)) ≡ Next next → IsSound d.spec → IsSound next.spec
-order_sound d next line true e sound = cc
-order_sound d next line false e sound = stage_sound (stage_of line) (says d.spec line) next e (λ after h. said_sound d.spec after line h sound)
-
-form_sound : (d next : Draft) (o : Option Line) → if_line d o ≡ Next next → IsSound d.spec → IsSound next.spec
-form_sound d next None e sound = cc
-form_sound d next (Some line) e sound = order_sound d next line (nat_lt (stage_of line) d.stage) e sound
-
-token_sound : (d next : Draft) (bytes : List ℕ) (r : Result (List Token) ℕ) → if_tokens d bytes r ≡ Next next → IsSound d.spec → IsSound next.spec
-token_sound d next bytes (Err at) e sound = cc
-token_sound d next bytes (Ok tokens) e sound = form_sound d next (line_of (lexemes bytes tokens)) e sound
-
-line_sound : (d next : Draft) (bytes : List ℕ) (t : Bool) → cond t (Next d) (if_tokens d bytes (tokens_of bytes)) ≡ Next next → IsSound d.spec → IsSound next.spec
-line_sound d next bytes true e sound = subst (λ (x : Draft). IsSound x.spec) (next_is d next e) sound
-line_sound d next bytes false e sound = token_sound d next bytes (tokens_of bytes) e sound
-
-good_is : (x y : Spec) (m n : ℕ) → Good x m ≡ Good y n → x ≡ y
-good_is x y m n e = cc
-
-from_line : (d : Draft) (n m : ℕ) (s : Spec) (x : LineRead) (more : Draft → Reading) → IsSound d.spec → ((next : Draft) → x ≡ Next next → more next ≡ Good s m → IsSound s) → after_line d n x more ≡ Good s m → IsSound s
-from_line d n m s (Next next) more sound later e = later next refl e
-from_line d n m s (Fault kind) more sound later e = cc
-from_line d n m s End more sound later e = subst IsSound (good_is d.spec s n m e) sound
-
-lines_sound : (d : Draft) (n m : ℕ) (s : Spec) (lines : List (List ℕ)) → IsSound d.spec → read_lines d n lines ≡ Good s m → IsSound s
-lines_sound d n m s [] sound e = subst IsSound (good_is d.spec s n m e) sound
-lines_sound d n m s (line ∷ lines) sound e =
-    from_line d (suc n) m s (read_line d line) (λ next. read_lines next (suc n) lines) sound
-    (λ next h k. lines_sound next (suc n) m s lines (line_sound d next line (passed_over line) h sound) k) e
-
 pub read_fits : (lines : List (List ℕ)) (s : Spec) (n : ℕ) → specification lines ≡ Good s n → face_fault (grammar_in s.declared) s.offers s.uses ≡ None → FacesFit s
 read_fits lines s n e kept =
-    let sound = lines_sound no_draft 0 n s lines (record { offers = tt; offered_once = tt; uses = tt; used_once = tt }) e in
+    let sound = reading_keeps (λ (d : Draft). IsSound d.spec) IsSound (λ d after line h le sound. said_sound d.spec after line h sound) (λ d sound. sound) no_draft 0 n s lines (record { offers = tt; offered_once = tt; uses = tt; used_once = tt }) e in
     record { kept = kept; offers = sound.offers; offered_once = sound.offered_once; uses = sound.uses; used_once = sound.used_once }

@@ -1,5 +1,6 @@
 -- Bytes that say lexemes, wherever in a line they stand, and hold no line feed.
-use Rattle.std.proofs.Common.{◌≡◌, ℕ, ◌+◌, ◌-◌, ◌<◌, ◌≤◌, ◌^◌, refl, sym, ◌∙◌, ap, subst, true, false, ◌==◌, ◌&&◌, not, List, [], ◌∷◌, ◌++◌, take, drop, length, arith, unwrap_or, Ok, append_assoc, append-nil, length-append}
+use Rattle.std.proofs.Common.{◌≡◌, ℕ, ◌+◌, ◌-◌, ◌<◌, ◌^◌, refl, sym, ◌∙◌, ap, subst, true, false, ◌==◌, ◌&&◌, not, List, [], ◌∷◌, ◌++◌, take, drop, length, arith, unwrap_or, Ok, append_assoc, append-nil, length-append}
+use Rattle.std.proofs.Math.Seq.{take-append_seam, drop-append_seam}
 use Rattle.std.proofs.lemmas.List.Folds.{list_all-append}
 use Rattle.std.specs.Fmt.{decimal}
 use Rattle.aw_text.specs.Spelling.{is_name, is_content, quoted}
@@ -16,9 +17,6 @@ use Rattle.aw_form.specs.Lexemes.{Lexeme, Name, Number, Quoted, Mark, said, lexe
 use Rattle.aw_write.proofs.Lexing.{Ends, name_front, name_unbroken, some_name, number_front, number_unbroken, text_front, text_unbroken, mark_front}
 
 -- the tokens of these bytes, behind others in a line, and what they say
-abbrev Lexed : List ℕ → List Lexeme → List ℕ → Type 0
-Lexed bs ls before = (ts : List Token) × (tokens_from (length before) 0 bs ≡ Ok ts) × (lexemes (before ++ bs) ts ≡ ls)
-
 pub record Says (bs : List ℕ) (ls : List Lexeme) : Type 0 where
   pub lexed : (before : List ℕ) → (ts : List Token) × (tokens_from (length before) 0 bs ≡ Ok ts) × (lexemes (before ++ bs) ts ≡ ls)
   pub unbroken : lacks 10 bs ≡ true
@@ -38,21 +36,10 @@ says_blank bs ls s = record {
   unbroken = s.unbroken;
 }
 
-drop_front : (w bs : List ℕ) → drop (length w) (w ++ bs) ≡ bs
-drop_front [] bs = refl
-drop_front (b ∷ w) bs = drop_front w bs
-
-take_front : (w bs : List ℕ) → take (length w) (w ++ bs) ≡ w
-take_front [] bs = refl
-take_front (b ∷ w) bs = ap (λ xs. b ∷ xs) (take_front w bs)
-
 slice_front : (before w bs : List ℕ) → take ((length before + length w) - length before) (drop (length before) (before ++ (w ++ bs))) ≡ w
 slice_front before w bs =
     let size : (length before + length w) - length before ≡ length w = omega arith in
-    ap (λ xs. take ((length before + length w) - length before) xs) (drop_front before (w ++ bs)) ∙ ap (λ n. take n (w ++ bs)) size ∙ take_front w bs
-
-within : (w bs : List ℕ) → length w ≤ length (w ++ bs)
-within w bs = omega (arith, length-append w bs)
+    ap (λ xs. take ((length before + length w) - length before) xs) (drop-append_seam before (w ++ bs)) ∙ ap (λ n. take n (w ++ bs)) size ∙ take-append_seam w bs
 
 says_token : (w bs : List ℕ) (kind : TokenKind) (l : Lexeme) (ls : List Lexeme) → 0 < length w → front_of (w ++ bs) ≡ front.Token kind (length w) → said kind w ≡ l → lacks 10 w ≡ true → Says bs ls → Says (w ++ bs) (l ∷ ls)
 says_token w bs kind l ls some found says whole s = record {
@@ -61,8 +48,8 @@ says_token w bs kind l ls some found says whole s = record {
       let more = s.lexed (before ++ w) in
       let at : length before + length w ≡ length (before ++ w) = omega (arith, length-append before w) in (
         token ∷ more.0,
-        token_step (length before) (length w) kind (w ++ bs) some (within w bs) found
-            ∙ ap (λ xs. with_token token (tokens_from (length before + length w) 0 xs)) (drop_front w bs)
+        token_step (length before) (length w) kind (w ++ bs) some (omega (arith, length-append w bs)) found
+            ∙ ap (λ xs. with_token token (tokens_from (length before + length w) 0 xs)) (drop-append_seam w bs)
             ∙ ap (λ n. with_token token (tokens_from n 0 bs)) at
             ∙ ap (with_token token) more.1,
         ap (λ xs. said kind xs ∷ lexemes (before ++ (w ++ bs)) more.0) (slice_front before w bs)

@@ -1,49 +1,45 @@
 -- The lines of a specification can be spelled: their names are names, their texts are contents, and their numbers have 64 bits.
-use Rattle.std.proofs.Common.{◌≡◌, ℕ, zero, suc, ◌+◌, ◌-◌, ◌<◌, ◌≤◌, nat_eq, refl, sym, subst, Bool, true, false, cond, ◌&&◌, List, [], ◌∷◌, ◌++◌, length, map, drop, arith}
+use Rattle.std.proofs.Common.{◌≡◌, ℕ, ◌+◌, ◌-◌, ◌<◌, ◌≤◌, nat_eq, refl, sym, subst, Bool, true, false, cond, List, [], ◌∷◌, ◌++◌, length, map, drop, arith}
 use Rattle.std.proofs.lemmas.List.{length-map}
+use Rattle.std.proofs.lemmas.Bool.{and_parts}
 use Rattle.aw_text.specs.Spelling.{is_content}
 use Rattle.aw_term.specs.Trees.{Head, Con, Num, Text, Leaf, Made, Trees, Nil, More, count}
 use Rattle.aw_term.specs.Rules as P
 use Rattle.aw_term.specs.Rules.{Term, get, upto}
 use Rattle.aw_term.specs.WellFormed.{Each, leaves, all_leaves, leaves_of, heads_fit, all_heads_fit, head_fits, TermFits, ChildFits, RuleFits, SortFits, outs_of}
+use Rattle.aw_term.proofs.Eaches.{each_append, each_get, each_left, each_right}
 use Rattle.aw_grammar.specs.declared.rule.Con as decl
 use Rattle.aw_grammar.specs.declared.rule.Sort.{Sort}
 use Rattle.aw_grammar.specs.GrammarView.{sort_of}
 use Rattle.aw_grammar.specs.Declarations.{Entry, Declarations, con_names, sort_names, rule_names, grammar_in}
-use Rattle.aw_grammar.proofs.Growth.{each_append, each_left, each_right}
 use Rattle.aw_face.specs.declared.faces.Using.{Using}
 use Rattle.aw_spec.specs.Lines.{RoleLine, StartLine, RuleLine}
 use Rattle.aw_spec.specs.Reading.{Spec}
 use Rattle.aw_write.specs.SpecLines.{named, named_parts, named_children, later_variables, named_rule, con_line, sort_line, start_line, start_lines, offer_line, use_line, declaration_lines, face_lines, rule_lines, spec_lines}
 use Rattle.aw_grammar.specs.Variables.{VariablesFit}
 use Rattle.aw_write.specs.Writable.{IsSmall, NumbersFit, PartsFit, SmallNumbers, FacesFit}
-use Rattle.aw_write.proofs.Placed.{each_get, each_take, each_drop}
+use Rattle.aw_write.proofs.Placed.{each_take, each_drop, each_upto}
 use Rattle.aw_write.proofs.SaysTerms.{IsName, IsSpelledTerm, AreSpelledParts, AreSpelled, IsSpelledChild, IsSpelledRule, IsSpelledLine}
 use Rattle.aw_write.proofs.NamedTerms.{names_in, arities_in, found}
-use Rattle.aw_write.proofs.Declaring.{Fine}
-
-both : (a b : Bool) → (a && b) ≡ true → (a ≡ true) × (b ≡ true)
-both true true h = (refl, refl)
-both true false h = cc
-both false b h = cc
+use Rattle.aw_write.proofs.Declaring.{Fine, named_below}
 
 made_spelled : (cons : List decl.Con) (vars : List (List ℕ)) → Each IsName (names_in cons) → (h : Head) (ts : Trees ℕ) → head_fits (arities_in cons) h (count ts) ≡ true → IsSmall h → AreSpelledParts (named_parts (names_in cons) vars ts) → IsSpelledTerm (named (names_in cons) vars (Made h ts))
 made_spelled cons vars names (Con c) Nil fits small parts = each_get IsName [] (names_in cons) c names (found cons c 0 fits).below
 made_spelled cons vars names (Con c) (More t ts) fits small parts = (each_get IsName [] (names_in cons) c names (found cons c (count (More t ts)) fits).below, parts)
 made_spelled cons vars names (Num n) ts fits small parts = small
-made_spelled cons vars names (Text t) ts fits small parts = (both (nat_eq (count ts) 0) (is_content t) fits).1
+made_spelled cons vars names (Text t) ts fits small parts = (and_parts (nat_eq (count ts) 0) (is_content t) fits).1
 
 mutual
   term_spelled : (cons : List decl.Con) (vars : List (List ℕ)) → Each IsName (names_in cons) → Each IsName vars → (t : Term) → heads_fit (arities_in cons) t ≡ true → Each (λ v. v < length vars) (leaves t) → NumbersFit t → IsSpelledTerm (named (names_in cons) vars t)
   term_spelled cons vars names all (Leaf v) fits below small = each_get IsName [] vars v all below.0
   term_spelled cons vars names all (Made h ts) fits below small =
-      let parts = both (head_fits (arities_in cons) h (count ts)) (all_heads_fit (arities_in cons) ts) fits in
+      let parts = and_parts (head_fits (arities_in cons) h (count ts)) (all_heads_fit (arities_in cons) ts) fits in
       made_spelled cons vars names h ts parts.0 small.0 (parts_spelled cons vars names all ts parts.1 below small.1)
 
   parts_spelled : (cons : List decl.Con) (vars : List (List ℕ)) → Each IsName (names_in cons) → Each IsName vars → (ts : Trees ℕ) → all_heads_fit (arities_in cons) ts ≡ true → Each (λ v. v < length vars) (all_leaves ts) → PartsFit ts → AreSpelledParts (named_parts (names_in cons) vars ts)
   parts_spelled cons vars names all Nil fits below small = tt
   parts_spelled cons vars names all (More t ts) fits below small =
-      let parts = both (heads_fit (arities_in cons) t) (all_heads_fit (arities_in cons) ts) fits in (
+      let parts = and_parts (heads_fit (arities_in cons) t) (all_heads_fit (arities_in cons) ts) fits in (
         term_spelled cons vars names all t parts.0 (each_left (λ v. v < length vars) (leaves t) (all_leaves ts) below) small.0,
         parts_spelled cons vars names all ts parts.1 (each_right (λ v. v < length vars) (leaves t) (all_leaves ts) below) small.1,
       )
@@ -63,24 +59,17 @@ pub record Spelled (d : Declarations) : Type 0 where
   pub rules : Each IsName (rule_names d)
   pub numbers : Each (λ (e : Entry). SmallNumbers e.rule) d.rules
 
-sort_below : (sorts : List Sort) (i n : ℕ) → i < n → n ≡ length sorts → i < length (map (λ (s : Sort). s.name) sorts)
-sort_below sorts i n h e = omega (arith, h, e, length-map sorts (λ (s : Sort). s.name))
-
 children_spelled : (d : Declarations) (vars left : List (List ℕ)) → Each IsName (con_names d) → Each IsName (sort_names d) → Each IsName vars → Each IsName left → (g : P.Grammar) → g.arities ≡ arities_in d.cons → length g.sorts ≡ length d.sorts → (cs : List P.Child) → Each (ChildFits g (length vars)) cs → Each (λ (c : P.Child). Each NumbersFit c.args) cs →
     Each IsSpelledChild (named_children (con_names d) (sort_names d) vars left cs)
 children_spelled d vars left cons sorts all names g ga gs [] fits small = tt
 children_spelled d vars left cons sorts all names g ga gs (c ∷ cs) fits small = (
   record {
-    sort = each_get IsName [] (sort_names d) c.sort sorts (sort_below d.sorts c.sort (length g.sorts) fits.0.declared gs);
+    sort = each_get IsName [] (sort_names d) c.sort sorts (named_below d.sorts c.sort (omega (arith, gs, fits.0.declared)));
     args = terms_spelled d.cons vars cons all c.args (subst (λ a. Each (TermFits a) c.args) ga fits.0.terms) fits.0.enter small.0;
     results = each_take IsName c.outs left names;
   },
   children_spelled d vars (drop c.outs left) cons sorts all (each_drop IsName c.outs left names) g ga gs cs fits.1 small.1,
 )
-
-each_upto : (i k n : ℕ) → i + k ≤ n → Each (λ v. v < n) (upto i k)
-each_upto i zero n h = tt
-each_upto i (suc k) n h = (omega arith, each_upto (suc i) k n (omega arith))
 
 rule_spelled : (d : Declarations) (e : Entry) → Spelled d → IsName e.name → RuleFits (grammar_in d) e.rule → VariablesFit (con_names d) e.vars e.rule → SmallNumbers e.rule → IsSpelledRule (named_rule (con_names d) (sort_names d) e)
 rule_spelled d e spelled name fits vars small =
@@ -92,7 +81,7 @@ rule_spelled d e spelled name fits vars small =
     record {
       name = name;
       params = each_take IsName r.params later later_names;
-      sort = each_get IsName [] (sort_names d) r.sort spelled.sorts (sort_below d.sorts r.sort (length (grammar_in d).sorts) fits.declared sorts_length);
+      sort = each_get IsName [] (sort_names d) r.sort spelled.sorts (named_below d.sorts r.sort (omega (arith, sorts_length, fits.declared)));
       patterns = terms_spelled d.cons e.vars spelled.cons vars.names r.patterns fits.patterns (subst (Each (λ v. v < length e.vars)) (sym fits.numbered) (each_upto 0 k (length e.vars) (omega (arith, vars.count)))) small.patterns;
       results = terms_spelled d.cons e.vars spelled.cons vars.names r.results fits.results (subst (λ n. Each (λ v. v < n) (leaves_of r.results)) (sym vars.count) fits.enter) small.results;
       children = children_spelled d e.vars (drop r.params later) spelled.cons spelled.sorts vars.names (each_drop IsName r.params later later_names) (grammar_in d) refl sorts_length r.children
@@ -128,12 +117,12 @@ starts_spelled (s ∷ sorts) own = each_append IsSpelledLine (start_line s) (sta
 
 offers_spelled : (d : Declarations) (offers : List ℕ) → Each IsName (sort_names d) → Each (λ sort. sort < length d.sorts) offers → Each IsSpelledLine (map (offer_line (sort_names d)) offers)
 offers_spelled d [] sorts declared = tt
-offers_spelled d (o ∷ offers) sorts declared = (each_get IsName [] (sort_names d) o sorts (sort_below d.sorts o (length d.sorts) declared.0 refl), offers_spelled d offers sorts declared.1)
+offers_spelled d (o ∷ offers) sorts declared = (each_get IsName [] (sort_names d) o sorts (named_below d.sorts o declared.0), offers_spelled d offers sorts declared.1)
 
 uses_spelled : (d : Declarations) (uses : List Using) → Each IsName d.roles → Each IsName (sort_names d) → Each (λ (u : Using). (u.role < length d.roles) × (u.sort < length d.sorts)) uses → Each IsSpelledLine (map (use_line d.roles (sort_names d)) uses)
 uses_spelled d [] roles sorts declared = tt
 uses_spelled d (u ∷ uses) roles sorts declared =
-    ((each_get IsName [] d.roles u.role roles declared.0.0, each_get IsName [] (sort_names d) u.sort sorts (sort_below d.sorts u.sort (length d.sorts) declared.0.1 refl)), uses_spelled d uses roles sorts declared.1)
+    ((each_get IsName [] d.roles u.role roles declared.0.0, each_get IsName [] (sort_names d) u.sort sorts (named_below d.sorts u.sort declared.0.1)), uses_spelled d uses roles sorts declared.1)
 
 pub spec_spelled : (s : Spec) → Fine s.declared → Spelled s.declared → FacesFit s → Each IsSpelledLine (spec_lines s)
 spec_spelled s fine spelled faces =

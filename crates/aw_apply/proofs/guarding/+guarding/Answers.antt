@@ -1,9 +1,12 @@
 use Rattle.std.proofs.Common.{◌≡◌, ◌+◌, ◌<◌, [], length, map, ap, sym, ◌∙◌, arith, suc}
+use Rattle.std.proofs.lemmas.Bool.{leb-true}
+use Rattle.std.proofs.lemmas.List.{length-map}
 use Rattle.std.proofs.lemmas.Option.{slice_get_within}
 use Rattle.aw_term.specs.Trees.{Con, join}
 use Rattle.aw_term.specs.Matching.{Yes, and_then}
 use Rattle.aw_term.specs.WellFormed.{symbols, nesting, leaves}
 use Rattle.aw_term.specs.Views.{pattern_of}
+use Rattle.aw_term.proofs.Joined.{count_join, symbols_at, nesting_at}
 use Rattle.aw_choice.specs.ChoiceView.{path_of}
 use Rattle.aw_store.specs.NamedRefs.{con_parts, parts_at}
 use Rattle.aw_store.specs.Chase.{chase}
@@ -11,7 +14,7 @@ use Rattle.aw_store.proofs.ChaseLemmas.{name_at}
 use Rattle.aw_store.proofs.StoreLemmas.{found_small}
 use Rattle.aw_apply.specs.Guard.{guard_end, guard, guard_parts}
 use Rattle.aw_apply.specs.Named.{names_at, as_named, behind}
-use Rattle.aw_apply.proofs.GuardLemmas.{from, found_live, con_term, symbols_at, nesting_at, leaves_at, one_more, end_differs, end_goes, not_yes, at_most_8, count_patterns}
+use Rattle.aw_apply.proofs.GuardLemmas.{from, found_live, con_term, leaves_at, one_more, end_differs, end_goes, not_yes}
 use Rattle.aw_apply.proofs.guarding.+guarding.Goals as goal
 
 pub guard_at-guard_con-requires : goal.guard_at-guard_con-requires
@@ -41,7 +44,7 @@ guard_con-guard_parts-requires g t c κs within =
     let ps = c.args.parts.now in
     let (r, f) = name_at names c.args.slot c.requires.live in
     let w = end_goes k names c.args.slot c.in-Found.end [] [] _ (guard_parts k 1 (join (map pattern_of ps))) (Con c.args.con) (length ps) r (c.in-Found.ensures r f) (sym c.is_con.ensures ∙ c.if-is_con.true) in
-    let few = at_most_8 _ (found_small names k c.in-Found.end _ (g.met.F.Facts.few c.args.f.now) w.1) in
+    let few = leb-true _ 8 (found_small names k c.in-Found.end _ (g.met.F.Facts.few c.args.f.now) w.1) in
     (omega (arith, c.decreases), (within, (w.2 ∙ sym (ap (λ o. length (con_parts o)) w.1), (omega (arith, few, w.2), (c.requires.shallow, c.requires.room)))))
 
 pub guard_con-returns-then-is_con-clause-step : goal.guard_con-returns-then-is_con-clause-step
@@ -56,7 +59,7 @@ guard_con-returns-then-is_con-clause-step g t c = λ r f.
     c.guard_parts.ensures.step
     ∙ ap (λ o. and_then (Yes bs) (behind q (as_named (go (con_parts o))))) w.1
     ∙ w.3
-    ∙ ap (λ n. and_then (Yes bs) (behind q (as_named (guard_end (chase k r) go (Con c.args.con) n r)))) (sym (count_patterns ps))
+    ∙ ap (λ n. and_then (Yes bs) (behind q (as_named (guard_end (chase k r) go (Con c.args.con) n r)))) (sym (count_join (map pattern_of ps) ∙ length-map ps pattern_of))
 
 pub guard_con-returns-else-is_con-clause-step : goal.guard_con-returns-else-is_con-clause-step
 guard_con-returns-else-is_con-clause-step g t c = λ r f.
@@ -67,7 +70,7 @@ guard_con-returns-else-is_con-clause-step g t c = λ r f.
     let q = path_of c.args.at.now in
     let go = guard_parts k 1 (join (map pattern_of ps)) in
     end_differs k names c.args.slot c.in-Found.end bs q (chase k r) go (Con c.args.con) (length ps) r (c.in-Found.ensures r f) (sym c.is_con.ensures ∙ c.if-is_con.false)
-    ∙ ap (λ n. and_then (Yes bs) (behind q (as_named (guard_end (chase k r) go (Con c.args.con) n r)))) (sym (count_patterns ps))
+    ∙ ap (λ n. and_then (Yes bs) (behind q (as_named (guard_end (chase k r) go (Con c.args.con) n r)))) (sym (count_join (map pattern_of ps) ∙ length-map ps pattern_of))
 
 pub guard_parts-guard_at-requires : goal.guard_parts-guard_at-requires
 guard_parts-guard_at-requires g t c κs within =

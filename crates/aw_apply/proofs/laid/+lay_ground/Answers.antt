@@ -1,10 +1,12 @@
-use Rattle.std.proofs.Common.{◌<◌, length, map, ap, arith}
+use Rattle.std.proofs.Common.{◌≡◌, ◌<◌, length, map, ap, ◌∙◌, arith}
+use Rattle.std.proofs.lemmas.Result.{IfOk-weaker}
 use Rattle.aw_term.specs.Trees.{Con}
 use Rattle.aw_store.specs.Equations.{Is}
 use Rattle.aw_term.specs.Views.{ground_of}
 use Rattle.aw_apply.specs.Made.{lay}
 use Rattle.aw_apply.specs.MadeView.{one_of, all_of}
-use Rattle.aw_apply.proofs.LayLemmas.{ground_term, symbol_laid, symbols_over, symbols_within, symbols_more, laid_more, next_more, if_ok_view}
+use Rattle.aw_apply.specs.declared.laid.LaidOne.{LaidOne}
+use Rattle.aw_apply.proofs.LayLemmas.{ground_term, symbol_laid, symbols_over, symbols_within, symbols_more, laid_more}
 use Rattle.aw_apply.proofs.laid.+lay_ground.Goals as goal
 
 pub lay_ground-lay_grounds-requires : goal.lay_ground-lay_grounds-requires
@@ -15,8 +17,8 @@ pub lay_ground-returns-in_ok-all-in-Con : goal.lay_ground-returns-in_ok-all-in-C
 lay_ground-returns-in_ok-all-in-Con t c =
     let n = c.args.node.now in
     let qs = c.as_slice-in-Con.result.now in
-    if_ok_view one_of c.lay_symbol-in-Con.result _ (lay n (λ x. elim x [ ]) c.args.k (ground_of c.args.ground.now))
-    (symbol_laid n (λ x. elim x [ ]) c.args.k (Con c.in-Con.c) _ (map ground_of qs) (all_of c.in_ok-all-in-Con.all) _ c.in_ok-all-in-Con.ensures (ap (Is (Con c.in-Con.c)) c.from_vec.ensures) (ground_term qs _ _ _ c.as_slice-in-Con.ensures c.in-Con.is))
+    IfOk-weaker c.lay_symbol-in-Con.result _ (λ (l : LaidOne). one_of l ≡ lay n (λ x. elim x [ ]) c.args.k (ground_of c.args.ground.now))
+    (λ l w. w ∙ symbol_laid n (λ x. elim x [ ]) c.args.k (Con c.in-Con.c) _ (map ground_of qs) (all_of c.in_ok-all-in-Con.all) _ c.in_ok-all-in-Con.ensures (ap (Is (Con c.in-Con.c)) c.from_vec.ensures) (ground_term qs _ _ _ c.as_slice-in-Con.ensures c.in-Con.is))
     c.lay_symbol-in-Con.ensures
 
 pub lay_grounds-lay_ground-requires : goal.lay_grounds-lay_ground-requires
@@ -29,14 +31,5 @@ lay_grounds-lay_ground-requires t c =
 
 pub lay_grounds-loop-ground-preserved : goal.lay_grounds-loop-ground-preserved
 lay_grounds-loop-ground-preserved t c =
-    let n = c.args.node.now in
-    let xs = c.args.grounds.now in
-    let i = c.loop-ground.ground-index in
-    let x = c.ground-item.result in
-    let lt : i < length xs = c.loop-ground-test.true in
-    let a = all_of c.loop-ground.all in
-    let b = all_of c.add.new.self in
-    let one = one_of c.in_ok-lay_ground.field-0 in (
-      laid_more n (λ x. elim x [ ]) ground_of xs i x a b one _ lt c.ground-item.is c.in_ok-lay_ground.ensures c.in_ok-add.ensures c.loop-ground.invariant.0,
-      omega (arith, c.loop-ground.invariant.1, symbols_more ground_of xs i x lt c.ground-item.is, next_more n (λ x. elim x [ ]) (ground_of x) a b one c.in_ok-lay_ground.ensures c.in_ok-add.ensures),
-    )
+    laid_more c.args.node.now (λ x. elim x [ ]) ground_of c.args.grounds.now c.loop-ground.ground-index c.ground-item.result (all_of c.loop-ground.all) (all_of c.add.new.self) (one_of c.in_ok-lay_ground.field-0) _ 65535
+    c.loop-ground-test.true c.ground-item.is c.in_ok-lay_ground.ensures c.in_ok-add.ensures c.loop-ground.invariant

@@ -1,4 +1,4 @@
-use Rattle.std.proofs.Common.{◌++◌, map, ap, ◌∙◌, arith, List}
+use Rattle.std.proofs.Common.{◌≡◌, ◌++◌, map, ap, ◌∙◌, arith, List}
 use Rattle.aw_term.specs.Names.{Ref}
 use Rattle.aw_term.specs.Rules.{get}
 use Rattle.aw_term.specs.WellFormed.{symbols_of, child_symbols}
@@ -12,6 +12,7 @@ use Rattle.aw_apply.proofs.LayLemmas.{lay_list-next}
 use Rattle.aw_apply.proofs.ChildLemmas.{symbols_apart, children-next}
 use Rattle.aw_apply.proofs.MakeLemmas.{made_equations, made_children}
 use Rattle.aw_apply.proofs.make.made_by.Goals as goal
+use Rattle.aw_apply.proofs.make.made_by.Goals.{In_ok-called}
 
 pub lay_children-requires-clause-parts : goal.lay_children-requires-clause-parts
 lay_children-requires-clause-parts c = λ sorts.
@@ -27,60 +28,51 @@ lay_children-requires-clause-parts c = λ sorts.
       symbols_apart sorts c.args.g.now.sorts c.args.rule.now.children,
     )
 
+-- the arguments, the variables and the children, as the plain definitions have them
+sources : (c : In_ok-called) → (all_of c.in_ok-roots.field-0 ≡ lay_list c.args.node.now (λ x. elim x [ ]) 1 (map ground_of c.args.args.now))
+    × (c.in_ok-refs.refs.items ≡ c.args.bound.now ++ ((all_of c.in_ok-roots.field-0).roots ++ child_refs c.args.node.now c.args.number 1 (rule_of c.args.g.now.sorts c.args.rule.now).children))
+    × (called_of c.in_ok-called.called ≡ as_children (lay_children c.args.node.now c.args.number (get (no_ref c.args.node.now) c.in_ok-refs.refs.items) 1 (all_of c.in_ok-roots.field-0).next (rule_of c.args.g.now.sorts c.args.rule.now).children))
+sources c =
+    let n = c.args.node.now in
+    let r = c.args.number in
+    let rule = c.args.rule.now in
+    let sorts = c.args.g.now.sorts in
+    let a = all_of c.in_ok-roots.field-0 in (
+      c.in_ok-roots.ensures ∙ ap (λ xs. lay_list n (λ x. elim x [ ]) 1 (map ground_of xs)) c.as_slice.ensures,
+      c.in_ok-refs.ensures ∙ ap (λ b. b ++ (a.roots ++ child_refs n r 1 (rule_of sorts rule).children)) c.as_slice-2.ensures,
+      c.in_ok-called.ensures sorts
+          ∙ ap (λ xs. as_children (lay_children n r (get (no_ref n) c.as_slice-3.result.now) 1 a.next (map (child_of sorts) xs))) c.as_slice-4.ensures
+          ∙ ap (λ rs. as_children (lay_children n r (get (no_ref n) rs) 1 a.next (rule_of sorts rule).children)) c.as_slice-3.ensures.value,
+    )
+
 pub lay_results-requires-clause-parts : goal.lay_results-requires-clause-parts
 lay_results-requires-clause-parts c =
-    let gs = map ground_of c.args.args.now in
     let n = c.args.node.now in
-    let sorts = c.args.g.now.sorts in
-    let f = get (no_ref n) c.as_slice-3.result.now in
-    let cs = map (child_of sorts) c.args.rule.now.children in
-    let e = c.in_ok-roots.ensures ∙ ap (λ xs. lay_list n (λ x. elim x [ ]) 1 (map ground_of xs)) c.as_slice.ensures in
-    let h = c.in_ok-called.ensures sorts ∙ ap (λ xs. as_children (lay_children n c.args.number f 1 c.in_ok-roots.field-0.next (map (child_of sorts) xs))) c.as_slice-4.ensures in
+    let (ea, er, ec) = sources (goal.at.lay_results-requires-clause-parts c).In_ok-called in
     omega (
       arith,
-      ap (λ (z : Laid (List Ref)). z.next) e,
-      lay_list-next n (λ x. elim x [ ]) 1 gs,
+      ap (λ (z : Laid (List Ref)). z.next) ea,
+      lay_list-next n (λ x. elim x [ ]) 1 (map ground_of c.args.args.now),
       c.requires.entered,
       c.requires.symbols,
-      ap (λ (z : Laid (List MadeChild)). z.next) h,
-      children-next n c.args.number f 1 c.in_ok-roots.field-0.next cs,
+      ap (λ (z : Laid (List MadeChild)). z.next) ec,
+      children-next n c.args.number (get (no_ref n) c.in_ok-refs.refs.items) 1 c.in_ok-roots.field-0.next (map (child_of c.args.g.now.sorts) c.args.rule.now.children),
       ap (λ ts. symbols_of (map term_of ts)) c.as_slice-6.ensures,
     )
 
 pub returns-clause-equations : goal.returns-clause-equations
 returns-clause-equations c =
     let n = c.args.node.now in
-    let r = c.args.number in
     let rule = c.args.rule.now in
-    let sorts = c.args.g.now.sorts in
-    let gs = map ground_of c.args.args.now in
-    let a = all_of c.in_ok-roots.field-0 in
-    let refs = c.in_ok-refs.refs.items in
     let called = c.in_ok-called.called in
-    let ea = c.in_ok-roots.ensures ∙ ap (λ xs. lay_list n (λ x. elim x [ ]) 1 (map ground_of xs)) c.as_slice.ensures in
-    let er = c.in_ok-refs.ensures ∙ ap (λ b. b ++ (a.roots ++ child_refs n r 1 (rule_of sorts rule).children)) c.as_slice-2.ensures in
-    let ec = c.in_ok-called.ensures sorts
-    ∙ ap (λ xs. as_children (lay_children n r (get (no_ref n) c.as_slice-3.result.now) 1 a.next (map (child_of sorts) xs))) c.as_slice-4.ensures
-    ∙ ap (λ rs. as_children (lay_children n r (get (no_ref n) rs) 1 a.next (rule_of sorts rule).children)) c.as_slice-3.ensures.value in
+    let (ea, er, ec) = sources (goal.at.returns-clause-equations c).In_ok-called in
     let eg = c.in_ok-given.ensures
     ∙ ap (λ ts. lay_results n (get (no_ref n) c.as_slice-5.result.now) called.next 1 (map term_of ts)) c.as_slice-6.ensures
     ∙ ap (λ rs. lay_results n (get (no_ref n) rs) called.next 1 (map term_of rule.results)) c.as_slice-5.ensures.value in
-    made_equations n r (rule_of sorts rule) gs c.args.bound.now a refs (called_of called) (map equation_of c.in_ok-given.given.items) (map equation_of c.append.new.equations.items) (map equation_of c.from_vec.result)
+    made_equations n c.args.number (rule_of c.args.g.now.sorts rule) (map ground_of c.args.args.now) c.args.bound.now (all_of c.in_ok-roots.field-0) c.in_ok-refs.refs.items (called_of called) (map equation_of c.in_ok-given.given.items) (map equation_of c.append.new.equations.items) (map equation_of c.from_vec.result)
     ea er ec eg c.in_ok-append.ensures (ap (map equation_of) c.from_vec.ensures ∙ c.in_ok-append-2.ensures)
 
 pub returns-clause-children : goal.returns-clause-children
 returns-clause-children c =
-    let n = c.args.node.now in
-    let r = c.args.number in
-    let rule = c.args.rule.now in
-    let sorts = c.args.g.now.sorts in
-    let gs = map ground_of c.args.args.now in
-    let a = all_of c.in_ok-roots.field-0 in
-    let refs = c.in_ok-refs.refs.items in
-    let called = c.in_ok-called.called in
-    let ea = c.in_ok-roots.ensures ∙ ap (λ xs. lay_list n (λ x. elim x [ ]) 1 (map ground_of xs)) c.as_slice.ensures in
-    let er = c.in_ok-refs.ensures ∙ ap (λ b. b ++ (a.roots ++ child_refs n r 1 (rule_of sorts rule).children)) c.as_slice-2.ensures in
-    let ec = c.in_ok-called.ensures sorts
-    ∙ ap (λ xs. as_children (lay_children n r (get (no_ref n) c.as_slice-3.result.now) 1 a.next (map (child_of sorts) xs))) c.as_slice-4.ensures
-    ∙ ap (λ rs. as_children (lay_children n r (get (no_ref n) rs) 1 a.next (rule_of sorts rule).children)) c.as_slice-3.ensures.value in
-    c.from_vec-2.ensures ∙ made_children n r (rule_of sorts rule) gs c.args.bound.now a refs (called_of called) ea er ec
+    let (ea, er, ec) = sources (goal.at.returns-clause-children c).In_ok-called in
+    c.from_vec-2.ensures ∙ made_children c.args.node.now c.args.number (rule_of c.args.g.now.sorts c.args.rule.now) (map ground_of c.args.args.now) c.args.bound.now (all_of c.in_ok-roots.field-0) c.in_ok-refs.refs.items (called_of c.in_ok-called.called) ea er ec

@@ -1,4 +1,4 @@
-use Rattle.std.proofs.Common.{◌≡◌, ◌-◌, drop, length}
+use Rattle.std.proofs.Common.{◌≡◌, ◌-◌, drop}
 use Rattle.aw_grammar.specs.GrammarOf.{grammar_of}
 use Rattle.aw_face.specs.Faces.{face_fault}
 use Rattle.aw_face.proofs.RuleSteps.{faults_from}

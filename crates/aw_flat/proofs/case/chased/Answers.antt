@@ -1,4 +1,5 @@
-use Rattle.aw_flat.proofs.Slots.{found_live, missing_live, round_live}
+use Rattle.aw_apply.proofs.GuardLemmas.{found_live}
+use Rattle.aw_flat.proofs.Slots.{missing_live, round_live}
 use Rattle.aw_flat.proofs.case.chased.Goals as goal
 
 pub returns-in-Found : goal.returns-in-Found

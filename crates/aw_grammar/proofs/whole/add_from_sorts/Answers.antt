@@ -1,7 +1,7 @@
 use Rattle.std.proofs.Common.{◌≡◌, ◌++◌, true}
 use Rattle.aw_grammar.specs.Build.{is_spelled, sorts_placed, starts_placed, rules_placed}
 use Rattle.aw_grammar.specs.GrammarOf.{declarations_of}
-use Rattle.aw_grammar.proofs.Growth.{each_left, each_right}
+use Rattle.aw_term.proofs.Eaches.{each_left, each_right}
 use Rattle.aw_grammar.proofs.InTurn.{built_after, stops_before, rules_of_none, sorts_keep}
 use Rattle.aw_grammar.proofs.whole.add_from_sorts.Goals as goal
 

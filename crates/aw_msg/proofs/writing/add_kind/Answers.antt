@@ -1,7 +1,8 @@
 use Rattle.std.proofs.Common.{◌++◌, ◌∷◌, [], sym, ap, ◌∙◌}
 use Rattle.std.specs.Int.{w16, to_be_bytes}
+use Rattle.std.proofs.lemmas.Result.{on_ok_weaker}
 use Rattle.aw_wire.specs.Names.{spelled_node, spelled_ref, spelled_refs}
-use Rattle.aw_wire.proofs.Adding.{then_ok, two}
+use Rattle.aw_wire.proofs.Adding.{two}
 use Rattle.aw_msg.specs.Messages.{spelled_body, spelled_kind}
 use Rattle.aw_msg.proofs.writing.add_kind.Goals as goal
 
@@ -10,7 +11,7 @@ returns-in_ok-add_node-in-Call-clause-ok c =
     let old = c.args.text.now in
     let node = spelled_node c.in-Call.node in
     let refs = spelled_refs c.in-Call.inherited in
-    then_ok c.add_refs.result
+    on_ok_weaker c.add_refs.result
     (λ e. two old (0 ∷ []) (node ++ refs) c.add_byte.new.text c.add_refs.new.text c.in_ok-add_byte-in-Call.ensures.ok
     (two c.add_byte.new.text node refs c.add_node.new.text c.add_refs.new.text c.in_ok-add_node-in-Call.ensures.ok (e ∙ ap (λ rs. c.add_node.new.text ++ spelled_refs rs) c.as_slice.ensures))
     ∙ ap (λ k. old ++ spelled_kind k) (sym c.in-Call.is))
@@ -21,7 +22,7 @@ returns-in_ok-add_ref-in-Ask-clause-ok c =
     let old = c.args.text.now in
     let reference = spelled_ref c.in-Ask.reference in
     let from = to_be_bytes w16 c.in-Ask.from in
-    then_ok c.add_u16.result
+    on_ok_weaker c.add_u16.result
     (λ e. two old (1 ∷ []) (reference ++ from) c.add_byte-in-Ask.new.text c.add_u16.new.text c.in_ok-add_byte-in-Ask.ensures.ok
     (two c.add_byte-in-Ask.new.text reference from c.add_ref.new.text c.add_u16.new.text c.in_ok-add_ref-in-Ask.ensures.ok e)
     ∙ ap (λ k. old ++ spelled_kind k) (sym c.in-Ask.is))
@@ -32,7 +33,7 @@ returns-in_ok-add_ref-in-Tell-clause-ok c =
     let old = c.args.text.now in
     let left = spelled_ref c.in-Tell.equation.left in
     let body = spelled_body c.in-Tell.equation.body in
-    then_ok c.add_body.result
+    on_ok_weaker c.add_body.result
     (λ e. two old (2 ∷ []) (left ++ body) c.add_byte-in-Tell.new.text c.add_body.new.text c.in_ok-add_byte-in-Tell.ensures.ok
     (two c.add_byte-in-Tell.new.text left body c.add_ref-in-Tell.new.text c.add_body.new.text c.in_ok-add_ref-in-Tell.ensures.ok e)
     ∙ ap (λ k. old ++ spelled_kind k) (sym c.in-Tell.is))

@@ -1,4 +1,5 @@
 use Rattle.std.proofs.Common.{◌≡◌, ◌+◌, ◌++◌, ◌∷◌, length, map, ap, sym, ◌∙◌, arith, ◌<◌, []}
+use Rattle.std.proofs.lemmas.Result.{IfOk-weaker}
 use Rattle.aw_term.specs.Trees.{join}
 use Rattle.aw_term.specs.Matching.{Yes, and_then, match, match_parts}
 use Rattle.aw_term.specs.Views.{pattern_of}
@@ -9,8 +10,8 @@ use Rattle.aw_plain.specs.declared.tree.Tree.{Tree}
 use Rattle.aw_plain.specs.TreeView.{value_of, values_of}
 use Rattle.aw_plain.specs.MatchView.{matched_of, behind}
 use Rattle.aw_plain.specs.declared.matching.Matched.{Matched}
-use Rattle.aw_plain.proofs.JobLemmas.{IfOk-weaken}
-use Rattle.aw_plain.proofs.MatchLemmas.{from, one_more, more_taken, narrow_at, symbols_at, nesting_at, con_match, con_long, parts_of, behind_here, narrow_parts, few_parts, symbols_con, nesting_con}
+use Rattle.aw_term.proofs.Joined.{symbols_at, nesting_at}
+use Rattle.aw_plain.proofs.MatchLemmas.{from, one_more, more_taken, narrow_at, con_match, con_long, parts_of, behind_here, narrow_parts, few_parts, symbols_con, nesting_con}
 use Rattle.aw_plain.proofs.matching.+matching.Goals as goal
 
 pub match_at-returns-then-len : goal.match_at-returns-then-len
@@ -30,7 +31,7 @@ match_at-returns-else-len t c =
     let h = ap (λ ps. match_parts 1 (join (map pattern_of ps)) (join (map value_of c.as_slice-in-Con-tree-2.result.now))) c.as_slice-in-Con-tree.ensures
     ∙ ap (λ us. match_parts 1 (join (map pattern_of c.in-Con.parts)) (join (map value_of us))) c.as_slice-in-Con-tree-2.ensures
     ∙ sym (con_match _ _ _ us _ _ c.in-Con.is v e l) in
-    IfOk-weaken _ _ (λ (m : Matched) w. w ∙ ap (behind (path_of c.args.at.now)) h) c.match_parts.result c.match_parts.ensures
+    IfOk-weaker c.match_parts.result _ _ (λ (m : Matched) w. w ∙ ap (behind (path_of c.args.at.now)) h) c.match_parts.ensures
 
 pub match_at-match_parts-requires : goal.match_at-match_parts-requires
 match_at-match_parts-requires t c = (

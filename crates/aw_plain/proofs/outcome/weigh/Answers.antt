@@ -1,4 +1,5 @@
 use Rattle.std.proofs.Common.{◌∙◌, sym, ap, None, map, slice_get}
+use Rattle.std.proofs.lemmas.Result.{IfOk-weaker}
 use Rattle.std.proofs.lemmas.List.{length-map}
 use Rattle.std.proofs.Math.Logic.{∥∥₁_elim}
 use Rattle.std.proofs.Math.Nat.{ℕ_set}
@@ -9,7 +10,6 @@ use Rattle.aw_plain.specs.declared.outcome.Outcome.{Outcome}
 use Rattle.aw_plain.specs.TreeView.{value_of}
 use Rattle.aw_plain.specs.RowView.{plain_row, config_of}
 use Rattle.aw_plain.specs.Filled.{IsFilled}
-use Rattle.aw_plain.proofs.JobLemmas.{IfOk-weaken}
 use Rattle.aw_plain.proofs.FitLemmas.{patterns_narrow, patterns_shallow, patterns_few, patterns_taken}
 use Rattle.aw_plain.proofs.OutcomeLemmas.{found_row, found_rule, no_rule, at_open, takable_here, found_each}
 use Rattle.aw_plain.proofs.outcome.weigh.Goals as goal
@@ -39,13 +39,13 @@ returns-in-Some-rule-clause-value c =
     let row = c.in-Some.row in
     let found = found_row c.args.node.now (config_of c.args.rows.now) c.find_row.result row c.find_row.ensures c.in-Some.is in
     let here = found_rule c.args.grammar.now.rules c.args.number c.rule.result c.in-Some-rule.rule c.rule.ensures.value c.in-Some-rule.is in
-    IfOk-weaken _ _ (λ (o : Outcome) w. w g.sorts ∙ at_open g c.args.number _ c.args.node.now (map ground_of c.args.args.now) row.now _ here c.in_default.is found) c.weigh_rule.result c.weigh_rule.ensures.value
+    IfOk-weaker c.weigh_rule.result _ _ (λ (o : Outcome) w. w g.sorts ∙ at_open g c.args.number _ c.args.node.now (map ground_of c.args.args.now) row.now _ here c.in_default.is found) c.weigh_rule.ensures.value
 
 pub returns-in-Some-rule-clause-takable : goal.returns-in-Some-rule-clause-takable
 returns-in-Some-rule-clause-takable c =
     let g = c.args.grammar.now in
     let here = found_rule c.args.grammar.now.rules c.args.number c.rule.result c.in-Some-rule.rule c.rule.ensures.value c.in-Some-rule.is in
-    IfOk-weaken _ _ (λ (o : Outcome) w. takable_here g.rules c.args.number _ c.args.node.now o here w) c.weigh_rule.result c.weigh_rule.ensures.takable
+    IfOk-weaker c.weigh_rule.result _ _ (λ (o : Outcome) w. takable_here g.rules c.args.number _ c.args.node.now o here w) c.weigh_rule.ensures.takable
 
 pub returns-in-None-rule-clause-value : goal.returns-in-None-rule-clause-value
 returns-in-None-rule-clause-value c =

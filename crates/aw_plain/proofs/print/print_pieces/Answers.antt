@@ -2,7 +2,7 @@ use Rattle.std.proofs.Common.{ap, arith, rules, subst}
 use Rattle.aw_grammar.specs.GrammarOf.{words_of}
 use Rattle.aw_out.specs.Report.{Prints}
 use Rattle.aw_plain.specs.Pieces.{pieces_work}
-use Rattle.aw_plain.proofs.JobLemmas.{nil_from_length}
+use Rattle.std.proofs.lemmas.List.{nil_from_length}
 use Rattle.aw_plain.proofs.PrintLemmas.{work_more, all_gathered, piece_stopped, gathered_last}
 use Rattle.aw_plain.proofs.print.print_pieces.Goals as goal
 

@@ -3,7 +3,8 @@ use Rattle.std.proofs.lemmas.List.{at_drop_more}
 use Rattle.aw_term.specs.Artifacts.{value_text}
 use Rattle.aw_plain.specs.Places.{places, places_of_all}
 use Rattle.aw_plain.specs.Pieces.{text_of, texts_under, following, pending, pieces_work}
-use Rattle.aw_plain.proofs.PrintLemmas.{pending_push, work_more, listed_split, all_behind, places_copied}
+use Rattle.aw_base.proofs.TextLemmas.{all_behind}
+use Rattle.aw_plain.proofs.PrintLemmas.{pending_push, work_more, listed_split, places_copied}
 use Rattle.aw_plain.proofs.print.push_listed.Goals as goal
 
 pub returns-in_ok-push-in-len1-up-clause-text : goal.returns-in_ok-push-in-len1-up-clause-text

@@ -2,9 +2,10 @@ use Rattle.std.proofs.Common.{◌≡◌, ℕ, ◌+◌, ◌≤◌, ◌∷◌, [],
 use Rattle.std.specs.declared.vec.Vec.{Vec}
 use Rattle.std.specs.declared.rc.Rc.{Rc}
 use Rattle.std.specs.declared.alloc.Global.{Global}
+use Rattle.aw_grammar.proofs.Emptying.{falls_hand, falls_all}
 use Rattle.aw_plain.specs.declared.tree.Tree.{Tree}
 use Rattle.aw_plain.specs.Places.{places, places_of_all, places_open}
-use Rattle.aw_plain.proofs.Counts.{places_con, places_made, places_append, falls_hand, falls_all, places_positive}
+use Rattle.aw_plain.proofs.Counts.{places_con, places_made, places_append, places_positive}
 use Rattle.aw_plain.proofs.tree.+emptying.Goals as goal
 use Rattle.aw_plain.proofs.tree.+emptying.Goals.{Tree::drop-in-Some-open, Tree::drop-in_default}
 

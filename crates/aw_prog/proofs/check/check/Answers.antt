@@ -1,9 +1,3 @@
-use Rattle.std.proofs.Common.{IfOk, subst}
-use Rattle.aw_grammar.specs.declared.grammar.Grammar.{Grammar}
-use Rattle.aw_grammar.specs.GrammarOf.{declarations_of}
-use Rattle.aw_accept.specs.Circular.{IsRelation}
-use Rattle.aw_prog.specs.Output.{TellsDependences}
-use Rattle.aw_prog.specs.Replies.{Replies}
 use Rattle.aw_prog.proofs.Verdicts.{accepts-grammar, refuses-grammar}
 use Rattle.aw_prog.proofs.check.check.Goals as goal
 

@@ -1,7 +1,7 @@
 use Rattle.std.proofs.Common.{arith, ◌≡◌, ◌∙◌, ap, subst, refl, drop}
 use Rattle.aw_lex.specs.Lines.{lines_of}
 use Rattle.aw_grammar.specs.GrammarOf.{declarations_of}
-use Rattle.aw_spec.specs.Reading.{Good, Faulty, specification}
+use Rattle.aw_spec.specs.Reading.{Faulty, specification}
 use Rattle.aw_spec.specs.KindNames.{kind_name}
 use Rattle.aw_prog.specs.Refusals.{at_line}
 use Rattle.aw_prog.specs.Output.{Output, BadSpecification, Makes, IsOutputOf}

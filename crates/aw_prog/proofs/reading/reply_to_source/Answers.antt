@@ -1,4 +1,4 @@
-use Rattle.std.proofs.Common.{◌≡◌, ◌∙◌, ap, Err}
+use Rattle.std.proofs.Common.{◌∙◌, ap, Err}
 use Rattle.aw_prog.proofs.Unreads.{unread-reply}
 use Rattle.aw_prog.proofs.reading.reply_to_source.Goals as goal
 

@@ -1,6 +1,5 @@
 use Rattle.std.proofs.Common.{◌≡◌, ◌∙◌, sym, inl, inr, rules}
 use Rattle.aw_prog.specs.declared.reply.Status.TheVariants.{Done}
-use Rattle.aw_prog.specs.Statuses.{IsReply}
 use Rattle.aw_prog.proofs.Endings.{Says-check, Says-plain, Says-replay, Says-cause, Says-complete}
 use Rattle.aw_prog.proofs.run.run.Goals as goal
 

@@ -1,4 +1,5 @@
 use Rattle.std.proofs.Common.{arith, ◌≡◌, ◌+◌, ◌∙◌, sym, map, ap}
+use Rattle.std.proofs.lemmas.Result.{IfOk-weaker}
 use Rattle.aw_lex.specs.Lines.{lines_of}
 use Rattle.aw_grammar.specs.GrammarOf.{declarations_of}
 use Rattle.aw_sched.specs.Answers.{event_seen}
@@ -7,9 +8,10 @@ use Rattle.aw_sched.specs.KindNames.{kind_name as schedule_kind}
 use Rattle.aw_prog.specs.Refusals.{at_line}
 use Rattle.aw_prog.specs.Output.{BadSchedule, by_schedule}
 use Rattle.aw_prog.specs.Replies.{reply_with}
+use Rattle.aw_prog.specs.declared.reply.Reply.{Reply}
 use Rattle.aw_prog.proofs.LineCounts.{schedule-within}
 use Rattle.aw_prog.proofs.Outputs.{schedule-good}
-use Rattle.aw_prog.proofs.Verdicts.{IfOk-same, bad-event}
+use Rattle.aw_prog.proofs.Verdicts.{bad-event}
 use Rattle.aw_prog.proofs.schedule.reply_to_schedule.Goals as goal
 
 pub overflow_add-before : goal.overflow_add-before
@@ -22,7 +24,7 @@ returns-in-Ok c =
     let g = c.args.accepted.now.grammar in
     let read : read_lines (declarations_of g) 1 (lines_of c.args.schedule.now) ≡ Events (map event_seen c.in-Ok.events) = rw c.grammar-g.ensures.value at c.in-Ok.ensures.answer in
     let good : read_lines (declarations_of g) 1 (lines_of c.args.schedule.now) ≡ Events (map event_seen c.as_slice.result.now) = read ∙ ap (λ es. Events (map event_seen es)) (sym c.as_slice.ensures) in
-    IfOk-same c.reply_to_events.result _ _ (ap reply_with (schedule-good c.args.telling g c.args.before (lines_of c.args.schedule.now) _ good)) c.reply_to_events.ensures
+    IfOk-weaker c.reply_to_events.result _ _ (λ (said : Reply) w. w ∙ sym (ap reply_with (schedule-good c.args.telling g c.args.before (lines_of c.args.schedule.now) _ good))) c.reply_to_events.ensures
 
 pub returns-in-Err-Bad : goal.returns-in-Err-Bad
 returns-in-Err-Bad c =
@@ -31,5 +33,5 @@ returns-in-Err-Bad c =
     let faulty : read_lines (declarations_of g) 1 (lines_of c.args.schedule.now) ≡ FaultAt c.in-Err-Bad.line c.in-Err-Bad.kind = rw c.grammar-g.ensures.value at at_g in
     let same : reply_with (by_schedule c.args.telling (declarations_of g) c.args.before (read_lines (declarations_of g) 1 (lines_of c.args.schedule.now))) ≡ reply_with (BadSchedule (at_line (c.args.before + c.in-Err-Bad.line) (schedule_kind c.in-Err-Bad.kind))) =
     ap (λ r. reply_with (by_schedule c.args.telling (declarations_of g) c.args.before r)) faulty in
-    IfOk-same c.bad_schedule.result _ _ same
+    IfOk-weaker c.bad_schedule.result _ _ (λ (said : Reply) w. w ∙ sym same)
     (bad-event c.bad_schedule.result c.in-Err-Bad.line _ c.args.before c.in-Err-Bad.kind _ c.in-Err-Bad.line-is c.in-Err-Bad.kind-is c.bad_schedule.ensures)

@@ -1,20 +1,20 @@
-use Rattle.std.proofs.Common.{◌≡◌, ◌∙◌, ap, refl, rules, drop}
+use Rattle.std.proofs.Common.{refl, rules}
 use Rattle.std.proofs.lemmas.List.{drop_all}
-use Rattle.aw_prog.proofs.Printing.{Prints-then, Prints-part}
+use Rattle.aw_plain.proofs.LineLemmas.{then_prints, stops}
 use Rattle.aw_prog.proofs.Transcripts.{transcript-drop}
 use Rattle.aw_prog.proofs.transcript.print_transcript.Goals as goal
 
 pub returns-in_err-print_event : goal.returns-in_err-print_event
 returns-in_err-print_event c =
     c.loop-event.invariant.whole _ _
-    (Prints-part _ _ _ _ _ _ _ (transcript-drop _ _ _ _ _ _ c.event-item.result c.loop-event-test.true c.event-item.is refl) c.in_err-print_event.ensures.prints (search rules))
+    (stops _ _ _ _ _ _ _ _ (transcript-drop _ _ _ _ _ _ c.event-item.result c.loop-event-test.true c.event-item.is refl) refl (search rules) c.in_err-print_event.ensures.prints)
 
 pub loop-event-preserved : goal.loop-event-preserved
 loop-event-preserved c = record {
   grammar = c.print_event.ensures.grammar;
   whole = λ new result next.
       c.loop-event.invariant.whole new result
-      (Prints-then _ _ _ _ _ _ _ (transcript-drop _ _ _ _ _ _ c.event-item.result c.loop-event-test.true c.event-item.is c.in_ok-print_event.ensures.rows) c.in_ok-print_event.ensures.prints next);
+      (then_prints _ _ _ _ _ _ _ _ _ (transcript-drop _ _ _ _ _ _ c.event-item.result c.loop-event-test.true c.event-item.is c.in_ok-print_event.ensures.rows) refl c.in_ok-print_event.ensures.prints next);
 }
 
 pub returns : goal.returns

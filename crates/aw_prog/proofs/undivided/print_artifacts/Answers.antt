@@ -1,4 +1,3 @@
-use Rattle.std.proofs.Common.{rules}
 use Rattle.aw_prog.proofs.Transcripts.{artifacts-printed}
 use Rattle.aw_prog.proofs.undivided.print_artifacts.Goals as goal
 

@@ -1,4 +1,4 @@
-use Rattle.aw_spec.proofs.Declared.{declared_grammar, declared_words}
+use Rattle.aw_grammar.proofs.Entries.{declared_grammar, declared_words}
 use Rattle.aw_spec.proofs.read.text_of.Goals as goal
 
 pub returns-clause-grammar : goal.returns-clause-grammar

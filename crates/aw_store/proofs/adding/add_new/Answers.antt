@@ -1,11 +1,12 @@
 use Rattle.std.proofs.Common.{◌≤◌, ◌+◌, map, ap, ◌∙◌, arith, vec_len, vec_capacity}
+use Rattle.std.proofs.lemmas.List.{map_push}
 use Rattle.aw_store.specs.EquationView.{equation_of}
 use Rattle.aw_store.specs.NamedRefs.{has_names}
 use Rattle.aw_store.specs.StoreView.{all_few}
 use Rattle.aw_store.specs.ListStore.{lacking}
 use Rattle.aw_store.proofs.NameLemmas.{has_names-grown, has_names-push, not_ok}
 use Rattle.aw_store.proofs.StoreLemmas.{all_few-push}
-use Rattle.aw_store.proofs.AddLemmas.{has_names-member, member_lacks, kept_all, kept_named, kept_lacking, kept_room, map-push}
+use Rattle.aw_store.proofs.AddLemmas.{has_names-member, member_lacks, kept_all, kept_named, kept_lacking, kept_room}
 use Rattle.aw_store.proofs.adding.add_new.Goals as goal
 
 pub returns-in_err-name_equation-clause-sound : goal.returns-in_err-name_equation-clause-sound
@@ -54,7 +55,7 @@ returns-clause-sound c =
     let s = c.requires.sound in
     let ms = c.name_equation.new.names.items in
     let g = c.name_equation.ensures.grows in
-    let more = ap (map equation_of) c.in_ok-push.ensures.items ∙ map-push c.args.equations.now.items c.args.e in
+    let more = ap (map equation_of) c.in_ok-push.ensures.items ∙ map_push equation_of c.args.equations.now.items c.args.e in
     record {
       once = c.name_equation.ensures.once;
       named = ap (has_names ms) more ∙ has_names-push ms (map equation_of c.args.equations.now.items) (equation_of c.args.e) (has_names-grown _ ms _ g s.named) c.in_ok-name_equation.ensures.ok;
@@ -66,7 +67,7 @@ pub returns-clause-room : goal.returns-clause-room
 returns-clause-room c =
     let k = map equation_of c.args.equations.now.items in
     let ready = c.keep_ready.new.ready.items in
-    let more = ap (λ es. lacking es (map equation_of ready)) (ap (map equation_of) c.in_ok-push.ensures.items ∙ map-push c.args.equations.now.items c.args.e) in
+    let more = ap (λ es. lacking es (map equation_of ready)) (ap (map equation_of) c.in_ok-push.ensures.items ∙ map_push equation_of c.args.equations.now.items c.args.e) in
     let before : vec_len c.args.equations.now + lacking k (map equation_of c.args.ready.now.items) ≤ vec_capacity c.push.new.self = omega (arith, c.requires.room, c.push.ensures.capacity) in
     let fits : vec_len c.args.equations.now + 1 ≤ vec_capacity c.push.new.self = omega (arith, c.in_ok-push.ensures.len) in
     omega (arith, more, c.in_ok-push.ensures.len, kept_room k c.args.ready.now.items ready c.args.e _ _ c.keep_ready.ensures c.requires.lacks before fits)

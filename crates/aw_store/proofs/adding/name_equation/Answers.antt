@@ -1,6 +1,6 @@
+use Rattle.std.proofs.lemmas.Bool.{and_parts}
 use Rattle.aw_store.specs.EquationView.{equation_of}
 use Rattle.aw_store.specs.NamedRefs.{is_named}
-use Rattle.aw_store.proofs.RefLemmas.{both}
 use Rattle.aw_store.proofs.NameLemmas.{is_named-at, is_named-grown, all_named-grown, names_both}
 use Rattle.aw_store.proofs.adding.name_equation.Goals as goal
 
@@ -12,4 +12,4 @@ returns-clause-ok c =
 pub returns-clause-named : goal.returns-clause-named
 returns-clause-named c = λ w.
     let old = c.args.names.now.items in
-    c.name_body.ensures.named (all_named-grown old _ _ c.name_one.ensures.grows (both (is_named old c.args.e.now.left) _ w).1)
+    c.name_body.ensures.named (all_named-grown old _ _ c.name_one.ensures.grows (and_parts (is_named old c.args.e.now.left) _ w).1)

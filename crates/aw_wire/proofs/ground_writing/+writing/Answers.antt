@@ -2,10 +2,11 @@ use Rattle.std.proofs.Common.{◌++◌, sym, ap, subst, ◌∙◌, arith}
 use Rattle.std.proofs.Transfers.{starts_with_trans}
 use Rattle.std.proofs.lemmas.List.{take_all}
 use Rattle.std.specs.List.{flat_map}
+use Rattle.std.proofs.lemmas.List.Folds.{flat_map-map}
 use Rattle.aw_term.specs.Views.{ground_of}
 use Rattle.aw_wire.specs.Grounds.{spelled_ground}
 use Rattle.aw_wire.specs.Ranges.{HeadsInRange}
-use Rattle.aw_wire.proofs.Adding.{one_more, of_seen, each_at}
+use Rattle.aw_wire.proofs.Adding.{one_more, each_at}
 use Rattle.aw_wire.proofs.Fronts.{behind, in_both}
 use Rattle.aw_wire.proofs.GroundWriting.{con_added}
 use Rattle.aw_wire.proofs.ground_writing.+writing.Goals as goal
@@ -38,4 +39,4 @@ add_each-loop-ground-preserved t c = record {
 pub add_each-returns-clause-ok : goal.add_each-returns-clause-ok
 add_each-returns-clause-ok t c = λ h.
     c.loop-ground.invariant.added h ∙ ap (λ ys. c.args.text.now ++ flat_map (λ g. spelled_ground (ground_of g)) ys) (take_all c.loop-ground.ground-index c.args.grounds.now (omega arith))
-    ∙ ap (λ u. c.args.text.now ++ u) (of_seen spelled_ground ground_of c.args.grounds.now)
+    ∙ ap (λ u. c.args.text.now ++ u) (sym (flat_map-map spelled_ground ground_of c.args.grounds.now))

@@ -1,11 +1,12 @@
 use Rattle.std.proofs.Common.{◌++◌, ◌∷◌, [], sym, ap, map, ◌∙◌}
 use Rattle.std.specs.Int.{w16, w64, to_be_bytes}
+use Rattle.std.proofs.lemmas.Result.{on_ok_weaker}
 use Rattle.aw_term.specs.Views.{ground_of}
 use Rattle.aw_choice.specs.ChoiceView.{choice_of}
 use Rattle.aw_wire.specs.Names.{spelled_node}
 use Rattle.aw_wire.specs.Grounds.{spelled_grounds}
 use Rattle.aw_wire.specs.Choices.{spelled_choice}
-use Rattle.aw_wire.proofs.Adding.{then_ok, two}
+use Rattle.aw_wire.proofs.Adding.{two}
 use Rattle.aw_wire.proofs.ground_writing.add_choice.Goals as goal
 
 pub returns-in_ok-add_u16-in-Start-clause-ok : goal.returns-in_ok-add_u16-in-Start-clause-ok
@@ -13,7 +14,7 @@ returns-in_ok-add_u16-in-Start-clause-ok c =
     let old = c.args.text.now in
     let sort = to_be_bytes w16 c.in-Start.sort in
     let case = to_be_bytes w64 c.in-Start.case in
-    then_ok c.add_u64.result
+    on_ok_weaker c.add_u64.result
     (λ e. two old (0 ∷ []) (sort ++ case) c.add_byte.new.text c.add_u64.new.text c.in_ok-add_byte-in-Start.ensures.ok
     (two c.add_byte.new.text sort case c.add_u16.new.text c.add_u64.new.text c.in_ok-add_u16-in-Start.ensures.ok e)
     ∙ ap (λ x. old ++ spelled_choice (choice_of x)) (sym c.in-Start.is))
@@ -25,7 +26,7 @@ returns-in_ok-add_u16-in-Develop-clause-ok c =
     let node = spelled_node c.in-Develop.node in
     let rule = to_be_bytes w16 c.in-Develop.rule in
     let args = spelled_grounds (map ground_of c.in-Develop.args) in
-    then_ok c.add_grounds.result
+    on_ok_weaker c.add_grounds.result
     (λ e. two old (1 ∷ []) (node ++ (rule ++ args)) c.add_byte-in-Develop.new.text c.add_grounds.new.text c.in_ok-add_byte-in-Develop.ensures.ok
     (two c.add_byte-in-Develop.new.text node (rule ++ args) c.add_node.new.text c.add_grounds.new.text c.in_ok-add_node-in-Develop.ensures.ok
     (two c.add_node.new.text rule args c.add_u16-in-Develop.new.text c.add_grounds.new.text c.in_ok-add_u16-in-Develop.ensures.ok e))

@@ -1,8 +1,9 @@
 use Rattle.std.proofs.Common.{◌∷◌, [], ◌++◌, length, ap, ◌∙◌}
 use Rattle.std.specs.List.{flat_map}
 use Rattle.std.specs.Int.{w16, w64, to_be_bytes}
+use Rattle.std.proofs.lemmas.Result.{on_ok_weaker}
 use Rattle.aw_wire.specs.Names.{spelled_step}
-use Rattle.aw_wire.proofs.Adding.{then_ok, two}
+use Rattle.aw_wire.proofs.Adding.{two}
 use Rattle.aw_wire.proofs.writing.add_node.Goals as goal
 
 pub returns-clause-ok : goal.returns-clause-ok
@@ -12,7 +13,7 @@ returns-clause-ok c =
     let a = to_be_bytes w16 n.start in
     let b = to_be_bytes w64 n.case in
     let steps = flat_map spelled_step n.steps in
-    then_ok c.add_steps.result
+    on_ok_weaker c.add_steps.result
     (λ e. two old a (b ++ (length n.steps ∷ steps)) c.add_u16.new.text c.add_steps.new.text c.in_ok-add_u16.ensures.ok
     (two c.add_u16.new.text b (length n.steps ∷ steps) c.add_u64.new.text c.add_steps.new.text c.in_ok-add_u64.ensures.ok
     (two c.add_u64.new.text (length n.steps ∷ []) steps c.add_byte.new.text c.add_steps.new.text (c.in_ok-add_byte.ensures.ok ∙ ap (λ k. c.add_u64.new.text ++ k ∷ []) c.len.ensures.value)

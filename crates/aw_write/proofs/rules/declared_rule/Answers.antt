@@ -6,7 +6,7 @@ use Rattle.std.specs.Coded.{le_prop}
 use Rattle.aw_grammar.specs.GrammarOf.{grammar_of}
 use Rattle.aw_grammar.specs.declared.rule.Rule.{Rule}
 use Rattle.aw_grammar.proofs.Fits.{if_found}
-use Rattle.aw_write.proofs.PushingRules.{few_children}
+use Rattle.aw_face.proofs.RuleSteps.{few_children}
 use Rattle.aw_write.proofs.rules.declared_rule.Goals as goal
 
 pub returns-clause-few : goal.returns-clause-few

@@ -12,8 +12,8 @@ place-place-requires c =
     ap (λ n. stands n g.sort_index) c.as_slice.ensures ∙ ap (λ ns. stands c.args.name.now ns) g.sort_names
     ∙ start_stands c.args.name.now g.sorts (start_found g.roles g.cons g.sorts g.rules c.args.name.now (sym c.in_default.ensures))
 
-pub invariant_of-result : goal.invariant_of-result
-invariant_of-result c =
+pub invariant_of-self : goal.invariant_of-self
+invariant_of-self c =
     let g = c.args.self in
     let place_is : c.place-place.result ≡ number_of c.args.name.now (map (λ (s : Sort). s.name) g.sorts) =
     c.place-place.ensures.value ∙ ap (λ n. number_of n g.sort_index) c.as_slice.ensures ∙ ap (λ ns. number_of c.args.name.now ns) g.sort_names in

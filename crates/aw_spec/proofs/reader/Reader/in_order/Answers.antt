@@ -1,4 +1,4 @@
-use Rattle.std.proofs.Common.{◌≡◌, ◌<◌, ◌∙◌, sym, subst, arith, length, map, Ok}
+use Rattle.std.proofs.Common.{◌<◌, ◌∙◌, sym, subst, arith, Ok}
 use Rattle.std.proofs.lemmas.List.{length-map}
 use Rattle.aw_grammar.specs.GrammarOf.{entry}
 use Rattle.aw_spec.specs.declared.draft.Said.{Said}

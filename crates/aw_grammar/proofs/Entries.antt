@@ -1,4 +1,4 @@
--- The grammar and the names of what a grammar declares are its own.
+-- What a grammar declares has its own rules and names.
 use Rattle.std.proofs.Common.{◌≡◌, ℕ, refl, ap, List, [], ◌∷◌, map, length}
 use Rattle.aw_term.specs.Rules as P
 use Rattle.aw_term.specs.Artifacts.{Words}
@@ -12,11 +12,11 @@ use Rattle.aw_grammar.specs.GrammarOf.{grammar_of, words_of, entry, declarations
 
 pub rules_of_entries : (sorts : List Sort) (rules : List Rule) → map (rule_of sorts) rules ≡ map (λ (e : Entry). e.rule) (map (entry sorts) rules)
 rules_of_entries sorts [] = refl
-rules_of_entries sorts (r ∷ rs) = ap (λ xs. rule_of sorts r ∷ xs) (rules_of_entries sorts rs)
+rules_of_entries sorts (r ∷ rules) = ap (λ us. rule_of sorts r ∷ us) (rules_of_entries sorts rules)
 
-names_of_entries : (sorts : List Sort) (rules : List Rule) → map (λ (r : Rule). r.name) rules ≡ map (λ (e : Entry). e.name) (map (entry sorts) rules)
+pub names_of_entries : (sorts : List Sort) (rules : List Rule) → map (λ (r : Rule). r.name) rules ≡ map (λ (e : Entry). e.name) (map (entry sorts) rules)
 names_of_entries sorts [] = refl
-names_of_entries sorts (r ∷ rs) = ap (λ xs. r.name ∷ xs) (names_of_entries sorts rs)
+names_of_entries sorts (r ∷ rules) = ap (λ ns. r.name ∷ ns) (names_of_entries sorts rules)
 
 pub declared_grammar : (g : Grammar) → grammar_of g ≡ grammar_in (declarations_of g)
 declared_grammar g =

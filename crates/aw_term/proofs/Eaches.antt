@@ -1,0 +1,28 @@
+-- What holds of each item of a list, of its parts, of longer lists and at a place.
+use Rattle.std.proofs.Common.{◌≡◌, ℕ, zero, suc, ◌<◌, List, [], ◌∷◌, ◌++◌, length, arith}
+use Rattle.aw_term.specs.Rules.{get}
+use Rattle.aw_term.specs.WellFormed.{Each}
+
+pub each_append : {A : Type 0} (P : A → Type 0) (xs ys : List A) → Each P xs → Each P ys → Each P (xs ++ ys)
+each_append P [] ys left right = right
+each_append P (x ∷ xs) ys left right = (left.0, each_append P xs ys left.1 right)
+
+pub each_left : {A : Type 0} (P : A → Type 0) (xs ys : List A) → Each P (xs ++ ys) → Each P xs
+each_left P [] ys each = tt
+each_left P (x ∷ xs) ys each = (each.0, each_left P xs ys each.1)
+
+pub each_right : {A : Type 0} (P : A → Type 0) (xs ys : List A) → Each P (xs ++ ys) → Each P ys
+each_right P [] ys each = each
+each_right P (x ∷ xs) ys each = each_right P xs ys each.1
+
+pub each_push : {A : Type 0} (P : A → Type 0) (xs : List A) (x : A) → Each P xs → P x → Each P (xs ++ x ∷ [])
+each_push P xs x each here = each_append P xs (x ∷ []) each (here, tt)
+
+pub each_map : {A : Type 0} (P Q : A → Type 0) (xs : List A) → ((x : A) → P x → Q x) → Each P xs → Each Q xs
+each_map P Q [] f each = tt
+each_map P Q (x ∷ xs) f each = (f x each.0, each_map P Q xs f each.1)
+
+pub each_get : {A : Type 0} (P : A → Type 0) (d : A) (xs : List A) (i : ℕ) → Each P xs → i < length xs → P (get d xs i)
+each_get P d [] i each less = absurd (omega (arith, less))
+each_get P d (x ∷ xs) zero each less = each.0
+each_get P d (x ∷ xs) (suc i) each less = each_get P d xs i each.1 (omega (arith, less))
