@@ -33,6 +33,17 @@ fn least_fault(alloc: Global, g: &Grammar, io: &Io) -> Result<Option<Fault>, All
     Ok(None)
 }
 
+/// The dependence relations of a grammar, and its least fault.
+fn judged(alloc: Global, g: &Grammar) -> Result<(Io, Option<Fault>), AllocError>
+    ensures made { IfOk result (λ found. IsFor g.now found.0) }
+    ensures relation { IfOk result (λ found. IsRelation g.now found.0) }
+    ensures least { IfOk result (λ found. LeastFault (grammar_of g.now) found.1) }
+{
+    let io = io_of(alloc, g)?;
+    let fault = least_fault(alloc, g, &io)?;
+    Ok((io, fault))
+}
+
 /// Accepts a grammar in which no occurrence of a rule depends on itself, over the text of the rule and the dependence
 /// relations of the sorts of its children.
 pub fn accept(alloc: Global, g: Grammar) -> Result<Accepted, Refused>
@@ -41,13 +52,16 @@ pub fn accept(alloc: Global, g: Grammar) -> Result<Accepted, Refused>
     ensures sound { IfOk result (λ a. HasNoCircle (grammar_of g) (IO (grammar_of g))) }
     ensures circular { IfErr result (λ e. Tells g e) }
 {
-    let io = io_of(alloc, &g)?;
-    match least_fault(alloc, &g, &io)? {
-        Some(Fault { rule, occ }) => Err(Refused::Circular {
+    match judged(alloc, &g) {
+        Ok((io, None)) => Ok(Accepted { grammar: g, io }),
+        Ok((_, Some(Fault { rule, occ }))) => Err(Refused::Circular {
             grammar: g,
             rule,
             occ,
         }),
-        None => Ok(Accepted { grammar: g, io }),
+        Err(_) => {
+            drop(g);
+            Err(Refused::NoMemory)
+        }
     }
 }
