@@ -27,6 +27,7 @@ pub enum AfterLine {
 }
 
 impl Reader {
+    ghost use Rattle.aw_lex.specs.Tokens.{tokens_of};
     ghost use Rattle.aw_spec.specs.Reading as reading;
     ghost use Rattle.aw_spec.specs.Views.{line_seen};
     ghost use Rattle.aw_spec.specs.Declares.{IsDeclared};
@@ -65,13 +66,10 @@ impl Reader {
         }
     }
 
-    /// What comes of the bytes of a line.
-    pub fn read_line(self, alloc: Global, line: &[u8]) -> Result<AfterLine, LineFault>
-        ensures { Reads (draft_of self) result (reading.read_line (draft_of self) line.now) }
+    /// What comes of the bytes of a line that is not passed over.
+    fn read_spelled(self, alloc: Global, line: &[u8]) -> Result<AfterLine, LineFault>
+        ensures { Reads (draft_of self) result (reading.if_tokens (draft_of self) line.now (tokens_of line.now)) }
     {
-        if is_passed_over(line) {
-            return Ok(AfterLine::Next(self));
-        }
         match spelled_line(alloc, line) {
             Ok(spelled) => self.in_order(spelled),
             Err(fault) => {
@@ -79,5 +77,15 @@ impl Reader {
                 Err(fault)
             }
         }
+    }
+
+    /// What comes of the bytes of a line.
+    pub fn read_line(self, alloc: Global, line: &[u8]) -> Result<AfterLine, LineFault>
+        ensures { Reads (draft_of self) result (reading.read_line (draft_of self) line.now) }
+    {
+        if is_passed_over(line) {
+            return Ok(AfterLine::Next(self));
+        }
+        self.read_spelled(alloc, line)
     }
 }
