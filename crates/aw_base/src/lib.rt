@@ -3,6 +3,7 @@
 #![tactic(auto)]
 
 pub mod choice_fits;
+pub mod homes;
 pub mod names;
 pub mod read_node;
 pub mod texts;
@@ -18,6 +19,7 @@ pub use aw_name::{Node, Ref, Slot, Step, Trail};
 pub use aw_term::{Expr, Ground, Grounds, Lit, Pattern, Patterns, Terms};
 pub use aw_text::{content_ok, name_ok};
 pub use choice_fits::{args_ok, choice_ok, is_start};
+pub use homes::{home_at, sort_at};
 pub use names::{child_node, home_of, ref_ok, sort_of};
 pub use read_node::{NameFault, parse_node};
 pub use texts::{
