@@ -2,4 +2,3 @@ pub mod GuardLemmas
 pub mod LayLemmas
 pub mod ChildLemmas
 pub mod MakeLemmas
-pub mod RuleLemmas

@@ -11,7 +11,7 @@ use Rattle.aw_iograph.specs.Graphs.{Member, Plus, step, more}
 use Rattle.aw_term.specs.WellFormed.{Each, Later}
 use Rattle.aw_accept.proofs.Pigeonholes.{pigeon}
 use Rattle.aw_term.proofs.Eaches.{each_map}
-use Rattle.aw_store.proofs.RefLemmas.{ref_eq-true}
+use Rattle.aw_term.proofs.RefTests.{ref_eq-true}
 use Rattle.aw_space.proofs.Unfolding.{same_to}
 
 abbrev pub lefts : Map → List Ref

@@ -11,7 +11,7 @@ use Rattle.aw_term.specs.WellFormed.{Each, Later}
 use Rattle.aw_space.proofs.Lists.{later-append}
 use Rattle.aw_space.proofs.Substituting.{Holds}
 use Rattle.aw_accept.proofs.Fitting.{each_member}
-use Rattle.aw_store.proofs.RefLemmas.{ref_eq-self, ref_eq-true}
+use Rattle.aw_term.proofs.RefTests.{ref_eq-self, ref_eq-true}
 use Rattle.aw_term.proofs.Eaches.{each_map, each_append}
 
 absent_cases : (b : Bool) (r : Ref) (e : Equation) (o : Option Body) → ref_eq r e.left ≡ b → (r ≡ e.left → Never) → cond b (Some e.body) o ≡ o

@@ -25,6 +25,7 @@ steps_lt (a ∷ xs) (b ∷ ys) = nat_lt a.rule b.rule || (nat_eq a.rule b.rule &
 abbrev pub node_lt : Node → Node → Bool
 node_lt a b = nat_lt a.start b.start || (nat_eq a.start b.start && (nat_lt a.case b.case || (nat_eq a.case b.case && steps_lt a.steps b.steps)))
 
+-- whether two values of a node are one
 abbrev pub slot_eq : Slot → Slot → Bool
 slot_eq (Result i) (Result j) = nat_eq i j
 slot_eq (Part i) (Part j) = nat_eq i j

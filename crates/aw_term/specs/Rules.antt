@@ -96,11 +96,11 @@ last_step (step ∷ next ∷ steps) = last_step (next ∷ steps)
 abbrev pub sort_at : Grammar → Node → ℕ
 sort_at g n = unwrap_or (option_map (sort_of_child g) (last_step n.steps)) n.start
 
--- the role of a sort, or 0 where no such sort is declared
 abbrev pub role_or_0 : Option Sort → ℕ
 role_or_0 None = 0
 role_or_0 (Some s) = s.role
 
+-- the role of a sort, or 0 where no such sort is declared
 abbrev pub role_of : List Sort → ℕ → ℕ
 role_of sorts s = role_or_0 (slice_get sorts s)
 
