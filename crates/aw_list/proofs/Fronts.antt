@@ -12,3 +12,8 @@ behind old a middle new e h = starts_with_trans new middle old h (starts_with_of
 pub in_both : {A E : Type 0} (result : Result A E) (old a new : List ℕ) → OnOk result (new ≡ old ++ a) → OnErr result (StartsWith new old) → StartsWith new old
 in_both (Ok x) old a new e h = starts_with_of_append new old a e
 in_both (Err x) old a new e h = h
+
+-- what holds holds at an error
+pub on_err_held : {A E P : Type 0} (result : Result A E) → P → OnErr result P
+on_err_held (Ok x) h = tt
+on_err_held (Err e) h = h

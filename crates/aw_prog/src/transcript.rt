@@ -2,9 +2,7 @@
 ghost use Rattle.std.specs.Prelude.{◌≡◌, ◌++◌, [], codes, decimal, map, OnOk, IfOk};
 ghost use Rattle.aw_term.specs.Rules.{get};
 ghost use Rattle.aw_term.specs.WellFormed.{Each};
-ghost use Rattle.aw_term.specs.Artifacts.{item_text};
 ghost use Rattle.aw_term.specs.Runs.{item_lines, worklist};
-ghost use Rattle.aw_choice.specs.ChoiceView.{item_of};
 ghost use Rattle.aw_grammar.specs.GrammarOf.{grammar_of, words_of};
 ghost use Rattle.aw_out.specs.Report.{Prints};
 ghost use Rattle.aw_sched.specs.Answers.{event_seen, MayCome};
@@ -12,7 +10,7 @@ ghost use Rattle.aw_plain.specs.RowView.{config_of};
 ghost use Rattle.aw_prog.specs.Transcript.{event_text, after_event, transcript};
 
 use crate::undivided::{print_artifacts, tell_choice};
-use aw_base::{Grammar, Item, push_item, role_name};
+use aw_base::{Grammar, push_item_lines, role_name};
 use aw_list::Text;
 use aw_out::{PrintFault, Report};
 use aw_plain::{Plain, list_rows};
@@ -28,24 +26,6 @@ fn delivery_line(alloc: Global, message: u64) -> Result<Text, AllocError>
     push_number(&mut text, message)?;
     text.push_bytes(b": no message\n")?;
     Ok(text)
-}
-
-/// Adds the line of an item.
-fn push_item_line(text: &mut Text, g: &Grammar, item: &Item) -> Result<(), AllocError>
-    ensures { OnOk result (text.new ≡ text.old ++ (item_text (words_of g.now) (item_of item.now) ++ codes "\n")) }
-{
-    push_item(text, g, item)?;
-    text.push_bytes(b"\n")
-}
-
-/// Adds the line of each item.
-fn push_item_lines(text: &mut Text, g: &Grammar, items: &[Item]) -> Result<(), AllocError>
-    ensures { OnOk result (text.new ≡ text.old ++ item_lines (words_of g.now) (map item_of items.now)) }
-{
-    for item in items {
-        push_item_line(text, g, item)?;
-    }
-    Ok(())
 }
 
 /// The line of a list, and of each item of the worklist.

@@ -2,7 +2,7 @@
 ghost use Rattle.std.specs.Prelude.{◌≡◌, ◌++◌, [], true, codes, decimal, map, OnOk, IfOk};
 ghost use Rattle.aw_term.specs.WellFormed.{Each};
 ghost use Rattle.aw_term.specs.Choices.{answer, after};
-ghost use Rattle.aw_term.specs.Runs.{choice_text, answer_line, artifacts, plain_text};
+ghost use Rattle.aw_term.specs.Runs.{answer_line, artifacts, plain_text};
 ghost use Rattle.aw_base.specs.ChoiceFits.{choice_ok};
 ghost use Rattle.aw_choice.specs.ChoiceView.{answer_of, choice_of};
 ghost use Rattle.aw_grammar.specs.GrammarOf.{grammar_of, words_of};
@@ -11,33 +11,12 @@ ghost use Rattle.aw_sched.specs.Answers.{event_seen, MayCome};
 ghost use Rattle.aw_plain.specs.RowView.{config_of};
 ghost use Rattle.aw_prog.specs.Transcript.{after_event, choice_lines, choices_in};
 
-use aw_base::{Answer, Choice, Grammar, push_answer, push_node, rule_name, sort_name};
+use aw_base::{Answer, Choice, Grammar, push_artifacts_line, push_choice_line};
 use aw_list::Text;
 use aw_out::{PrintFault, Report};
 use aw_plain::{Plain, print_rows};
 use aw_sched::Event;
-use aw_text::push_number;
 use std::alloc::{AllocError, Global};
-
-/// Adds `start visit 1`, or `choose visit#1 admit`.
-fn push_choice(text: &mut Text, g: &Grammar, choice: &Choice) -> Result<(), AllocError>
-    ensures { OnOk result (text.new ≡ text.old ++ choice_text (words_of g.now) (choice_of choice.now)) }
-{
-    match choice {
-        Choice::Start { sort, case } => {
-            text.push_bytes(b"start ")?;
-            text.push_bytes(sort_name(g, *sort))?;
-            text.push_bytes(b" ")?;
-            push_number(text, *case)
-        }
-        Choice::Develop { node, rule, .. } => {
-            text.push_bytes(b"choose ")?;
-            push_node(text, g, node)?;
-            text.push_bytes(b" ")?;
-            text.push_bytes(rule_name(g, *rule))
-        }
-    }
-}
 
 /// The line of a choice and its answer.
 fn choice_line(
@@ -49,10 +28,7 @@ fn choice_line(
     ensures { IfOk result (λ text. text ≡ answer_line (words_of g.now) (choice_of choice.now) (answer_of answer.now)) }
 {
     let mut text = Text::new(alloc);
-    push_choice(&mut text, g, choice)?;
-    text.push_bytes(b": ")?;
-    push_answer(&mut text, g, answer)?;
-    text.push_bytes(b"\n")?;
+    push_choice_line(&mut text, g, choice, answer)?;
     Ok(text)
 }
 
@@ -77,9 +53,8 @@ pub fn tell_choice(
 fn artifacts_line(alloc: Global, count: usize) -> Result<Text, AllocError>
     ensures { IfOk result (λ text. text ≡ codes "artifacts " ++ (decimal count ++ codes "\n")) }
 {
-    let mut text = Text::from_bytes(alloc, b"artifacts ")?;
-    push_number(&mut text, count as u64)?;
-    text.push_bytes(b"\n")?;
+    let mut text = Text::new(alloc);
+    push_artifacts_line(&mut text, count)?;
     Ok(text)
 }
 

@@ -1,5 +1,6 @@
 //! Texts between quotes.
 ghost use Rattle.std.specs.Prelude.{◌≡◌, ◌++◌, ◌<◌, length, ℕ, List, Some, IsTrue, OnOk, OnErr, IfOk, IfSome, option_map, option_and_then, option_copied};
+ghost use Rattle.std.specs.Io.{StartsWith};
 ghost use Rattle.aw_text.specs.Spelling.{spelled, quoted, escaped, stands_for_itself, with_front, content_before_quote, text_behind_quote, unquoted, whole, is_content};
 ghost use Rattle.aw_text.specs.Pieces.{text_from, IsShorter, IsNoLonger};
 
@@ -112,6 +113,7 @@ pub fn content_value(alloc: Global, b: &[u8]) -> Result<Option<Text>, AllocError
 
 fn push_spelled(text: &mut Text, byte: u8) -> Result<(), AllocError>
     ensures ok { OnOk result (text.new ≡ text.old ++ spelled byte) }
+    ensures err { OnErr result (text.new ≡ text.old) }
 {
     match byte {
         b'"' => text.push_bytes(b"\\\""),
@@ -121,15 +123,15 @@ fn push_spelled(text: &mut Text, byte: u8) -> Result<(), AllocError>
     }
 }
 
-fn quoted_text(alloc: Global, content: &[u8]) -> Result<Text, AllocError>
-    ensures { IfOk result (λ text. text ≡ quoted content.now) }
+fn add_quoted(text: &mut Text, content: &[u8]) -> Result<(), AllocError>
+    ensures ok { OnOk result (text.new ≡ text.old ++ quoted content.now) }
+    ensures err { OnErr result (StartsWith text.new text.old) }
 {
-    let mut text = Text::from_bytes(alloc, b"\"")?;
-    for byte in content {
-        push_spelled(&mut text, *byte)?;
-    }
     text.push_bytes(b"\"")?;
-    Ok(text)
+    for byte in content {
+        push_spelled(text, *byte)?;
+    }
+    text.push_bytes(b"\"")
 }
 
 /// Adds the text with this content, in quotes. An error changes nothing.
@@ -137,8 +139,14 @@ pub fn push_quoted(text: &mut Text, content: &[u8]) -> Result<(), AllocError>
     ensures ok { OnOk result (text.new ≡ text.old ++ quoted content.now) }
     ensures err { OnErr result (text.new ≡ text.old) }
 {
-    let quoted = quoted_text(text.allocator(), content)?;
-    text.push_bytes(quoted.as_slice())
+    let before = text.len();
+    match add_quoted(text, content) {
+        Ok(()) => Ok(()),
+        Err(failed) => {
+            text.truncate(before);
+            Err(failed)
+        }
+    }
 }
 
 /// A content that is printed in quotes is read again.

@@ -1,7 +1,8 @@
 -- Adding at the end of a text, one part after the other.
-use Rattle.std.proofs.Common.{◌≡◌, ℕ, zero, suc, ◌+◌, ◌<◌, List, [], ◌∷◌, ◌++◌, length, get_or, take, map, sym, ap, ◌∙◌, append_assoc, arith}
+use Rattle.std.proofs.Common.{◌≡◌, ℕ, zero, suc, ◌+◌, ◌<◌, ◌≤◌, List, [], ◌∷◌, ◌++◌, length, get_or, take, map, sym, ap, subst, ◌∙◌, append_assoc, arith}
 use Rattle.std.specs.List.{flat_map}
-use Rattle.std.proofs.lemmas.List.{take_more, flat_map_more}
+use Rattle.std.proofs.lemmas.List.{take_more, take_all, map-append, flat_map_more}
+use Rattle.aw_term.proofs.Eaches.{each_push}
 use Rattle.aw_term.specs.WellFormed.{Each}
 
 -- one more of a list
@@ -24,3 +25,16 @@ each_at P view (y ∷ ys) (suc i) x lt h = each_at P view ys i x (less i (length
   where
     less : (i n : ℕ) → suc i < suc n → i < n
     less i n lt = omega arith
+
+-- what holds of each of a front, and of the one behind it
+pub each_more : {A : Type 0} (P : A → Type 0) (xs : List A) (i : ℕ) (x : A) → i < length xs → x ≡ get_or xs i x → Each P (take i xs) → P x → Each P (take (i + 1) xs)
+each_more P xs i x lt is each here =
+    subst (Each P) (sym (take_more xs i x lt ∙ ap (λ y. take i xs ++ y ∷ []) (sym is))) (each_push P (take i xs) x each here)
+
+pub each_all : {A : Type 0} (P : A → Type 0) (xs : List A) (i : ℕ) → length xs ≤ i → Each P (take i xs) → Each P xs
+each_all P xs i le each = subst (Each P) (take_all i xs le) each
+
+-- the same of what a view shows of them
+pub each_more_seen : {A B : Type 0} (P : B → Type 0) (view : A → B) (xs : List A) (i : ℕ) (x : A) → i < length xs → x ≡ get_or xs i x → Each P (map view (take i xs)) → P (view x) → Each P (map view (take (i + 1) xs))
+each_more_seen P view xs i x lt is each here =
+    subst (Each P) (sym (ap (map view) (take_more xs i x lt ∙ ap (λ y. take i xs ++ y ∷ []) (sym is)) ∙ map-append view (take i xs) (x ∷ []))) (each_push P (map view (take i xs)) (view x) each here)

@@ -110,7 +110,7 @@ pub parts_join : (ts : List Ground) → spelled_parts (join ts) ≡ flat_map spe
 parts_join [] = refl
 parts_join (t ∷ ts) = ap (λ (u : List ℕ). spelled_ground t ++ u) (parts_join ts) ∙ sym (flat_map-cons spelled_ground t ts)
 
-sized_join : (ts : List Ground) → Each GroundSized ts → PartsSized (join ts)
+pub sized_join : (ts : List Ground) → Each GroundSized ts → PartsSized (join ts)
 sized_join [] h = tt
 sized_join (t ∷ ts) h = (h.0, sized_join ts h.1)
 

@@ -1,5 +1,5 @@
 -- Adding arguments at the end of a text.
-use Rattle.std.proofs.Common.{◌≡◌, ℕ, ◌≤◌, List, [], ◌∷◌, ◌++◌, length, map, Result, sym, ap, subst, ◌∙◌}
+use Rattle.std.proofs.Common.{◌≡◌, ℕ, ◌≤◌, ◌<◌, ◌^◌, List, [], ◌∷◌, ◌++◌, length, map, Result, sym, ap, subst, ◌∙◌}
 use Rattle.std.specs.Prelude.{OnOk}
 use Rattle.std.specs.List.{flat_map}
 use Rattle.std.specs.Int.{w16, to_be_bytes}
@@ -13,8 +13,8 @@ use Rattle.aw_term.specs.declared.ground.Ground as grounds
 use Rattle.aw_term.proofs.Joined.{count_join}
 use Rattle.aw_term.proofs.ViewLemmas.{ground_con}
 use Rattle.aw_wire.specs.Grounds.{spelled_head, spelled_ground, spelled_parts}
-use Rattle.aw_wire.specs.Ranges.{HeadsInRange, PartsInRange}
-use Rattle.aw_wire.proofs.GroundLaws.{parts_join}
+use Rattle.aw_wire.specs.Ranges.{HeadsInRange, PartsInRange, GroundSized}
+use Rattle.aw_wire.proofs.GroundLaws.{parts_join, sized_join}
 use Rattle.aw_wire.proofs.Adding.{two}
 
 parts_each : (ts : List Ground) → PartsInRange (join ts) → Each HeadsInRange ts
@@ -39,3 +39,11 @@ con_added r g c parts qs n k old t1 t2 t3 new is qs-is n-is few e1 e2 e3 others 
     (e ∙ ap (λ ps. t3 ++ flat_map spelled_ground (map ground_of ps)) qs-is ∙ ap (λ t. t3 ++ t) (sym (parts_join us)))
     ∙ ap (λ t. old ++ spelled_ground t) (sym view))
     (others (subst (λ ps. Each HeadsInRange (map ground_of ps)) (sym qs-is) (parts_each us known.1)))
+
+-- a constructor whose parts are sized
+pub con_sized : {A E : Type 0} (r : Result A E) (g : grounds.Ground) (c : ℕ) (parts qs : List grounds.Ground) → g ≡ grounds.Con c parts → qs ≡ parts → c < 2 ^ 16
+    → OnOk r (Each GroundSized (map ground_of qs)) → OnOk r (GroundSized (ground_of g))
+con_sized r g c parts qs is qs-is small others =
+    on_ok_weaker r
+    (λ each. subst GroundSized (sym (ap ground_of is ∙ ground_con c parts)) (small, sized_join (map ground_of parts) (subst (λ ps. Each GroundSized (map ground_of ps)) qs-is each)))
+    others

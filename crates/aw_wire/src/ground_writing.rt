@@ -6,7 +6,7 @@ ghost use Rattle.aw_term.specs.Views.{ground_of};
 ghost use Rattle.aw_choice.specs.ChoiceView.{choice_of};
 ghost use Rattle.aw_wire.specs.Grounds.{spelled_ground, spelled_grounds};
 ghost use Rattle.aw_wire.specs.Choices.{spelled_choice};
-ghost use Rattle.aw_wire.specs.Ranges.{HeadsInRange, GroundsInRange, ChoiceInRange};
+ghost use Rattle.aw_wire.specs.Ranges.{HeadsInRange, GroundSized, GroundsSized, GroundsInRange, ChoiceSized, ChoiceInRange};
 
 use crate::writing::{add_byte, add_node, add_text, add_u16, add_u64};
 use aw_choice::Choice;
@@ -25,6 +25,7 @@ fn count_of(number: usize) -> u8
 fn add_ground(text: &mut Text, ground: &Ground) -> Result<(), AllocError>
     ensures ok { HeadsInRange (ground_of ground.now) → OnOk result (text.new ≡ text.old ++ spelled_ground (ground_of ground.now)) }
     ensures kept { StartsWith text.new text.old }
+    ensures sized { OnOk result (GroundSized (ground_of ground.now)) }
 {
     match ground {
         Ground::Con(con, parts) => {
@@ -48,6 +49,7 @@ fn add_ground(text: &mut Text, ground: &Ground) -> Result<(), AllocError>
 fn add_each(text: &mut Text, grounds: &[Ground]) -> Result<(), AllocError>
     ensures ok { Each HeadsInRange (map ground_of grounds.now) → OnOk result (text.new ≡ text.old ++ flat_map spelled_ground (map ground_of grounds.now)) }
     ensures kept { StartsWith text.new text.old }
+    ensures sized { OnOk result (Each GroundSized (map ground_of grounds.now)) }
 {
     for ground in grounds {
         add_ground(text, ground)?;
@@ -59,6 +61,7 @@ fn add_grounds(text: &mut Text, grounds: &Grounds) -> Result<(), AllocError>
     requires { GroundsInRange (map ground_of grounds.now) }
     ensures ok { OnOk result (text.new ≡ text.old ++ spelled_grounds (map ground_of grounds.now)) }
     ensures err { OnErr result (StartsWith text.new text.old) }
+    ensures sized { OnOk result (GroundsSized (map ground_of grounds.now)) }
 {
     add_byte(text, count_of(grounds.len()))?;
     add_each(text, grounds.as_slice())
@@ -69,6 +72,7 @@ pub fn add_choice(text: &mut Text, choice: &Choice) -> Result<(), AllocError>
     requires { ChoiceInRange (choice_of choice.now) }
     ensures ok { OnOk result (text.new ≡ text.old ++ spelled_choice (choice_of choice.now)) }
     ensures err { OnErr result (StartsWith text.new text.old) }
+    ensures sized { OnOk result (ChoiceSized (choice_of choice.now)) }
 {
     match choice {
         Choice::Start { sort, case } => {
@@ -88,7 +92,8 @@ pub fn add_choice(text: &mut Text, choice: &Choice) -> Result<(), AllocError>
 /// The one spelling of a choice.
 pub fn encode_choice(alloc: Global, choice: &Choice) -> Result<Text, AllocError>
     requires { ChoiceInRange (choice_of choice.now) }
-    ensures { IfOk result (λ text. text ≡ spelled_choice (choice_of choice.now)) }
+    ensures text { IfOk result (λ text. text ≡ spelled_choice (choice_of choice.now)) }
+    ensures sized { OnOk result (ChoiceSized (choice_of choice.now)) }
 {
     let mut text = Text::new(alloc);
     add_choice(&mut text, choice)?;

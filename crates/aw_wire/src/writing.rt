@@ -1,9 +1,12 @@
-//! Writers of names and texts: each adds the one spelling of a value at the end of a text.
+//! Writers of names and texts: each adds the one spelling of a value at the end of a text, and what was written has the sizes of
+//! the program's types.
 ghost use Rattle.std.specs.Prelude.{◌≡◌, ◌≤◌, ◌++◌, ◌∷◌, [], length, IfOk, OnOk, OnErr, flat_map};
 ghost use Rattle.std.specs.Io.{StartsWith};
 ghost use Rattle.std.specs.Int.{w16, w64, to_be_bytes};
+ghost use Rattle.aw_term.specs.WellFormed.{Each};
 ghost use Rattle.aw_wire.specs.Names.{spelled_step, spelled_node, spelled_slot, spelled_ref, spelled_refs};
 ghost use Rattle.aw_wire.specs.Texts.{spelled_text};
+ghost use Rattle.aw_wire.specs.Ranges.{StepSized, NodeSized, SlotSized, RefSized, RefsSized, TextSized};
 
 use aw_list::Text;
 use aw_name::{Node, Ref, Slot, Step};
@@ -36,6 +39,7 @@ pub fn add_u64(text: &mut Text, number: u64) -> Result<(), AllocError>
 fn add_step(text: &mut Text, step: &Step) -> Result<(), AllocError>
     ensures ok { OnOk result (text.new ≡ text.old ++ spelled_step step.now) }
     ensures err { OnErr result (StartsWith text.new text.old) }
+    ensures sized { OnOk result (StepSized step.now) }
 {
     add_u16(text, step.rule)?;
     add_byte(text, step.child)
@@ -44,6 +48,7 @@ fn add_step(text: &mut Text, step: &Step) -> Result<(), AllocError>
 fn add_steps(text: &mut Text, steps: &[Step]) -> Result<(), AllocError>
     ensures ok { OnOk result (text.new ≡ text.old ++ flat_map spelled_step steps.now) }
     ensures err { OnErr result (StartsWith text.new text.old) }
+    ensures sized { OnOk result (Each StepSized steps.now) }
 {
     for step in steps {
         add_step(text, step)?;
@@ -55,6 +60,7 @@ fn add_steps(text: &mut Text, steps: &[Step]) -> Result<(), AllocError>
 pub fn add_node(text: &mut Text, node: &Node) -> Result<(), AllocError>
     ensures ok { OnOk result (text.new ≡ text.old ++ spelled_node node.now) }
     ensures err { OnErr result (StartsWith text.new text.old) }
+    ensures sized { OnOk result (NodeSized node.now) }
 {
     add_u16(text, node.start)?;
     add_u64(text, node.case)?;
@@ -65,6 +71,7 @@ pub fn add_node(text: &mut Text, node: &Node) -> Result<(), AllocError>
 fn add_slot(text: &mut Text, slot: Slot) -> Result<(), AllocError>
     ensures ok { OnOk result (text.new ≡ text.old ++ spelled_slot slot) }
     ensures err { OnErr result (StartsWith text.new text.old) }
+    ensures sized { OnOk result (SlotSized slot) }
 {
     match slot {
         Slot::Result(number) => {
@@ -82,6 +89,7 @@ fn add_slot(text: &mut Text, slot: Slot) -> Result<(), AllocError>
 pub fn add_ref(text: &mut Text, reference: &Ref) -> Result<(), AllocError>
     ensures ok { OnOk result (text.new ≡ text.old ++ spelled_ref reference.now) }
     ensures err { OnErr result (StartsWith text.new text.old) }
+    ensures sized { OnOk result (RefSized reference.now) }
 {
     add_node(text, &reference.node)?;
     add_slot(text, reference.slot)
@@ -90,6 +98,7 @@ pub fn add_ref(text: &mut Text, reference: &Ref) -> Result<(), AllocError>
 fn add_each_ref(text: &mut Text, refs: &[Ref]) -> Result<(), AllocError>
     ensures ok { OnOk result (text.new ≡ text.old ++ flat_map spelled_ref refs.now) }
     ensures err { OnErr result (StartsWith text.new text.old) }
+    ensures sized { OnOk result (RefsSized refs.now) }
 {
     for reference in refs {
         add_ref(text, reference)?;
@@ -102,6 +111,7 @@ pub fn add_refs(text: &mut Text, refs: &[Ref]) -> Result<(), AllocError>
     requires { length refs.now ≤ 8 }
     ensures ok { OnOk result (text.new ≡ text.old ++ spelled_refs refs.now) }
     ensures err { OnErr result (StartsWith text.new text.old) }
+    ensures sized { OnOk result (RefsSized refs.now) }
 {
     add_byte(text, refs.len() as u8)?;
     add_each_ref(text, refs)
@@ -122,6 +132,7 @@ fn length_of(content: &[u8]) -> Result<u16, AllocError>
 pub fn add_text(text: &mut Text, content: &[u8]) -> Result<(), AllocError>
     ensures ok { OnOk result (text.new ≡ text.old ++ spelled_text content.now) }
     ensures err { OnErr result (StartsWith text.new text.old) }
+    ensures sized { OnOk result (TextSized content.now) }
 {
     add_u16(text, length_of(content)?)?;
     text.push_bytes(content)

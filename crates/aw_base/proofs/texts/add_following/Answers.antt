@@ -1,6 +1,5 @@
 use Rattle.std.proofs.Transfers.{starts_with_trans}
-use Rattle.aw_list.proofs.Fronts.{behind}
-use Rattle.aw_base.proofs.TextLemmas.{on_err_held}
+use Rattle.aw_list.proofs.Fronts.{behind, on_err_held}
 use Rattle.aw_base.proofs.texts.add_following.Goals as goal
 
 pub returns-in_err-add_ref-clause-err : goal.returns-in_err-add_ref-clause-err

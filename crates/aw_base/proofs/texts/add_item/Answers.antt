@@ -1,6 +1,5 @@
 use Rattle.std.proofs.lemmas.Result.{on_err_weaker}
-use Rattle.aw_list.proofs.Fronts.{behind, in_both}
-use Rattle.aw_base.proofs.TextLemmas.{on_err_held}
+use Rattle.aw_list.proofs.Fronts.{behind, on_err_held}
 use Rattle.aw_base.proofs.texts.add_item.Goals as goal
 
 pub returns-in_err-add_node-clause-err : goal.returns-in_err-add_node-clause-err

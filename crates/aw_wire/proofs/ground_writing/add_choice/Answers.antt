@@ -1,6 +1,7 @@
 use Rattle.std.proofs.Common.{◌++◌, ◌∷◌, [], sym, ap, map, ◌∙◌}
 use Rattle.std.specs.Int.{w16, w64, to_be_bytes}
-use Rattle.std.proofs.lemmas.Result.{on_ok_weaker}
+use Rattle.std.proofs.lemmas.Result.{on_ok_weaker, on_err_weaker}
+use Rattle.aw_list.proofs.Fronts.{behind}
 use Rattle.aw_term.specs.Views.{ground_of}
 use Rattle.aw_choice.specs.ChoiceView.{choice_of}
 use Rattle.aw_wire.specs.Names.{spelled_node}
@@ -32,3 +33,12 @@ returns-in_ok-add_u16-in-Develop-clause-ok c =
     (two c.add_node.new.text rule args c.add_u16-in-Develop.new.text c.add_grounds.new.text c.in_ok-add_u16-in-Develop.ensures.ok e))
     ∙ ap (λ x. old ++ spelled_choice (choice_of x)) (sym c.in-Develop.is))
     c.add_grounds.ensures.ok
+
+pub returns-in_ok-add_u16-in-Develop-clause-err : goal.returns-in_ok-add_u16-in-Develop-clause-err
+returns-in_ok-add_u16-in-Develop-clause-err c =
+    let new = c.add_grounds.new.text in
+    on_err_weaker c.add_grounds.result
+    (λ h. behind c.args.text.now _ c.add_byte-in-Develop.new.text new c.in_ok-add_byte-in-Develop.ensures.ok
+    (behind c.add_byte-in-Develop.new.text _ c.add_node.new.text new c.in_ok-add_node-in-Develop.ensures.ok
+    (behind c.add_node.new.text _ c.add_u16-in-Develop.new.text new c.in_ok-add_u16-in-Develop.ensures.ok h)))
+    c.add_grounds.ensures.err
