@@ -7,11 +7,12 @@ use Rattle.aw_text.specs.Spelling.{is_name}
 use Rattle.aw_term.specs.Rules as P
 use Rattle.aw_term.specs.Rules.{some_rules}
 use Rattle.aw_term.specs.WellFormed.{RuleFits}
-use Rattle.aw_term.proofs.Eaches.{each_map, each_filter, later_filter}
+use Rattle.aw_term.proofs.Eaches.{each_map, each_filter, each_kept, later_filter}
 use Rattle.aw_grammar.specs.declared.rule.Con.{Con}
 use Rattle.aw_grammar.specs.declared.rule.Sort.{Sort}
 use Rattle.aw_grammar.specs.declared.rule.Rule.{Rule}
 use Rattle.aw_grammar.specs.GrammarView.{rule_of, plain_grammar}
+use Rattle.aw_grammar.specs.Variables.{VariablesFit, AllVariablesFit}
 use Rattle.aw_grammar.proofs.Counted.{rules_counted}
 use Rattle.aw_grammar.proofs.Growth.{four_from, four_to}
 use Rattle.aw_grammar.proofs.Added.{Good}
@@ -45,6 +46,10 @@ good_some roles cons sorts rules p w =
       rules = each_map (RuleFits (plain_grammar roles cons sorts rules)) (RuleFits (plain_grammar roles cons sorts fewer)) (map (rule_of sorts) fewer)
           (λ u h. other_rules roles cons sorts rules fewer u h) (each_filter (RuleFits (plain_grammar roles cons sorts rules)) (rule_of sorts) p rules w.rules);
     }
+
+-- so do the variables of the rules
+pub variables_some : (cons : List Con) (sorts : List Sort) (rules : List Rule) (p : Rule → Bool) → AllVariablesFit cons sorts rules → AllVariablesFit cons sorts (filter p rules)
+variables_some cons sorts rules p fit = each_kept (λ (r : Rule). VariablesFit (map (λ (c : Con). c.name) cons) r.vars (rule_of sorts r)) p rules fit
 
 shown_cases : (sorts : List Sort) (b : Bool) (r : Rule) (rs : List Rule) → map (rule_of sorts) (cond b (r ∷ rs) rs) ≡ cond b (rule_of sorts r ∷ map (rule_of sorts) rs) (map (rule_of sorts) rs)
 shown_cases sorts true r rs = refl

@@ -14,7 +14,6 @@ ghost use Rattle.aw_plain.specs.Cases.{AreApart};
 use crate::change::{apply, changes};
 use crate::child::{bindings, child_rows};
 use crate::fill::fill_all;
-use crate::order::is_node;
 use crate::put::{copy_parts, put_all};
 use crate::row::{Row, State, add_rows, copy_state};
 use crate::touch::touched;
@@ -22,6 +21,7 @@ use crate::tree::{Tree, Trees};
 use aw_base::{Grammar, Grounds, Rule};
 use aw_list::Items;
 use aw_name::{Node, copy_node};
+use aw_term::order::is_node;
 use std::alloc::{AllocError, Global};
 
 /// Values with all holes of the node replaced at once.

@@ -9,10 +9,10 @@ ghost use Rattle.aw_plain.specs.TreeView.{value_of, value_under, values_of};
 ghost use Rattle.aw_plain.specs.Places.{places, places_of_all};
 ghost use Rattle.aw_plain.specs.Jobs.{finish, made, work};
 
-use crate::order::is_node;
 use crate::tree::{Tree, Trees};
 use aw_list::{Items, Text};
 use aw_name::{Node, copy_node};
+use aw_term::order::is_node;
 use std::alloc::{AllocError, Global};
 use std::rc::Rc;
 

@@ -5,10 +5,10 @@ ghost use Rattle.aw_term.specs.Configs.{insert_row, insert_rows, row_of, Row as 
 ghost use Rattle.aw_plain.specs.RowView.{plain_row, config_of};
 ghost use Rattle.aw_plain.specs.Ordered.{IsOrdered};
 
-use crate::order::{is_before, is_node};
 use crate::tree::Trees;
 use aw_base::Grounds;
 use aw_name::Node;
+use aw_term::order::{is_before, is_node};
 use std::alloc::AllocError;
 
 /// Whether a choice was taken on a node, and which.

@@ -7,10 +7,11 @@ ghost use Rattle.aw_plain.specs.Ordered.{IsOrdered};
 ghost use Rattle.aw_plain.specs.Cases.{IsSameCase, AreApart, AreOutside};
 ghost use Rattle.aw_plain.specs.Changes.{row_after};
 
-use crate::order::{is_before, is_case_before};
+use crate::order::is_case_before;
 use crate::row::Row;
 use crate::tree::Tree;
 use aw_name::Node;
+use aw_term::order::is_before;
 use std::ops::Range;
 
 /// The places of the rows of a node: at most one, where nodes differ.

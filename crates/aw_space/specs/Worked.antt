@@ -9,30 +9,9 @@ use Rattle.aw_store.specs.Equations.{Same, Is, Equation}
 use Rattle.aw_store.specs.Unfold.{unfold_in}
 use Rattle.aw_accept.specs.Acyclic.{gives}
 use Rattle.aw_term.specs.Artifacts.{Words}
+pub use Rattle.aw_term.specs.Worked.{con, con1, con2, sort, call, rule}
 use Rattle.aw_space.specs.Laws.{IsAccepted}
 use Rattle.aw_space.specs.Joint.{Held, Joint, empty_joint, joint_outcome, joint_run}
-
--- a constructor without parts, and with one and two
-abbrev pub con : {A : Type 0} → ℕ → Tree A
-con c = Made (Con c) Nil
-
-abbrev pub con1 : {A : Type 0} → ℕ → Tree A → Tree A
-con1 c a = Made (Con c) (More a Nil)
-
-abbrev pub con2 : {A : Type 0} → ℕ → Tree A → Tree A → Tree A
-con2 c a b = Made (Con c) (More a (More b Nil))
-
--- a sort at a role, with how many values it takes and gives, and whether cases start with it
-abbrev pub sort : ℕ → ℕ → ℕ → Bool → Sort
-sort role takes gives start = record { role = role; takes = takes; gives = gives; start = start }
-
--- a subtask of a sort, with its arguments and how many results it gives
-abbrev pub call : ℕ → List Term → ℕ → Child
-call s args outs = record { sort = s; args = args; outs = outs }
-
--- a rule of a sort
-abbrev pub rule : ℕ → List Term → ℕ → List Term → List Child → Rule
-rule s patterns params results children = record { sort = s; patterns = patterns; params = params; results = results; children = children }
 
 -- one value is another
 abbrev pub equals : Ref → Ref → Equation

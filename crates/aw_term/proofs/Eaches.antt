@@ -44,3 +44,11 @@ later_cases R f false x xs each later = later
 pub later_filter : {A B : Type 0} (R : B → B → Type 0) (f : A → B) (p : A → Bool) (xs : List A) → Later R (map f xs) → Later R (map f (filter p xs))
 later_filter R f p [] later = tt
 later_filter R f p (x ∷ xs) later = later_cases R f (p x) x (filter p xs) (each_filter (R (f x)) f p xs later.0) (later_filter R f p xs later.1)
+
+pub each_kept : {A : Type 0} (P : A → Type 0) (p : A → Bool) (xs : List A) → Each P xs → Each P (filter p xs)
+each_kept P p [] each = tt
+each_kept P p (x ∷ xs) each = kept_cases (p x) each.0 (each_kept P p xs each.1)
+  where
+    kept_cases : (b : Bool) → P x → Each P (filter p xs) → Each P (cond b (x ∷ filter p xs) (filter p xs))
+    kept_cases true here later = (here, later)
+    kept_cases false here later = later

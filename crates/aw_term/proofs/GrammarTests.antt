@@ -112,6 +112,7 @@ sort_self a =
     (and_from (nat_eq a.takes a.takes) _ (eq-eqb a.takes a.takes refl) (and_from (nat_eq a.gives a.gives) _ (eq-eqb a.gives a.gives refl) (bool_self a.start)))
 
 pub grammars_are_one : (a b : Grammar) → same_grammar a b ≡ true → a ≡ b
+unfolding same_grammar
 grammars_are_one a b e =
     let (r, f) = and_parts _ _ e in
     let (n, g) = and_parts _ _ f in
@@ -123,6 +124,7 @@ grammars_are_one a b e =
     λ i. record { roles = p i; arities = q i; sorts = x i; rules = y i }
 
 pub grammar_is_itself : (a : Grammar) → same_grammar a a ≡ true
+unfolding same_grammar
 grammar_is_itself a =
     and_from (nat_eq a.roles a.roles) _ (eq-eqb a.roles a.roles refl)
     (and_from (nats_eq a.arities a.arities) _ ((nats_Decides a.arities a.arities).1 refl)

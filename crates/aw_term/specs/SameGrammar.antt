@@ -42,6 +42,6 @@ abbrev pub sort_eq : Sort → Sort → Bool
 sort_eq a b = nat_eq a.role b.role && (nat_eq a.takes b.takes && (nat_eq a.gives b.gives && bool_eq a.start b.start))
 
 -- whether two grammars are one
-abbrev pub same_grammar : Grammar → Grammar → Bool
+unfoldable pub same_grammar : Grammar → Grammar → Bool
 same_grammar a b =
     nat_eq a.roles b.roles && (nats_eq a.arities b.arities && (all_eq sort_eq a.sorts b.sorts && all_eq rule_eq a.rules b.rules))

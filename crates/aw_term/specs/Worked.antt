@@ -7,22 +7,26 @@ use Rattle.aw_term.specs.Choices.{Choice, Start, Develop}
 use Rattle.aw_term.specs.Artifacts.{Words}
 use Rattle.aw_term.specs.Runs.{plain_text}
 
-abbrev con : {A : Type 0} → ℕ → Tree A
+-- a constructor without parts, and with one and two
+abbrev pub con : {A : Type 0} → ℕ → Tree A
 con c = Made (Con c) Nil
 
-abbrev con1 : {A : Type 0} → ℕ → Tree A → Tree A
+abbrev pub con1 : {A : Type 0} → ℕ → Tree A → Tree A
 con1 c a = Made (Con c) (More a Nil)
 
-abbrev con2 : {A : Type 0} → ℕ → Tree A → Tree A → Tree A
+abbrev pub con2 : {A : Type 0} → ℕ → Tree A → Tree A → Tree A
 con2 c a b = Made (Con c) (More a (More b Nil))
 
-abbrev sort : ℕ → ℕ → Bool → Sort
-sort takes gives start = record { role = 0; takes = takes; gives = gives; start = start }
+-- a sort at a role, with how many values it takes and gives, and whether cases start with it
+abbrev pub sort : ℕ → ℕ → ℕ → Bool → Sort
+sort role takes gives start = record { role = role; takes = takes; gives = gives; start = start }
 
-abbrev call : ℕ → List Term → ℕ → Child
+-- a subtask of a sort, with its arguments and how many results it gives
+abbrev pub call : ℕ → List Term → ℕ → Child
 call s args outs = record { sort = s; args = args; outs = outs }
 
-abbrev rule : ℕ → List Term → ℕ → List Term → List Child → Rule
+-- a rule of a sort
+abbrev pub rule : ℕ → List Term → ℕ → List Term → List Child → Rule
 rule s patterns params results children = record { sort = s; patterns = patterns; params = params; results = results; children = children }
 
 -- A note is left on a task, and the call that it asks for is made.
@@ -32,7 +36,7 @@ abbrev memo : Grammar
 memo = record {
   roles = 1;
   arities = 1 ∷ [];
-  sorts = sort 0 0 true ∷ sort 1 0 false ∷ [];
+  sorts = sort 0 0 0 true ∷ sort 0 1 0 false ∷ [];
   rules = rule 0 [] 1 [] (call 1 (con1 0 (Leaf 0) ∷ []) 0 ∷ []) ∷ rule 1 (con1 0 (Leaf 0) ∷ []) 0 [] [] ∷ rule 1 (Made (Num 7) Nil ∷ []) 0 [] [] ∷ [];
 }
 
@@ -60,7 +64,7 @@ abbrev hole_first : Grammar
 hole_first = record {
   roles = 1;
   arities = 0 ∷ [];
-  sorts = sort 0 0 true ∷ sort 0 1 false ∷ sort 1 0 false ∷ [];
+  sorts = sort 0 0 0 true ∷ sort 0 0 1 false ∷ sort 0 1 0 false ∷ [];
   rules = rule 0 [] 0 [] (call 1 [] 1 ∷ call 2 (Leaf 0 ∷ []) 0 ∷ []) ∷ rule 1 [] 0 (con 0 ∷ []) [] ∷ rule 2 (con 0 ∷ []) 0 [] [] ∷ [];
 }
 
@@ -81,7 +85,7 @@ abbrev own_result : Grammar
 own_result = record {
   roles = 1;
   arities = 0 ∷ 2 ∷ [];
-  sorts = sort 0 1 true ∷ sort 1 2 false ∷ [];
+  sorts = sort 0 0 1 true ∷ sort 0 1 2 false ∷ [];
   rules = rule 0 [] 0 (con2 1 (Leaf 0) (Leaf 1) ∷ []) (call 1 (Leaf 1 ∷ []) 2 ∷ []) ∷ rule 1 (Leaf 0 ∷ []) 0 (Leaf 0 ∷ con 0 ∷ []) [] ∷ [];
 }
 
@@ -99,7 +103,7 @@ abbrev doubling : Grammar
 doubling = record {
   roles = 1;
   arities = 0 ∷ 2 ∷ [];
-  sorts = sort 0 1 true ∷ sort 1 1 false ∷ [];
+  sorts = sort 0 0 1 true ∷ sort 0 1 1 false ∷ [];
   rules = rule 0 [] 0 (Leaf 0 ∷ []) (call 1 (con 0 ∷ []) 1 ∷ []) ∷ rule 1 (Leaf 0 ∷ []) 0 (Leaf 1 ∷ []) (call 1 (con2 1 (Leaf 0) (Leaf 0) ∷ []) 1 ∷ []) ∷ rule 1 (Leaf 0 ∷ []) 0 (Leaf 0 ∷ []) [] ∷ [];
 }
 

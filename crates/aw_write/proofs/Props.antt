@@ -69,6 +69,9 @@ sort_prop roles s = λ a b i. record {
 pub formed_prop : (w : Words) (g : P.Grammar) → IsProp (IsWellFormed w g)
 formed_prop w g = λ a b i. record {
   roles = ℕ_set _ _ a.roles b.roles i;
+  all_cons = ℕ_set _ _ a.all_cons b.all_cons i;
+  all_sorts = ℕ_set _ _ a.all_sorts b.all_sorts i;
+  all_rules = ℕ_set _ _ a.all_rules b.all_rules i;
   few_roles = le_prop a.few_roles b.few_roles i;
   few_cons = le_prop a.few_cons b.few_cons i;
   few_sorts = le_prop a.few_sorts b.few_sorts i;

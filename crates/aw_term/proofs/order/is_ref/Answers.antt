@@ -1,0 +1,6 @@
+use Rattle.std.proofs.lemmas.Bool.Decides.{same_from_decides}
+use Rattle.aw_term.proofs.RefTests.{ref_Decides}
+use Rattle.aw_term.proofs.order.is_ref.Goals as goal
+
+pub returns : goal.returns
+returns c = same_from_decides _ _ c.is_same_ref.ensures (ref_Decides _ _)

@@ -1,0 +1,7 @@
+use Rattle.std.proofs.Common.{ap, ◌∙◌}
+use Rattle.std.specs.Ordering.{is_lt}
+use Rattle.aw_term.proofs.RefOrder.{ref_before}
+use Rattle.aw_term.proofs.order.is_ref_before.Goals as goal
+
+pub returns : goal.returns
+returns c = c.is_lt.ensures ∙ ap is_lt c.compare_refs.ensures ∙ ref_before c.args.a.now c.args.b.now
