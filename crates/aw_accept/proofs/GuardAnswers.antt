@@ -1,5 +1,5 @@
 -- A guard that waits: it waits for a hole of an inherited value. None gives a circle.
-use Rattle.std.proofs.Common.{◌≡◌, ℕ, suc, ◌<◌, ◌≤◌, Bool, true, false, cond, List, [], ◌∷◌, length, Option, Some, None, slice_get, refl, sym, ap, ◌∙◌, subst, inl, inr}
+use Rattle.std.proofs.Common.{◌≡◌, ℕ, suc, ◌≤◌, Bool, true, false, cond, List, [], ◌∷◌, length, Option, Some, None, slice_get, refl, sym, subst, inl, inr}
 use Rattle.std.specs.Prelude.{◌⊎◌, ◌&&◌, nat_eq}
 use Rattle.aw_term.specs.Trees.{Never, Leaf, Made, Trees, Nil, More, In, Ins, count, head_eq}
 use Rattle.aw_term.specs.Names.{Node, Ref, root}
@@ -9,8 +9,7 @@ use Rattle.aw_term.specs.Configs.{State, Pending, Done, Row, Config, row_of}
 use Rattle.aw_term.specs.Choices.{Choice, Start, Develop, Answer, NotHere, Developed, NotItsRule, Arguments, WaitsFor, CircleAt, TooDeep, Taken, Outcome, Refused, Takes, deep, after_guard, at_rule, at_state, at_row, not_held, answer_of, answer}
 use Rattle.aw_iograph.specs.Graphs.{Member}
 use Rattle.aw_iograph.proofs.Members.{never, member_got}
-use Rattle.aw_accept.specs.Acyclic.{IsTree, IsWhole}
-use Rattle.aw_accept.specs.Missing.{IsMissing, WaitsForMissing, TellsNoCircle}
+use Rattle.aw_accept.specs.Missing.{WaitsForMissing, TellsNoCircle}
 use Rattle.aw_accept.proofs.UndividedRuns.{row_of-found}
 
 pub waits-inj : {A R : Type 0} {h k : R} → ◌≡◌ {A = Matched A R} (Waits h) (Waits k) → h ≡ k

@@ -1,9 +1,9 @@
 -- Configurations in which no value waits for itself.
-use Rattle.std.specs.Prelude.{◌≡◌, ℕ, ◌<◌, ◌≤◌, ◌⊎◌, List, [], ◌∷◌, length, Option, Some, slice_get}
+use Rattle.std.specs.Prelude.{◌≡◌, ℕ, ◌<◌, ◌≤◌, ◌⊎◌, List, [], ◌∷◌, length, Some, slice_get}
 use Rattle.aw_term.specs.Trees.{Never, In}
 use Rattle.aw_term.specs.Names.{Node, Ref, below, result}
 use Rattle.aw_term.specs.Rules.{Ground, Value, Child, Rule, Grammar}
-use Rattle.aw_term.specs.Configs.{State, Pending, Row, Config}
+use Rattle.aw_term.specs.Configs.{Pending, Row, Config}
 use Rattle.aw_term.specs.Choices.{Choice, Develop, gives_of, outcome, taken, undivided}
 use Rattle.aw_iograph.specs.Graphs.{Member, Plus}
 use Rattle.aw_iograph.specs.Occurrences.{item}

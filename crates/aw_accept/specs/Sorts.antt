@@ -1,5 +1,5 @@
 -- Rows that have the sorts of their nodes' names.
-use Rattle.std.specs.Prelude.{◌≡◌, ℕ, true, List, [], Option, Some, slice_get}
+use Rattle.std.specs.Prelude.{◌≡◌, true, List, [], Some, slice_get}
 use Rattle.aw_term.specs.Rules.{Sort, Grammar, sort_of}
 use Rattle.aw_term.specs.Configs.{Row, Config}
 use Rattle.aw_term.specs.Choices.{Choice, Start, Develop, outcome, taken, undivided}

@@ -1,4 +1,4 @@
-use Rattle.std.proofs.Common.{◌<◌, ◌≤◌, length, Option, Some, None, sym, subst, arith}
+use Rattle.std.proofs.Common.{◌<◌, ◌≤◌, length, Option, sym, subst, arith}
 use Rattle.std.proofs.lemmas.List.{length-map}
 use Rattle.aw_grammar.specs.GrammarView.{rule_of}
 use Rattle.aw_grammar.specs.GrammarOf.{grammar_of}
