@@ -32,15 +32,12 @@ by_sort : (o : Option Sort) (x y : Option ℕ) (s t : ℕ) → (x ≡ Some s →
 by_sort None x y s t f e = absurd cc
 by_sort (Some z) x y s t f e = by_start z.start x y s t f e
 
-alone : (o : Option ℕ) (t : ℕ) → o ≡ Some t → option_and_then (λ u. Some u) o ≡ Some t
-alone o t e = ap (option_and_then (λ u. Some u)) e
-
 -- a child has the sort that its rule says
 pub sort_of-below : (g : Grammar) (n : Node) (s ri k t : ℕ) → sort_of g n ≡ Some s → sort_of_step g s (record { rule = ri; child = k }) ≡ Some t → sort_of g (below n ri k) ≡ Some t
 sort_of-below g n s ri k t e f =
     let step : List Step = record { rule = ri; child = k } ∷ [] in
     by_sort (slice_get g.sorts n.start) (sort_after g n.start n.steps) (sort_after g n.start (n.steps ++ step)) s t
-    (λ h. sort_after-append g step n.steps n.start ∙ (ap (option_and_then (λ u. sort_after g u step)) h ∙ alone (sort_of_step g s (record { rule = ri; child = k })) t f)) e
+    (λ h. sort_after-append g step n.steps n.start ∙ (ap (option_and_then (λ u. sort_after g u step)) h ∙ ap (option_and_then (λ u. Some u)) f)) e
 
 pub sort_of_step-rule : (g : Grammar) (s ri k : ℕ) (rule : Rule) (d : Child) → slice_get g.rules ri ≡ Some rule → rule.sort ≡ s → slice_get rule.children k ≡ Some d → sort_of_step g s (record { rule = ri; child = suc k }) ≡ Some d.sort
 sort_of_step-rule g s ri k rule d e f h =

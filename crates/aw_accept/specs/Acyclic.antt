@@ -26,7 +26,8 @@ Stands h q = ((t : Value) × Member t q.inherited × In h t) ⊎ ((t : Value) ×
 
 -- each hole is a result of a pending row
 abbrev pub IsWhole : Config → Type 0
-IsWhole c = (q : Row) → Member q c → (h : Ref) → Stands h q → (p : Row) × (j : ℕ) × Member p c × (p.state ≡ Pending) × (h ≡ result p.node j) × (0 < j) × (j ≤ length p.results)
+IsWhole c = (q : Row) → Member q c → (h : Ref) → Stands h q →
+    (p : Row) × (j : ℕ) × Member p c × (p.state ≡ Pending) × (h ≡ result p.node j) × (0 < j) × (j ≤ length p.results)
 
 -- each hole is one of a pending row, and none needs itself
 pub record IsAcyclic (rel : ℕ → ℕ → ℕ → Type 0) (c : Config) : Type 0 where
@@ -54,7 +55,8 @@ HasNoHoleOf n c = (q : Row) → Member q c → (h : Ref) → h.node ≡ n → St
 
 -- a taken choice keeps that a configuration is a tree of tasks, and acyclic over a relation
 abbrev pub ChoicesKeep : Grammar → (ℕ → ℕ → ℕ → Type 0) → Type 0
-ChoicesKeep g rel = (c d : Config) (x : Choice) → IsTree g c → IsAcyclic rel c → taken g c x (outcome g c x) ≡ Some d → IsTree g d × IsAcyclic rel d
+ChoicesKeep g rel = (c d : Config) (x : Choice) →
+    IsTree g c → IsAcyclic rel c → taken g c x (outcome g c x) ≡ Some d → IsTree g d × IsAcyclic rel d
 
 -- each configuration of an undivided run is a tree of tasks, and acyclic over a relation
 abbrev pub RunsAreAcyclic : Grammar → (ℕ → ℕ → ℕ → Type 0) → Type 0

@@ -19,7 +19,8 @@ NoneBelow g rel n = (k : ℕ) → k < n → (r : P.Rule) → slice_get g.rules k
 -- over a relation, the least rule with a circle, and its least occurrence on one; or none where no rule has one
 abbrev pub LeastFaultOver : P.Grammar → (ℕ → ℕ → ℕ → Type 0) → Option Fault → Type 0
 LeastFaultOver g rel None = HasNoCircle g rel
-LeastFaultOver g rel (Some fault) = ((r : P.Rule) × (slice_get g.rules fault.rule ≡ Some r) × LeastOnCircle rel r (Some fault.occ)) × NoneBelow g rel fault.rule
+LeastFaultOver g rel (Some fault) =
+    ((r : P.Rule) × (slice_get g.rules fault.rule ≡ Some r) × LeastOnCircle rel r (Some fault.occ)) × NoneBelow g rel fault.rule
 
 -- the same over the dependence relation
 abbrev pub LeastFault : P.Grammar → Option Fault → Type 0

@@ -57,7 +57,8 @@ IsKept rel r = (i j : ℕ) → Plus (Edge r rel) (inherited 0 i) (given 0 j) →
 abbrev pub IsClosedUnder : Grammar → (ℕ → ℕ → ℕ → Type 0) → Type 0
 IsClosedUnder g rel = (r : Rule) → Member r g.rules → IsKept rel r
 
--- A relation lies in each that holds a seed and is closed under the rules. The others range over tests, since a clause cannot range over all relations.
+-- A relation lies in each that holds a seed and is closed under the rules.
+-- The others are here those of tests, since a clause cannot range over all relations.
 abbrev pub IsLeastFrom : (ℕ → ℕ → ℕ → Type 0) → Grammar → (ℕ → ℕ → ℕ → Type 0) → Type 0
 IsLeastFrom seed g rel = (test : ℕ → ℕ → ℕ → Bool) → IsHeldBy seed (passed test) → IsClosedUnder g (passed test) → IsHeldBy rel (passed test)
 

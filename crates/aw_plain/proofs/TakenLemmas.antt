@@ -129,7 +129,7 @@ start_sort : (o : Option Sort) → is_start o ≡ true → (t : Sort) × (o ≡ 
 start_sort None e = absurd cc
 start_sort (Some t) e = (t, refl, e)
 
-starts_there : (g : Grammar) (x : Choice) → choice_ok g x ≡ true → IsAtStart g x
+pub starts_there : (g : Grammar) (x : Choice) → choice_ok g x ≡ true → IsAtStart g x
 starts_there g (Start s k) e = start_sort (slice_get g.sorts s) e
 starts_there g (Develop n r args) e = tt
 

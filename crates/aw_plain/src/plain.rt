@@ -68,7 +68,8 @@ impl<'g> Plain<'g> {
         ensures refused { IfOk result (λ a. (a ≡ Answer.Taken → ⊥) → self.new.rows.items ≡ self.old.rows.items) }
         ensures err { OnErr result (self.new.rows.items ≡ self.old.rows.items) }
         ensures acyclic { ∥ IsAcyclic (IO (grammar_of self.new.grammar.now)) (config_of self.new.rows.items) ∥₁ }
-        ensures waits { IfOk result (λ a. (r : Ref) → a ≡ Answer.Waits r → ∥ IsMissing (grammar_of self.old.grammar.now) (config_of self.old.rows.items) r ∥₁) }
+        ensures waits { IfOk result (λ a. (r : Ref) → a ≡ Answer.Waits r →
+            ∥ IsMissing (grammar_of self.old.grammar.now) (config_of self.old.rows.items) r ∥₁) }
         ensures no_circle { IfOk result (λ a. (r : Ref) → a ≡ Answer.Circle r → ⊥) }
     {
         choose(g.grammar(), &mut self.rows, choice)

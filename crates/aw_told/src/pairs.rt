@@ -114,7 +114,8 @@ fn text_of(alloc: Global, g: &Grammar, io: &Io) -> Result<Text, AllocError>
 /// inherited value, by sort, inherited value and result.
 pub fn accepted_text(alloc: Global, accepted: &Accepted) -> Result<Text, AllocError>
     ensures tells { IfOk result (λ text. ∥ TellsAccepted (words_of accepted.now.grammar) (grammar_of accepted.now.grammar) text ∥₁) }
-    ensures over { IsRelation accepted.now.grammar accepted.now.io → IfOk result (λ text. TellsAccepted (words_of accepted.now.grammar) (grammar_of accepted.now.grammar) text) }
+    ensures over { IsRelation accepted.now.grammar accepted.now.io →
+        IfOk result (λ text. TellsAccepted (words_of accepted.now.grammar) (grammar_of accepted.now.grammar) text) }
 {
     text_of(alloc, accepted.grammar(), accepted.io())
 }
