@@ -11,7 +11,6 @@ use Rattle.aw_iograph.proofs.Members.{never, member_map, member_unmap, member_up
 use Rattle.std.proofs.lemmas.Bool.{cases_lt}
 use Rattle.std.proofs.lemmas.List.{length-map, same_from_push}
 use Rattle.aw_term.proofs.NodeTests.{node_is}
-use Rattle.aw_term.proofs.RowParts.{rounds_node}
 use Rattle.aw_accept.proofs.Binding.{In-bind}
 
 pub below-child : (n : Node) (r k l : ℕ) → below n r k ≡ below n r l → k ≡ l

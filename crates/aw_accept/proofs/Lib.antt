@@ -4,7 +4,9 @@ pub mod Contraction
 pub mod Developing
 pub mod Faults
 pub mod Fitting
+pub mod GuardAnswers
 pub mod Pigeonholes
+pub mod SortsOfRows
 pub mod Sources
 pub mod Spots
 pub mod UndividedRuns

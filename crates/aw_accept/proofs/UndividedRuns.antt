@@ -8,14 +8,13 @@ use Rattle.aw_term.specs.Matching.{Matched, Yes, Waits, Differs, Circle, match_a
 use Rattle.aw_term.specs.Configs.{State, Pending, Done, Row, Config, env, child_rows, insert_row, row_of, done_row, row_put, rounds, develop}
 use Rattle.aw_iograph.specs.Graphs.{Member, Plus, step, more}
 use Rattle.aw_iograph.specs.Occurrences.{item}
-use Rattle.aw_iograph.specs.Dependence.{IO, HasNoCircle}
+use Rattle.aw_iograph.specs.Dependence.{IsClosedUnder, HasNoCircle}
 use Rattle.aw_iograph.proofs.Members.{never, member_map, member_unmap, member_got}
-use Rattle.aw_accept.specs.Acyclic.{Needs, need, Stands, IsWhole, IsAcyclic, IsGivenGrammar, IsTree}
+use Rattle.aw_accept.specs.Acyclic.{Needs, need, Stands, IsWhole, IsAcyclic, IsGivenGrammar, IsTree, HasNoHoleOf, RunsAreAcyclic, HasAcyclicRuns}
 use Rattle.std.proofs.lemmas.Bool.{eqb-true}
 use Rattle.std.proofs.lemmas.List.{length-map, same_from_push}
 use Rattle.std.proofs.lemmas.Option.{same_Some, option_and_then_some}
 use Rattle.aw_term.specs.Choices.{Choice, Start, Develop, Answer, NotItsRule, Arguments, Outcome, Refused, Starts, Takes, deep, after_guard, at_rule, at_state, at_row, not_held, outcome, start_row, taken, undivided}
-use Rattle.aw_iograph.proofs.Relations.{io_closed}
 use Rattle.aw_accept.specs.Acyclic.{gives}
 use Rattle.aw_accept.proofs.Spots.{occ_of, moves}
 use Rattle.aw_accept.proofs.ConfigLemmas.{below-child, child_row, Member-insert_row, Member-inserted, Member-all_inserted, Member-rounds, Member-rounded, rounds-sort, rounds-state, rounds-results-length, done_row-cases, length-upto, upto-bound, upto-low, done_row-same}
@@ -120,16 +119,17 @@ root-below s k n r i e = no_end n.steps (record { rule = r; child = i }) (ap (λ
     no_end [] x e = absurd cc
     no_end (y ∷ xs) x e = absurd cc
 
-module _ (g : Grammar) (fit : IsGivenGrammar g) (ok : HasNoCircle g (IO g)) where
+-- over any relation that is closed under the rules, and over which no rule has a circle
+module _ (g : Grammar) (fit : IsGivenGrammar g) (rel : ℕ → ℕ → ℕ → Type 0) (kept : IsClosedUnder g rel) (ok : HasNoCircle g rel) where
   abbrev pub Good : Config → Type 0
-  Good c = IsTree g c × IsAcyclic (IO g) c
+  Good c = IsTree g c × IsAcyclic rel c
 
   -- a taken rule
   module _ (c : Config) (n : Node) (ri : ℕ) (args : List Ground) (rule : Rule) (bs : List Value) (good : Good c) (D : Decoded g c n ri args rule bs) where
     abbrev pub q : Row
     q = D.row
 
-    pub taking : Taking (IO g) c q ri rule bs args
+    pub taking : Taking rel c q ri rule bs args
     taking = record {
       held = D.held;
       open_ = D.open_;
@@ -137,8 +137,8 @@ module _ (g : Grammar) (fit : IsGivenGrammar g) (ok : HasNoCircle g (IO g)) wher
       bound = D.bound;
       given = D.given;
       many = good.0.many D.row D.held ∙ (ap (gives g) (sym D.sort) ∙ sym (fit.results rule (member_got g.rules ri rule D.rule_is)));
-      closed = λ i j w. subst (λ s. IO g s i j) D.sort (io_closed g rule (member_got g.rules ri rule D.rule_is) i j (moves rule (IO g) w));
-      no_inner = λ o w. ok rule (member_got g.rules ri rule D.rule_is) (occ_of o) (moves rule (IO g) w);
+      closed = λ i j w. subst (λ s. rel s i j) D.sort (kept rule (member_got g.rules ri rule D.rule_is) i j (moves rule rel w));
+      no_inner = λ o w. ok rule (member_got g.rules ri rule D.rule_is) (occ_of o) (moves rule rel w);
       whole = good.1.whole;
       no_circle = good.1.no_circle;
       fresh = λ p m k f. let (p', m', a, b) = good.0.parents p m D.row.node ri k f in b (ap (λ (r : Row). r.state) (good.0.apart p' D.row m' D.held a) ∙ D.open_);
@@ -146,7 +146,7 @@ module _ (g : Grammar) (fit : IsGivenGrammar g) (ok : HasNoCircle g (IO g)) wher
     }
 
     abbrev pub A : Config
-    A = added (IO g) c q ri rule bs args taking
+    A = added rel c q ri rule bs args taking
 
     abbrev pub new : Config
     new = develop q.node ri rule bs args c
@@ -155,19 +155,19 @@ module _ (g : Grammar) (fit : IsGivenGrammar g) (ok : HasNoCircle g (IO g)) wher
     M = length rule.results
 
     abbrev pub F : Row → Row
-    F = rounds M (row_put (sigma (IO g) c q ri rule bs args taking))
+    F = rounds M (row_put (sigma rel c q ri rule bs args taking))
 
     pub from_added : (y : Row) → Member y new → (z : Row) × Member z A × (y ≡ F z)
-    from_added y m = Member-rounds M (row_put (sigma (IO g) c q ri rule bs args taking)) y A m
+    from_added y m = Member-rounds M (row_put (sigma rel c q ri rule bs args taking)) y A m
 
     pub F-node : (z : Row) → (F z).node ≡ z.node
-    F-node z = rounds_node M (sigma (IO g) c q ri rule bs args taking) z
+    F-node z = rounds_node M (sigma rel c q ri rule bs args taking) z
 
     abbrev Origin : Row → Type 0
-    Origin z = FromChild (IO g) c q ri rule bs args taking z ⊎ ((p : Row) × Member p c × (z ≡ done_row q.node (Done ri args) p))
+    Origin z = FromChild rel c q ri rule bs args taking z ⊎ ((p : Row) × Member p c × (z ≡ done_row q.node (Done ri args) p))
 
     origin : (z : Row) → Member z A → Origin z
-    origin z m = added_cases (IO g) c q ri rule bs args taking z m
+    origin z m = added_cases rel c q ri rule bs args taking z m
 
     pub done-same : (p : Row) → ((done_row q.node (Done ri args) p).node ≡ p.node) × ((done_row q.node (Done ri args) p).sort ≡ p.sort) × ((done_row q.node (Done ri args) p).results ≡ p.results)
     done-same p = (
@@ -191,12 +191,12 @@ module _ (g : Grammar) (fit : IsGivenGrammar g) (ok : HasNoCircle g (IO g)) wher
         never (taking.fresh p m (suc k) (sym (done-same p).0 ∙ (sym (ap (λ (r : Row). r.node) a') ∙ (e ∙ ap (λ (r : Row). r.node) a))))
 
     pub kept_row : (p : Row) → Member p c → Member (F (done_row q.node (Done ri args) p)) new
-    kept_row p m = Member-rounded M (row_put (sigma (IO g) c q ri rule bs args taking)) (done_row q.node (Done ri args) p) A
+    kept_row p m = Member-rounded M (row_put (sigma rel c q ri rule bs args taking)) (done_row q.node (Done ri args) p) A
         (Member-all_inserted _ (child_rows q.node ri (env q.node ri rule bs args) 1 rule.children) (map (done_row q.node (Done ri args)) c) (inr (member_map (done_row q.node (Done ri args)) p c m)))
 
     pub still_closed : (p : Row) → (p.state ≡ Pending → Never) → (F (done_row q.node (Done ri args) p)).state ≡ Pending → Never
     still_closed p no_ f =
-        let h = sym (rounds-state M (sigma (IO g) c q ri rule bs args taking) (done_row q.node (Done ri args) p)) ∙ f in
+        let h = sym (rounds-state M (sigma rel c q ri rule bs args taking) (done_row q.node (Done ri args) p)) ∙ f in
         elim (done_row-cases q.node (Done ri args) p) [
           | inl x ↦ (let z : Done ri args ≡ Pending = sym (ap (λ (r : Row). r.state) x.1) ∙ h in absurd cc)
           | inr x ↦ no_ (sym (ap (λ (r : Row). r.state) x) ∙ h)
@@ -204,7 +204,7 @@ module _ (g : Grammar) (fit : IsGivenGrammar g) (ok : HasNoCircle g (IO g)) wher
 
     pub own_closed : (p : Row) → q.node ≡ p.node → (F (done_row q.node (Done ri args) p)).state ≡ Pending → Never
     own_closed p e f =
-        let h = sym (rounds-state M (sigma (IO g) c q ri rule bs args taking) (done_row q.node (Done ri args) p)) ∙ f in
+        let h = sym (rounds-state M (sigma rel c q ri rule bs args taking) (done_row q.node (Done ri args) p)) ∙ f in
         let t : node_eq q.node p.node ≡ true = subst (λ n. node_eq q.node n ≡ true) e (node_self q.node) in
         let z : Done ri args ≡ Pending = sym (ap (λ b. (cond b (record p { state = Done ri args }) p).state) t) ∙ h in absurd cc
 
@@ -225,8 +225,8 @@ module _ (g : Grammar) (fit : IsGivenGrammar g) (ok : HasNoCircle g (IO g)) wher
           ];
       many = λ y m.
           let (z, o, a) = from_added y m in
-          let len = ap (λ (r : Row). length r.results) a ∙ rounds-results-length M (sigma (IO g) c q ri rule bs args taking) z in
-          let so = ap (λ (r : Row). r.sort) a ∙ rounds-sort M (sigma (IO g) c q ri rule bs args taking) z in
+          let len = ap (λ (r : Row). length r.results) a ∙ rounds-results-length M (sigma rel c q ri rule bs args taking) z in
+          let so = ap (λ (r : Row). r.sort) a ∙ rounds-sort M (sigma rel c q ri rule bs args taking) z in
           elim (origin z o) [
             | inl x ↦ len ∙ (ap (λ (r : Row). length r.results) x.3 ∙ (length-map (upto 1 x.1.outs) (λ j. Leaf (result (below q.node ri (suc x.0)) j)) ∙ (length-upto 1 x.1.outs
                 ∙ (fit.outs rule (member_got g.rules ri rule D.rule_is) x.0 x.1 x.2 ∙ ap (gives g) (sym (so ∙ ap (λ (r : Row). r.sort) x.3))))))
@@ -234,8 +234,23 @@ module _ (g : Grammar) (fit : IsGivenGrammar g) (ok : HasNoCircle g (IO g)) wher
           ];
     }
 
+    new_acyclic : IsAcyclic rel new
+    new_acyclic = develop-acyclic rel c D.row ri rule bs args taking
+
     pub developed : Good (develop n ri rule bs args c)
-    developed = subst (λ n. Good (develop n ri rule bs args c)) D.node (new_tree, develop-acyclic (IO g) c D.row ri rule bs args taking)
+    developed = subst (λ n. Good (develop n ri rule bs args c)) D.node (new_tree, new_acyclic)
+
+    -- each hole is one of a pending row, and the row of the node is done
+    no_hole : HasNoHoleOf q.node new
+    no_hole y m h at s =
+        let (p, j, mp, open_, f, low, high) = new_acyclic.whole y m h s in
+        let own = F (done_row q.node (Done ri args) q) in
+        let there : p.node ≡ own.node = sym (ap (λ (r : Ref). r.node) f) ∙ (at ∙ sym (F-node (done_row q.node (Done ri args) q) ∙ (done-same q).0)) in
+        let same : p ≡ own = new_tree.apart p own mp (kept_row q taking.held) there in
+        own_closed q refl (sym (ap (λ (r : Row). r.state) same) ∙ open_)
+
+    pub leaves_no_hole : HasNoHoleOf n (develop n ri rule bs args c)
+    leaves_no_hole = subst (λ n. HasNoHoleOf n (develop n ri rule bs args c)) D.node no_hole
 
   -- a start
   module _ (c : Config) (s k : ℕ) (good : Good c) (gone : row_of (root s k) c ≡ None) where
@@ -270,13 +285,13 @@ module _ (g : Grammar) (fit : IsGivenGrammar g) (ok : HasNoCircle g (IO g)) wher
           ];
     }
 
-    old_need : {a b : Ref} → Needs (IO g) with_row a b → Needs (IO g) c a b
+    old_need : {a b : Ref} → Needs rel with_row a b → Needs rel c a b
     old_need (need y i j t m p x f w) = elim (Member-insert_row y row c m) [
       | inl a ↦ (let z : item [] i ≡ Some t = sym (ap (λ (r : Row). item r.inherited i) a) ∙ f in never (item_none i t z))
       | inr o ↦ need y i j t o p x f w
     ]
 
-    old_walk : {a b : Ref} → Plus (Needs (IO g) with_row) a b → Plus (Needs (IO g) c) a b
+    old_walk : {a b : Ref} → Plus (Needs rel with_row) a b → Plus (Needs rel c) a b
     old_walk (step e) = step (old_need e)
     old_walk (more e w) = more (old_need e) (old_walk w)
 
@@ -325,10 +340,24 @@ module _ (g : Grammar) (fit : IsGivenGrammar g) (ok : HasNoCircle g (IO g)) wher
   pub empty_good : Good []
   empty_good = (record { apart = λ p p' m. never m; parents = λ p m. never m; many = λ p m. never m }, record { whole = λ q m. never m; no_circle = none })
     where
-      none : (h : Ref) → Plus (Needs (IO g) []) h h → Never
+      none : (h : Ref) → Plus (Needs rel []) h h → Never
       none h (step (need q i j t m p x f w)) = never m
       none h (more (need q i j t m p x f w) v) = never m
 
-  -- each undivided configuration of an accepted grammar is acyclic
-  pub undivided-acyclic : (xs : List Choice) (z : Config) → undivided g [] xs ≡ Some z → IsAcyclic (IO g) z
-  undivided-acyclic xs z e = (undivided-good [] xs z empty_good e).1
+  -- each undivided configuration is a tree of tasks and acyclic
+  pub undivided-acyclic : RunsAreAcyclic g rel
+  undivided-acyclic xs z e = undivided-good [] xs z empty_good e
+
+  pub taken-leaves : (c : Config) (n : Node) (ri : ℕ) (args : List Ground) (o : Outcome Value Ref) (d : Config) → Good c → outcome g c (Develop n ri args) ≡ o → taken g c (Develop n ri args) o ≡ Some d → HasNoHoleOf n d
+  taken-leaves c n ri args (Refused a) d good e t = absurd cc
+  taken-leaves c n ri args Starts d good e t = absurd cc
+  taken-leaves c n ri args (Takes rule bs) d good e t =
+      subst (HasNoHoleOf n) (same_Some _ _ t) (leaves_no_hole c n ri args rule bs good (decode_on g c (row_of n c) n ri args rule bs refl e))
+
+  -- the laws over this relation
+  pub acyclic_runs : HasAcyclicRuns g rel
+  acyclic_runs = record {
+    keeps = λ c d x tree acyclic t. taken-good c x (outcome g c x) d (tree, acyclic) refl t;
+    all = undivided-acyclic;
+    leaves_none = λ c d n ri args tree acyclic t. taken-leaves c n ri args (outcome g c (Develop n ri args)) d (tree, acyclic) refl t;
+  }

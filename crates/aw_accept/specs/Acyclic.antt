@@ -1,13 +1,13 @@
 -- Configurations in which no value waits for itself.
-use Rattle.std.specs.Prelude.{◌≡◌, ℕ, ◌<◌, ◌≤◌, ◌⊎◌, List, [], ◌∷◌, length, Option, Some, slice_get}
+use Rattle.std.specs.Prelude.{◌≡◌, ℕ, ◌<◌, ◌≤◌, ◌⊎◌, List, [], ◌∷◌, length, Some, slice_get}
 use Rattle.aw_term.specs.Trees.{Never, In}
 use Rattle.aw_term.specs.Names.{Node, Ref, below, result}
-use Rattle.aw_term.specs.Rules.{Value, Child, Rule, Grammar}
-use Rattle.aw_term.specs.Configs.{State, Pending, Row, Config}
-use Rattle.aw_term.specs.Choices.{Choice, gives_of, outcome, taken, undivided}
+use Rattle.aw_term.specs.Rules.{Ground, Value, Child, Rule, Grammar}
+use Rattle.aw_term.specs.Configs.{Pending, Row, Config}
+use Rattle.aw_term.specs.Choices.{Choice, Develop, gives_of, outcome, taken, undivided}
 use Rattle.aw_iograph.specs.Graphs.{Member, Plus}
 use Rattle.aw_iograph.specs.Occurrences.{item}
-use Rattle.aw_iograph.specs.Dependence.{IO, HasNoCircle}
+use Rattle.aw_iograph.specs.Dependence.{IO, IsClosedUnder, HasNoCircle}
 
 -- two lists side by side
 abbrev pub Pairs : {A B : Type 0} → (A → B → Type 0) → List A → List B → Type 0
@@ -26,7 +26,8 @@ Stands h q = ((t : Value) × Member t q.inherited × In h t) ⊎ ((t : Value) ×
 
 -- each hole is a result of a pending row
 abbrev pub IsWhole : Config → Type 0
-IsWhole c = (q : Row) → Member q c → (h : Ref) → Stands h q → (p : Row) × (j : ℕ) × Member p c × (p.state ≡ Pending) × (h ≡ result p.node j) × (0 < j) × (j ≤ length p.results)
+IsWhole c = (q : Row) → Member q c → (h : Ref) → Stands h q →
+    (p : Row) × (j : ℕ) × Member p c × (p.state ≡ Pending) × (h ≡ result p.node j) × (0 < j) × (j ≤ length p.results)
 
 -- each hole is one of a pending row, and none needs itself
 pub record IsAcyclic (rel : ℕ → ℕ → ℕ → Type 0) (c : Config) : Type 0 where
@@ -48,10 +49,39 @@ pub record IsTree (g : Grammar) (c : Config) : Type 0 where
   pub parents : (p : Row) → Member p c → (n : Node) (ri k : ℕ) → p.node ≡ below n ri k → (p' : Row) × Member p' c × (p'.node ≡ n) × (p'.state ≡ Pending → Never)
   pub many : (p : Row) → Member p c → length p.results ≡ gives g p.sort
 
--- a taken choice keeps that a configuration is a tree of tasks and acyclic
-abbrev pub KeepsAcyclic : Grammar → Type 0
-KeepsAcyclic g = IsGivenGrammar g → HasNoCircle g (IO g) → (c d : Config) (x : Choice) → IsTree g c → IsAcyclic (IO g) c → taken g c x (outcome g c x) ≡ Some d → IsTree g d × IsAcyclic (IO g) d
+-- no hole of the node stands in a row
+abbrev pub HasNoHoleOf : Node → Config → Type 0
+HasNoHoleOf n c = (q : Row) → Member q c → (h : Ref) → h.node ≡ n → Stands h q → Never
 
--- each configuration of an undivided run is acyclic
+-- a taken choice keeps that a configuration is a tree of tasks, and acyclic over a relation
+abbrev pub ChoicesKeep : Grammar → (ℕ → ℕ → ℕ → Type 0) → Type 0
+ChoicesKeep g rel = (c d : Config) (x : Choice) →
+    IsTree g c → IsAcyclic rel c → taken g c x (outcome g c x) ≡ Some d → IsTree g d × IsAcyclic rel d
+
+-- each configuration of an undivided run is a tree of tasks, and acyclic over a relation
+abbrev pub RunsAreAcyclic : Grammar → (ℕ → ℕ → ℕ → Type 0) → Type 0
+RunsAreAcyclic g rel = (cs : List Choice) (c : Config) → undivided g [] cs ≡ Some c → IsTree g c × IsAcyclic rel c
+
+-- as many rounds as a rule has results are enough: after them no hole of the node on which it was taken is left
+abbrev pub RoundsLeaveNone : Grammar → (ℕ → ℕ → ℕ → Type 0) → Type 0
+RoundsLeaveNone g rel = (c d : Config) (n : Node) (r : ℕ) (args : List Ground) →
+    IsTree g c → IsAcyclic rel c → taken g c (Develop n r args) (outcome g c (Develop n r args)) ≡ Some d → HasNoHoleOf n d
+
+-- over the dependence relation
+abbrev pub KeepsAcyclic : Grammar → Type 0
+KeepsAcyclic g = IsGivenGrammar g → HasNoCircle g (IO g) → ChoicesKeep g (IO g)
+
 abbrev pub AllAcyclic : Grammar → Type 0
-AllAcyclic g = IsGivenGrammar g → HasNoCircle g (IO g) → (cs : List Choice) (c : Config) → undivided g [] cs ≡ Some c → IsAcyclic (IO g) c
+AllAcyclic g = IsGivenGrammar g → HasNoCircle g (IO g) → RunsAreAcyclic g (IO g)
+
+abbrev pub LeavesNoHole : Grammar → Type 0
+LeavesNoHole g = IsGivenGrammar g → HasNoCircle g (IO g) → RoundsLeaveNone g (IO g)
+
+-- all three over a relation that is closed under the rules and over which no occurrence reaches itself in a rule
+pub record HasAcyclicRuns (g : Grammar) (rel : ℕ → ℕ → ℕ → Type 0) : Type 0 where
+  pub keeps : ChoicesKeep g rel
+  pub all : RunsAreAcyclic g rel
+  pub leaves_none : RoundsLeaveNone g rel
+
+abbrev pub AcyclicOver : Grammar → (ℕ → ℕ → ℕ → Type 0) → Type 0
+AcyclicOver g rel = IsGivenGrammar g → IsClosedUnder g rel → HasNoCircle g rel → HasAcyclicRuns g rel

@@ -12,11 +12,16 @@ use Rattle.aw_accept.specs.declared.refused.Fault.{Fault}
 abbrev pub IsRelation : Grammar → Io → Type 0
 IsRelation g io = (s i j : ℕ) → Has io s i j ↔ IO (grammar_of g) s i j
 
--- no rule below a number has a circle
-abbrev pub NoneBelow : P.Grammar → ℕ → Type 0
-NoneBelow g n = (k : ℕ) → k < n → (r : P.Rule) → slice_get g.rules k ≡ Some r → LeastOnCircle (IO g) r None
+-- over a relation, no rule below a number has a circle
+abbrev pub NoneBelow : P.Grammar → (ℕ → ℕ → ℕ → Type 0) → ℕ → Type 0
+NoneBelow g rel n = (k : ℕ) → k < n → (r : P.Rule) → slice_get g.rules k ≡ Some r → LeastOnCircle rel r None
 
--- the least rule with a circle, and its least occurrence on one; or none where no rule has one
+-- over a relation, the least rule with a circle, and its least occurrence on one; or none where no rule has one
+abbrev pub LeastFaultOver : P.Grammar → (ℕ → ℕ → ℕ → Type 0) → Option Fault → Type 0
+LeastFaultOver g rel None = HasNoCircle g rel
+LeastFaultOver g rel (Some fault) =
+    ((r : P.Rule) × (slice_get g.rules fault.rule ≡ Some r) × LeastOnCircle rel r (Some fault.occ)) × NoneBelow g rel fault.rule
+
+-- the same over the dependence relation
 abbrev pub LeastFault : P.Grammar → Option Fault → Type 0
-LeastFault g None = HasNoCircle g (IO g)
-LeastFault g (Some fault) = ((r : P.Rule) × (slice_get g.rules fault.rule ≡ Some r) × LeastOnCircle (IO g) r (Some fault.occ)) × NoneBelow g fault.rule
+LeastFault g found = LeastFaultOver g (IO g) found

@@ -1,3 +1,5 @@
 pub mod Acyclic
 pub mod Circular
+pub mod Missing
 pub mod Refusals
+pub mod Sorts

@@ -1,9 +1,9 @@
 //! Looking for a circle in every rule, and accepting a grammar that has none.
 ghost use Rattle.std.specs.Prelude.{◌≡◌, length, IfOk, IfErr};
 ghost use Rattle.aw_grammar.specs.GrammarOf.{grammar_of};
-ghost use Rattle.aw_iograph.specs.Pairs.{IsFor};
+ghost use Rattle.aw_iograph.specs.Pairs.{Has, IsFor};
 ghost use Rattle.aw_iograph.specs.Dependence.{IO, HasNoCircle};
-ghost use Rattle.aw_accept.specs.Circular.{IsRelation, LeastFault};
+ghost use Rattle.aw_accept.specs.Circular.{IsRelation, LeastFault, LeastFaultOver};
 ghost use Rattle.aw_accept.specs.Refusals.{Tells};
 
 use crate::accepted::Accepted;
@@ -19,10 +19,10 @@ fn count_rules(g: &Grammar) -> u16
     g.rules.len() as u16
 }
 
-/// The least rule in which an occurrence reaches itself, and its least such occurrence.
-fn least_fault(alloc: Global, g: &Grammar, io: &Io) -> Result<Option<Fault>, AllocError>
-    requires { IsRelation g.now io.now }
-    ensures { IfOk result (λ found. LeastFault (grammar_of g.now) found) }
+/// The least rule in which an occurrence reaches itself over the text of the rule and these relations, and its least such
+/// occurrence.
+pub fn least_fault(alloc: Global, g: &Grammar, io: &Io) -> Result<Option<Fault>, AllocError>
+    ensures { IfOk result (λ found. LeastFaultOver (grammar_of g.now) (Has io.now) found) }
 {
     for rule in 0..count_rules(g) {
         match circle(alloc, g, io, rule)? {

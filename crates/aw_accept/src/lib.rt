@@ -7,5 +7,6 @@ pub mod laws;
 pub mod refused;
 
 pub use accepted::Accepted;
-pub use check::accept;
+pub use check::{accept, least_fault};
+pub use laws::{acyclic_laws, answer_laws, sort_laws};
 pub use refused::{Fault, Refused};

@@ -1,6 +1,6 @@
 -- Setting one mark.
-use Rattle.std.proofs.Common.{◌≡◌, ℕ, zero, suc, ◌<◌, Bool, true, false, List, [], ◌∷◌, length, slice_set, replicate, refl, sym, ap, ◌∙◌, subst, inl, inr, arith, get_or}
-use Rattle.std.specs.Prelude.{◌⊎◌, ◌||◌}
+use Rattle.std.proofs.Common.{◌≡◌, ℕ, zero, suc, ◌<◌, Bool, true, false, List, [], ◌∷◌, length, slice_set, refl, sym, ap, ◌∙◌, subst, arith, get_or}
+use Rattle.std.specs.Prelude.{◌||◌}
 use Rattle.aw_iograph.specs.Growth.{Marked, Grown, unset}
 
 pub set_length : (marks : List Bool) (at : ℕ) → length (slice_set marks at true) ≡ length marks

@@ -58,6 +58,9 @@ io_round_least g rel closed (suc h) s i j x = closed_walk g rel closed s i j (wa
 pub io_least : (g : Grammar) (rel : ℕ → ℕ → ℕ → Type 0) → IsClosedUnder g rel → (s i j : ℕ) → IO g s i j → rel s i j
 io_least g rel closed s i j (h, x) = io_round_least g rel closed h s i j x
 
+pub follows_held : (g : Grammar) (seed : ℕ → ℕ → ℕ → Type 0) (s i j : ℕ) → seed s i j → Follows g seed s i j
+follows_held g seed s i j x = (0, x)
+
 pub follows_closed : (g : Grammar) (seed : ℕ → ℕ → ℕ → Type 0) → IsClosedUnder g (Follows g seed)
 follows_closed g seed r m i j w = let (h, x) = plus_round g (io_from g seed) (λ h s i j x. inl x) r w in (suc h, inr (r, m, refl, x))
 

@@ -1,5 +1,5 @@
 -- The dependence relation of a grammar: which results of a sort depend on which of its inherited values.
-use Rattle.std.specs.Prelude.{◌≡◌, ℕ, zero, suc, Option, Some, None, ◌⊎◌}
+use Rattle.std.specs.Prelude.{◌≡◌, ℕ, zero, suc, Bool, IsTrue, Option, Some, None, ◌⊎◌}
 use Rattle.aw_term.specs.Trees.{Never, In}
 use Rattle.aw_term.specs.Rules.{Term, Child, Rule, Grammar, get, child_at}
 use Rattle.aw_iograph.specs.declared.occ.Occ.{Occ}
@@ -9,6 +9,14 @@ use Rattle.aw_iograph.specs.Occurrences.{inherited, given, entries, term_at, IsU
 -- for each sort, pairs of an inherited value and a result, both counted from 1
 abbrev pub Relation : Type 1
 Relation = ℕ → ℕ → ℕ → Type 0
+
+-- the relation of the pairs that a test lets pass
+abbrev pub passed : (ℕ → ℕ → ℕ → Bool) → ℕ → ℕ → ℕ → Type 0
+passed test s i j = IsTrue (test s i j)
+
+-- each pair of one relation is one of another
+abbrev pub IsHeldBy : (ℕ → ℕ → ℕ → Type 0) → (ℕ → ℕ → ℕ → Type 0) → Type 0
+IsHeldBy rel other = (s i j : ℕ) → rel s i j → other s i j
 
 -- a variable enters at o, and the term at u uses it
 abbrev pub IsTextEdge : Rule → Occ → Occ → Type 0
@@ -48,6 +56,15 @@ IsKept rel r = (i j : ℕ) → Plus (Edge r rel) (inherited 0 i) (given 0 j) →
 -- no rule has
 abbrev pub IsClosedUnder : Grammar → (ℕ → ℕ → ℕ → Type 0) → Type 0
 IsClosedUnder g rel = (r : Rule) → Member r g.rules → IsKept rel r
+
+-- A relation lies in each that holds a seed and is closed under the rules.
+-- The others are here those of tests, since a clause cannot range over all relations.
+abbrev pub IsLeastFrom : (ℕ → ℕ → ℕ → Type 0) → Grammar → (ℕ → ℕ → ℕ → Type 0) → Type 0
+IsLeastFrom seed g rel = (test : ℕ → ℕ → ℕ → Bool) → IsHeldBy seed (passed test) → IsClosedUnder g (passed test) → IsHeldBy rel (passed test)
+
+-- the same without a seed
+abbrev pub IsLeast : Grammar → (ℕ → ℕ → ℕ → Type 0) → Type 0
+IsLeast g rel = (test : ℕ → ℕ → ℕ → Bool) → IsClosedUnder g (passed test) → IsHeldBy rel (passed test)
 
 -- an occurrence of the rule reaches itself
 abbrev pub IsOnCircle : (ℕ → ℕ → ℕ → Type 0) → Rule → Occ → Type 0

@@ -1,5 +1,6 @@
 //! The relations of a grammar's sorts: which results depend on which inherited values.
 ghost use Rattle.std.specs.Prelude.{◌≡◌, ◌≢◌, ℕ, ◌+◌, ◌*◌, ◌<◌, ◌≤◌, ◌↔◌, ◌⊎◌, length, replicate, false, IfOk, IsTrue};
+ghost use Rattle.aw_grammar.specs.declared.grammar.Grammar.{Grammar as GrammarValue};
 ghost use Rattle.aw_iograph.specs.Pairs.{Has, HasMark, HasSort, IsFor, IsNumber};
 ghost use Rattle.aw_iograph.specs.Growth.{Grown};
 
@@ -29,7 +30,8 @@ impl Io {
         requires sort { HasSort self.old sort }
         requires inherited { IsNumber i }
         requires result { IsNumber j }
-        ensures size { length self.new.marks.items ≡ length self.old.marks.items }
+        ensures made { (g : GrammarValue) → IsFor g self.old → IsFor g self.new }
+        ensures sorts { (s : ℕ) → HasSort self.old s → HasSort self.new s }
         ensures there { Has self.new sort i j }
         ensures kept { (s k l : ℕ) → Has self.old s k l → Has self.new s k l }
         ensures only { (s k l : ℕ) → Has self.new s k l → Has self.old s k l ⊎ ((s ≡ sort) × (k ≡ i) × (l ≡ j)) }

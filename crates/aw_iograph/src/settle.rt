@@ -5,7 +5,7 @@ ghost use Rattle.aw_grammar.specs.GrammarOf.{grammar_of};
 ghost use Rattle.aw_iograph.specs.Graphs.{Plus, Arrow, IsWithin};
 ghost use Rattle.aw_iograph.specs.Growth.{Grown, Marked, unset};
 ghost use Rattle.aw_iograph.specs.Occurrences.{inherited, given, place_of};
-ghost use Rattle.aw_iograph.specs.Dependence.{Edge, IO, Follows, Walk, IsClosedUnder};
+ghost use Rattle.aw_iograph.specs.Dependence.{Edge, IO, Follows, Walk, IsClosedUnder, IsHeldBy, IsLeastFrom};
 ghost use Rattle.aw_iograph.specs.Widening.{IsWidened};
 ghost use Rattle.aw_iograph.specs.Pairs.{Has, HasSort, IsFor, IsNumber};
 
@@ -214,6 +214,9 @@ pub fn io_from(alloc: Global, g: &Grammar, seed: &Io) -> Result<Io, AllocError>
     requires { IsFor g.now seed.now }
     ensures made { IfOk result (λ io. IsFor g.now io) }
     ensures exact { IfOk result (λ io. (s i j : ℕ) → Has io s i j ↔ Follows (grammar_of g.now) (Has seed.now) s i j) }
+    ensures held { IfOk result (λ io. IsHeldBy (Has seed.now) (Has io)) }
+    ensures closed { IfOk result (λ io. IsClosedUnder (grammar_of g.now) (Has io)) }
+    ensures least { IfOk result (λ io. IsLeastFrom (Has seed.now) (grammar_of g.now) (Has io)) }
 {
     let mut io = seed.copy(alloc)?;
     settle(alloc, g, &mut io)?;

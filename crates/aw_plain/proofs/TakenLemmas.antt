@@ -1,21 +1,32 @@
 -- What a choice keeps: that rows are filled, that they are reached, and so that they are acyclic.
 use Rattle.std.proofs.Common.{◌≡◌, ℕ, zero, suc, arith, Bool, true, false, cond, List, [], ◌∷◌, ◌++◌, length, map, Option, Some, None, slice_get, sym, ap, ◌∙◌, refl, subst}
 use Rattle.std.specs.Prelude.{option_and_then, Result, Ok, Err, IfOk, OnErr}
-use Rattle.std.proofs.Math.Logic.{∥∥₁_map₂}
+use Rattle.std.proofs.Math.Logic.{∥∥₁_map, ∥∥₁_map₂}
 use Rattle.std.proofs.lemmas.List.{length-map}
+use Rattle.std.proofs.lemmas.Result.{IfOk-weaker}
 use Rattle.aw_term.specs.Trees.{bind}
 use Rattle.aw_term.specs.Names.{Node, Ref, node_eq, node_lt}
 use Rattle.aw_term.specs.Rules.{Ground, Value, Child, Rule, Sort, Grammar}
 use Rattle.aw_term.specs.Configs.{State, Done, Row, Config, child_rows, insert_row, insert_rows, row_of, done_row, row_put, rounds, develop, fill}
-use Rattle.aw_term.specs.Choices.{Choice, Start, Develop, Outcome, Refused, Starts, Takes, outcome, start_row, taken, or_same, after, undivided}
+use Rattle.aw_term.specs.Choices.{Choice, Start, Develop, Outcome, Refused, Starts, Takes, outcome, start_row, taken, or_same, answer, after, undivided}
 use Rattle.aw_term.specs.Artifacts.{Words}
 use Rattle.aw_term.specs.WellFormed.{Each, takes_of, SortFits, ChildFits, RuleFits, IsWellFormed}
+use Rattle.aw_choice.specs.declared.choice.Answer.{Answer}
+use Rattle.aw_choice.specs.declared.choice.Answer.TheVariants.{Waits, Circle}
+use Rattle.aw_choice.specs.ChoiceView.{answer_of}
 use Rattle.aw_base.specs.NodeNames.{is_start}
 use Rattle.aw_base.specs.ChoiceFits.{choice_ok}
+use Rattle.aw_grammar.specs.declared.grammar.Grammar as declared
+use Rattle.aw_grammar.specs.GrammarOf.{grammar_of}
 use Rattle.aw_grammar.proofs.Fits.{each_at}
 use Rattle.aw_iograph.specs.Dependence.{IO, HasNoCircle}
+use Rattle.aw_iograph.proofs.Relations.{io_closed}
 use Rattle.aw_iograph.proofs.Members.{never}
-use Rattle.aw_accept.specs.Acyclic.{IsAcyclic}
+use Rattle.aw_accept.specs.Acyclic.{IsAcyclic, IsTree}
+use Rattle.aw_accept.specs.Missing.{IsMissing}
+use Rattle.aw_accept.specs.Sorts.{HaveTheirSorts, IsAtStart}
+use Rattle.aw_accept.proofs.GuardAnswers.{waits_for_missing, tells_no_circle}
+use Rattle.aw_accept.proofs.SortsOfRows.{taken-sorts}
 use Rattle.aw_accept.proofs.Fitting.{given_of}
 use Rattle.aw_accept.proofs.UndividedRuns.{undivided-acyclic, decode_on}
 use Rattle.aw_plain.specs.declared.row.Row as rows
@@ -101,11 +112,53 @@ reached_taken g c x (Some d) e w = (w.0 ++ x ∷ [], undivided_more g [] w.0 x c
 pub reached_after : (g : Grammar) (c : Config) (x : Choice) → IsReached g c → IsReached g (after g c x)
 reached_after g c x w = reached_taken g c x (taken g c x (outcome g c x)) refl w
 
--- what is reached on a grammar without circles is acyclic
-pub acyclic_reached : (w : Words) (g : Grammar) (c : Config) → ∥ IsWellFormed w g ∥₁ → ∥ HasNoCircle g (IO g) ∥₁ → ∥ IsReached g c ∥₁ → ∥ IsAcyclic (IO g) c ∥₁
-acyclic_reached w g c formed accepted reached =
-    let start = λ (f : IsWellFormed w g) (a : HasNoCircle g (IO g)) (r : IsReached g c). undivided-acyclic g (given_of w g f) a r.0 c r.1 in
+-- what is reached on a grammar without circles is a tree of tasks and acyclic
+good_reached : (w : Words) (g : Grammar) (c : Config) → ∥ IsWellFormed w g ∥₁ → ∥ HasNoCircle g (IO g) ∥₁ → ∥ IsReached g c ∥₁ → ∥ (IsTree g c × IsAcyclic (IO g) c) ∥₁
+good_reached w g c formed accepted reached =
+    let start = λ (f : IsWellFormed w g) (a : HasNoCircle g (IO g)) (r : IsReached g c). undivided-acyclic g (given_of w g f) (IO g) (io_closed g) a r.0 c r.1 in
     ∥∥₁_map₂ (∥∥₁_map₂ formed accepted start) reached (λ f r. f r)
+
+pub tree_reached : (w : Words) (g : Grammar) (c : Config) → ∥ IsWellFormed w g ∥₁ → ∥ HasNoCircle g (IO g) ∥₁ → ∥ IsReached g c ∥₁ → ∥ IsTree g c ∥₁
+tree_reached w g c formed accepted reached = ∥∥₁_map (good_reached w g c formed accepted reached) (λ good. good.0)
+
+pub acyclic_reached : (w : Words) (g : Grammar) (c : Config) → ∥ IsWellFormed w g ∥₁ → ∥ HasNoCircle g (IO g) ∥₁ → ∥ IsReached g c ∥₁ → ∥ IsAcyclic (IO g) c ∥₁
+acyclic_reached w g c formed accepted reached = ∥∥₁_map (good_reached w g c formed accepted reached) (λ good. good.1)
+
+-- a choice that fits the grammar starts at a start sort
+start_sort : (o : Option Sort) → is_start o ≡ true → (t : Sort) × (o ≡ Some t) × (t.start ≡ true)
+start_sort None e = absurd cc
+start_sort (Some t) e = (t, refl, e)
+
+pub starts_there : (g : Grammar) (x : Choice) → choice_ok g x ≡ true → IsAtStart g x
+starts_there g (Start s k) e = start_sort (slice_get g.sorts s) e
+starts_there g (Develop n r args) e = tt
+
+sorts_taken : (g : Grammar) (c : Config) (x : Choice) (o : Option Config) → HaveTheirSorts g c → choice_ok g x ≡ true → taken g c x (outcome g c x) ≡ o → HaveTheirSorts g (or_same c o)
+sorts_taken g c x None own ok e = own
+sorts_taken g c x (Some d) own ok e = taken-sorts g c x (outcome g c x) d (starts_there g x ok) own refl e
+
+-- a choice leaves rows with their sorts
+pub sorts_after : (g : Grammar) (c : Config) (x : Choice) → HaveTheirSorts g c → choice_ok g x ≡ true → HaveTheirSorts g (after g c x)
+sorts_after g c x own ok = sorts_taken g c x (taken g c x (outcome g c x)) own ok refl
+
+-- what is said of one grammar is said of an equal one
+pub answer_on : {E : Type 0} (result : Result Answer E) (h k : declared.Grammar) (old : List rows.Row) (x : Choice) → h ≡ k → IfOk result (λ a. answer_of a ≡ answer (grammar_of h) (config_of old) x)
+    → IfOk result (λ a. answer_of a ≡ answer (grammar_of k) (config_of old) x)
+answer_on result h k old x e = subst (λ (g : declared.Grammar). IfOk result (λ a. answer_of a ≡ answer (grammar_of g) (config_of old) x)) e
+
+pub rows_on : {A E : Type 0} (result : Result A E) (h k : declared.Grammar) (old new : List rows.Row) (x : Choice) → h ≡ k → IfOk result (λ a. config_of new ≡ after (grammar_of h) (config_of old) x)
+    → IfOk result (λ a. config_of new ≡ after (grammar_of k) (config_of old) x)
+rows_on result h k old new x e = subst (λ (g : declared.Grammar). IfOk result (λ a. config_of new ≡ after (grammar_of g) (config_of old) x)) e
+
+-- what an answer of the program waits for
+pub waits_missing : {E : Type 0} (result : Result Answer E) (g : Grammar) (c : Config) (x : Choice) → ∥ IsTree g c ∥₁ → ∥ IsAcyclic (IO g) c ∥₁ → IfOk result (λ a. answer_of a ≡ answer g c x)
+    → IfOk result (λ a. (r : Ref) → a ≡ Waits r → ∥ IsMissing g c r ∥₁)
+waits_missing result g c x tree acyclic =
+    IfOk-weaker result _ _ (λ a is r e. ∥∥₁_map₂ tree acyclic (λ t y. waits_for_missing g c x r t y.whole (sym is ∙ ap answer_of e)))
+
+-- no answer of the program is a circle
+pub never_circle : {E : Type 0} (result : Result Answer E) (g : Grammar) (c : Config) (x : Choice) → IfOk result (λ a. answer_of a ≡ answer g c x) → IfOk result (λ a. (r : Ref) → a ≡ Circle r → ⊥)
+never_circle result g c x = IfOk-weaker result _ _ (λ a is r e. never (tells_no_circle g c x r (sym is ∙ ap answer_of e)))
 
 -- what holds of no rows
 pub filled_none : (g : Grammar) (rs : List rows.Row) → rs ≡ [] → ∥ AreFilled g (config_of rs) ∥₁
@@ -119,6 +172,9 @@ ordered_none rs e = subst (λ xs. IsOrdered (config_of xs)) (sym e) (λ k d low 
 
 pub apart_none : (rs : List rows.Row) → rs ≡ [] → AreApart (config_of rs)
 apart_none rs e = subst (λ xs. AreApart (config_of xs)) (sym e) (λ q m. never m)
+
+pub sorts_none : (g : Grammar) (rs : List rows.Row) → rs ≡ [] → HaveTheirSorts g (config_of rs)
+sorts_none g rs e = subst (λ xs. HaveTheirSorts g (config_of xs)) (sym e) (λ q m. never m)
 
 -- what holds before a call and after the choice holds after the call, which fails without effect
 pub kept : {A E : Type 0} (P : Config → Type 0) (r : Result A E) (old new : List rows.Row) (next : Config) → IfOk r (λ a. config_of new ≡ next) → OnErr r (new ≡ old) → P (config_of old) → P next → P (config_of new)

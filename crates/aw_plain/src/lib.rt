@@ -29,6 +29,3 @@ pub use print::print_rows;
 pub use put::copy_tree;
 pub use row::{Row, State};
 pub use tree::{Tree, Trees};
-
-#[cfg(test)]
-mod tests;

@@ -1,12 +1,15 @@
 //! The undivided configuration.
 ghost use Rattle.std.specs.Prelude.{◌≡◌, [], true, IfOk, OnErr, length};
+ghost use Rattle.aw_term.specs.Names.{Ref};
 ghost use Rattle.aw_term.specs.Choices.{Start, Develop, answer, after};
 ghost use Rattle.aw_term.specs.Views.{ground_of};
 ghost use Rattle.aw_base.specs.ChoiceFits.{choice_ok};
 ghost use Rattle.aw_choice.specs.ChoiceView.{answer_of, choice_of};
 ghost use Rattle.aw_grammar.specs.GrammarOf.{grammar_of};
 ghost use Rattle.aw_iograph.specs.Dependence.{IO, HasNoCircle};
-ghost use Rattle.aw_accept.specs.Acyclic.{IsAcyclic};
+ghost use Rattle.aw_accept.specs.Acyclic.{IsAcyclic, IsTree};
+ghost use Rattle.aw_accept.specs.Missing.{IsMissing};
+ghost use Rattle.aw_accept.specs.Sorts.{HaveTheirSorts};
 ghost use Rattle.aw_plain.specs.RowView.{config_of};
 ghost use Rattle.aw_plain.specs.Filled.{AreFilled};
 ghost use Rattle.aw_plain.specs.Ordered.{IsOrdered};
@@ -30,7 +33,9 @@ pub struct Plain<'g> {
     pub ghost ordered: { IsOrdered (config_of rows.items) },
     ghost apart: { AreApart (config_of rows.items) },
     pub ghost reached: { ∥ IsReached (grammar_of grammar.now) (config_of rows.items) ∥₁ },
+    pub ghost tree: { ∥ IsTree (grammar_of grammar.now) (config_of rows.items) ∥₁ },
     pub ghost acyclic: { ∥ IsAcyclic (IO (grammar_of grammar.now)) (config_of rows.items) ∥₁ },
+    pub ghost sorts: { HaveTheirSorts (grammar_of grammar.now) (config_of rows.items) },
 }
 
 impl<'g> Plain<'g> {
@@ -52,16 +57,21 @@ impl<'g> Plain<'g> {
         self.rows.as_slice()
     }
 
-    /// Answers a choice, and takes it where the answer is `Taken`. A refused choice and an error change nothing.
-    pub fn choose(&mut self, choice: &Choice) -> Result<Answer, AllocError>
-        requires { choice_ok (grammar_of self.old.grammar.now) (choice_of choice.now) ≡ true }
+    /// Answers a choice, and takes it where the answer is `Taken`. A refused choice and an error change nothing. What a
+    /// choice waits for is a result of a pending row, and none is answered with a circle.
+    pub fn choose(&mut self, g: &Accepted, choice: &Choice) -> Result<Answer, AllocError>
+        requires grammar { g.now.grammar ≡ self.old.grammar.now }
+        requires fits { choice_ok (grammar_of self.old.grammar.now) (choice_of choice.now) ≡ true }
         ensures grammar { self.new.grammar.now ≡ self.old.grammar.now }
         ensures answer { IfOk result (λ a. answer_of a ≡ answer (grammar_of self.old.grammar.now) (config_of self.old.rows.items) (choice_of choice.now)) }
         ensures rows { IfOk result (λ a. config_of self.new.rows.items ≡ after (grammar_of self.old.grammar.now) (config_of self.old.rows.items) (choice_of choice.now)) }
         ensures refused { IfOk result (λ a. (a ≡ Answer.Taken → ⊥) → self.new.rows.items ≡ self.old.rows.items) }
         ensures err { OnErr result (self.new.rows.items ≡ self.old.rows.items) }
         ensures acyclic { ∥ IsAcyclic (IO (grammar_of self.new.grammar.now)) (config_of self.new.rows.items) ∥₁ }
+        ensures waits { IfOk result (λ a. (r : Ref) → a ≡ Answer.Waits r →
+            ∥ IsMissing (grammar_of self.old.grammar.now) (config_of self.old.rows.items) r ∥₁) }
+        ensures no_circle { IfOk result (λ a. (r : Ref) → a ≡ Answer.Circle r → ⊥) }
     {
-        choose(self.grammar, &mut self.rows, choice)
+        choose(g.grammar(), &mut self.rows, choice)
     }
 }

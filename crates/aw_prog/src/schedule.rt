@@ -53,11 +53,10 @@ fn print_told(
     requires { Each (MayCome (grammar_of accepted.now.grammar)) events.now }
     ensures { Prints (told telling (words_of accepted.now.grammar) (grammar_of accepted.now.grammar) (map event_seen events.now)) report.old report.new result }
 {
-    let g = accepted.grammar();
     let mut plain = Plain::new(alloc, accepted);
     match telling {
-        Telling::Undivided => print_undivided(alloc, g, &mut plain, events, report),
-        Telling::Replayed => print_transcript(alloc, g, &mut plain, events, report),
+        Telling::Undivided => print_undivided(alloc, accepted, &mut plain, events, report),
+        Telling::Replayed => print_transcript(alloc, accepted, &mut plain, events, report),
     }
 }
 

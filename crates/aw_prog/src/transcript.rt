@@ -10,6 +10,7 @@ ghost use Rattle.aw_plain.specs.RowView.{config_of};
 ghost use Rattle.aw_prog.specs.Transcript.{event_text, after_event, transcript};
 
 use crate::undivided::{print_artifacts, tell_choice};
+use aw_accept::Accepted;
 use aw_base::{Grammar, push_item_lines, role_name};
 use aw_list::Text;
 use aw_out::{PrintFault, Report};
@@ -42,54 +43,59 @@ fn list_lines(alloc: Global, g: &Grammar, plain: &Plain, role: u16) -> Result<Te
 }
 
 /// Does what an event asks for. Its lines.
-fn tell(alloc: Global, g: &Grammar, plain: &mut Plain, event: &Event) -> Result<Text, AllocError>
-    requires grammar { plain.old.grammar.now ≡ g.now }
-    requires may_come { MayCome (grammar_of g.now) event.now }
-    ensures grammar { plain.new.grammar.now ≡ g.now }
-    ensures rows { IfOk result (λ text. config_of plain.new.rows.items ≡ after_event (grammar_of g.now) (config_of plain.old.rows.items) (event_seen event.now)) }
-    ensures lines { IfOk result (λ text. text ≡ event_text (words_of g.now) (grammar_of g.now) (config_of plain.old.rows.items) (event_seen event.now)) }
+fn tell(
+    alloc: Global,
+    accepted: &Accepted,
+    plain: &mut Plain,
+    event: &Event,
+) -> Result<Text, AllocError>
+    requires grammar { plain.old.grammar.now ≡ accepted.now.grammar }
+    requires may_come { MayCome (grammar_of accepted.now.grammar) event.now }
+    ensures grammar { plain.new.grammar.now ≡ accepted.now.grammar }
+    ensures rows { IfOk result (λ text. config_of plain.new.rows.items ≡ after_event (grammar_of accepted.now.grammar) (config_of plain.old.rows.items) (event_seen event.now)) }
+    ensures lines { IfOk result (λ text. text ≡ event_text (words_of accepted.now.grammar) (grammar_of accepted.now.grammar) (config_of plain.old.rows.items) (event_seen event.now)) }
 {
     match event {
-        Event::Choose(choice) => tell_choice(alloc, g, plain, choice),
+        Event::Choose(choice) => tell_choice(alloc, accepted, plain, choice),
         Event::Deliver(message) => delivery_line(alloc, *message),
         Event::Settle => Text::from_bytes(alloc, b"settled 0\n"),
-        Event::List(role) => list_lines(alloc, g, plain, *role),
+        Event::List(role) => list_lines(alloc, accepted.grammar(), plain, *role),
     }
 }
 
 /// Does what an event asks for, and prints its lines.
 fn print_event(
     alloc: Global,
-    g: &Grammar,
+    accepted: &Accepted,
     plain: &mut Plain,
     event: &Event,
     report: &mut Report,
 ) -> Result<(), PrintFault>
-    requires grammar { plain.old.grammar.now ≡ g.now }
-    requires may_come { MayCome (grammar_of g.now) event.now }
-    ensures grammar { plain.new.grammar.now ≡ g.now }
-    ensures rows { OnOk result (config_of plain.new.rows.items ≡ after_event (grammar_of g.now) (config_of plain.old.rows.items) (event_seen event.now)) }
-    ensures prints { Prints (event_text (words_of g.now) (grammar_of g.now) (config_of plain.old.rows.items) (event_seen event.now)) report.old report.new result }
+    requires grammar { plain.old.grammar.now ≡ accepted.now.grammar }
+    requires may_come { MayCome (grammar_of accepted.now.grammar) event.now }
+    ensures grammar { plain.new.grammar.now ≡ accepted.now.grammar }
+    ensures rows { OnOk result (config_of plain.new.rows.items ≡ after_event (grammar_of accepted.now.grammar) (config_of plain.old.rows.items) (event_seen event.now)) }
+    ensures prints { Prints (event_text (words_of accepted.now.grammar) (grammar_of accepted.now.grammar) (config_of plain.old.rows.items) (event_seen event.now)) report.old report.new result }
 {
-    let lines = tell(alloc, g, plain, event)?;
+    let lines = tell(alloc, accepted, plain, event)?;
     report.push(lines.as_slice())
 }
 
 /// Does what each event asks for, and prints the lines of all and then the artifacts. The configuration has no rows yet.
 pub fn print_transcript(
     alloc: Global,
-    g: &Grammar,
+    accepted: &Accepted,
     plain: &mut Plain,
     events: &[Event],
     report: &mut Report,
 ) -> Result<(), PrintFault>
-    requires grammar { plain.old.grammar.now ≡ g.now }
+    requires grammar { plain.old.grammar.now ≡ accepted.now.grammar }
     requires rows { plain.old.rows.items ≡ [] }
-    requires may_come { Each (MayCome (grammar_of g.now)) events.now }
-    ensures { Prints (transcript (words_of g.now) (grammar_of g.now) [] (map event_seen events.now)) report.old report.new result }
+    requires may_come { Each (MayCome (grammar_of accepted.now.grammar)) events.now }
+    ensures { Prints (transcript (words_of accepted.now.grammar) (grammar_of accepted.now.grammar) [] (map event_seen events.now)) report.old report.new result }
 {
     for event in events {
-        print_event(alloc, g, plain, event, report)?;
+        print_event(alloc, accepted, plain, event, report)?;
     }
-    print_artifacts(alloc, g, plain, report)
+    print_artifacts(alloc, accepted.grammar(), plain, report)
 }

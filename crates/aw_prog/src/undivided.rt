@@ -11,6 +11,7 @@ ghost use Rattle.aw_sched.specs.Answers.{event_seen, MayCome};
 ghost use Rattle.aw_plain.specs.RowView.{config_of};
 ghost use Rattle.aw_prog.specs.Transcript.{after_event, choice_lines, choices_in};
 
+use aw_accept::Accepted;
 use aw_base::{Answer, Choice, Grammar, push_artifacts_line, push_choice_line};
 use aw_list::Text;
 use aw_out::{PrintFault, Report};
@@ -35,18 +36,18 @@ fn choice_line(
 /// Makes a choice. Its line, with the answer.
 pub fn tell_choice(
     alloc: Global,
-    g: &Grammar,
+    accepted: &Accepted,
     plain: &mut Plain,
     choice: &Choice,
 ) -> Result<Text, AllocError>
-    requires grammar { plain.old.grammar.now ≡ g.now }
-    requires fits { choice_ok (grammar_of g.now) (choice_of choice.now) ≡ true }
-    ensures grammar { plain.new.grammar.now ≡ g.now }
-    ensures rows { IfOk result (λ text. config_of plain.new.rows.items ≡ after (grammar_of g.now) (config_of plain.old.rows.items) (choice_of choice.now)) }
-    ensures line { IfOk result (λ text. text ≡ answer_line (words_of g.now) (choice_of choice.now) (answer (grammar_of g.now) (config_of plain.old.rows.items) (choice_of choice.now))) }
+    requires grammar { plain.old.grammar.now ≡ accepted.now.grammar }
+    requires fits { choice_ok (grammar_of accepted.now.grammar) (choice_of choice.now) ≡ true }
+    ensures grammar { plain.new.grammar.now ≡ accepted.now.grammar }
+    ensures rows { IfOk result (λ text. config_of plain.new.rows.items ≡ after (grammar_of accepted.now.grammar) (config_of plain.old.rows.items) (choice_of choice.now)) }
+    ensures line { IfOk result (λ text. text ≡ answer_line (words_of accepted.now.grammar) (choice_of choice.now) (answer (grammar_of accepted.now.grammar) (config_of plain.old.rows.items) (choice_of choice.now))) }
 {
-    let answer = plain.choose(choice)?;
-    choice_line(alloc, g, choice, &answer)
+    let answer = plain.choose(accepted, choice)?;
+    choice_line(alloc, accepted.grammar(), choice, &answer)
 }
 
 /// The line that stands before the artifacts.
@@ -74,15 +75,20 @@ pub fn print_artifacts(
 }
 
 /// Takes the choice of an event, where it is one. Its line, or nothing.
-fn tell(alloc: Global, g: &Grammar, plain: &mut Plain, event: &Event) -> Result<Text, AllocError>
-    requires grammar { plain.old.grammar.now ≡ g.now }
-    requires may_come { MayCome (grammar_of g.now) event.now }
-    ensures grammar { plain.new.grammar.now ≡ g.now }
-    ensures rows { IfOk result (λ text. config_of plain.new.rows.items ≡ after_event (grammar_of g.now) (config_of plain.old.rows.items) (event_seen event.now)) }
-    ensures line { IfOk result (λ text. text ≡ choice_lines (words_of g.now) (grammar_of g.now) (config_of plain.old.rows.items) (event_seen event.now)) }
+fn tell(
+    alloc: Global,
+    accepted: &Accepted,
+    plain: &mut Plain,
+    event: &Event,
+) -> Result<Text, AllocError>
+    requires grammar { plain.old.grammar.now ≡ accepted.now.grammar }
+    requires may_come { MayCome (grammar_of accepted.now.grammar) event.now }
+    ensures grammar { plain.new.grammar.now ≡ accepted.now.grammar }
+    ensures rows { IfOk result (λ text. config_of plain.new.rows.items ≡ after_event (grammar_of accepted.now.grammar) (config_of plain.old.rows.items) (event_seen event.now)) }
+    ensures line { IfOk result (λ text. text ≡ choice_lines (words_of accepted.now.grammar) (grammar_of accepted.now.grammar) (config_of plain.old.rows.items) (event_seen event.now)) }
 {
     match event {
-        Event::Choose(choice) => tell_choice(alloc, g, plain, choice),
+        Event::Choose(choice) => tell_choice(alloc, accepted, plain, choice),
         Event::Deliver(_) => Ok(Text::new(alloc)),
         Event::Settle => Ok(Text::new(alloc)),
         Event::List(_) => Ok(Text::new(alloc)),
@@ -92,18 +98,18 @@ fn tell(alloc: Global, g: &Grammar, plain: &mut Plain, event: &Event) -> Result<
 /// Takes the choice of an event, where it is one, and prints its line.
 fn print_choice(
     alloc: Global,
-    g: &Grammar,
+    accepted: &Accepted,
     plain: &mut Plain,
     event: &Event,
     report: &mut Report,
 ) -> Result<(), PrintFault>
-    requires grammar { plain.old.grammar.now ≡ g.now }
-    requires may_come { MayCome (grammar_of g.now) event.now }
-    ensures grammar { plain.new.grammar.now ≡ g.now }
-    ensures rows { OnOk result (config_of plain.new.rows.items ≡ after_event (grammar_of g.now) (config_of plain.old.rows.items) (event_seen event.now)) }
-    ensures prints { Prints (choice_lines (words_of g.now) (grammar_of g.now) (config_of plain.old.rows.items) (event_seen event.now)) report.old report.new result }
+    requires grammar { plain.old.grammar.now ≡ accepted.now.grammar }
+    requires may_come { MayCome (grammar_of accepted.now.grammar) event.now }
+    ensures grammar { plain.new.grammar.now ≡ accepted.now.grammar }
+    ensures rows { OnOk result (config_of plain.new.rows.items ≡ after_event (grammar_of accepted.now.grammar) (config_of plain.old.rows.items) (event_seen event.now)) }
+    ensures prints { Prints (choice_lines (words_of accepted.now.grammar) (grammar_of accepted.now.grammar) (config_of plain.old.rows.items) (event_seen event.now)) report.old report.new result }
 {
-    let line = tell(alloc, g, plain, event)?;
+    let line = tell(alloc, accepted, plain, event)?;
     report.push(line.as_slice())
 }
 
@@ -111,18 +117,18 @@ fn print_choice(
 /// The configuration has no rows yet.
 pub fn print_undivided(
     alloc: Global,
-    g: &Grammar,
+    accepted: &Accepted,
     plain: &mut Plain,
     events: &[Event],
     report: &mut Report,
 ) -> Result<(), PrintFault>
-    requires grammar { plain.old.grammar.now ≡ g.now }
+    requires grammar { plain.old.grammar.now ≡ accepted.now.grammar }
     requires rows { plain.old.rows.items ≡ [] }
-    requires may_come { Each (MayCome (grammar_of g.now)) events.now }
-    ensures { Prints (plain_text (words_of g.now) (grammar_of g.now) (choices_in (map event_seen events.now))) report.old report.new result }
+    requires may_come { Each (MayCome (grammar_of accepted.now.grammar)) events.now }
+    ensures { Prints (plain_text (words_of accepted.now.grammar) (grammar_of accepted.now.grammar) (choices_in (map event_seen events.now))) report.old report.new result }
 {
     for event in events {
-        print_choice(alloc, g, plain, event, report)?;
+        print_choice(alloc, accepted, plain, event, report)?;
     }
-    print_artifacts(alloc, g, plain, report)
+    print_artifacts(alloc, accepted.grammar(), plain, report)
 }

@@ -9,6 +9,7 @@ use Rattle.aw_term.specs.Choices.{Choice, Start, Develop, Outcome, Refused, Star
 use Rattle.aw_iograph.specs.Graphs.{Member}
 use Rattle.aw_accept.specs.Acyclic.{Pairs, IsGivenGrammar}
 use Rattle.aw_iograph.specs.Dependence.{IO, HasNoCircle}
+use Rattle.aw_iograph.proofs.Relations.{io_closed}
 use Rattle.aw_iograph.specs.Occurrences.{item, entries}
 use Rattle.aw_term.specs.WellFormed.{Each}
 use Rattle.aw_store.specs.Equations.{Body, Equation, Map, find}
@@ -35,7 +36,7 @@ use Rattle.aw_term.proofs.RowParts.{rounds_node}
 module _ (g : Grammar) (fit : IsGivenGrammar g) (enter : VariablesEnter g) (ok : HasNoCircle g (IO g)) where
   pub record Lockstep (w : Joint) (c : Config) : Type 0 where
     pub pairs : Pairs (λ h q. Agree w.equations h q) w.held c
-    pub good : Good g fit ok c
+    pub good : Good g fit (IO g) (io_closed g) ok c
     pub lefts : (x : Ref) (b : Body) → find w.equations x ≡ Some b → (p : Row) × Member p c × (x.node ≡ p.node) × (p.state ≡ Pending → Never)
     pub values : HaveValues w.equations c
 
@@ -52,7 +53,7 @@ module _ (g : Grammar) (fit : IsGivenGrammar g) (enter : VariablesEnter g) (ok :
     k = w.equations
 
     abbrev P : Taking (IO g) c q ri rule bs args
-    P = taking g fit ok c n ri args rule bs J.good D
+    P = taking g fit (IO g) (io_closed g) ok c n ri args rule bs J.good D
 
     no_equation : (x : Ref) → ((p : Row) → Member p c → x.node ≡ p.node → (p.state ≡ Pending → Never) → Never) → find k x ≡ None
     no_equation x h = go (find k x) refl
@@ -114,7 +115,7 @@ module _ (g : Grammar) (fit : IsGivenGrammar g) (enter : VariablesEnter g) (ok :
     old_pair h p mp a =
         let z = done_row q.node st p in
         let (mn, ms, mi) = marked q.node st h in
-        let ds = done-same g fit ok c n ri args rule bs J.good D p in
+        let ds = done-same g fit (IO g) (io_closed g) ok c n ri args rule bs J.good D p in
         record {
           node = mn ∙ (a.node ∙ (sym ds.0 ∙ sym (rounds_node M s (done_row q.node st p))));
           sort = ms ∙ (a.sort ∙ (sym ds.1 ∙ sym (rounds-sort M s (done_row q.node st p))));
@@ -193,15 +194,15 @@ module _ (g : Grammar) (fit : IsGivenGrammar g) (enter : VariablesEnter g) (ok :
         elim (option_cases k m.equations x b (find k x) refl f) [
           | inl a ↦
               (let (p, mp, e, np) = J.lefts x b a in
-              (FF (done_row q.node st p), kept_row g fit ok c n ri args rule bs J.good D p mp, e ∙ (sym (done-same g fit ok c n ri args rule bs J.good D p).0 ∙ sym (rounds_node M s _)), still_closed g fit ok c n ri args rule bs J.good D p np))
+              (FF (done_row q.node st p), kept_row g fit (IO g) (io_closed g) ok c n ri args rule bs J.good D p mp, e ∙ (sym (done-same g fit (IO g) (io_closed g) ok c n ri args rule bs J.good D p).0 ∙ sym (rounds_node M s _)), still_closed g fit (IO g) (io_closed g) ok c n ri args rule bs J.good D p np))
           | inr a ↦
               (let e = left_there m.equations x (left_own (IO g) c q ri rule bs args k bound T) (find-left m.equations x b a) in
-              (FF (done_row q.node st q), kept_row g fit ok c n ri args rule bs J.good D q D.held, e ∙ (sym (done-same g fit ok c n ri args rule bs J.good D q).0 ∙ sym (rounds_node M s _)), own_closed g fit ok c n ri args rule bs J.good D q refl))
+              (FF (done_row q.node st q), kept_row g fit (IO g) (io_closed g) ok c n ri args rule bs J.good D q D.held, e ∙ (sym (done-same g fit (IO g) (io_closed g) ok c n ri args rule bs J.good D q).0 ∙ sym (rounds_node M s _)), own_closed g fit (IO g) (io_closed g) ok c n ri args rule bs J.good D q refl))
         ]
 
     pub develop_lockstep : Lockstep (add_made w n (Done ri args) (made n ri rule args bound)) (develop n ri rule bs args c)
     develop_lockstep = subst (λ n. Lockstep (add_made w n (Done ri args) (made n ri rule args bound)) (develop n ri rule bs args c)) D.node
-        (record { pairs = after_rounds; good = subst (λ n. Good g fit ok (develop n ri rule bs args c)) (sym D.node) (developed g fit ok c n ri args rule bs J.good D); lefts = new_lefts; values = have_values (IO g) c q ri rule bs args k bound T J.values })
+        (record { pairs = after_rounds; good = subst (λ n. Good g fit (IO g) (io_closed g) ok (develop n ri rule bs args c)) (sym D.node) (developed g fit (IO g) (io_closed g) ok c n ri args rule bs J.good D); lefts = new_lefts; values = have_values (IO g) c q ri rule bs args k bound T J.values })
 
   start_pair : (k : Map) (s l : ℕ) → ((x : Ref) → x.node ≡ root s l → find k x ≡ None) → Agree k (root_held s l) (start_row g s l)
   start_pair k s l free = record {
@@ -215,7 +216,7 @@ module _ (g : Grammar) (fit : IsGivenGrammar g) (enter : VariablesEnter g) (ok :
   start_lockstep : (w : Joint) (c : Config) → Lockstep w c → (s l : ℕ) → row_of (root s l) c ≡ None → Lockstep (record w { held = insert_held (root_held s l) w.held }) (insert_row (start_row g s l) c)
   start_lockstep w c J s l gone = record {
     pairs = insert_pairs (λ h q. Agree w.equations h q) (node_same w.equations) (root_held s l) (start_row g s l) w.held c (start_pair w.equations s l free) J.pairs;
-    good = started g fit ok c s l J.good gone;
+    good = started g fit (IO g) (io_closed g) ok c s l J.good gone;
     lefts = λ x b f. let (p, m, e, np) = J.lefts x b f in (p, Member-inserted p (start_row g s l) c (inr m), e, np);
     values = λ x b f. let (t, d, o) = J.values x b f in (t, d, λ h w. let (p, j, m, st, e, low, high) = o h w in (p, j, Member-inserted p (start_row g s l) c (inr m), st, e, low, high));
   }
@@ -235,7 +236,7 @@ module _ (g : Grammar) (fit : IsGivenGrammar g) (enter : VariablesEnter g) (ok :
 
   pub step_lockstep : (w : Joint) (c : Config) → Lockstep w c → (x : Choice) (o : Outcome Ref Ref) (o' : Outcome Value Ref) → joint_outcome w g x ≡ o → outcome g c x ≡ o' → OutLike w.equations o o' → LikeStates (joint_taken w x o) (taken g c x o')
   step_lockstep w c J x (Refused a) (Refused b) e e' l = tt
-  step_lockstep w c J (Start s k) Starts Starts e e' l = start_lockstep w c J s k (held_none g fit ok (row_of (root s k) c) e')
+  step_lockstep w c J (Start s k) Starts Starts e e' l = start_lockstep w c J s k (held_none g fit (IO g) (io_closed g) ok (row_of (root s k) c) e')
   step_lockstep w c J (Start s k) (Takes r xs) (Takes r' ts) e e' l = tt
   step_lockstep w c J (Develop n r args) Starts Starts e e' l = tt
   step_lockstep w c J (Develop n ri args) (Takes r xs) (Takes r' ts) e e' l =
@@ -265,7 +266,7 @@ module _ (g : Grammar) (fit : IsGivenGrammar g) (enter : VariablesEnter g) (ok :
   weaken (Some w) None l = never l
 
   pub empty_lockstep : Lockstep (empty_joint) []
-  empty_lockstep = record { pairs = tt; good = empty_good g fit ok; lefts = λ x b f. absurd cc; values = λ x b f. absurd cc }
+  empty_lockstep = record { pairs = tt; good = empty_good g fit (IO g) (io_closed g) ok; lefts = λ x b f. absurd cc; values = λ x b f. absurd cc }
 
   -- flat equations are substitution, for every list of choices
   pub flat_is_substitution : (cs : List Choice) → AgreeWhereTaken (joint_run g empty_joint cs) (undivided g [] cs)

@@ -10,6 +10,7 @@ use Rattle.aw_term.specs.Choices.{Choice, Start, Develop, Outcome, Refused, Star
 use Rattle.aw_iograph.specs.Graphs.{Member}
 use Rattle.aw_accept.specs.Acyclic.{Pairs, IsGivenGrammar, gives}
 use Rattle.aw_iograph.specs.Dependence.{IO, HasNoCircle}
+use Rattle.aw_iograph.proofs.Relations.{io_closed}
 use Rattle.aw_store.specs.Equations.{Body, Map, find}
 use Rattle.aw_store.specs.Unfold.{Unfolds}
 use Rattle.aw_space.specs.Joint.{Held, Joint, empty_joint, joint_outcome, joint_taken, joint_run}
@@ -71,15 +72,15 @@ later_children n ri e k (c ∷ cs) = (each_of (λ (b : Row). below n ri k ≡ b.
     no_self k j e = absurd (omega arith)
 
 module _ (g : Grammar) (fit : IsGivenGrammar g) (enter : VariablesEnter g) (ok : HasNoCircle g (IO g)) where
-  taken-in_order : (c : Config) (x : Choice) (o : Outcome Value Ref) (d : Config) → Good g fit ok c → IsInOrder c → outcome g c x ≡ o → taken g c x o ≡ Some d → IsInOrder d
+  taken-in_order : (c : Config) (x : Choice) (o : Outcome Value Ref) (d : Config) → Good g fit (IO g) (io_closed g) ok c → IsInOrder c → outcome g c x ≡ o → taken g c x o ≡ Some d → IsInOrder d
   taken-in_order c x (Refused a) d good i e t = absurd cc
   taken-in_order c (Start s k) Starts d good i e t =
-      subst IsInOrder (same_Some _ _ t) (insert-in_order (start_row g s k) c (λ p m f. row_of-none (root s k) c (held_none g fit ok (row_of (root s k) c) e) p m (sym f)) i)
+      subst IsInOrder (same_Some _ _ t) (insert-in_order (start_row g s k) c (λ p m f. row_of-none (root s k) c (held_none g fit (IO g) (io_closed g) ok (row_of (root s k) c) e) p m (sym f)) i)
   taken-in_order c (Start s k) (Takes rule bs) d good i e t = absurd cc
   taken-in_order c (Develop n ri args) Starts d good i e t = absurd cc
   taken-in_order c (Develop n ri args) (Takes rule bs) d good i e t =
       let D = decode_on g c (row_of n c) n ri args rule bs refl e in
-      let P = taking g fit ok c n ri args rule bs good D in
+      let P = taking g fit (IO g) (io_closed g) ok c n ri args rule bs good D in
       subst IsInOrder (same_Some _ _ t)
       (rounds-in_order (length rule.results) (row_put _) (λ r. refl) _
       (insert_rows-in_order _ (map (done_row n (Done ri args)) c) (later_children n ri _ 1 rule.children)
@@ -148,11 +149,11 @@ module _ (g : Grammar) (fit : IsGivenGrammar g) (enter : VariablesEnter g) (ok :
   pub fit_empty : Fit (empty_joint)
   fit_empty = record { config = []; joint = empty_lockstep g fit enter ok; in_order = tt }
 
-  undivided-in_order : (c : Config) (xs : List Choice) (z : Config) → Good g fit ok c → IsInOrder c → undivided g c xs ≡ Some z → IsInOrder z
+  undivided-in_order : (c : Config) (xs : List Choice) (z : Config) → Good g fit (IO g) (io_closed g) ok c → IsInOrder c → undivided g c xs ≡ Some z → IsInOrder z
   undivided-in_order c [] z good i e = subst IsInOrder (same_Some _ _ e) i
   undivided-in_order c (x ∷ xs) z good i e =
       option_and_then_some (λ d. undivided g d xs) (taken g c x (outcome g c x)) z e
-      (λ d t f. undivided-in_order d xs z (taken-good g fit ok c x (outcome g c x) d good refl t) (taken-in_order c x (outcome g c x) d good i refl t) f)
+      (λ d t f. undivided-in_order d xs z (taken-good g fit (IO g) (io_closed g) ok c x (outcome g c x) d good refl t) (taken-in_order c x (outcome g c x) d good i refl t) f)
 
   whole_like : (o : Option Joint) (o' : Option Config) (c : Config) → LikeStates g fit enter ok o o' → o' ≡ Some c → (w : Joint) × (o ≡ Some w) × Lockstep g fit enter ok w c
   whole_like None None c l e = absurd cc
@@ -194,8 +195,8 @@ module _ (g : Grammar) (fit : IsGivenGrammar g) (enter : VariablesEnter g) (ok :
   same_configuration cs ds f h c d e e' =
       let (w, ew, J) = whole_like (joint_run g empty_joint cs) (undivided g [] cs) c (run_lockstep g fit enter ok cs (empty_joint) [] (empty_lockstep g fit enter ok)) e in
       let (v, ev, K) = whole_like (joint_run g empty_joint ds) (undivided g [] ds) d (run_lockstep g fit enter ok ds (empty_joint) [] (empty_lockstep g fit enter ok)) e' in
-      let i = undivided-in_order [] cs c (empty_good g fit ok) tt e in
-      let j = undivided-in_order [] ds d (empty_good g fit ok) tt e' in
+      let i = undivided-in_order [] cs c (empty_good g fit (IO g) (io_closed g) ok) tt e in
+      let j = undivided-in_order [] ds d (empty_good g fit (IO g) (io_closed g) ok) tt e' in
       let vw = any_order g Fit fit_of keep fit_empty cs ds w v h ew ev in
       let wv = any_order g Fit fit_of keep fit_empty ds cs v w f ev ew in
       same_rows c d i j (row_in w v c d J K i j wv vw)

@@ -1,6 +1,7 @@
 -- The test of a pair tells whether the relation has it.
 use Rattle.std.proofs.Common.{◌≡◌, ◌↔◌, ℕ, ◌<◌, ◌≤◌, Bool, true, ◌&&◌, IsTrue, Option, None, Some, nat_lt, nat_le, slice_get, ap, ◌∙◌, List, Ok, Err, IfOk}
 use Rattle.std.specs.declared.result.Result.{Result}
+use Rattle.std.proofs.Math.Logic.{∥∥₁_map}
 use Rattle.std.proofs.lemmas.Bool.{and_parts, and_from, ltb-true, leb-true, lt-ltb, le-leb}
 use Rattle.aw_grammar.specs.declared.grammar.Grammar.{Grammar}
 use Rattle.aw_grammar.specs.GrammarOf.{grammar_of, words_of}
@@ -38,3 +39,8 @@ tells (Ok text) g io h jo same is is_io e = (
   e ∙ ap (λ (k : Grammar). accepted_text (has_pair jo) (words_of k) (grammar_of k)) is ∙ ap (λ (k : Io). accepted_text (has_pair k) (words_of g) (grammar_of g)) is_io,
 )
 tells (Err error) g io h jo same is is_io e = tt
+
+-- and where it is known to be so, that much is known of the text
+pub tells_some : {E : Type 0} (result : Result (List ℕ) E) (g : Grammar) (io : Io) (h : Grammar) (jo : Io) → ∥ IsRelation g io ∥₁ → h ≡ g → jo ≡ io → IfOk result (λ text. text ≡ accepted_text (has_pair jo) (words_of h) (grammar_of h)) → IfOk result (λ text. ∥ TellsAccepted (words_of g) (grammar_of g) text ∥₁)
+tells_some {E} (Ok text) g io h jo same is is_io e = ∥∥₁_map same (λ known. tells {E = E} (Ok text) g io h jo known is is_io e)
+tells_some (Err error) g io h jo same is is_io e = tt

@@ -113,8 +113,9 @@ fn text_of(alloc: Global, g: &Grammar, io: &Io) -> Result<Text, AllocError>
 /// What is told of an accepted grammar: the line `accepted`, and then `io test 1 1` for each result that depends on an
 /// inherited value, by sort, inherited value and result.
 pub fn accepted_text(alloc: Global, accepted: &Accepted) -> Result<Text, AllocError>
-    requires { IsRelation accepted.now.grammar accepted.now.io }
-    ensures { IfOk result (λ text. TellsAccepted (words_of accepted.now.grammar) (grammar_of accepted.now.grammar) text) }
+    ensures tells { IfOk result (λ text. ∥ TellsAccepted (words_of accepted.now.grammar) (grammar_of accepted.now.grammar) text ∥₁) }
+    ensures over { IsRelation accepted.now.grammar accepted.now.io →
+        IfOk result (λ text. TellsAccepted (words_of accepted.now.grammar) (grammar_of accepted.now.grammar) text) }
 {
     text_of(alloc, accepted.grammar(), accepted.io())
 }

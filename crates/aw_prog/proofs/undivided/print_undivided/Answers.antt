@@ -18,4 +18,4 @@ loop-event-preserved c = record {
 }
 
 pub returns : goal.returns
-returns c = c.loop-event.invariant.whole _ _ (rw (drop_all _ _ c.loop-event-test.false) c.print_artifacts.ensures)
+returns c = c.loop-event.invariant.whole _ _ (rw (drop_all _ _ c.loop-event-test.false) (rw c.grammar.ensures.value at c.print_artifacts.ensures))

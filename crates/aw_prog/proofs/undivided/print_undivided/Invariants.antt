@@ -13,8 +13,8 @@ use Rattle.aw_prog.proofs.undivided.print_undivided.Given as goal
 -- Whatever prints what is left from here on has printed the whole.
 abbrev pub invariant-loop-event : goal.invariant-loop-event
 invariant-loop-event l = record {
-  grammar : l.plain.grammar.now ≡ l.g;
+  grammar : l.plain.grammar.now ≡ l.accepted.grammar;
   whole : (new : Bounded) (result : Result Unit PrintFault) →
-      Prints (undivided_from (words_of l.g) (grammar_of l.g) (config_of l.plain.rows.items) (map event_seen (drop l.event-index l.events))) l.report new result →
-      Prints (plain_text (words_of l.g) (grammar_of l.g) (choices_in (map event_seen l.events))) l.initial.report new result;
+      Prints (undivided_from (words_of l.accepted.grammar) (grammar_of l.accepted.grammar) (config_of l.plain.rows.items) (map event_seen (drop l.event-index l.events))) l.report new result →
+      Prints (plain_text (words_of l.accepted.grammar) (grammar_of l.accepted.grammar) (choices_in (map event_seen l.events))) l.initial.report new result;
 }
