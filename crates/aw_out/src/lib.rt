@@ -14,7 +14,7 @@ pub use edge::{Arrival, Dialed, Got, Put, Sink, Source, Wire};
 pub use error::{PrintFault, ReadError, WriteError};
 pub use memory::{MemSink, MemSource};
 pub use real::{StdSink, StdSource};
-pub use report::Report;
+pub use report::{OUTPUT_LIMIT, Report};
 pub use script::{Calls, Sizes};
 pub use sure::{SureSink, SureSource, SureWire, Texts};
 pub use whole::{read_all, write_all};

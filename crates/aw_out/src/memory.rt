@@ -25,7 +25,7 @@ impl Model for MemSource {
 
     ghost Value = { Supply };
 
-    ghost view = { λ s. record { left = drop s.at s.bytes; pieces = s.script.pieces; fails = s.script.fails; calls = s.script.calls; faults = s.script.faults } };
+    ghost view = { λ s. record { left = drop s.at s.bytes; pieces = s.script.pieces; fails = s.script.fails; calls = s.script.calls; moves = s.script.moves; faults = s.script.faults } };
 
     ghost invariant = { λ s. s.at ≤ length s.bytes };
 }
@@ -33,7 +33,7 @@ impl Model for MemSource {
 impl MemSource {
     /// A source of these bytes. It takes no memory, and its reads take none.
     pub fn new(bytes: Text, pieces: Sizes, fails: Calls) -> MemSource
-        ensures { result ≡ record { left = bytes; pieces = pieces; fails = fails; calls = 0; faults = 0 } }
+        ensures { result ≡ record { left = bytes; pieces = pieces; fails = fails; calls = 0; moves = 0; faults = 0 } }
     {
         MemSource {
             bytes,
@@ -84,7 +84,7 @@ impl Model for MemSink {
 
     ghost Value = { Kept };
 
-    ghost view = { λ s. record { written = s.bytes.items; room = s.room; pieces = s.script.pieces; fails = s.script.fails; calls = s.script.calls; faults = s.script.faults } };
+    ghost view = { λ s. record { written = s.bytes.items; room = s.room; pieces = s.script.pieces; fails = s.script.fails; calls = s.script.calls; moves = s.script.moves; faults = s.script.faults } };
 
     ghost invariant = { λ s. (vec_len s.bytes ≤ s.room) × (s.room ≤ vec_capacity s.bytes) };
 }
@@ -97,7 +97,7 @@ impl MemSink {
         fails: Calls,
         room: usize,
     ) -> Result<MemSink, AllocError>
-        ensures { IfOk result (λ sink. sink ≡ record { written = []; room = room; pieces = pieces; fails = fails; calls = 0; faults = 0 }) }
+        ensures { IfOk result (λ sink. sink ≡ record { written = []; room = room; pieces = pieces; fails = fails; calls = 0; moves = 0; faults = 0 }) }
     {
         Ok(MemSink {
             bytes: Vec::with_capacity(alloc, room)?,

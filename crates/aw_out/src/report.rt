@@ -7,6 +7,12 @@ use aw_list::Text;
 use std::alloc::Global;
 use std::marker::Model;
 
+/// The most bytes of an output.
+pub const OUTPUT_LIMIT: usize = 67_108_864;
+
+// The definitions cite it by name.
+const _: () = prove!(OUTPUT_LIMIT == 67_108_864);
+
 /// A text of at most so many bytes.
 #[derive(Drop)]
 pub struct Report {

@@ -74,37 +74,40 @@ impl Calls {
     }
 }
 
-/// The pieces, the calls that fail, and the counts of calls and faults so far.
+/// The pieces, the calls that fail, and how many calls were made so far, reads and writes among them, and how many faults there were.
 #[derive(Drop)]
 pub(crate) struct Script {
     pub(crate) pieces: Sizes,
     pub(crate) fails: Calls,
     pub(crate) calls: usize,
+    pub(crate) moves: usize,
     pub(crate) faults: u64,
 }
 
 impl Script {
     /// No call was made yet.
     pub(crate) fn new(pieces: Sizes, fails: Calls) -> Script
-        ensures { result ≡ record { pieces = pieces; fails = fails; calls = 0; faults = 0 } }
+        ensures { result ≡ record { pieces = pieces; fails = fails; calls = 0; moves = 0; faults = 0 } }
     {
         Script {
             pieces,
             fails,
             calls: 0,
+            moves: 0,
             faults: 0,
         }
     }
 
-    /// Counts a call. The most bytes that it moves, or none where it is to fail.
+    /// Counts a read or a write. The most bytes that it moves, or none where it is to fail.
     pub(crate) fn begin(&mut self) -> Option<usize>
-        ensures most { result ≡ (if is_named self.old.fails self.old.calls then None else Some (piece_at self.old.pieces self.old.calls)) }
+        ensures most { result ≡ (if is_named self.old.fails self.old.calls then None else Some (piece_at self.old.pieces self.old.moves)) }
         ensures some { IfSome result (λ most. 1 ≤ most) }
-        ensures counted { self.new ≡ record self.old { calls = one_more self.old.calls } }
+        ensures counted { self.new ≡ record self.old { calls = one_more self.old.calls; moves = one_more self.old.moves } }
     {
-        let number = self.calls;
-        self.calls = number.saturating_add(1);
-        if self.fails.has(number) {
+        let (call, number) = (self.calls, self.moves);
+        self.calls = call.saturating_add(1);
+        self.moves = number.saturating_add(1);
+        if self.fails.has(call) {
             return None;
         }
         Some(self.pieces.at(number))

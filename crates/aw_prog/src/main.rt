@@ -1,33 +1,13 @@
-//! The program: its words, its commands, and the top call.
+//! The program: its command line, and what it reads and writes.
 #![tactic(auto)]
 
-mod check;
-mod law;
-mod reading;
-mod refusals;
-mod reply;
-mod run;
-mod schedule;
-mod source;
-mod transcript;
-mod undivided;
-mod words;
-
 use aw_out::{StdSink, StdSource, SureWire, Texts};
-pub use law::{choices_are_told_undivided, outputs_are_one};
-pub use reply::{Reply, Status};
-pub use run::run;
-use std::alloc::{AllocError, Global};
+use aw_run::{Status, Word, run};
+use std::alloc::AllocError;
 use std::env;
 use std::io::ErrorKind;
 use std::process::ExitCode;
 use std::rt::Env;
-pub use words::{Command, Word};
-
-#[cfg(test)]
-mod cases;
-#[cfg(test)]
-mod tests;
 
 /// The words after the program's name. Where one of them is no text there are none, which counts as wrong words.
 fn read_words<R: Env + AllocGlobal>(rt: &R) -> Result<Vec<Word>, AllocError> {

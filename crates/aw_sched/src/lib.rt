@@ -12,6 +12,3 @@ pub mod read;
 pub use event::{Event, Events};
 pub use fault::{SchedFault, SchedKind};
 pub use read::read_schedule;
-
-#[cfg(test)]
-mod tests;

@@ -16,6 +16,3 @@ pub use line::SpecLine;
 pub use parse::parse_line;
 pub use read::read_spec;
 pub use spec_text::SpecText;
-
-#[cfg(test)]
-mod tests;

@@ -14,7 +14,7 @@ use aw_out::{StdSink, StdSource, read_all, write_all};
 use aw_sched::{Event, SchedFault, read_schedule};
 use aw_spec::{SpecFault, SpecText, read_spec};
 use aw_text::push_number;
-use aw_write::read_fits;
+use aw_write::{read_fits, write_spec};
 use bstr::ByteSlice;
 use std::alloc::{AllocError, Global};
 use std::process::ExitCode;
@@ -131,12 +131,28 @@ fn push_verdict(alloc: Global, told: &mut Text, input: &[u8]) -> Result<(), Allo
     }
 }
 
-/// Adds the line of an entry.
+/// Adds a specification as it is written again.
+fn push_written(alloc: Global, told: &mut Text, input: &[u8]) -> Result<(), AllocError> {
+    match read_spec(alloc, input) {
+        Ok(spec) => {
+            let written = write_spec(alloc, &spec.grammar, &spec.faces)?;
+            told.push_bytes(written.as_slice())
+        }
+        Err(SpecFault::Bad { .. }) => told.push_bytes(b"nothing\n"),
+        Err(SpecFault::NoMemory) => Err(AllocError),
+    }
+}
+
+/// Adds the line of an entry, and the lines of its specification as it is written where the name says so.
 fn push_entry(alloc: Global, told: &mut Text, name: &[u8], input: &[u8]) -> Result<(), AllocError> {
     told.push_bytes(name)?;
     told.push_bytes(b": ")?;
     push_verdict(alloc, told, input)?;
-    told.push_bytes(b"\n")
+    told.push_bytes(b"\n")?;
+    if name.starts_with(b"write ") {
+        return push_written(alloc, told, input);
+    }
+    Ok(())
 }
 
 /// The lines of all entries. What stands before the first mark is none.

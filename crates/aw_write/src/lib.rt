@@ -10,6 +10,3 @@ pub mod write;
 
 pub use law::{read_again, read_fits, written_is_read};
 pub use write::write_spec;
-
-#[cfg(test)]
-mod tests;

@@ -1,5 +1,0 @@
-use Rattle.aw_prog.proofs.Transcripts.{tells-undivided}
-use Rattle.aw_prog.proofs.law.choices_are_told_undivided.Goals as goal
-
-pub returns : goal.returns
-returns c = tells-undivided

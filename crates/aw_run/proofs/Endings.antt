@@ -1,0 +1,69 @@
+-- What follows from a reply.
+use Rattle.std.proofs.Common.{◌≡◌, ℕ, List, [], Some, None, refl, sym, ap, ◌∙◌, subst, inl, inr, true, IfSome, IfOk}
+use Rattle.std.specs.Prelude.{◌⊎◌}
+use Rattle.std.specs.declared.option.Option.{Option}
+use Rattle.std.specs.declared.result.Result.{Result}
+use Rattle.aw_run.specs.declared.words.Command.{Command}
+use Rattle.aw_run.specs.declared.words.Command.TheVariants.{Reads}
+use Rattle.aw_run.specs.declared.words.Job.{Job}
+use Rattle.aw_run.specs.declared.reply.Reply.{Reply}
+use Rattle.aw_run.specs.declared.reply.Status.{Status}
+use Rattle.aw_run.specs.declared.reply.Status.TheVariants.{Done, NetFault, NoMemory, ReadFault, WriteFault}
+use Rattle.aw_run.specs.Words.{command_of}
+use Rattle.aw_run.specs.Output.{Output, Writes, PastInputLimit, BadSpecification, IsCircular, BadSchedule, PastOutputLimit, IsOutputOf}
+use Rattle.aw_run.specs.Replies.{ForInput, Replies, Devices, EndsWith, reply, reply_with, uses_wire, WritesSome, IsGood, Says, SaysAs}
+use Rattle.aw_run.specs.Laws.{HasOneReply}
+use Rattle.aw_run.proofs.OneOutputs.{one-output}
+
+-- a reply that is done has the text of its output
+replies-done : (P : Output → Type 0) (said : Reply) (Q : List ℕ → Type 0) (output : Output) → P output → said ≡ reply_with output → said.status ≡ Done → Q said.text → (text : List ℕ) × P (Writes text) × Q text
+replies-done P said Q (Writes text) holds is done text_has = let e : said.text ≡ text = cc (is) in (text, holds, subst Q e text_has)
+replies-done P said Q PastInputLimit holds is done text_has = absurd (cc (is, done))
+replies-done P said Q (BadSpecification why) holds is done text_has = absurd (cc (is, done))
+replies-done P said Q (IsCircular why) holds is done text_has = absurd (cc (is, done))
+replies-done P said Q (BadSchedule why) holds is done text_has = absurd (cc (is, done))
+replies-done P said Q PastOutputLimit holds is done text_has = absurd (cc (is, done))
+
+-- the same for what was left to read
+pub input-done : (left : Option (List ℕ)) (job : Job) (said : Reply) (Q : List ℕ → Type 0) → ForInput left (λ input. Replies (IsOutputOf job input) said) → said.status ≡ Done → Q said.text → ForInput left (λ input. WritesSome job input Q)
+input-done None job said Q says done text_has = (says.0, replies-done (IsOutputOf job says.0) said Q says.1.0 says.1.1 says.1.2 done text_has)
+input-done (Some input) job said Q says done text_has = replies-done (IsOutputOf job input) said Q says.0 says.1 says.2 done text_has
+
+-- the same of a run that was told to do the job
+as-job : (left : Option (List ℕ)) (job : Job) (command : Option Command) (words : List (List ℕ)) (devices : Devices) (said : Reply) (Q : List ℕ → Type 0) → ForInput left (λ input. SaysAs command words input devices said) →
+    command ≡ Some (Reads job) → said.status ≡ Done → Q said.text → ForInput left (λ input. WritesSome job input Q)
+as-job left job command words devices said Q says is = input-done left job said Q (subst (λ (c : Option Command). ForInput left (λ input. SaysAs c words input devices said)) is says)
+
+pub Says-job : (left : Option (List ℕ)) (job : Job) (words : List (List ℕ)) (devices : Devices) (said : Reply) (Q : List ℕ → Type 0) → ForInput left (λ input. Says words input devices said) →
+    command_of words ≡ Some (Reads job) → said.status ≡ Done → Q said.text → ForInput left (λ input. WritesSome job input Q)
+Says-job left job words = as-job left job (command_of words) words
+
+-- there is one reply
+one-as : (command : Option Command) (words : List (List ℕ)) (input : List ℕ) (devices : Devices) (a b : Reply) → SaysAs command words input devices a → SaysAs command words input devices b → a ≡ b
+one-as None words input devices a b says also = says ∙ sym also
+one-as (Some (Reads job)) words input devices a b says also = says.2 ∙ ap reply_with (one-output job input says.0 also.0 says.1 also.1) ∙ sym also.2
+
+pub one-reply : HasOneReply
+one-reply words = one-as (command_of words) words
+
+-- words that make a text of the input tell that they are done
+good-done : (words : List (List ℕ)) (input : List ℕ) (devices : Devices) (said : Reply) → Says words input devices said → IsGood words input devices → said.status ≡ Done
+good-done words input devices said says good = ap (λ (r : Reply). r.status) (one-reply words input devices said (reply Done good.0) says good.1)
+
+-- the status that is told follows from the words and the bytes
+pub Says-cause : (left : Option (List ℕ)) (words : List (List ℕ)) (devices : Devices) (said : Reply) (told : Status) → ForInput left (λ input. Says words input devices said) → told ≡ said.status → ForInput left (λ input. EndsWith words input devices told)
+Says-cause None words devices said told says is = (says.0, (said, says.1, is))
+Says-cause (Some input) words devices said told says is = (said, says, is)
+
+-- where the input is good and the source tells it, the run is done, or the sink failed
+pub Says-complete : (left : Option (List ℕ)) (words : List (List ℕ)) (devices : Devices) (said : Reply) (told : Status) → ForInput left (λ input. Says words input devices said) → (told ≡ said.status) ⊎ (told ≡ WriteFault) →
+    IfSome left (λ input. IsGood words input devices → (told ≡ Done) ⊎ (told ≡ NoMemory) ⊎ (told ≡ ReadFault) ⊎ (told ≡ WriteFault) ⊎ ((told ≡ NetFault) × (uses_wire (command_of words) ≡ true)))
+Says-complete None words devices said told says ends_so = tt
+Says-complete (Some input) words devices said told says (inl is) = λ good. inl (is ∙ good-done words input devices said says good)
+Says-complete (Some input) words devices said told says (inr failed) = λ good. inr (inr (inr (inl failed)))
+
+-- what a command replies that was told to do a job is a reply of the words that spell it
+pub replies-read : {E : Type 0} (result : Result Reply E) (left : Option (List ℕ)) (words : List (List ℕ)) (devices : Devices) (job : Job) → command_of words ≡ Some (Reads job) →
+    IfOk result (λ said. ForInput left (λ input. Replies (IsOutputOf job input) said)) → IfOk result (λ said. ForInput left (λ input. Says words input devices said))
+replies-read result left words devices job spelled replies =
+    subst (λ (c : Option Command). IfOk result (λ said. ForInput left (λ input. SaysAs c words input devices said))) (sym spelled) replies

@@ -1,0 +1,48 @@
+-- An input has one output for each job.
+use Rattle.std.proofs.Common.{◌≡◌, ℕ, List, length, drop, Bool, true, false, nat_lt, MatchBool, Option, None, Some, sym, ap, ◌∙◌, subst}
+use Rattle.aw_lex.specs.Lines.{lines_of}
+use Rattle.aw_term.specs.Artifacts.{Words}
+use Rattle.aw_grammar.specs.Declarations.{grammar_in, words_in}
+use Rattle.aw_accept.specs.declared.refused.Fault.{Fault}
+use Rattle.aw_told.proofs.OneTold.{one-found, one-text}
+use Rattle.aw_spec.specs.Reading.{Spec, Reading, Good, Faulty, specification}
+use Rattle.aw_run.specs.declared.source.TheConstants.{INPUT_LIMIT}
+use Rattle.aw_run.specs.declared.words.Job.{Job}
+use Rattle.aw_run.specs.declared.words.Job.TheVariants.{Check, Tells}
+use Rattle.aw_run.specs.Output.{Output, Writes, PastInputLimit, ByFault, IfAccepted, TellsDependences, TellsSchedule, Makes, BySpecification, IsOutputOf}
+use Rattle.aw_run.specs.Laws.{HasOneOutput}
+
+-- P holds of one output at most
+abbrev pub One : (Output → Type 0) → Type 0
+One P = (a b : Output) → P a → P b → a ≡ b
+
+by-same : (w : Words) (P : Output → Type 0) → One P → (found : Option Fault) → One (ByFault w found P)
+by-same w P one None a b x y = one a b x y
+by-same w P one (Some fault) a b x y = x ∙ sym y
+
+by-fault : (w : Words) (P : Output → Type 0) → One P → (found other : Option Fault) → found ≡ other → (a b : Output) → ByFault w found P a → ByFault w other P b → a ≡ b
+by-fault w P one found other is a b x y = by-same w P one found a b x (subst (λ (f : Option Fault). ByFault w f P b) (sym is) y)
+
+one-accepted : (s : Spec) (P : Output → Type 0) → One P → One (IfAccepted s P)
+one-accepted s P one a b x y = by-fault (words_in s.declared) P one x.0 y.0 (one-found (grammar_in s.declared) x.0 y.0 x.1 y.1) a b x.2 y.2
+
+one-match : (test : Bool) (output : Output) (P : Output → Type 0) → One P → One (λ a. MatchBool test (a ≡ output) (P a))
+one-match true output P one a b x y = x ∙ sym y
+one-match false output P one a b x y = one a b x y
+
+one-dependences : (s : Spec) → One (TellsDependences s)
+one-dependences s a b x y = x.2 ∙ ap Writes (one-text (words_in s.declared) (grammar_in s.declared) x.0 y.0 x.1 y.1) ∙ sym y.2
+
+one-made : (job : Job) (s : Spec) (before : ℕ) (schedule : List (List ℕ)) → One (Makes job s before schedule)
+one-made Check s before schedule = one-accepted s (TellsDependences s) (one-dependences s)
+one-made (Tells telling) s before schedule = one-accepted s (TellsSchedule telling s before schedule) (λ a b x y. x ∙ sym y)
+
+one-read : (job : Job) (lines : List (List ℕ)) (reading : Reading) → One (BySpecification job lines reading)
+one-read job lines (Good spec taken) = one-made job spec taken (drop taken lines)
+one-read job lines (Faulty line kind) = λ a b x y. x ∙ sym y
+
+pub one-output : HasOneOutput
+unfolding IsOutputOf
+one-output job input =
+    one-match (nat_lt INPUT_LIMIT (length input)) PastInputLimit (BySpecification job (lines_of input) (specification (lines_of input)))
+    (one-read job (lines_of input) (specification (lines_of input)))

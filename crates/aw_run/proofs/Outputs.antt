@@ -1,0 +1,48 @@
+-- What an input leads to, by what its specification and its schedule spell.
+use Rattle.std.proofs.Common.{◌≡◌, ℕ, ◌+◌, ◌≤◌, ◌<◌, List, length, MatchBool, refl, sym, ap, ◌∙◌, subst}
+use Rattle.std.proofs.lemmas.Bool.{lt-ltb, le-ltb}
+use Rattle.aw_lex.specs.Lines.{lines_of}
+use Rattle.aw_term.specs.Rules as P
+use Rattle.aw_term.specs.Artifacts.{Words}
+use Rattle.aw_grammar.specs.declared.grammar.Grammar.{Grammar}
+use Rattle.aw_grammar.specs.GrammarOf.{grammar_of, words_of, declarations_of}
+use Rattle.aw_grammar.specs.Declarations.{Declarations, grammar_in, words_in}
+use Rattle.aw_grammar.proofs.Entries.{declared_words, declared_grammar}
+use Rattle.aw_spec.specs.Reading.{Spec, Reading, specification}
+use Rattle.aw_sched.specs.Events.{Event}
+use Rattle.aw_sched.specs.declared.fault.SchedKind.{SchedKind}
+use Rattle.aw_sched.specs.KindNames.{kind_name as schedule_kind}
+use Rattle.aw_sched.specs.Schedules.{Events, FaultAt, read_lines}
+use Rattle.aw_run.specs.declared.source.TheConstants.{INPUT_LIMIT}
+use Rattle.aw_run.specs.declared.words.Telling.{Telling}
+use Rattle.aw_run.specs.declared.words.Job.{Job}
+use Rattle.aw_run.specs.Refusals.{at_line}
+use Rattle.aw_run.specs.Replies.{reply_with}
+use Rattle.aw_run.specs.Output.{Output, PastInputLimit, BadSchedule, by_events, by_schedule, BySpecification, IsOutputOf}
+
+-- a good schedule
+pub schedule-good : (telling : Telling) (s : Spec) (g : Grammar) (before : ℕ) (schedule : List (List ℕ)) (events : List Event) → s.declared ≡ declarations_of g → read_lines (declarations_of g) 1 schedule ≡ Events events →
+    by_schedule telling s before (read_lines s.declared 1 schedule) ≡ by_events telling (words_of g) (grammar_of g) events
+schedule-good telling s g before schedule events same good =
+    ap (by_schedule telling s before) (ap (λ (d : Declarations). read_lines d 1 schedule) same ∙ good)
+    ∙ ap (λ (d : Declarations). by_events telling (words_in d) (grammar_in d) events) same
+    ∙ ap (λ (w : Words). by_events telling w (grammar_in (declarations_of g)) events) (sym (declared_words g))
+    ∙ ap (λ (h : P.Grammar). by_events telling (words_of g) h events) (sym (declared_grammar g))
+
+-- a faulty one
+pub schedule-bad : (telling : Telling) (s : Spec) (d : Declarations) (before line : ℕ) (kind : SchedKind) (schedule : List (List ℕ)) → s.declared ≡ d → read_lines d 1 schedule ≡ FaultAt line kind →
+    reply_with (by_schedule telling s before (read_lines s.declared 1 schedule)) ≡ reply_with (BadSchedule (at_line (before + line) (schedule_kind kind)))
+schedule-bad telling s d before line kind schedule same faulty = ap (λ r. reply_with (by_schedule telling s before r)) (ap (λ (e : Declarations). read_lines e 1 schedule) same ∙ faulty)
+
+-- an input within its limit, of which the specification is read
+pub output-read : (job : Job) (input : List ℕ) (reading : Reading) (output : Output) → length input ≤ INPUT_LIMIT → specification (lines_of input) ≡ reading → BySpecification job (lines_of input) reading output → IsOutputOf job input output
+unfolding IsOutputOf
+output-read job input reading output within is holds =
+    subst (λ b. MatchBool b (output ≡ PastInputLimit) (BySpecification job (lines_of input) (specification (lines_of input)) output)) (sym (le-ltb INPUT_LIMIT (length input) within))
+    (subst (λ (r : Reading). BySpecification job (lines_of input) r output) (sym is) holds)
+
+-- an input past its limit
+pub output-past : (job : Job) (input : List ℕ) → INPUT_LIMIT < length input → IsOutputOf job input PastInputLimit
+unfolding IsOutputOf
+output-past job input lt =
+    subst (λ b. MatchBool b (PastInputLimit ≡ PastInputLimit) (BySpecification job (lines_of input) (specification (lines_of input)) PastInputLimit)) (sym (lt-ltb INPUT_LIMIT (length input) lt)) refl

@@ -1,0 +1,59 @@
+-- What is written for some events, split into the first one and those behind it.
+use Rattle.std.proofs.Common.{◌≡◌, ℕ, ◌+◌, ◌<◌, List, [], ◌∷◌, ◌++◌, length, map, drop, codes, refl, sym, ◌∙◌, ap, append_assoc, get_or, Ok}
+use Rattle.std.specs.Fmt.{decimal}
+use Rattle.std.proofs.lemmas.List.{at_drop_more, length-map}
+use Rattle.aw_term.specs.Rules.{Grammar}
+use Rattle.aw_term.specs.Configs.{Config}
+use Rattle.aw_term.specs.Artifacts.{Words, artifact_text}
+use Rattle.aw_term.specs.Choices.{Choice, answer, after}
+use Rattle.aw_term.specs.Runs.{answer_line, answer_lines, after_all, artifacts}
+use Rattle.aw_sched.specs.Events as P
+use Rattle.aw_sched.specs.Events.{Chooses}
+use Rattle.aw_run.specs.Laws.{TellsUndivided}
+use Rattle.std.specs.declared.result.Result.{Result}
+use Rattle.aw_out.specs.declared.error.PrintFault.{PrintFault}
+use Rattle.aw_out.specs.Report.{Bounded, Prints}
+use Rattle.aw_plain.specs.declared.row.Row.{Row}
+use Rattle.aw_plain.specs.RowView.{plain_row, config_of}
+use Rattle.aw_plain.proofs.LineLemmas.{then_prints}
+use Rattle.aw_sched.specs.declared.event.Event.{Event}
+use Rattle.aw_sched.specs.Answers.{event_seen}
+use Rattle.aw_run.specs.Transcript.{event_text, after_event, transcript}
+
+-- the line and the rows
+pub artifacts-parts : (w : Words) (c : Config) → artifacts w c ≡ (codes "artifacts " ++ (decimal (length c) ++ codes "\n")) ++ artifact_text w c
+artifacts-parts w c = simp append_assoc refl
+
+-- The line of these rows was printed, and then the rows are.
+pub artifacts-printed : (w : Words) (rows given : List Row) (line pushed : List ℕ) (old mid new : Bounded) (result : Result Unit PrintFault) → given ≡ rows → line ≡ codes "artifacts " ++ (decimal (length given) ++ codes "\n") → pushed ≡ line →
+    Prints pushed old mid (Ok tt) → Prints (artifact_text w (config_of given)) mid new result → Prints (artifacts w (config_of rows)) old new result
+artifacts-printed w rows given line pushed old mid new result same is slice first next =
+    let n : length (config_of rows) ≡ length rows = length-map rows plain_row in
+    let e : pushed ≡ codes "artifacts " ++ (decimal (length (config_of rows)) ++ codes "\n") = rw (n, ← same) (slice ∙ is) in
+    let begun : Prints (codes "artifacts " ++ (decimal (length (config_of rows)) ++ codes "\n")) old mid (Ok tt) = rw (← e) first in
+    let rest : Prints (artifact_text w (config_of rows)) mid new result = rw (← same) next in
+    then_prints _ _ _ old mid new _ result tt (artifacts-parts w (config_of rows)) refl begun rest
+
+-- the event at a place, and those behind it, where the text of each event stands in front of what the later ones give
+pub event-drop : (g : Grammar) (one : Config → P.Event → List ℕ) (all : Config → List P.Event → List ℕ) → ((c : Config) (e : P.Event) (es : List P.Event) → all c (e ∷ es) ≡ one c e ++ all (after_event g c e) es) →
+    (c d : Config) (events : List Event) (i : ℕ) (event : Event) → i < length events → event ≡ get_or events i event → d ≡ after_event g c (event_seen event) →
+    all c (map event_seen (drop i events)) ≡ one c (event_seen event) ++ all d (map event_seen (drop (i + 1) events))
+event-drop g one all step c d events i event lt is after =
+    at_drop_more (λ es. all c (map event_seen es)) events i event lt
+    ∙ ap (λ e. all c (map event_seen (e ∷ drop (i + 1) events))) (sym is)
+    ∙ step c (event_seen event) (map event_seen (drop (i + 1) events))
+    ∙ ap (λ k. one c (event_seen event) ++ all k (map event_seen (drop (i + 1) events))) (sym after)
+
+pub transcript-drop : (w : Words) (g : Grammar) (c d : Config) (events : List Event) (i : ℕ) (event : Event) → i < length events → event ≡ get_or events i event → d ≡ after_event g c (event_seen event) →
+    transcript w g c (map event_seen (drop i events)) ≡ event_text w g c (event_seen event) ++ transcript w g d (map event_seen (drop (i + 1) events))
+transcript-drop w g = event-drop g (event_text w g) (transcript w g) (λ c e es. refl)
+
+-- choices alone, from any configuration on
+told-choices : (w : Words) (g : Grammar) (c : Config) (xs : List Choice) → transcript w g c (map (λ x. Chooses x) xs) ≡ answer_lines w g c xs ++ artifacts w (after_all g c xs)
+told-choices w g c [] = refl
+told-choices w g c (x ∷ xs) =
+    ap (λ t. answer_line w x (answer g c x) ++ t) (told-choices w g (after g c x) xs)
+    ∙ sym (append_assoc (answer_line w x (answer g c x)) (answer_lines w g (after g c x) xs) (artifacts w (after_all g (after g c x) xs)))
+
+pub tells-undivided : TellsUndivided
+tells-undivided w g xs = told-choices w g [] xs

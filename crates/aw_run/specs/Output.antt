@@ -1,0 +1,87 @@
+-- What an input leads to, for each command that reads it.
+use Rattle.std.specs.Prelude.{◌≡◌, ℕ, ◌+◌, Bool, false, List, [], length, drop, codes, nat_lt, if◌then◌else◌, Option, None, Some, MatchBool}
+use Rattle.aw_lex.specs.Lines.{lines_of}
+use Rattle.aw_term.specs.Rules.{Grammar}
+use Rattle.aw_term.specs.Artifacts.{Words}
+use Rattle.aw_term.specs.Runs.{plain_text}
+use Rattle.aw_grammar.specs.Declarations.{grammar_in, words_in}
+use Rattle.aw_accept.specs.declared.refused.Fault.{Fault}
+use Rattle.aw_accept.specs.Circular.{LeastFault}
+use Rattle.aw_told.specs.Told.{TellsAccepted, circle_text}
+use Rattle.aw_spec.specs.KindNames.{kind_name}
+use Rattle.aw_spec.specs.Reading.{Spec, Reading, Good, Faulty, specification}
+use Rattle.aw_sched.specs.Events.{Event}
+use Rattle.aw_sched.specs.Schedules.{Read, Events, FaultAt, read_lines}
+use Rattle.aw_out.specs.declared.report.TheConstants.{OUTPUT_LIMIT}
+use Rattle.aw_run.specs.declared.source.TheConstants.{INPUT_LIMIT}
+use Rattle.aw_run.specs.declared.words.Telling.{Telling}
+use Rattle.aw_run.specs.declared.words.Telling.TheVariants.{Undivided, Replayed}
+use Rattle.aw_run.specs.declared.words.Job.{Job}
+use Rattle.aw_run.specs.declared.words.Job.TheVariants.{Check, Tells}
+use Rattle.aw_sched.specs.KindNames.{kind_name as schedule_kind}
+use Rattle.aw_run.specs.Refusals.{at_line}
+use Rattle.aw_run.specs.Transcript.{choices_in, transcript}
+
+-- a text that is written, or why none is
+pub data Output : Type 0 where
+  Writes : (text : List ℕ) → Output
+  PastInputLimit : Output
+  BadSpecification : (why : List ℕ) → Output
+  IsCircular : (why : List ℕ) → Output
+  BadSchedule : (why : List ℕ) → Output
+  PastOutputLimit : Output
+
+-- an output that is too long is not written at all
+abbrev pub within_limit : List ℕ → Output
+within_limit text = if nat_lt OUTPUT_LIMIT (length text) then PastOutputLimit else Writes text
+
+-- what is written for events: choices alone, answered by the undivided run; or the lines of all
+abbrev pub told : Telling → Words → Grammar → List Event → List ℕ
+told Undivided w g events = plain_text w g (choices_in events)
+told Replayed w g events = transcript w g [] events
+
+-- whether so many roles are more than are told: a replay knows no messages yet, and so it tells one role alone
+abbrev pub refuses_roles : Telling → ℕ → Bool
+refuses_roles Undivided count = false
+refuses_roles Replayed count = nat_lt 1 count
+
+-- the events are told, or there are too many roles
+abbrev pub by_events : Telling → Words → Grammar → List Event → Output
+by_events telling w g events = if refuses_roles telling g.roles then BadSpecification (codes "roles") else within_limit (told telling w g events)
+
+-- the schedule stands behind so many lines, and its own lines are counted on from there
+abbrev pub by_schedule : Telling → Spec → ℕ → Read → Output
+by_schedule telling s before (Events events) = by_events telling (words_in s.declared) (grammar_in s.declared) events
+by_schedule telling s before (FaultAt line kind) = BadSchedule (at_line (before + line) (schedule_kind kind))
+
+-- the least circle is told, and where there is none P says what comes
+abbrev pub ByFault : Words → Option Fault → (Output → Type 0) → Output → Type 0
+ByFault w None P output = P output
+ByFault w (Some fault) P output = output ≡ IsCircular (circle_text w fault)
+
+-- where the grammar of the specification has no circle, P says what comes
+abbrev pub IfAccepted : Spec → (Output → Type 0) → Output → Type 0
+IfAccepted s P output = (found : Option Fault) × LeastFault (grammar_in s.declared) found × ByFault (words_in s.declared) found P output
+
+-- the dependences are told
+abbrev pub TellsDependences : Spec → Output → Type 0
+TellsDependences s output = (text : List ℕ) × TellsAccepted (words_in s.declared) (grammar_in s.declared) text × (output ≡ Writes text)
+
+-- the schedule that stands behind so many lines is told
+abbrev pub TellsSchedule : Telling → Spec → ℕ → List (List ℕ) → Output → Type 0
+TellsSchedule telling s before schedule output = output ≡ by_schedule telling s before (read_lines s.declared 1 schedule)
+
+-- What each job makes of a specification, which takes so many lines, and of the lines behind it.
+abbrev pub Makes : Job → Spec → ℕ → List (List ℕ) → Output → Type 0
+Makes Check s before schedule = IfAccepted s (TellsDependences s)
+Makes (Tells telling) s before schedule = IfAccepted s (TellsSchedule telling s before schedule)
+
+-- a good specification is taken on to its job, and of another its first faulty line is told
+abbrev pub BySpecification : Job → List (List ℕ) → Reading → Output → Type 0
+BySpecification job lines (Good spec taken) output = Makes job spec taken (drop taken lines) output
+BySpecification job lines (Faulty line kind) output = output ≡ BadSpecification (at_line line (kind_name kind))
+
+-- The output of a job for an input: its lines are a specification, and then perhaps the line `schedule` and a schedule.
+unfoldable pub IsOutputOf : Job → List ℕ → Output → Type 0
+IsOutputOf job input output =
+    MatchBool (nat_lt INPUT_LIMIT (length input)) (output ≡ PastInputLimit) (BySpecification job (lines_of input) (specification (lines_of input)) output)

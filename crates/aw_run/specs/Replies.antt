@@ -1,0 +1,96 @@
+-- What a run says to an input.
+use Rattle.std.specs.Prelude.{◌≡◌, ℕ, List, [], ◌++◌, Option, Some, None, codes, Bool, true, false}
+use Rattle.aw_out.specs.Edge.{Gets}
+use Rattle.aw_out.specs.Wires.{Content}
+use Rattle.aw_grammar.specs.GrammarOf.{words_of}
+use Rattle.aw_accept.specs.declared.refused.Refused.{Refused}
+use Rattle.aw_accept.specs.declared.refused.Refused.TheVariants as refused
+use Rattle.aw_told.specs.Told.{circle_text}
+use Rattle.aw_run.specs.declared.words.Command.{Command}
+use Rattle.aw_run.specs.declared.words.Command.TheVariants.{Reads}
+use Rattle.aw_run.specs.declared.words.Job.{Job}
+use Rattle.aw_run.specs.declared.reply.Reply.{Reply}
+use Rattle.aw_run.specs.declared.reply.Status.{Status}
+use Rattle.aw_run.specs.declared.reply.Status.TheVariants.{Done, Usage, BadSpec, Circular, BadSchedule as BadSched, TooLarge, TooLong}
+use Rattle.aw_run.specs.Words.{command_of}
+use Rattle.aw_run.specs.Output.{Output, Writes, PastInputLimit, BadSpecification, IsCircular, BadSchedule, PastOutputLimit, IsOutputOf}
+
+-- a status, and what is written with it
+abbrev pub reply : Status → List ℕ → Reply
+reply status text = record { status = status; text = text }
+
+-- the reply of a command that has this output
+abbrev pub reply_with : Output → Reply
+reply_with (Writes text) = reply Done text
+reply_with PastInputLimit = reply TooLong []
+reply_with (BadSpecification why) = reply BadSpec (codes "bad specification " ++ (why ++ codes "\n"))
+reply_with (IsCircular why) = reply Circular (codes "circular " ++ (why ++ codes "\n"))
+reply_with (BadSchedule why) = reply BadSched (codes "bad schedule " ++ (why ++ codes "\n"))
+reply_with PastOutputLimit = reply TooLarge []
+
+-- the reply to a grammar that was not accepted; want of memory has none
+abbrev pub RefusesGrammar : Refused → Reply → Type 0
+RefusesGrammar (refused.Circular grammar rule occ) said = said ≡ reply_with (IsCircular (circle_text (words_of grammar) (record { rule = rule; occ = occ })))
+RefusesGrammar refused.NoMemory said = ⊥
+
+-- the reply is that of an output with P
+abbrev pub Replies : (Output → Type 0) → Reply → Type 0
+Replies P said = (output : Output) × P output × (said ≡ reply_with output)
+
+-- What the devices beside the source and the sink tell, before a run and after it: the contents of the wire.
+pub record Devices : Type 0 where
+  pub wire_before : Option Content
+  pub wire_after : Option Content
+
+abbrev pub with_wire : Option Content → Option Content → Devices
+with_wire before after = record { wire_before = before; wire_after = after }
+
+-- What a run of these words, which spell this command or none, may say to this input.
+abbrev pub SaysAs : Option Command → List (List ℕ) → List ℕ → Devices → Reply → Type 0
+SaysAs None words input devices said = said ≡ reply Usage (codes "usage\n")
+SaysAs (Some (Reads job)) words input devices said = Replies (IsOutputOf job input) said
+
+-- What a run of these words may say to this input.
+abbrev pub Says : List (List ℕ) → List ℕ → Devices → Reply → Type 0
+Says words = SaysAs (command_of words) words
+
+-- What a run of these words may say to this input has P.
+abbrev pub SomeReply : List (List ℕ) → List ℕ → Devices → (Reply → Type 0) → Type 0
+SomeReply words input devices P = (said : Reply) × Says words input devices said × P said
+
+-- The status of a run of these words on this input, where nothing fails and memory suffices.
+abbrev pub EndsWith : List (List ℕ) → List ℕ → Devices → Status → Type 0
+EndsWith words input devices status = SomeReply words input devices (λ said. status ≡ said.status)
+
+-- The words make a text of the input: they are a command, and the input is good and within its limits, as the text is.
+abbrev pub IsGood : List (List ℕ) → List ℕ → Devices → Type 0
+IsGood words input devices = (text : List ℕ) × Says words input devices (reply Done text)
+
+-- whether a command reads the source
+abbrev pub reads : Option Command → Bool
+reads None = false
+reads (Some (Reads job)) = true
+
+-- whether a command uses the wire
+abbrev pub uses_wire : Option Command → Bool
+uses_wire None = false
+uses_wire (Some (Reads job)) = false
+
+-- Which counts of the wire rose where a command tells that the net failed, of openings that failed or of all its faults. No command of today tells it.
+abbrev pub NetFailed : Option Command → (openings_before : ℕ) → (openings_after : ℕ) → (faults_before : ℕ) → (faults_after : ℕ) → Type 0
+NetFailed None openings_before openings_after faults_before faults_after = ⊥
+NetFailed (Some (Reads job)) openings_before openings_after faults_before faults_after = ⊥
+
+-- where the source tells what is left, that input has P, and otherwise some input has
+abbrev pub ForInput : Option (List ℕ) → (List ℕ → Type 0) → Type 0
+ForInput None P = (input : List ℕ) × P input
+ForInput (Some input) P = P input
+
+-- the run told the status of this reply, and wrote its text whole
+pub record Replied (said : Reply) (status : Status) (old new : Option (List ℕ)) : Type 0 where
+  pub told : status ≡ said.status
+  pub written : Gets old new said.text
+
+-- the job makes a text of the input, and that text has P
+abbrev pub WritesSome : Job → List ℕ → (List ℕ → Type 0) → Type 0
+WritesSome j input P = (text : List ℕ) × IsOutputOf j input (Writes text) × P text

@@ -1,0 +1,19 @@
+//! The words of a command line, the commands, and the top call.
+#![tactic(auto)]
+
+mod check;
+mod law;
+mod reading;
+mod refusals;
+mod reply;
+mod running;
+mod schedule;
+mod source;
+mod transcript;
+mod undivided;
+mod words;
+
+pub use law::{choices_are_told_undivided, outputs_are_one};
+pub use reply::{Reply, Status};
+pub use running::run;
+pub use words::{Command, Job, Telling, Word};

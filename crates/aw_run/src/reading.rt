@@ -1,0 +1,68 @@
+//! The commands that read the source to its end, and reply to what was read.
+ghost use Rattle.std.specs.Prelude.{◌≡◌, ◌≢◌, ◌≤◌, ◌+◌, ◌<◌, ◌^◌, [], IfOk, length};
+ghost use Rattle.aw_lex.specs.Lines.{lines_of};
+ghost use Rattle.aw_spec.specs.Views.{spec_of};
+ghost use Rattle.aw_out.specs.Causes.{Rose};
+ghost use Rattle.aw_out.specs.Edge.{IsUsedUp, GivesSome};
+ghost use Rattle.aw_run.specs.Output.{IsOutputOf, Makes};
+ghost use Rattle.aw_run.specs.Statuses.{IsReply, IsSilent, IsPastReading};
+ghost use Rattle.aw_run.specs.Replies.{ForInput, Replies};
+
+use crate::check::check;
+use crate::refusals::bad_specification;
+use crate::reply::{Reply, Stop};
+use crate::schedule::tell_schedule;
+use crate::source::{INPUT_LIMIT, unread};
+use crate::words::Job;
+use aw_out::{Source, read_all};
+use aw_spec::{SpecFault, SpecText, read_spec};
+use std::alloc::{AllocError, Global};
+
+/// The reply to a good specification, and to what stands behind it.
+fn reply_to_specification(
+    alloc: Global,
+    job: Job,
+    spec: SpecText,
+    schedule: &[u8],
+) -> Result<Reply, AllocError>
+    requires { spec.lines + length (lines_of schedule.now) < 2 ^ 64 }
+    ensures { IfOk result (λ reply. Replies (Makes job (spec_of spec.grammar spec.faces) spec.lines (lines_of schedule.now)) reply) }
+{
+    match job {
+        Job::Check => check(alloc, spec),
+        Job::Tells(telling) => tell_schedule(alloc, telling, spec, schedule),
+    }
+}
+
+/// The reply to an input that is within its limit.
+fn reply_to(alloc: Global, job: Job, input: &[u8]) -> Result<Reply, AllocError>
+    requires { length input.now ≤ INPUT_LIMIT }
+    ensures { IfOk result (λ reply. Replies (IsOutputOf job input.now) reply) }
+{
+    match read_spec(alloc, input) {
+        Ok(spec) => {
+            let (_, schedule) = input.split_at(spec.rest);
+            reply_to_specification(alloc, job, spec, schedule)
+        }
+        Err(SpecFault::Bad { line, kind }) => bad_specification(alloc, line, kind),
+        Err(SpecFault::NoMemory) => Err(AllocError),
+    }
+}
+
+/// Reads the source to its end, and makes the reply.
+pub fn reply_to_source<S: Source>(alloc: Global, job: Job, src: &mut S) -> Result<Reply, Stop>
+    ensures reply { IfOk result (λ reply. ForInput (S.left src.old) (λ input. Replies (IsOutputOf job input) reply)) }
+    ensures is_reply { IfOk result (λ reply. IsReply reply.status) }
+    ensures silent { IfOk result (λ reply. IsSilent reply.status → reply.text ≡ []) }
+    ensures end { IfOk result (λ reply. IsPastReading reply.status → IsUsedUp (S.left src.new)) }
+    ensures cause { result ≡ Err Stop.ReadFault → Rose (S.faults src.old) (S.faults src.new) }
+    ensures kept { result ≢ Err Stop.ReadFault → S.faults src.new ≡ S.faults src.old }
+    ensures read_before { result ≡ Err Stop.ReadFault → GivesSome (S.left src.old) (S.left src.new) (λ bytes. length bytes ≤ INPUT_LIMIT) }
+    ensures no_net_fault { result ≢ Err Stop.NetFault }
+    ensures never_falls { S.faults src.old ≤ S.faults src.new }
+{
+    match read_all(alloc, src, INPUT_LIMIT) {
+        Ok(input) => Ok(reply_to(alloc, job, input.as_slice())?),
+        Err(error) => unread(alloc, error),
+    }
+}

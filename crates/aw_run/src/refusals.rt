@@ -1,0 +1,85 @@
+//! The lines that say why an input is refused.
+ghost use Rattle.std.specs.Prelude.{◌≡◌, ◌++◌, codes, OnOk, IfOk};
+ghost use Rattle.aw_spec.specs.KindNames.{kind_name};
+ghost use Rattle.aw_grammar.specs.GrammarOf.{words_of};
+ghost use Rattle.aw_told.specs.Told.{circle_text};
+ghost use Rattle.aw_run.specs.Output.{BadSpecification, IsCircular, BadSchedule};
+ghost use Rattle.aw_sched.specs.KindNames.{kind_name as schedule_kind};
+ghost use Rattle.aw_run.specs.Refusals.{at_line};
+ghost use Rattle.aw_run.specs.Replies.{reply_with, RefusesGrammar};
+
+use crate::reply::{Reply, Status};
+use aw_accept::{Fault, Refused};
+use aw_base::Grammar;
+use aw_list::Text;
+use aw_sched::SchedKind;
+use aw_spec::SpecKind;
+use aw_text::push_number;
+use aw_told::push_circle;
+use std::alloc::{AllocError, Global};
+
+/// Adds `line 3 form`.
+fn push_place(text: &mut Text, line: u64, kind: &[u8]) -> Result<(), AllocError>
+    ensures { OnOk result (text.new ≡ text.old ++ at_line line kind.now) }
+{
+    text.push_bytes(b"line ")?;
+    push_number(text, line)?;
+    text.push_bytes(b" ")?;
+    text.push_bytes(kind)
+}
+
+/// The refusal of a specification with a faulty line, counted from 1.
+pub fn bad_specification(alloc: Global, line: u64, kind: SpecKind) -> Result<Reply, AllocError>
+    ensures { IfOk result (λ reply. reply ≡ reply_with (BadSpecification (at_line line (kind_name kind)))) }
+{
+    let mut text = Text::from_bytes(alloc, b"bad specification ")?;
+    push_place(&mut text, line, kind.name())?;
+    text.push_bytes(b"\n")?;
+    Ok(Reply {
+        status: Status::BadSpec,
+        text,
+    })
+}
+
+/// The refusal of a specification with more than one role.
+pub fn too_many_roles(alloc: Global) -> Result<Reply, AllocError>
+    ensures { IfOk result (λ reply. reply ≡ reply_with (BadSpecification (codes "roles"))) }
+{
+    Reply::line(alloc, Status::BadSpec, b"bad specification roles\n")
+}
+
+/// The refusal of a specification in which a value depends on itself.
+fn circular(alloc: Global, g: &Grammar, fault: Fault) -> Result<Reply, AllocError>
+    ensures { IfOk result (λ reply. reply ≡ reply_with (IsCircular (circle_text (words_of g.now) fault))) }
+{
+    let mut text = Text::from_bytes(alloc, b"circular ")?;
+    push_circle(&mut text, g, fault)?;
+    text.push_bytes(b"\n")?;
+    Ok(Reply {
+        status: Status::Circular,
+        text,
+    })
+}
+
+/// The refusal of a grammar that was not accepted.
+pub fn not_accepted(alloc: Global, refused: Refused) -> Result<Reply, AllocError>
+    ensures { IfOk result (λ reply. RefusesGrammar refused reply) }
+{
+    match refused {
+        Refused::Circular { grammar, rule, occ } => circular(alloc, &grammar, Fault { rule, occ }),
+        Refused::NoMemory => Err(AllocError),
+    }
+}
+
+/// The refusal of a schedule with a faulty line, counted in the whole input.
+pub fn bad_schedule(alloc: Global, line: u64, kind: SchedKind) -> Result<Reply, AllocError>
+    ensures { IfOk result (λ reply. reply ≡ reply_with (BadSchedule (at_line line (schedule_kind kind)))) }
+{
+    let mut text = Text::from_bytes(alloc, b"bad schedule ")?;
+    push_place(&mut text, line, kind.name())?;
+    text.push_bytes(b"\n")?;
+    Ok(Reply {
+        status: Status::BadSchedule,
+        text,
+    })
+}

@@ -1,0 +1,114 @@
+//! What the program says, and the status it says it with.
+ghost use Rattle.std.specs.Prelude.{◌≡◌, [], IfOk};
+ghost use Rattle.aw_run.specs.Statuses.{code_of, status_of_stop};
+
+use aw_list::Text;
+use std::alloc::{AllocError, Global};
+
+/// How a run ended.
+#[derive(Clone, Copy, Debug, PartialEq, Eq)]
+pub enum Status {
+    /// The whole output was written.
+    Done,
+    /// The words are no command.
+    Usage,
+    /// The input is no good specification.
+    BadSpec,
+    /// A value of the specification depends on itself.
+    Circular,
+    /// What stands behind the specification is no good schedule.
+    BadSchedule,
+    /// The output is longer than its limit.
+    TooLarge,
+    /// The source failed.
+    ReadFault,
+    /// The sink failed.
+    WriteFault,
+    /// The wire failed.
+    NetFault,
+    /// There was not enough memory.
+    NoMemory,
+    /// The input is longer than its limit.
+    TooLong,
+}
+
+impl Status {
+    /// The program's exit code.
+    pub fn code(self) -> u8
+        ensures { result ≡ code_of self }
+    {
+        match self {
+            Status::Done => 0,
+            Status::Usage => 2,
+            Status::BadSpec => 3,
+            Status::Circular => 4,
+            Status::BadSchedule => 5,
+            Status::TooLarge => 6,
+            Status::ReadFault => 7,
+            Status::WriteFault => 8,
+            Status::NetFault => 9,
+            Status::NoMemory => 10,
+            Status::TooLong => 11,
+        }
+    }
+}
+
+/// What is to be written, and the status that is told once it was written whole.
+#[derive(Drop)]
+pub struct Reply {
+    pub status: Status,
+    pub text: Text,
+}
+
+impl Reply {
+    /// A refusal and its line.
+    pub fn line(alloc: Global, status: Status, line: &[u8]) -> Result<Reply, AllocError>
+        ensures { IfOk result (λ reply. reply ≡ record { status = status; text = line.now }) }
+    {
+        Ok(Reply {
+            status,
+            text: Text::from_bytes(alloc, line)?,
+        })
+    }
+
+    /// A refusal without a line. It takes no memory.
+    pub fn silent(alloc: Global, status: Status) -> Reply
+        ensures { result ≡ record { status = status; text = [] } }
+    {
+        Reply {
+            status,
+            text: Text::new(alloc),
+        }
+    }
+}
+
+/// Why there is nothing to say.
+#[derive(Clone, Copy, Debug, PartialEq, Eq)]
+pub enum Stop {
+    ReadFault,
+    NetFault,
+    NoMemory,
+}
+
+impl Stop {
+    /// The status that tells it.
+    pub fn status(self) -> Status
+        ensures { result ≡ status_of_stop self }
+    {
+        match self {
+            Stop::ReadFault => Status::ReadFault,
+            Stop::NetFault => Status::NetFault,
+            Stop::NoMemory => Status::NoMemory,
+        }
+    }
+}
+
+impl From<AllocError> for Stop {
+    ghost from_gives = { λ _ stop. stop ≡ StopNoMemory };
+
+    fn from(_error: AllocError) -> Stop {
+        Stop::NoMemory
+    }
+}
+
+ghost use Rattle.aw_run.specs.declared.reply.Stop.TheVariants.{NoMemory as StopNoMemory};

@@ -1,0 +1,120 @@
+//! The top call.
+ghost use Rattle.std.specs.Prelude.{◌≡◌, ◌≢◌, ◌≤◌, ◌⊎◌, [], IfOk, IfSome, Some, false, true, length};
+ghost use Rattle.aw_out.specs.Causes.{Rose};
+ghost use Rattle.aw_out.specs.Edge.{IsUsedUp, GivesSome, Gets, GetsPrefix};
+ghost use Rattle.aw_run.specs.Words.{command_of};
+ghost use Rattle.aw_run.specs.Statuses.{IsReply, IsPastReading, IsSilent};
+ghost use Rattle.aw_run.specs.Replies.{EndsWith, ForInput, IsGood, NetFailed, Replied, Says, SomeReply, WritesSome, reads, uses_wire, with_wire};
+
+use crate::reading::reply_to_source;
+use crate::reply::{Reply, Status, Stop};
+use crate::source::INPUT_LIMIT;
+use crate::words::{Command, Job, Telling, Word};
+use aw_out::{Sink, Source, Wire, write_all};
+use std::alloc::Global;
+
+/// Runs the words, and makes what is to be written.
+fn prepare<S: Source, W: Wire>(
+    alloc: Global,
+    words: &[Word],
+    src: &mut S,
+    wire: &mut W,
+) -> Result<Reply, Stop>
+    ensures reply { IfOk result (λ reply. ForInput (S.left src.old) (λ input.
+        Says words.now input (with_wire (W.content wire.old) (W.content wire.new)) reply)) }
+    ensures is_reply { IfOk result (λ reply. IsReply reply.status) }
+    ensures silent { IfOk result (λ reply. IsSilent reply.status → reply.text ≡ []) }
+    ensures end { IfOk result (λ reply. IsPastReading reply.status → reads (command_of words.now) ≡ true → IsUsedUp (S.left src.new)) }
+    ensures untouched { reads (command_of words.now) ≡ false → src.new ≡ src.old }
+    ensures no_wire { uses_wire (command_of words.now) ≡ false → wire.new ≡ wire.old }
+    ensures cause { result ≡ Err Stop.ReadFault → Rose (S.faults src.old) (S.faults src.new) }
+    ensures kept { result ≢ Err Stop.ReadFault → S.faults src.new ≡ S.faults src.old }
+    ensures read_before { result ≡ Err Stop.ReadFault → GivesSome (S.left src.old) (S.left src.new) (λ bytes. length bytes ≤ INPUT_LIMIT) }
+    ensures read_command { result ≡ Err Stop.ReadFault → reads (command_of words.now) ≡ true }
+    ensures net_cause { result ≡ Err Stop.NetFault → NetFailed (command_of words.now) (W.failed_openings wire.old) (W.failed_openings wire.new) (W.faults wire.old) (W.faults wire.new) }
+    ensures net_command { result ≡ Err Stop.NetFault → uses_wire (command_of words.now) ≡ true }
+    ensures never_falls { S.faults src.old ≤ S.faults src.new }
+{
+    let Some(command) = Command::from_words(words) else {
+        return Ok(Reply::line(alloc, Status::Usage, b"usage\n")?);
+    };
+    reply_to_source(alloc, command.job(), src)
+}
+
+/// Writes the reply, and tells its status once it was written whole.
+fn deliver<K: Sink>(out: &mut K, reply: &Reply) -> Status
+    requires { IsReply reply.now.status }
+    ensures status { result ≡ reply.now.status ⊎ result ≡ Status.WriteFault }
+    ensures untouched { reply.now.text ≡ [] → (out.new ≡ out.old) × (result ≡ reply.now.status) }
+    ensures whole { IsReply result → Gets (K.written out.old) (K.written out.new) reply.now.text }
+    ensures prefix { result ≡ Status.WriteFault → GetsPrefix (K.written out.old) (K.written out.new) reply.now.text }
+    ensures cause { result ≡ Status.WriteFault → Rose (K.faults out.old) (K.faults out.new) }
+    ensures kept { result ≢ Status.WriteFault → K.faults out.new ≡ K.faults out.old }
+    ensures never_falls { K.faults out.old ≤ K.faults out.new }
+{
+    match write_all(out, reply.text.as_slice()) {
+        Ok(()) => reply.status,
+        Err(_) => Status::WriteFault,
+    }
+}
+
+/// Runs the program once.
+pub fn run<S: Source, K: Sink, W: Wire>(
+    alloc: Global,
+    words: &[Word],
+    src: &mut S,
+    out: &mut K,
+    wire: &mut W,
+) -> Status
+    // The status, and what was written, are those of a reply to what was left to read.
+    ensures reply { IsReply result → ForInput (S.left src.old) (λ input.
+        SomeReply words.now input (with_wire (W.content wire.old) (W.content wire.new)) (λ said.
+        Replied said result (K.written out.old) (K.written out.new))) }
+
+    // What is told of the words and of the bytes is told exactly by them.
+    ensures cause { IsReply result → ForInput (S.left src.old) (λ input. EndsWith words.now input (with_wire (W.content wire.old) (W.content wire.new)) result) }
+
+    // A command that is done has written the whole text that it makes of its input.
+    ensures check { command_of words.now ≡ Some (Command.Reads Job.Check) → result ≡ Status.Done → ForInput (S.left src.old)
+        (λ input. WritesSome Job.Check input (Gets (K.written out.old) (K.written out.new))) }
+    ensures plain { command_of words.now ≡ Some (Command.Reads (Job.Tells Telling.Undivided)) → result ≡ Status.Done → ForInput (S.left src.old)
+        (λ input. WritesSome (Job.Tells Telling.Undivided) input (Gets (K.written out.old) (K.written out.new))) }
+    ensures replay { command_of words.now ≡ Some (Command.Reads (Job.Tells Telling.Replayed)) → result ≡ Status.Done → ForInput (S.left src.old)
+        (λ input. WritesSome (Job.Tells Telling.Replayed) input (Gets (K.written out.old) (K.written out.new))) }
+
+    // A command with a good input is done, unless memory runs out, the source fails or the sink does, or the wire of a command that uses it.
+    ensures complete { IfSome (S.left src.old) (λ input. IsGood words.now input (with_wire (W.content wire.old) (W.content wire.new)) →
+        (result ≡ Status.Done) ⊎ (result ≡ Status.NoMemory) ⊎ (result ≡ Status.ReadFault) ⊎ (result ≡ Status.WriteFault) ⊎ ((result ≡ Status.NetFault) × (uses_wire (command_of words.now) ≡ true))) }
+
+    // The source failed before it gave too much, and only a command that reads tells of it.
+    ensures read_fault { result ≡ Status.ReadFault → Rose (S.faults src.old) (S.faults src.new) }
+    ensures read_before { result ≡ Status.ReadFault → GivesSome (S.left src.old) (S.left src.new) (λ bytes. length bytes ≤ INPUT_LIMIT) }
+    ensures read_command { result ≡ Status.ReadFault → reads (command_of words.now) ≡ true }
+
+    // A sink that fails has got the front of the reply.
+    ensures write_fault { result ≡ Status.WriteFault → Rose (K.faults out.old) (K.faults out.new) }
+    ensures prefix { result ≡ Status.WriteFault → ForInput (S.left src.old) (λ input.
+        SomeReply words.now input (with_wire (W.content wire.old) (W.content wire.new)) (λ said.
+        GetsPrefix (K.written out.old) (K.written out.new) said.text)) }
+    ensures silent { IsSilent result → out.new ≡ out.old }
+
+    // Only a command that reads touches the source, and it goes on only from the end.
+    ensures end { IsPastReading result → reads (command_of words.now) ≡ true → IsUsedUp (S.left src.new) }
+    ensures untouched { reads (command_of words.now) ≡ false → src.new ≡ src.old }
+
+    // Only a command that uses the wire touches it.
+    ensures no_wire { uses_wire (command_of words.now) ≡ false → wire.new ≡ wire.old }
+    ensures net_fault { result ≡ Status.NetFault → NetFailed (command_of words.now) (W.failed_openings wire.old) (W.failed_openings wire.new) (W.faults wire.old) (W.faults wire.new) }
+    ensures net_command { result ≡ Status.NetFault → uses_wire (command_of words.now) ≡ true }
+
+    // Each read that fails is told, and so is each write; after any other answer none has failed.
+    ensures source_kept { result ≢ Status.ReadFault → S.faults src.new ≡ S.faults src.old }
+    ensures sink_kept { result ≢ Status.WriteFault → K.faults out.new ≡ K.faults out.old }
+    ensures source_count { S.faults src.old ≤ S.faults src.new }
+    ensures sink_count { K.faults out.old ≤ K.faults out.new }
+{
+    match prepare(alloc, words, src, wire) {
+        Ok(reply) => deliver(out, &reply),
+        Err(stop) => stop.status(),
+    }
+}
