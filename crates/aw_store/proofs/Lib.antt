@@ -4,3 +4,5 @@ pub mod NameLemmas
 pub mod StoreLemmas
 pub mod BodyLemmas
 pub mod AddLemmas
+pub mod ChaseEnds
+pub mod MoreEquations

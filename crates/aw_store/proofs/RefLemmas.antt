@@ -1,6 +1,5 @@
 -- The test of references is exact.
-use Rattle.std.proofs.Common.{◌≡◌, Bool, true, Decides, refl, ap, eq-eqb, subst}
-use Rattle.std.specs.Prelude.{◌&&◌}
+use Rattle.std.proofs.Common.{◌≡◌, true, Decides, refl, ap, eq-eqb, subst}
 use Rattle.std.proofs.lemmas.Bool.{eqb-true, and_parts, and_from}
 use Rattle.aw_term.specs.Names.{Slot, Result, Part, Ref}
 use Rattle.aw_term.proofs.NodeTests.{node_is, node_self}
