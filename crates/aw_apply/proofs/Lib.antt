@@ -3,3 +3,6 @@ pub mod LayLemmas
 pub mod ChildLemmas
 pub mod MakeLemmas
 pub mod RuleLemmas
+pub mod Numbering
+pub mod MadeFits
+pub mod MadeCalls
