@@ -14,7 +14,9 @@ pub use aw_grammar::{
     RawTerm, RawTerms, Rule, Rules, Sort, Sorts, room_after_all,
 };
 pub use aw_list::{Items, Text};
-pub use aw_name::{Node, Ref, Slot, Step, Trail};
+pub use aw_name::{
+    Node, Ref, Refs, Slot, Step, Trail, compare_nodes, compare_refs, is_same_node, is_same_ref,
+};
 pub use aw_term::{Expr, Ground, Grounds, Lit, Pattern, Patterns, Terms};
 pub use aw_text::{content_ok, name_ok};
 pub use choice_fits::{args_ok, choice_ok, is_start};

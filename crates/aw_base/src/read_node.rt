@@ -124,7 +124,7 @@ fn node_of(alloc: Global, g: &Grammar, name: &NodeStart<'_>) -> Result<Node, Nam
         None => Ok(Node {
             start,
             case: name.case,
-            steps: Trail::from_vec(steps),
+            steps: Trail::from_vec(steps)?,
         }),
     }
 }

@@ -2,5 +2,7 @@
 #![tactic(auto)]
 
 pub mod items;
+pub mod shared;
 
 pub use items::{Items, Text};
+pub use shared::Shared;

@@ -5,4 +5,4 @@ pub mod compare;
 pub mod node;
 
 pub use compare::{compare_nodes, compare_refs, copy_node, copy_ref, is_same_node, is_same_ref};
-pub use node::{Node, Ref, Slot, Step, Trail};
+pub use node::{Node, Ref, Refs, Slot, Step, Trail};

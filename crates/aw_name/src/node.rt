@@ -1,7 +1,7 @@
 ghost use Rattle.std.specs.Prelude.{◌≡◌, ◌↔◌, ◌≤◌, ◌<◌, ◌++◌, ◌∷◌, [], IsTrue, IfOk, OnOk, OnErr, ℕ, List, length, take};
 
-use aw_list::Items;
-use std::alloc::{AllocError, AllocFailed, Global};
+use aw_list::Shared;
+use std::alloc::{AllocError, Global};
 use std::marker::Model;
 
 /// From a node to one of its children: the rule that developed the node, counted from 0 in the order of the specification, and
@@ -15,7 +15,7 @@ pub struct Step {
 /// The steps from a start node down to a node, at most 250; none for the start node itself.
 #[derive(Debug, Clone, PartialEq, Eq, PartialOrd, Ord, Hash, Drop)]
 pub struct Trail {
-    steps: Items<Step>,
+    steps: Shared<Step>,
 }
 
 impl Model for Trail {
@@ -40,18 +40,18 @@ impl Trail {
         ensures { result ≡ [] }
     {
         Trail {
-            steps: Items::new(alloc),
+            steps: Shared::new(alloc),
         }
     }
 
     /// These steps, of which there have to be at most 250.
-    pub fn from_vec(steps: Vec<Step>) -> Trail
+    pub fn from_vec(steps: Vec<Step>) -> Result<Trail, AllocError>
         requires { length steps.items ≤ 250 }
-        ensures { result ≡ steps.items }
+        ensures { IfOk result (λ t. t ≡ steps.items) }
     {
-        Trail {
-            steps: Items::from_vec(steps),
-        }
+        Ok(Trail {
+            steps: Shared::from_vec(steps)?,
+        })
     }
 
     /// The steps, from the start node on.
@@ -107,3 +107,6 @@ pub struct Ref {
     pub node: Node,
     pub slot: Slot,
 }
+
+/// References, in order. A copy of them is a count.
+pub type Refs = Shared<Ref>;

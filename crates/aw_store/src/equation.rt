@@ -5,7 +5,7 @@ use aw_list::{Items, Text};
 use aw_name::Ref;
 
 /// The parts of a constructor, or the inherited values of a node, each by its reference.
-pub type Refs = Items<Ref>;
+pub use aw_name::Refs;
 
 /// What a reference stands for: another reference, or a constructor with its parts, a number, or a text.
 #[derive(Debug, Clone, PartialEq, Eq, Drop)]

@@ -6,8 +6,7 @@ ghost use Rattle.aw_wire.specs.Names as spec;
 
 use crate::items::{byte_at, count_at, position_at, slot_number_at, u16_at, u64_at};
 use crate::unread::Unread;
-use aw_list::Items;
-use aw_name::{Node, Ref, Slot, Step, Trail};
+use aw_name::{Node, Ref, Refs, Slot, Step, Trail};
 use std::alloc::Global;
 
 #[tactic(auto, unfolding(crate::specs::Names::step))]
@@ -39,7 +38,7 @@ fn trail_at(alloc: Global, bytes: &[u8]) -> Result<(Trail, &[u8]), Unread>
 {
     let (count, rest) = count_at(250, bytes)?;
     let (steps, rest) = steps_at(alloc, count, rest)?;
-    Ok((Trail::from_vec(steps), rest))
+    Ok((Trail::from_vec(steps)?, rest))
 }
 
 /// The name of a node.
@@ -81,8 +80,8 @@ pub fn ref_at(alloc: Global, bytes: &[u8]) -> Result<(Ref, &[u8]), Unread>
     Ok((Ref { node, slot }, rest))
 }
 
-fn some_refs_at(alloc: Global, count: u8, bytes: &[u8]) -> Result<(Items<Ref>, &[u8]), Unread>
-    ensures { Gives (λ x. (x.0, x.1.now)) result (times spec.reference count bytes.now) }
+fn some_refs_at(alloc: Global, count: u8, bytes: &[u8]) -> Result<(Vec<Ref>, &[u8]), Unread>
+    ensures { Gives (λ x. (x.0.items, x.1.now)) result (times spec.reference count bytes.now) }
 {
     let mut refs = Vec::new(alloc);
     let mut rest = bytes;
@@ -91,14 +90,15 @@ fn some_refs_at(alloc: Global, count: u8, bytes: &[u8]) -> Result<(Items<Ref>, &
         refs.push(reference)?;
         rest = behind;
     }
-    Ok((Items::from_vec(refs), rest))
+    Ok((refs, rest))
 }
 
 /// At most 8 references, behind their number.
 #[tactic(auto, unfolding(crate::specs::Names::references))]
-pub fn refs_at(alloc: Global, bytes: &[u8]) -> Result<(Items<Ref>, &[u8]), Unread>
+pub fn refs_at(alloc: Global, bytes: &[u8]) -> Result<(Refs, &[u8]), Unread>
     ensures { Gives (λ x. (x.0, x.1.now)) result (spec.references bytes.now) }
 {
     let (count, rest) = count_at(8, bytes)?;
-    some_refs_at(alloc, count, rest)
+    let (refs, rest) = some_refs_at(alloc, count, rest)?;
+    Ok((Refs::from_vec(refs)?, rest))
 }

@@ -12,10 +12,10 @@ from_vec-requires c =
     few_steps (words_of c.args.g.now) name.start.now name.case (steps_of (parts_behind (option_copied name.steps))) c.in-Some-2.steps.items c.requires
     (sym (rw c.in-Some-2.is at c.in_ok-steps.ensures))
 
-pub returns-in-None-clause-valid : goal.returns-in-None-clause-valid
-returns-in-None-clause-valid c =
+pub returns-in_ok-from_vec-in-None-clause-valid : goal.returns-in_ok-from_vec-in-None-clause-valid
+returns-in_ok-from_vec-in-None-clause-valid c =
     let g = grammar_of c.args.g.now in
     let s = c.in-Some.start in
-    let steps = c.from_vec.result in
+    let steps = c.in_ok-from_vec-in-None.field-0 in
     node_valid (words_of c.args.g.now) g c.args.name.now.start.now s c.args.name.now.case steps c.in-Some.ensures
-    (c.in-None.ensures ∙ ap (first_misfit g 0 s) (c.deref.ensures.value ∙ sym c.from_vec.ensures))
+    (c.in-None.ensures ∙ ap (first_misfit g 0 s) (c.deref.ensures.value ∙ sym c.in_ok-from_vec-in-None.ensures))

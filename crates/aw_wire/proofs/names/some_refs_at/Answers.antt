@@ -14,4 +14,4 @@ loop-preserved c =
     rw c.in_ok-push.ensures.items (goes_on reference c.loop.refs.items c.args.count c.loop.counter c.loop.rest.now c.in_ok-reference.reference c.in_ok-reference.behind.now (times reference c.args.count c.args.bytes.now) c.loop-test.true c.in_ok-reference.ensures c.loop.invariant)
 
 pub returns : goal.returns
-returns c = rw c.from_vec.ensures (is_done reference c.loop.refs.items c.args.count c.loop.counter c.loop.rest.now (times reference c.args.count c.args.bytes.now) c.loop-test.false c.loop.invariant)
+returns c = is_done reference c.loop.refs.items c.args.count c.loop.counter c.loop.rest.now (times reference c.args.count c.args.bytes.now) c.loop-test.false c.loop.invariant
