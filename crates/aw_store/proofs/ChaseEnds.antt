@@ -73,8 +73,10 @@ within_by l k x (stands f e) le = omega arith
 within_by l k x (lacks f e) le = omega arith
 within_by zero k x (follows f d) le = absurd (omega (arith, le))
 within_by (suc l) k x {r = r} (follows {n = n} f d) le =
-    let avoids = λ (m : ℕ) (h : m ≤ n) (e : Ends k x m r). absurd (omega (arith, h, same_length k x e (follows f d))) in
-    omega (arith, within_by l (without r k) x (kept k x r d avoids) (omega (arith, le)), without-lt r k _ f)
+    let avoids : (m : ℕ) → m ≤ n → Ends k x m r → ⊥ = λ m h e. absurd (omega (arith, h, same_length k x e (follows f d))) in
+    let rest : n ≤ length (without r k) = within_by l (without r k) x (kept k x r d avoids) (omega (arith, le)) in
+    let less : length (without r k) < length k = without-lt r k _ f in
+    omega (arith, rest, less)
 
 pub ends-chase_in : (k : Map) (x : End) {n : ℕ} {r : Ref} → Ends k x n r → (m : ℕ) → n ≤ m → chase_in m k r ≡ as_chased x
 ends-chase_in k x (stands f e) zero le = ap (chase_on _ _) f ∙ ap as_chased (sym e)

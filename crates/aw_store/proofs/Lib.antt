@@ -6,3 +6,4 @@ pub mod BodyLemmas
 pub mod AddLemmas
 pub mod ChaseEnds
 pub mod MoreEquations
+pub mod SlotLemmas

@@ -6,9 +6,9 @@ ghost use Rattle.aw_store.specs.EquationView.{body_of, equation_of};
 ghost use Rattle.aw_store.specs.NamedRefs.{is_named, has_names, with_name, IsNamedOnce, Grows, body_at, parts_at, text_at};
 ghost use Rattle.aw_store.specs.StoreView.{IsKindOf, Adds, IsAddable, has_few, all_few};
 
-use crate::equation::{Body, Equation, Equations, Refs};
+use crate::equation::{Body, Equation, Equations};
 use aw_list::Text;
-use aw_name::Ref;
+use aw_name::{Ref, Refs};
 use std::alloc::AllocError;
 
 /// What stands at a slot.
