@@ -16,6 +16,3 @@ pub use guard::{Guard, guard_uncounted, test_guard};
 pub use make::made;
 pub use making::{Made, MadeChild, MadeChildren};
 pub use steps::Steps;
-
-#[cfg(test)]
-mod tests;
