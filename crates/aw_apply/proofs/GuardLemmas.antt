@@ -15,6 +15,7 @@ use Rattle.aw_term.specs.WellFormed.{leaves, all_leaves}
 use Rattle.aw_term.specs.Views.{pattern_of}
 use Rattle.aw_term.specs.declared.term.Pattern.{Pattern}
 use Rattle.aw_term.specs.declared.term.Pattern as pattern
+use Rattle.aw_term.proofs.HeadTests.{head_eq-true}
 use Rattle.aw_term.proofs.ViewLemmas.{pattern_con}
 use Rattle.aw_store.specs.Equations.{Body, Same, Is, Map, find}
 use Rattle.aw_store.specs.Chase.{Chased, Found, Missing, Round, chase}
@@ -32,27 +33,6 @@ use Rattle.aw_apply.specs.declared.guarding.Step.TheVariants as step
 
 abbrev pub N : Type 0
 N = Matched (Option Ref) (Option Ref)
-
--- the bytes of two texts are the same
-pub nats_Decides : (a b : List ℕ) → Decides (nats_eq a b) (a ≡ b)
-nats_Decides a b = Decides-at _ _ (by_bytes a b) (pointwise_decides Decides-eqb a b)
-  where
-    by_bytes : (a b : List ℕ) → nats_eq a b ≡ pointwise nat_eq a b
-    by_bytes [] [] = refl
-    by_bytes [] (y ∷ ys) = refl
-    by_bytes (x ∷ xs) [] = refl
-    by_bytes (x ∷ xs) (y ∷ ys) = ap (λ r. nat_eq x y && r) (by_bytes xs ys)
-
-head_eq-true : (a b : Head) → head_eq a b ≡ true → a ≡ b
-head_eq-true (Con c) (Con d) e = ap Con (eqb-true c d e)
-head_eq-true (P.Num m) (P.Num n) e = ap P.Num (eqb-true m n e)
-head_eq-true (P.Text t) (P.Text u) e = ap P.Text ((nats_Decides t u).0 e)
-head_eq-true (Con c) (P.Num n) e = absurd cc
-head_eq-true (Con c) (P.Text u) e = absurd cc
-head_eq-true (P.Num m) (Con d) e = absurd cc
-head_eq-true (P.Num m) (P.Text u) e = absurd cc
-head_eq-true (P.Text t) (Con d) e = absurd cc
-head_eq-true (P.Text t) (P.Num n) e = absurd cc
 
 -- What a chase has come to
 pub chased_missing : (k : Map) (names : List Ref) (slot end : ℕ) (x : Chased) → IsChasedTo k names slot x (answer.Missing end) → (r : Ref) × (x ≡ Missing r) × (slice_get names end ≡ Some r)

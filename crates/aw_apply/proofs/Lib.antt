@@ -2,7 +2,7 @@ pub mod GuardLemmas
 pub mod LayLemmas
 pub mod ChildLemmas
 pub mod MakeLemmas
-pub mod RuleLemmas
+pub mod MadeByRules
 pub mod Numbering
 pub mod MadeFits
 pub mod MadeCalls

@@ -11,9 +11,9 @@ use Rattle.aw_term.proofs.Eaches.{each_map}
 use Rattle.aw_apply.specs.Made.{Call, lay, lay_list, lay_children, child_refs, no_ref, made}
 
 -- The sort of a node below another
-last_step : (o : Option ℕ) → option_and_then (λ t. Some t) o ≡ o
-last_step None = refl
-last_step (Some t) = refl
+step_alone : (o : Option ℕ) → option_and_then (λ t. Some t) o ≡ o
+step_alone None = refl
+step_alone (Some t) = refl
 
 push_cases : (g : Grammar) (steps : List Step) (step : Step) (t : ℕ) (o : Option ℕ) → ((u : ℕ) → sort_after g u steps ≡ Some t → sort_after g u (steps ++ step ∷ []) ≡ sort_of_step g t step)
     → option_and_then (λ u. sort_after g u steps) o ≡ Some t → option_and_then (λ u. sort_after g u (steps ++ step ∷ [])) o ≡ sort_of_step g t step
@@ -21,7 +21,7 @@ push_cases g steps step t None go e = absurd cc
 push_cases g steps step t (Some u) go e = go u e
 
 pub sort_after-push : (g : Grammar) (s : ℕ) (steps : List Step) (step : Step) (t : ℕ) → sort_after g s steps ≡ Some t → sort_after g s (steps ++ step ∷ []) ≡ sort_of_step g t step
-sort_after-push g s [] step t e = last_step (sort_of_step g s step) ∙ ap (λ u. sort_of_step g u step) (same_Some s t e)
+sort_after-push g s [] step t e = step_alone (sort_of_step g s step) ∙ ap (λ u. sort_of_step g u step) (same_Some s t e)
 sort_after-push g s (x ∷ steps) step t e = push_cases g steps step t (sort_of_step g s x) (λ u f. sort_after-push g u steps step t f) e
 
 start_cases : (b : Bool) (o p q : Option ℕ) (t : ℕ) → (o ≡ Some t → p ≡ q) → cond b o None ≡ Some t → cond b p None ≡ q

@@ -6,7 +6,7 @@ use Rattle.aw_term.specs.Rules.{Term, Ground, Child, Rule, get}
 use Rattle.aw_term.specs.WellFormed.{Each, Later}
 use Rattle.aw_term.proofs.Eaches.{each_map, each_append}
 use Rattle.aw_store.specs.Equations.{Same, Is, Equation, Map, find}
-use Rattle.aw_store.proofs.RefLemmas.{ref_eq-self}
+use Rattle.aw_term.proofs.RefTests.{ref_eq-self}
 use Rattle.aw_store.proofs.MoreEquations.{find-absent, find-left_more, Holds, Holds-wider, Holds-past, Holds-append}
 use Rattle.aw_apply.specs.Made.{lay, lays, lay_list, lay_children, lay_result, lay_results, child_refs, made}
 

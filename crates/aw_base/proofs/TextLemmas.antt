@@ -1,7 +1,7 @@
 -- Texts with separators between them.
 use Rattle.std.proofs.Common.{◌≡◌, ℕ, ◌-◌, ◌≤◌, List, [], ◌∷◌, ◌++◌, length, map, take, drop, get_or, codes, flat_map, refl, ap, sym, ◌∙◌, arith, append_assoc, append-nil}
 use Rattle.std.proofs.lemmas.List.{take_all}
-use Rattle.std.specs.Prelude.{Result, Ok, Err, OnOk}
+use Rattle.std.specs.Prelude.{Result, Ok, Err, OnOk, OnErr}
 use Rattle.aw_term.specs.Artifacts.{listed}
 
 -- the first, and each other one behind a separator
@@ -22,3 +22,8 @@ added_twice (Err x) new mid old first rest whole e f w = w
 pub all_behind : {A : Type 0} (xs : List A) → take (length xs - 1) (drop 1 xs) ≡ drop 1 xs
 all_behind [] = refl
 all_behind (x ∷ xs) = take_all (length (x ∷ xs) - 1) xs (omega arith)
+
+-- what holds holds at an error
+pub on_err_held : {T E P : Type 0} (r : Result T E) → P → OnErr r P
+on_err_held (Ok x) h = tt
+on_err_held (Err e) h = h

@@ -15,7 +15,7 @@ use std::alloc::AllocError;
 pub const MOST_PARTS: u16 = 512;
 
 /// The sort of the child with a number, from 1.
-fn sort_of_child(children: &Children, number: u8) -> Option<u16>
+pub(crate) fn sort_of_child(children: &Children, number: u8) -> Option<u16>
     ensures { (sorts : List Sort) → result ≡ option_map (λ c. c.sort) (child_at (map (child_of sorts) children.now) number) }
 {
     let at = number.checked_sub(1)?;

@@ -1,5 +1,6 @@
 //! Texts of names, references, answers and items of a worklist. A number that is not declared prints as an empty name.
 ghost use Rattle.std.specs.Prelude.{◌≡◌, ◌++◌, [], codes, decimal, flat_map, map, OnOk, OnErr, IfOk};
+ghost use Rattle.std.specs.Io.{StartsWith};
 ghost use Rattle.aw_term.specs.Rules.{get};
 ghost use Rattle.aw_term.specs.Artifacts.{step_text, steps_text, node_text, slot_text, ref_text, listed, place_text, answer_text, standing_text, item_text};
 ghost use Rattle.aw_grammar.specs.GrammarOf.{words_of};
@@ -53,7 +54,8 @@ pub fn rule_name(g: &Grammar, rule: u16) -> &[u8]
 }
 
 fn add_step(text: &mut Text, g: &Grammar, step: &Step) -> Result<(), AllocError>
-    ensures { OnOk result (text.new ≡ text.old ++ step_text (words_of g.now) step.now) }
+    ensures ok { OnOk result (text.new ≡ text.old ++ step_text (words_of g.now) step.now) }
+    ensures err { OnErr result (StartsWith text.new text.old) }
 {
     text.push_bytes(b"/")?;
     text.push_bytes(rule_name(g, step.rule))?;
@@ -62,7 +64,8 @@ fn add_step(text: &mut Text, g: &Grammar, step: &Step) -> Result<(), AllocError>
 }
 
 fn add_steps(text: &mut Text, g: &Grammar, steps: &[Step]) -> Result<(), AllocError>
-    ensures { OnOk result (text.new ≡ text.old ++ steps_text (words_of g.now) steps.now) }
+    ensures ok { OnOk result (text.new ≡ text.old ++ steps_text (words_of g.now) steps.now) }
+    ensures err { OnErr result (StartsWith text.new text.old) }
 {
     for step in steps {
         add_step(text, g, step)?;
@@ -71,7 +74,8 @@ fn add_steps(text: &mut Text, g: &Grammar, steps: &[Step]) -> Result<(), AllocEr
 }
 
 fn add_node(text: &mut Text, g: &Grammar, n: &Node) -> Result<(), AllocError>
-    ensures { OnOk result (text.new ≡ text.old ++ node_text (words_of g.now) n.now) }
+    ensures ok { OnOk result (text.new ≡ text.old ++ node_text (words_of g.now) n.now) }
+    ensures err { OnErr result (StartsWith text.new text.old) }
 {
     text.push_bytes(sort_name(g, n.start))?;
     text.push_bytes(b"#")?;
@@ -80,7 +84,8 @@ fn add_node(text: &mut Text, g: &Grammar, n: &Node) -> Result<(), AllocError>
 }
 
 fn add_slot(text: &mut Text, slot: Slot) -> Result<(), AllocError>
-    ensures { OnOk result (text.new ≡ text.old ++ slot_text slot) }
+    ensures ok { OnOk result (text.new ≡ text.old ++ slot_text slot) }
+    ensures err { OnErr result (StartsWith text.new text.old) }
 {
     match slot {
         Slot::Result(number) => {
@@ -95,14 +100,16 @@ fn add_slot(text: &mut Text, slot: Slot) -> Result<(), AllocError>
 }
 
 fn add_ref(text: &mut Text, g: &Grammar, r: &Ref) -> Result<(), AllocError>
-    ensures { OnOk result (text.new ≡ text.old ++ ref_text (words_of g.now) r.now) }
+    ensures ok { OnOk result (text.new ≡ text.old ++ ref_text (words_of g.now) r.now) }
+    ensures err { OnErr result (StartsWith text.new text.old) }
 {
     add_node(text, g, &r.node)?;
     add_slot(text, r.slot)
 }
 
 fn add_following(text: &mut Text, g: &Grammar, refs: &[Ref]) -> Result<(), AllocError>
-    ensures { OnOk result (text.new ≡ text.old ++ flat_map (λ r. codes ", " ++ ref_text (words_of g.now) r) refs.now) }
+    ensures ok { OnOk result (text.new ≡ text.old ++ flat_map (λ r. codes ", " ++ ref_text (words_of g.now) r) refs.now) }
+    ensures err { OnErr result (StartsWith text.new text.old) }
 {
     for r in refs {
         text.push_bytes(b", ")?;
@@ -112,7 +119,8 @@ fn add_following(text: &mut Text, g: &Grammar, refs: &[Ref]) -> Result<(), Alloc
 }
 
 fn add_refs(text: &mut Text, g: &Grammar, refs: &[Ref]) -> Result<(), AllocError>
-    ensures { OnOk result (text.new ≡ text.old ++ listed (map (ref_text (words_of g.now)) refs.now)) }
+    ensures ok { OnOk result (text.new ≡ text.old ++ listed (map (ref_text (words_of g.now)) refs.now)) }
+    ensures err { OnErr result (StartsWith text.new text.old) }
 {
     match refs {
         [] => Ok(()),
@@ -124,7 +132,8 @@ fn add_refs(text: &mut Text, g: &Grammar, refs: &[Ref]) -> Result<(), AllocError
 }
 
 fn add_path(text: &mut Text, steps: &[u8]) -> Result<(), AllocError>
-    ensures { OnOk result (text.new ≡ text.old ++ flat_map (λ k. codes "." ++ decimal k) steps.now) }
+    ensures ok { OnOk result (text.new ≡ text.old ++ flat_map (λ k. codes "." ++ decimal k) steps.now) }
+    ensures err { OnErr result (StartsWith text.new text.old) }
 {
     for step in steps {
         text.push_bytes(b".")?;
@@ -134,7 +143,8 @@ fn add_path(text: &mut Text, steps: &[u8]) -> Result<(), AllocError>
 }
 
 fn add_place(text: &mut Text, place: &Place) -> Result<(), AllocError>
-    ensures { OnOk result (text.new ≡ text.old ++ place_text (place_of place.now)) }
+    ensures ok { OnOk result (text.new ≡ text.old ++ place_text (place_of place.now)) }
+    ensures err { OnErr result (StartsWith text.new text.old) }
 {
     push_number(text, u64::from(place.attribute))?;
     add_path(text, path_steps(&place.path))
@@ -149,21 +159,24 @@ pub fn path_steps(path: &Path) -> &[u8]
 }
 
 fn add_refusal(text: &mut Text, word: &[u8], g: &Grammar, r: &Ref) -> Result<(), AllocError>
-    ensures { OnOk result (text.new ≡ text.old ++ (word.now ++ ref_text (words_of g.now) r.now)) }
+    ensures ok { OnOk result (text.new ≡ text.old ++ (word.now ++ ref_text (words_of g.now) r.now)) }
+    ensures err { OnErr result (StartsWith text.new text.old) }
 {
     text.push_bytes(word)?;
     add_ref(text, g, r)
 }
 
 fn add_mismatch(text: &mut Text, place: &Place) -> Result<(), AllocError>
-    ensures { OnOk result (text.new ≡ text.old ++ (codes "mismatch " ++ place_text (place_of place.now))) }
+    ensures ok { OnOk result (text.new ≡ text.old ++ (codes "mismatch " ++ place_text (place_of place.now))) }
+    ensures err { OnErr result (StartsWith text.new text.old) }
 {
     text.push_bytes(b"mismatch ")?;
     add_place(text, place)
 }
 
 fn add_answer(text: &mut Text, g: &Grammar, a: &Answer) -> Result<(), AllocError>
-    ensures { OnOk result (text.new ≡ text.old ++ answer_text (words_of g.now) (answer_of a.now)) }
+    ensures ok { OnOk result (text.new ≡ text.old ++ answer_text (words_of g.now) (answer_of a.now)) }
+    ensures err { OnErr result (StartsWith text.new text.old) }
 {
     match a {
         Answer::Known => text.push_bytes(b"known"),
@@ -180,7 +193,8 @@ fn add_answer(text: &mut Text, g: &Grammar, a: &Answer) -> Result<(), AllocError
 }
 
 fn add_standing(text: &mut Text, g: &Grammar, state: &Standing) -> Result<(), AllocError>
-    ensures { OnOk result (text.new ≡ text.old ++ standing_text (words_of g.now) (refusal_of state.now)) }
+    ensures ok { OnOk result (text.new ≡ text.old ++ standing_text (words_of g.now) (refusal_of state.now)) }
+    ensures err { OnErr result (StartsWith text.new text.old) }
 {
     match state {
         Standing::Ready => text.push_bytes(b"ready"),
@@ -192,7 +206,8 @@ fn add_standing(text: &mut Text, g: &Grammar, state: &Standing) -> Result<(), Al
 }
 
 fn add_item(text: &mut Text, g: &Grammar, i: &Item) -> Result<(), AllocError>
-    ensures { OnOk result (text.new ≡ text.old ++ item_text (words_of g.now) (item_of i.now)) }
+    ensures ok { OnOk result (text.new ≡ text.old ++ item_text (words_of g.now) (item_of i.now)) }
+    ensures err { OnErr result (StartsWith text.new text.old) }
 {
     text.push_bytes(b"item ")?;
     add_node(text, g, &i.node)?;
@@ -216,8 +231,14 @@ pub fn push_node(text: &mut Text, g: &Grammar, n: &Node) -> Result<(), AllocErro
     ensures ok { OnOk result (text.new ≡ text.old ++ node_text (words_of g.now) n.now) }
     ensures err { OnErr result (text.new ≡ text.old) }
 {
-    let added = node_text(text.allocator(), g, n)?;
-    text.push_bytes(added.as_slice())
+    let before = text.len();
+    match add_node(text, g, n) {
+        Ok(()) => Ok(()),
+        Err(failed) => {
+            text.truncate(before);
+            Err(failed)
+        }
+    }
 }
 
 /// The name of a reference, as `visit#1:r1` or `visit#1:p2`.
@@ -234,8 +255,14 @@ pub fn push_ref(text: &mut Text, g: &Grammar, r: &Ref) -> Result<(), AllocError>
     ensures ok { OnOk result (text.new ≡ text.old ++ ref_text (words_of g.now) r.now) }
     ensures err { OnErr result (text.new ≡ text.old) }
 {
-    let added = ref_text(text.allocator(), g, r)?;
-    text.push_bytes(added.as_slice())
+    let before = text.len();
+    match add_ref(text, g, r) {
+        Ok(()) => Ok(()),
+        Err(failed) => {
+            text.truncate(before);
+            Err(failed)
+        }
+    }
 }
 
 /// Adds references, a comma and a space between them. An error changes nothing.
@@ -243,9 +270,14 @@ pub fn push_refs(text: &mut Text, g: &Grammar, refs: &[Ref]) -> Result<(), Alloc
     ensures ok { OnOk result (text.new ≡ text.old ++ listed (map (ref_text (words_of g.now)) refs.now)) }
     ensures err { OnErr result (text.new ≡ text.old) }
 {
-    let mut added = Text::new(text.allocator());
-    add_refs(&mut added, g, refs)?;
-    text.push_bytes(added.as_slice())
+    let before = text.len();
+    match add_refs(text, g, refs) {
+        Ok(()) => Ok(()),
+        Err(failed) => {
+            text.truncate(before);
+            Err(failed)
+        }
+    }
 }
 
 /// The text of an answer, as `waits visit#1:r1`.
@@ -262,8 +294,14 @@ pub fn push_answer(text: &mut Text, g: &Grammar, a: &Answer) -> Result<(), Alloc
     ensures ok { OnOk result (text.new ≡ text.old ++ answer_text (words_of g.now) (answer_of a.now)) }
     ensures err { OnErr result (text.new ≡ text.old) }
 {
-    let added = answer_text(text.allocator(), g, a)?;
-    text.push_bytes(added.as_slice())
+    let before = text.len();
+    match add_answer(text, g, a) {
+        Ok(()) => Ok(()),
+        Err(failed) => {
+            text.truncate(before);
+            Err(failed)
+        }
+    }
 }
 
 /// The line of an item, without its end, as `item visit#1 admit ready`.
@@ -280,6 +318,12 @@ pub fn push_item(text: &mut Text, g: &Grammar, i: &Item) -> Result<(), AllocErro
     ensures ok { OnOk result (text.new ≡ text.old ++ item_text (words_of g.now) (item_of i.now)) }
     ensures err { OnErr result (text.new ≡ text.old) }
 {
-    let added = item_text(text.allocator(), g, i)?;
-    text.push_bytes(added.as_slice())
+    let before = text.len();
+    match add_item(text, g, i) {
+        Ok(()) => Ok(()),
+        Err(failed) => {
+            text.truncate(before);
+            Err(failed)
+        }
+    }
 }

@@ -2,6 +2,7 @@
 use aw_list::Items;
 use aw_name::{Node, Ref};
 use aw_term::Grounds;
+use std::alloc::AllocError;
 
 /// What a user asks for: a new case, or a rule for an open node, with its arguments.
 #[derive(Debug, Clone, PartialEq, Eq, Drop)]
@@ -15,6 +16,13 @@ pub enum Choice {
         rule: u16,
         args: Grounds,
     },
+}
+
+/// A copy of a choice.
+pub fn copy_choice(choice: &Choice) -> Result<Choice, AllocError>
+    ensures { IfOk result (λ c. c ≡ choice.now) }
+{
+    choice.clone()
 }
 
 /// Numbers of parts on the way into a value, at most 32, each counted from 1.
@@ -110,4 +118,4 @@ pub struct Item {
 /// Each open node of a role with each rule of its sort, in order.
 pub type Worklist = Items<Item>;
 
-ghost use Rattle.std.specs.Prelude.{◌≡◌, ◌≤◌, ◌<◌, ℕ, slice_index};
+ghost use Rattle.std.specs.Prelude.{◌≡◌, ◌≤◌, ◌<◌, ℕ, IfOk, slice_index};

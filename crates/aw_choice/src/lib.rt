@@ -3,4 +3,4 @@
 
 pub mod choice;
 
-pub use choice::{Answer, Choice, Item, Path, Place, Standing, Worklist};
+pub use choice::{Answer, Choice, Item, Path, Place, Standing, Worklist, copy_choice};

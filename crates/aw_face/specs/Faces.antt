@@ -1,19 +1,12 @@
 -- Which sorts a role offers to others, which sorts it uses, and the rules that keep to that.
-use Rattle.std.specs.Prelude.{◌≡◌, ℕ, suc, Bool, true, false, ◌&&◌, List, [], ◌∷◌, Option, None, Some, Result, Ok, Err, nat_eq, slice_get, if◌then◌else◌, option_map}
+use Rattle.std.specs.Prelude.{◌≡◌, ℕ, suc, Bool, true, false, ◌&&◌, List, [], ◌∷◌, Option, None, Some, Result, Ok, Err, nat_eq, if◌then◌else◌}
 use Rattle.std.specs.List.{list_any}
 use Rattle.aw_term.specs.Rules.{Child, Rule, Sort, Grammar}
+pub use Rattle.aw_term.specs.Rules.{role_or_0, role_of}
 use Rattle.aw_face.specs.declared.faces.Using.{Using}
 use Rattle.aw_face.specs.declared.faces.FaceKind.{FaceKind}
 use Rattle.aw_face.specs.declared.faces.FaceKind.TheVariants.{NotUsed, NotOffered}
 use Rattle.aw_face.specs.declared.faces.FaceFault.{FaceFault}
-
--- the role of a sort, or 0 where no such sort is declared
-abbrev pub role_or_0 : Option Sort → ℕ
-role_or_0 None = 0
-role_or_0 (Some s) = s.role
-
-abbrev pub role_of : List Sort → ℕ → ℕ
-role_of sorts s = role_or_0 (slice_get sorts s)
 
 -- the sort is offered
 abbrev pub is_offered : ℕ → List ℕ → Bool

@@ -10,6 +10,7 @@ use Rattle.aw_grammar.specs.declared.rule.Sort.{Sort}
 use Rattle.aw_grammar.specs.GrammarView.{sort_of, sorts_of, plain_grammar, plain_words}
 use Rattle.aw_grammar.specs.Declarations.{with_start_at}
 use Rattle.aw_term.proofs.Eaches.{each_push}
+use Rattle.aw_grammar.proofs.Counted.{cons_counted, sorts_counted}
 use Rattle.aw_grammar.proofs.Growth.{differ_push, four_from, four_to}
 
 length_push : {A : Type 0} (xs : List A) (x : A) (n : ℕ) → length xs < n → length (xs ++ x ∷ []) ≤ n
@@ -20,6 +21,9 @@ well_formed_role roles cons name w named few absent =
     let names = four_from (λ n. is_name n ≡ true) roles (map (λ (c : Con). c.name) cons) [] [] w.names in
     record {
       roles = refl;
+      all_cons = w.all_cons;
+      all_sorts = refl;
+      all_rules = refl;
       few_roles = length_push roles name 64 few;
       few_cons = w.few_cons;
       few_sorts = w.few_sorts;
@@ -43,6 +47,9 @@ well_formed_con roles cons sorts con w named few small absent =
     let few_old : length old < 1024 = omega (arith, length-map cons (λ (c : Con). c.name)) in
     record {
       roles = refl;
+      all_cons = cons_counted (cons ++ con ∷ []);
+      all_sorts = w.all_sorts;
+      all_rules = refl;
       few_roles = w.few_roles;
       few_cons = subst (λ ns. length ns ≤ 1024) pushed (length_push old con.name 1024 few_old);
       few_sorts = w.few_sorts;
@@ -67,6 +74,9 @@ well_formed_sort roles cons sorts sort w named few fits absent =
     let few_old : length old < 256 = omega (arith, length-map sorts (λ (s : Sort). s.name)) in
     record {
       roles = refl;
+      all_cons = w.all_cons;
+      all_sorts = sorts_counted (sorts ++ sort ∷ []);
+      all_rules = refl;
       few_roles = w.few_roles;
       few_cons = w.few_cons;
       few_sorts = subst (λ ns. length ns ≤ 256) pushed (length_push old sort.name 256 few_old);
@@ -101,6 +111,9 @@ well_formed_start roles cons sorts i sort w found none =
     let same = sym (names_of_start sorts i) in
     record {
       roles = refl;
+      all_cons = w.all_cons;
+      all_sorts = sorts_counted (with_start_at sorts i);
+      all_rules = refl;
       few_roles = w.few_roles;
       few_cons = w.few_cons;
       few_sorts = subst (λ ns. length ns ≤ 256) same w.few_sorts;

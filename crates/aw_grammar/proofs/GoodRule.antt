@@ -24,13 +24,14 @@ use Rattle.aw_grammar.specs.Declarations.{Entry, Declarations, entry_of, with_ru
 use Rattle.aw_grammar.specs.Kinds.{rule_kind, rule_tests, is_past_counts, is_past_terms}
 use Rattle.aw_grammar.proofs.NoKind.{none_holds}
 use Rattle.aw_term.proofs.Eaches.{each_push, each_map}
+use Rattle.aw_grammar.proofs.Counted.{rules_counted}
 use Rattle.aw_grammar.proofs.Growth.{differ_push, four_from, four_to}
 use Rattle.aw_grammar.proofs.Added.{listed, Good}
 use Rattle.aw_grammar.proofs.Entries.{names_of_entries}
 use Rattle.aw_grammar.proofs.FitsRule.{rule_fits, no_fault}
 
 -- a rule fits whatever other rules there are
-other_rules : (roles : List (List ℕ)) (cons : List Con) (sorts : List Sort) (old new : List Rule) (r : P.Rule) → RuleFits (plain_grammar roles cons sorts old) r → RuleFits (plain_grammar roles cons sorts new) r
+pub other_rules : (roles : List (List ℕ)) (cons : List Con) (sorts : List Sort) (old new : List Rule) (r : P.Rule) → RuleFits (plain_grammar roles cons sorts old) r → RuleFits (plain_grammar roles cons sorts new) r
 other_rules roles cons sorts old new r f = record {
   declared = f.declared;
   takes = f.takes;
@@ -56,6 +57,9 @@ well_formed_rule roles cons sorts rules r w named few absent fits =
     let longer : length (old ++ r.name ∷ []) ≤ 1024 = omega (arith, few, length-map rules (λ (u : Rule). u.name), length-append old (r.name ∷ [])) in
     record {
       roles = refl;
+      all_cons = w.all_cons;
+      all_sorts = w.all_sorts;
+      all_rules = rules_counted sorts (rules ++ r ∷ []);
       few_roles = w.few_roles;
       few_cons = w.few_cons;
       few_sorts = w.few_sorts;

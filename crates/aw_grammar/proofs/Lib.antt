@@ -1,6 +1,7 @@
 pub mod Added
 pub mod Appends
 pub mod Contents
+pub mod Counted
 pub mod Declared
 pub mod Emptying
 pub mod Entries
@@ -14,8 +15,10 @@ pub mod NoKind
 pub mod Numbering
 pub mod Numbers
 pub mod PlacedNames
+pub mod RuleSizes
 pub mod RuleTold
 pub mod SizeLemmas
+pub mod SomeRules
 pub mod Steps
 pub mod TermFits
 pub mod TermLemmas

@@ -2,21 +2,13 @@ use Rattle.std.proofs.Common.{◌≡◌, ℕ, ◌==◌, Bool, true, false, ◌&&
 use Rattle.aw_name.specs.contracts.node.SlotPartialEq.TheImpl as slot
 use Rattle.aw_name.specs.contracts.node.NodePartialEq.TheImpl as node
 use Rattle.aw_name.specs.contracts.node.RefPartialEq.TheImpl as reference
-use Rattle.std.specs.Cmp.Lexicographic.{pointwise, pointwise_decides}
+use Rattle.std.specs.Cmp.Lexicographic.{pointwise}
+use Rattle.aw_name.specs.Same.{step_eq, steps_Decide}
 use Rattle.std.proofs.lemmas.Bool.Decides.{Decides-eqb, Decides-and, Decides-like, Decides-at}
-use Rattle.aw_name.specs.declared.node.Step.{Step}
 use Rattle.aw_name.specs.declared.node.Node.{Node}
 use Rattle.aw_name.specs.declared.node.Slot.{Slot}
 use Rattle.aw_name.specs.declared.node.Slot.TheVariants.{Result, Part}
 use Rattle.aw_name.specs.declared.node.Ref.{Ref}
-
-abbrev pub step_eq : Step → Step → Bool
-step_eq a b = (a.rule == b.rule) && (a.child == b.child)
-
-pub step_Decides : (a b : Step) → Decides (step_eq a b) (a ≡ b)
-step_Decides a b =
-    Decides-like _ (λ p. λ i. record { rule = p.0 i; child = p.1 i }) (λ e. (ap (λ (s : Step). s.rule) e, ap (λ (s : Step). s.child) e))
-    (Decides-and _ _ (Decides-eqb a.rule b.rule) (Decides-eqb a.child b.child))
 
 abbrev pub node_eq : Node → Node → Bool
 node_eq a b = (a.start == b.start) && ((a.case == b.case) && pointwise step_eq a.steps b.steps)
@@ -25,7 +17,7 @@ pub node_Decides : (a b : Node) → Decides (node_eq a b) (a ≡ b)
 node_Decides a b =
     Decides-like _ (λ p. λ i. record { start = p.0 i; case = p.1.0 i; steps = p.1.1 i })
     (λ e. (ap (λ (s : Node). s.start) e, (ap (λ (s : Node). s.case) e, ap (λ (s : Node). s.steps) e)))
-    (Decides-and _ _ (Decides-eqb a.start b.start) (Decides-and _ _ (Decides-eqb a.case b.case) (pointwise_decides step_Decides a.steps b.steps)))
+    (Decides-and _ _ (Decides-eqb a.start b.start) (Decides-and _ _ (Decides-eqb a.case b.case) (steps_Decide a.steps b.steps)))
 
 abbrev pub slot_eq : Slot → Slot → Bool
 slot_eq (Result i) (Result j) = i == j

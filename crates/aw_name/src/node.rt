@@ -1,7 +1,16 @@
 ghost use Rattle.std.specs.Prelude.{◌≡◌, ◌↔◌, ◌≤◌, ◌<◌, ◌++◌, ◌∷◌, [], IsTrue, IfOk, OnOk, OnErr, ℕ, List, length, take};
+ghost use Rattle.std.specs.Hash as fed;
+ghost use Rattle.std.specs.Hash.{same_Alike};
+ghost use Rattle.std.specs.Cmp.{partial_equiv_from_equiv};
+ghost use Rattle.std.specs.Cmp.Rules.{comparing};
+ghost use Rattle.std.specs.Cmp.Lexicographic.{pointwise, lists_equiv};
+ghost use Rattle.std.proofs.Common.{rules};
+ghost use Rattle.aw_name.specs.Digest.{digest_with, digest_of};
+ghost use Rattle.aw_name.specs.Same.{step_eq, steps_Decide};
 
 use aw_list::Shared;
 use std::alloc::{AllocError, Global};
+use std::hash::{Hash, Hasher};
 use std::marker::Model;
 
 /// From a node to one of its children: the rule that developed the node, counted from 0 in the order of the specification, and
@@ -12,23 +21,77 @@ pub struct Step {
     pub child: u8,
 }
 
-/// The steps from a start node down to a node, at most 250; none for the start node itself.
-#[derive(Debug, Clone, PartialEq, Eq, PartialOrd, Ord, Hash, Drop)]
+/// The steps from a start node down to a node, at most 250; none for the start node itself. Beside them stands a number that is
+/// made of them, so that a trail is hashed at once, and trails that differ mostly do so there.
+#[derive(Debug, Clone, Drop)]
+#[derive_where(PartialOrd, Ord)]
 pub struct Trail {
     steps: Shared<Step>,
+    #[derive_where(skip(EqHashOrd))]
+    digest: u64,
 }
 
 impl Model for Trail {
-    ghost use Rattle.std.specs.Prelude.{List, ◌≤◌, length};
+    ghost use Rattle.std.specs.Prelude.{List, ◌≡◌, ◌≤◌, length};
+    ghost use Rattle.std.proofs.Common.{sym};
     ghost use Rattle.aw_name.specs.declared.node.Step.{Step};
+    ghost use Rattle.aw_name.specs.Digest.{digest_of};
 
     ghost Value = { List Step };
 
     ghost view = { λ t. t.steps };
 
-    ghost invariant = { λ t. length t.steps ≤ 250 };
+    ghost invariant = { λ t. (length t.steps ≤ 250) × (t.digest ≡ digest_of t.steps) };
 
-    ghost inverse = { λ xs. record { steps = xs } };
+    ghost inverse = { λ xs. record { steps = xs; digest = digest_of xs } };
+
+    ghost inverse_ok = { λ a h. λ i. record { steps = a.steps; digest = sym h.1 i } };
+}
+
+impl PartialEq for Trail {
+    ghost eq = { pointwise step_eq };
+
+    ghost laws = { partial_equiv_from_equiv (lists_equiv (Prim.search (comparing, rules))) };
+
+    fn eq(&self, other: &Trail) -> bool {
+        self.digest == other.digest && self.steps == other.steps
+    }
+}
+
+impl Eq for Trail {
+    ghost laws = { lists_equiv (Prim.search (comparing, rules)) };
+}
+
+impl Hash for Trail {
+    ghost hash_input = { λ steps. fed.u64 (digest_of steps) };
+
+    ghost respects_eq = { (same_Alike (λ steps. fed.u64 (digest_of steps)) steps_Decide).fed };
+
+    fn hash<H: Hasher>(&self, state: &mut H) {
+        self.digest.hash(state);
+    }
+}
+
+/// What a digest is multiplied by before a step is added.
+const DIGEST_FACTOR: u64 = 11_400_714_819_323_198_485;
+
+/// The digest where one more step follows.
+fn digest_with(digest: u64, step: Step) -> u64
+    ensures { result ≡ digest_with digest step }
+{
+    let number = u64::from(step.rule) * 256 + u64::from(step.child);
+    digest.wrapping_mul(DIGEST_FACTOR).wrapping_add(number)
+}
+
+/// The digest of steps.
+fn digest_of(steps: &[Step]) -> u64
+    ensures { result ≡ digest_of steps.now }
+{
+    let mut digest = 0;
+    for step in steps {
+        digest = digest_with(digest, *step);
+    }
+    digest
 }
 
 impl Trail {
@@ -41,6 +104,7 @@ impl Trail {
     {
         Trail {
             steps: Shared::new(alloc),
+            digest: 0,
         }
     }
 
@@ -49,8 +113,10 @@ impl Trail {
         requires { length steps.items ≤ 250 }
         ensures { IfOk result (λ t. t ≡ steps.items) }
     {
+        let digest = digest_of(&steps);
         Ok(Trail {
             steps: Shared::from_vec(steps)?,
+            digest,
         })
     }
 
@@ -77,6 +143,7 @@ impl Trail {
         ensures err { OnErr result (self.new ≡ self.old) }
     {
         self.steps.push(step)?;
+        self.digest = digest_with(self.digest, step);
         Ok(())
     }
 }

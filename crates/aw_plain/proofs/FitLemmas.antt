@@ -1,21 +1,15 @@
--- What a well-formed grammar says of the patterns of a rule and of the rows that its choices make.
-use Rattle.std.proofs.Common.{◌≡◌, ℕ, zero, suc, ◌≤◌, true, List, [], ◌∷◌, length, map, Some, slice_get, sym, ◌∙◌, refl, arith}
+-- The constructors in the patterns of a rule have few parts.
+use Rattle.std.proofs.Common.{◌≡◌, ℕ, zero, suc, ◌≤◌, true, List, [], ◌∷◌, map, Some, slice_get, refl, arith}
 use Rattle.std.proofs.Math.Logic.{∥∥₁_elim}
 use Rattle.std.proofs.Math.Bool.{Bool-set}
-use Rattle.std.proofs.Math.Nat.{ℕ_set}
-use Rattle.std.specs.Coded.{le_prop}
 use Rattle.std.proofs.lemmas.Bool.{eqb-true, le-leb, and_parts, and_from}
-use Rattle.std.proofs.lemmas.List.{length-map}
 use Rattle.aw_term.specs.Trees.{Head, Con, Num, Text, Tree, Leaf, Made, Trees, Nil, More, count, join}
-use Rattle.aw_term.specs.Rules as P
 use Rattle.aw_term.specs.Views.{pattern_of}
-use Rattle.aw_term.specs.WellFormed.{Each, all_nesting, head_fits, heads_fit, all_heads_fit, TermFits, takes_of, RuleFits, SortFits, IsWellFormed}
-use Rattle.aw_term.proofs.Joined.{shallow_join}
+use Rattle.aw_term.specs.WellFormed.{Each, head_fits, heads_fit, all_heads_fit, TermFits}
 use Rattle.aw_grammar.specs.declared.grammar.Grammar.{Grammar}
 use Rattle.aw_grammar.specs.declared.rule.Rule.{Rule}
-use Rattle.aw_grammar.specs.GrammarView.{rule_of, child_of}
-use Rattle.aw_grammar.specs.GrammarOf.{grammar_of, words_of}
-use Rattle.aw_grammar.proofs.Fits.{each_map_at}
+use Rattle.aw_grammar.specs.GrammarOf.{grammar_of}
+use Rattle.aw_grammar.proofs.RuleSizes.{rule_fits_at}
 use Rattle.aw_plain.specs.Narrow.{is_narrow, are_narrow}
 
 few_parts : (arities : List ℕ) (c n : ℕ) → Each (λ m. m ≤ 8) arities → head_fits arities (Con c) n ≡ true → n ≤ 8
@@ -42,26 +36,6 @@ terms_narrow : {A : Type 0} (arities : List ℕ) (ts : List (Tree A)) → Each (
 terms_narrow arities [] few fits = refl
 terms_narrow arities (t ∷ ts) few fits = and_from _ _ (narrow arities t few fits.0.heads) (terms_narrow arities ts few fits.1)
 
-few_taken : (roles : ℕ) (sorts : List P.Sort) (s : ℕ) → Each (SortFits roles) sorts → takes_of (slice_get sorts s) ≤ 8
-few_taken roles [] s fits = omega arith
-few_taken roles (x ∷ xs) zero fits = fits.0.few_takes
-few_taken roles (x ∷ xs) (suc s) fits = few_taken roles xs s fits.1
-
 module _ (g : Grammar) (number : ℕ) (rule : Rule) (here : slice_get g.rules number ≡ Some rule) where
-  fits : IsWellFormed (words_of g) (grammar_of g) → RuleFits (grammar_of g) (rule_of g.sorts rule)
-  fits w = each_map_at (rule_of g.sorts) (RuleFits (grammar_of g)) g.rules number rule w.rules here
-
   pub patterns_narrow : are_narrow (join (map pattern_of rule.patterns)) ≡ true
-  patterns_narrow = ∥∥₁_elim g.well_formed (Bool-set _ _) (λ w. terms_narrow (grammar_of g).arities _ w.arities (fits w).patterns)
-
-  pub patterns_shallow : all_nesting (join (map pattern_of rule.patterns)) ≤ 32
-  patterns_shallow = ∥∥₁_elim g.well_formed le_prop (λ w. shallow_join (grammar_of g).arities _ (fits w).patterns)
-
-  pub patterns_few : length rule.patterns ≤ 8
-  patterns_few = ∥∥₁_elim g.well_formed le_prop (λ w. omega (arith, (fits w).takes, length-map rule.patterns pattern_of, few_taken (grammar_of g).roles (grammar_of g).sorts rule.sort w.sorts))
-
-  pub patterns_taken : length rule.patterns ≡ takes_of (slice_get (grammar_of g).sorts rule.sort)
-  patterns_taken = ∥∥₁_elim g.well_formed (ℕ_set _ _) (λ w. sym (length-map rule.patterns pattern_of) ∙ (fits w).takes)
-
-  pub children_few : length rule.children ≤ 8
-  children_few = ∥∥₁_elim g.well_formed le_prop (λ w. omega (arith, (fits w).few_children, length-map rule.children (child_of g.sorts)))
+  patterns_narrow = ∥∥₁_elim g.well_formed (Bool-set _ _) (λ w. terms_narrow (grammar_of g).arities _ w.arities (rule_fits_at g number rule here w).patterns)

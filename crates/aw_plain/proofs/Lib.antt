@@ -13,9 +13,7 @@ pub mod ChangeLemmas
 pub mod TakenLemmas
 pub mod CaseLemmas
 pub mod TouchLemmas
-pub mod NodeOrder
+pub mod CaseOrder
 pub mod TurnLemmas
 pub mod OrderedLemmas
-pub mod RowLemmas
 pub mod FillLemmas
-pub mod OrderLemmas

@@ -17,18 +17,21 @@ use Rattle.aw_plain.specs.RowView.{plain_row, config_of}
 use Rattle.aw_plain.specs.Ordered.{IsOrdered}
 use Rattle.aw_plain.specs.Cases.{IsSameCase, case_lt, AreApart, AreOutside}
 use Rattle.aw_plain.specs.Changes.{row_after}
-use Rattle.aw_plain.proofs.NodeOrder.{node_order, case_order, before_cases, case_not_before, case_self}
-use Rattle.aw_plain.proofs.RowLemmas.{rows_far}
+use Rattle.aw_term.proofs.NodeOrder.{node_order}
+use Rattle.aw_term.proofs.StrictOrders.{before_cases}
+use Rattle.aw_term.proofs.ByNodeLemmas.{shown_far}
+use Rattle.aw_plain.proofs.CaseOrder.{case_order, case_not_before, case_self}
+use Rattle.aw_plain.proofs.OrderedLemmas.{at_row}
 use Rattle.aw_plain.proofs.CaseLemmas.{other_case, other_row}
 
 -- the rows of cases before a node's stand in front
 pub case_starts : (rows : List Row) (n : Node) → IsOrdered (config_of rows) → IsPartitionedBy (λ r. case_lt r.node n) rows
-case_starts rows n up i j d le l h = before_cases case_lt case_order n (get_or rows i d).node (get_or rows j d).node _ refl (case_not_before (get_or rows j d).node (get_or rows i d).node (rows_far rows up i j d le l)) h
+case_starts rows n up i j d le l h = before_cases case_lt case_order n (get_or rows i d).node (get_or rows j d).node _ refl (case_not_before (get_or rows j d).node (get_or rows i d).node (shown_far at_row plain_row rows up i j d le l)) h
 
 -- the rows of cases that a node's is not before stand in front
 pub case_ends : (rows : List Row) (n : Node) → IsOrdered (config_of rows) → IsPartitionedBy (λ r. not (case_lt n r.node)) rows
 case_ends rows n up i j d le l h =
-    ap not (case_order.chain n (get_or rows j d).node (get_or rows i d).node (not-true _ h) (case_not_before (get_or rows j d).node (get_or rows i d).node (rows_far rows up i j d le l)))
+    ap not (case_order.chain n (get_or rows j d).node (get_or rows i d).node (not-true _ h) (case_not_before (get_or rows j d).node (get_or rows i d).node (shown_far at_row plain_row rows up i j d le l)))
 
 module _ (lt : Node → Node → Bool) (order : IsStrictWeakOrder lt) (n : Node) where
   -- the rows before it end where those after it begin, or further in front

@@ -13,18 +13,12 @@ use Rattle.aw_base.specs.NodeNames.{Named, node_read}
 use Rattle.aw_grammar.specs.declared.grammar.Grammar.{Grammar}
 use Rattle.aw_grammar.specs.declared.rule.Sort.{Sort}
 use Rattle.aw_grammar.specs.declared.rule.Rule.{Rule}
-use Rattle.aw_printed.specs.Printed.{AreNamed, IsHeld}
+use Rattle.aw_printed.specs.Printed.{IsHeld}
 use Rattle.aw_printed.proofs.NodeProps.{named_prop}
 use Rattle.aw_printed.proofs.Reading.{node_again}
-
-all_named : (g : Grammar) → AreNamed (words_of g) (grammar_of g)
-all_named g = record {
-  sorts = length-map g.sorts (λ (s : Sort). s.name) ∙ sym (length-map g.sorts view.sort_of);
-  rules = length-map g.rules (λ (r : Rule). r.name) ∙ sym (length-map g.rules (rule_of g.sorts));
-}
 
 pub read_by_grammar : (g : Grammar) (n : Node) (text : List ℕ) → IsHeld n → is_some (sort_of (grammar_of g) n) ≡ true → text ≡ node_text (words_of g) n → node_read (words_of g) (grammar_of g) text ≡ Named n
 read_by_grammar g n text held valid e =
     ap (node_read (words_of g) (grammar_of g)) e
     ∙ ∥∥₁_elim g.well_formed (named_prop (node_read (words_of g) (grammar_of g) (node_text (words_of g) n)) n)
-    (λ formed. node_again (words_of g) (grammar_of g) n formed (all_named g) held valid)
+    (λ formed. node_again (words_of g) (grammar_of g) n formed held valid)

@@ -6,11 +6,6 @@ use Rattle.aw_term.specs.Artifacts.{Words, node_text}
 use Rattle.aw_term.specs.WellFormed.{IsWellFormed}
 use Rattle.aw_base.specs.NodeNames.{Named, node_read}
 
--- each sort and each rule has a name
-pub record AreNamed (w : Words) (g : Grammar) : Type 0 where
-  pub sorts : length w.sorts ≡ length g.sorts
-  pub rules : length w.rules ≡ length g.rules
-
 -- a node that the program can hold: its case is a 64-bit word, and it has at most 250 steps
 pub record IsHeld (n : Node) : Type 0 where
   pub case : n.case < 2 ^ 64
@@ -19,4 +14,4 @@ pub record IsHeld (n : Node) : Type 0 where
 -- the name of a valid node, once printed, names that node
 abbrev pub PrintedNodeIsRead : Type 0
 PrintedNodeIsRead =
-    (w : Words) (g : Grammar) (n : Node) → IsWellFormed w g → AreNamed w g → IsHeld n → is_some (sort_of g n) ≡ true → node_read w g (node_text w n) ≡ Named n
+    (w : Words) (g : Grammar) (n : Node) → IsWellFormed w g → IsHeld n → is_some (sort_of g n) ≡ true → node_read w g (node_text w n) ≡ Named n

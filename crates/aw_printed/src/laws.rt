@@ -11,7 +11,7 @@ use aw_base::texts::node_text;
 use aw_name::Node;
 use std::alloc::Global;
 
-/// Where names differ and each sort and each rule has one, a valid node's printed name is read as that node.
+/// In a well-formed grammar a valid node's printed name is read as that node.
 pub fn printed_node_is_read()
     ensures { PrintedNodeIsRead }
 {}

@@ -25,6 +25,9 @@ body = record { sort = 1; patterns = Leaf 0 ∷ []; params = 0; results = Leaf 0
 formed : IsWellFormed own_words own_result
 formed = record {
   roles = refl;
+  all_cons = refl;
+  all_sorts = refl;
+  all_rules = refl;
   few_roles = omega arith;
   few_cons = omega arith;
   few_sorts = omega arith;

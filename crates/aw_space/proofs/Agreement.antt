@@ -16,7 +16,7 @@ use Rattle.aw_space.proofs.OutcomesAlike.{OutLike}
 use Rattle.aw_space.proofs.Lockstep.{Lockstep, LikeStates, run_lockstep, step_lockstep, weaken, answers_agree, empty_lockstep, flat_is_substitution}
 use Rattle.aw_space.proofs.SameConfigs.{same_configuration}
 
-same_answer : (k : Map) (o : Outcome Ref Ref) (o' : Outcome Value Ref) → OutLike k o o' → answer_of o ≡ answer_of o'
+pub same_answer : (k : Map) (o : Outcome Ref Ref) (o' : Outcome Value Ref) → OutLike k o o' → answer_of o ≡ answer_of o'
 same_answer k (Refused a) (Refused b) l = l
 same_answer k Starts Starts l = refl
 same_answer k (Takes r xs) (Takes r' ts) l = refl

@@ -37,7 +37,7 @@ length-child_entries k [] = refl
 length-child_entries k (c ∷ cs) =
     omega (arith, length-append (map (λ l. Some (given k l)) (upto 1 c.outs)) (child_entries (suc k) cs), length-map (upto 1 c.outs) (λ l. Some (given k l)), length-upto 1 c.outs, length-child_entries (suc k) cs)
 
-length-entries : (r : Rule) → length (entries r) ≡ variables r
+pub length-entries : (r : Rule) → length (entries r) ≡ variables r
 length-entries r =
     omega (arith, length-append (pattern_entries 1 r.patterns) (replicate r.params None ++ child_entries 1 r.children), length-append (replicate r.params None) (child_entries 1 r.children), length-pattern_entries 1 r.patterns, length-child_entries 1 r.children, length-replicate {A = Option Occ} r.params None)
 

@@ -1,9 +1,8 @@
--- Nodes are in a strict order, and lists that keep it.
-use Rattle.std.proofs.Common.{◌≡◌, ℕ, ◌<◌, Bool, true, false, cond, List, [], ◌∷◌, refl, sym, ◌∙◌, subst, inl, inr, arith}
-use Rattle.std.specs.Prelude.{◌⊎◌, ◌&&◌, ◌||◌, nat_eq, nat_lt}
-use Rattle.std.proofs.lemmas.Bool.{eqb-true, eq-eqb, ltb-true, lt-ltb, cases_lt, or_cases, or_left, or_right, and_from, and_parts}
+-- Lists that keep the strict order of nodes.
+use Rattle.std.proofs.Common.{◌≡◌, Bool, true, false, cond, List, [], ◌∷◌, refl, sym, ◌∙◌, subst, inl, inr}
+use Rattle.std.specs.Prelude.{◌⊎◌}
 use Rattle.aw_term.specs.Trees.{Never}
-use Rattle.aw_term.specs.Names.{Step, Node, steps_lt, node_lt}
+use Rattle.aw_term.specs.Names.{node_lt}
 use Rattle.aw_term.specs.Configs.{Row, Config, insert_row}
 use Rattle.aw_iograph.specs.Graphs.{Member}
 use Rattle.aw_iograph.proofs.Members.{never}
@@ -12,87 +11,7 @@ use Rattle.aw_accept.proofs.ConfigLemmas.{Member-insert_row}
 use Rattle.aw_space.proofs.Lists.{each_of}
 use Rattle.aw_accept.proofs.Fitting.{each_member}
 use Rattle.aw_term.proofs.Eaches.{each_map}
-
-L : ℕ → ℕ → Bool → Bool
-L x y r = nat_lt x y || (nat_eq x y && r)
-
-L-true : (x y : ℕ) (r : Bool) → L x y r ≡ true → (x < y) ⊎ ((x ≡ y) × (r ≡ true))
-unfolding L
-L-true x y r e = elim (or_cases (nat_lt x y) (nat_eq x y && r) e) [ inl a ↦ inl (ltb-true x y a) | inr a ↦ (let (b, c) = and_parts (nat_eq x y) r a in inr (eqb-true x y b, c)) ]
-
-L-lt : (x y : ℕ) (r : Bool) → x < y → L x y r ≡ true
-unfolding L
-L-lt x y r h = or_left (nat_lt x y) (nat_eq x y && r) (lt-ltb x y h)
-
-L-eq : (x y : ℕ) (r : Bool) → x ≡ y → r ≡ true → L x y r ≡ true
-unfolding L
-L-eq x y r h e = or_right (nat_lt x y) (nat_eq x y && r) (and_from (nat_eq x y) r (eq-eqb x y h) e)
-
-L-no : (x : ℕ) (r : Bool) → (r ≡ true → Never) → L x x r ≡ true → Never
-L-no x r h e = elim (L-true x x r e) [ inl a ↦ absurd (omega arith) | inr a ↦ h a.1 ]
-
-L-trans : (x y z : ℕ) (r s t : Bool) → (r ≡ true → s ≡ true → t ≡ true) → L x y r ≡ true → L y z s ≡ true → L x z t ≡ true
-L-trans x y z r s t h e f =
-    elim (L-true x y r e) [
-      | inl a ↦ elim (L-true y z s f) [ inl b ↦ L-lt x z t (omega arith) | inr b ↦ L-lt x z t (omega (arith, b.0)) ]
-      | inr a ↦ elim (L-true y z s f) [ inl b ↦ L-lt x z t (omega (arith, a.0)) | inr b ↦ L-eq x z t (a.0 ∙ b.0) (h a.1 b.1) ]
-    ]
-
-L-tri : (x y : ℕ) (r s : Bool) (E : Type 0) → (r ≡ true) ⊎ (E ⊎ (s ≡ true)) → (L x y r ≡ true) ⊎ (((x ≡ y) × E) ⊎ (L y x s ≡ true))
-L-tri x y r s E h =
-    elim (cases_lt x y) [
-      | inl a ↦ inl (L-lt x y r a)
-      | inr a ↦ elim (cases_lt y x) [
-        | inl b ↦ inr (inr (L-lt y x s b))
-        | inr b ↦ (let e : x ≡ y = omega arith in
-            elim h [ inl c ↦ inl (L-eq x y r e c) | inr c ↦ elim c [ inl d ↦ inr (inl (e, d)) | inr d ↦ inr (inr (L-eq y x s (sym e) d)) ] ])
-      ]
-    ]
-
-steps-no : (xs : List Step) → steps_lt xs xs ≡ true → Never
-unfolding L
-steps-no [] e = absurd cc
-steps-no (a ∷ xs) e = L-no a.rule (L a.child a.child (steps_lt xs xs)) (L-no a.child (steps_lt xs xs) (steps-no xs)) e
-
-steps-trans : (xs ys zs : List Step) → steps_lt xs ys ≡ true → steps_lt ys zs ≡ true → steps_lt xs zs ≡ true
-unfolding L
-steps-trans [] [] zs e f = absurd cc
-steps-trans [] (b ∷ ys) [] e f = absurd cc
-steps-trans [] (b ∷ ys) (c ∷ zs) e f = refl
-steps-trans (a ∷ xs) [] zs e f = absurd cc
-steps-trans (a ∷ xs) (b ∷ ys) [] e f = absurd cc
-steps-trans (a ∷ xs) (b ∷ ys) (c ∷ zs) e f =
-    L-trans a.rule b.rule c.rule (L a.child b.child (steps_lt xs ys)) (L b.child c.child (steps_lt ys zs)) (L a.child c.child (steps_lt xs zs))
-    (L-trans a.child b.child c.child (steps_lt xs ys) (steps_lt ys zs) (steps_lt xs zs) (steps-trans xs ys zs)) e f
-
-steps-tri : (xs ys : List Step) → (steps_lt xs ys ≡ true) ⊎ ((xs ≡ ys) ⊎ (steps_lt ys xs ≡ true))
-unfolding L
-steps-tri [] [] = inr (inl refl)
-steps-tri [] (b ∷ ys) = inl refl
-steps-tri (a ∷ xs) [] = inr (inr refl)
-steps-tri (a ∷ xs) (b ∷ ys) =
-    elim (L-tri a.rule b.rule (L a.child b.child (steps_lt xs ys)) (L b.child a.child (steps_lt ys xs)) _ (L-tri a.child b.child (steps_lt xs ys) (steps_lt ys xs) (xs ≡ ys) (steps-tri xs ys))) [
-      | inl x ↦ inl x
-      | inr x ↦ elim x [ inl y ↦ inr (inl (λ i. record { rule = y.0 i; child = y.1.0 i } ∷ y.1.1 i)) | inr y ↦ inr (inr y) ]
-    ]
-
-pub node-no : (n : Node) → node_lt n n ≡ true → Never
-unfolding L
-node-no n e = L-no n.start (L n.case n.case (steps_lt n.steps n.steps)) (L-no n.case (steps_lt n.steps n.steps) (steps-no n.steps)) e
-
-pub node-trans : (a b c : Node) → node_lt a b ≡ true → node_lt b c ≡ true → node_lt a c ≡ true
-unfolding L
-node-trans a b c e f =
-    L-trans a.start b.start c.start (L a.case b.case (steps_lt a.steps b.steps)) (L b.case c.case (steps_lt b.steps c.steps)) (L a.case c.case (steps_lt a.steps c.steps))
-    (L-trans a.case b.case c.case (steps_lt a.steps b.steps) (steps_lt b.steps c.steps) (steps_lt a.steps c.steps) (steps-trans a.steps b.steps c.steps)) e f
-
-pub node-tri : (a b : Node) → (node_lt a b ≡ true) ⊎ ((a ≡ b) ⊎ (node_lt b a ≡ true))
-unfolding L
-node-tri a b =
-    elim (L-tri a.start b.start (L a.case b.case (steps_lt a.steps b.steps)) (L b.case a.case (steps_lt b.steps a.steps)) _ (L-tri a.case b.case (steps_lt a.steps b.steps) (steps_lt b.steps a.steps) (a.steps ≡ b.steps) (steps-tri a.steps b.steps))) [
-      | inl x ↦ inl x
-      | inr x ↦ elim x [ inl y ↦ inr (inl (λ i. record { start = y.0 i; case = y.1.0 i; steps = y.1.1 i })) | inr y ↦ inr (inr y) ]
-    ]
+use Rattle.aw_term.proofs.NodeOrder.{node-no, node-trans, node-tri}
 
 -- rows in order
 abbrev pub Before : Row → Row → Type 0

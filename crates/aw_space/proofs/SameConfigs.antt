@@ -22,13 +22,14 @@ use Rattle.aw_accept.proofs.UndividedRuns.{Good, decode_on, taking, held_none, r
 use Rattle.aw_space.proofs.Unfolding.{one_value}
 use Rattle.aw_space.proofs.Lockstep.{Lockstep, LikeStates, run_lockstep, step_lockstep, answers_agree, empty_lockstep}
 use Rattle.aw_space.proofs.AnyOrders.{IsFit, IsPartOf, Goes_on, any_order}
-use Rattle.aw_space.proofs.Ordering.{Before, IsInOrder, insert-in_order, same_rows, node-no}
+use Rattle.aw_term.proofs.NodeOrder.{node-no}
+use Rattle.aw_space.proofs.Ordering.{Before, IsInOrder, insert-in_order, same_rows}
 use Rattle.aw_space.proofs.Lists.{each_of}
 use Rattle.aw_term.proofs.RowParts.{done_node}
 use Rattle.aw_accept.proofs.Fitting.{each_member}
 
 module _ (k k' : Map) (more_ : (r : Ref) (b : Body) → find k r ≡ Some b → find k' r ≡ Some b) (fewer : (r : Ref) → find k r ≡ None → find k' r ≡ None) where
-  list_values : (rs : List Ref) (ts us : List Value) → AllUnfold k rs ts → AllUnfold k' rs us → ts ≡ us
+  pub list_values : (rs : List Ref) (ts us : List Value) → AllUnfold k rs ts → AllUnfold k' rs us → ts ≡ us
   list_values [] [] [] a b = refl
   list_values [] (t ∷ ts) us a b = never a
   list_values [] [] (u ∷ us) a b = never b

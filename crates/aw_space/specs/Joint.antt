@@ -1,37 +1,13 @@
 -- The joint configuration: all held nodes with the references that they inherited, and all equations.
 use Rattle.std.specs.Prelude.{ℕ, List, [], ◌∷◌, ◌++◌, map, length, Option, Some, None, slice_get, nat_eq, if◌then◌else◌, option_and_then}
-use Rattle.aw_term.specs.Names.{Node, Ref, node_eq, node_lt, root}
+use Rattle.aw_term.specs.Names.{Node, Ref, root}
 use Rattle.aw_term.specs.Rules.{Ground, Rule, Grammar}
 use Rattle.aw_term.specs.Configs.{State, Pending, Done}
+pub use Rattle.aw_term.specs.Held.{Held, insert_held, insert_all, held_of, mark}
 use Rattle.aw_term.specs.Choices.{Choice, Start, Develop, Known, NotHere, Developed, NotItsRule, Arguments, Outcome, Refused, Starts, Takes, after_guard}
 use Rattle.aw_store.specs.Equations.{Map}
 use Rattle.aw_apply.specs.Guard.{guard_all}
 use Rattle.aw_apply.specs.Made.{Call, Making, made}
-
--- a node with a reference for each inherited value
-pub record Held : Type 0 where
-  pub node : Node
-  pub sort : ℕ
-  pub inherited : List Ref
-  pub state : State
-
--- a node before the first that is after it
-abbrev pub insert_held : Held → List Held → List Held
-insert_held h [] = h ∷ []
-insert_held h (k ∷ ks) = if node_lt h.node k.node then h ∷ k ∷ ks else k ∷ insert_held h ks
-
-abbrev pub insert_all : List Held → List Held → List Held
-insert_all [] ks = ks
-insert_all (h ∷ hs) ks = insert_all hs (insert_held h ks)
-
--- the node, where it is held
-abbrev pub held_of : Node → List Held → Option Held
-held_of n [] = None
-held_of n (h ∷ hs) = if node_eq n h.node then Some h else held_of n hs
-
--- the node n takes this state, and each other stays
-abbrev pub mark : Node → State → Held → Held
-mark n s h = if node_eq n h.node then record h { state = s } else h
 
 -- the pending node of a new case
 abbrev pub root_held : ℕ → ℕ → Held
@@ -70,10 +46,14 @@ pub record Joint : Type 0 where
 abbrev pub empty_joint : Joint
 empty_joint = record { held = []; equations = [] }
 
--- what a choice leads to over the references of a joint configuration
+-- what a choice leads to over the references of these held nodes and these equations
+abbrev pub outcome_in : List Held → Map → Grammar → Choice → Outcome Ref Ref
+outcome_in held k g (Start s l) = by_root (held_of (root s l) held)
+outcome_in held k g (Develop n r args) = by_held (held_of n held) g k n r args
+
+-- what a choice leads to in a joint configuration
 abbrev pub joint_outcome : Joint → Grammar → Choice → Outcome Ref Ref
-joint_outcome w g (Start s k) = by_root (held_of (root s k) w.held)
-joint_outcome w g (Develop n r args) = by_held (held_of n w.held) g w.equations n r args
+joint_outcome w g c = outcome_in w.held w.equations g c
 
 -- a taken rule: its children are added as pending nodes, its node is done, and its equations are added
 abbrev pub add_made : Joint → Node → State → Making → Joint

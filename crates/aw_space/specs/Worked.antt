@@ -12,36 +12,42 @@ use Rattle.aw_term.specs.Artifacts.{Words}
 use Rattle.aw_space.specs.Laws.{IsAccepted}
 use Rattle.aw_space.specs.Joint.{Held, Joint, empty_joint, joint_outcome, joint_run}
 
-abbrev con : {A : Type 0} → ℕ → Tree A
+-- a constructor without parts, and with one and two
+abbrev pub con : {A : Type 0} → ℕ → Tree A
 con c = Made (Con c) Nil
 
-abbrev con1 : {A : Type 0} → ℕ → Tree A → Tree A
+abbrev pub con1 : {A : Type 0} → ℕ → Tree A → Tree A
 con1 c a = Made (Con c) (More a Nil)
 
-abbrev con2 : {A : Type 0} → ℕ → Tree A → Tree A → Tree A
+abbrev pub con2 : {A : Type 0} → ℕ → Tree A → Tree A → Tree A
 con2 c a b = Made (Con c) (More a (More b Nil))
 
-abbrev sort : ℕ → ℕ → ℕ → Bool → Sort
+-- a sort at a role, with how many values it takes and gives, and whether cases start with it
+abbrev pub sort : ℕ → ℕ → ℕ → Bool → Sort
 sort role takes gives start = record { role = role; takes = takes; gives = gives; start = start }
 
-abbrev call : ℕ → List Term → ℕ → Child
+-- a subtask of a sort, with its arguments and how many results it gives
+abbrev pub call : ℕ → List Term → ℕ → Child
 call s args outs = record { sort = s; args = args; outs = outs }
 
-abbrev rule : ℕ → List Term → ℕ → List Term → List Child → Rule
+-- a rule of a sort
+abbrev pub rule : ℕ → List Term → ℕ → List Term → List Child → Rule
 rule s patterns params results children = record { sort = s; patterns = patterns; params = params; results = results; children = children }
 
-abbrev equals : Ref → Ref → Equation
+-- one value is another
+abbrev pub equals : Ref → Ref → Equation
 equals r s = record { left = r; body = Same s }
 
-abbrev names : Ref → ℕ → List Ref → Equation
+-- a value is a constructor with these parts
+abbrev pub names : Ref → ℕ → List Ref → Equation
 names r c parts = record { left = r; body = Is (Con c) parts }
 
 -- the inherited values and the results of each node, unfolded
-abbrev values : Grammar → Joint → List (List (Option Value))
+abbrev pub values : Grammar → Joint → List (List (Option Value))
 values g w = map (λ (h : Held). map (unfold_in 9 w.equations) (h.inherited ++ map (result h.node) (upto 1 (gives g h.sort)))) w.held
 
 -- the answer to a choice after some others
-abbrev answer_after : Grammar → List Choice → Choice → Option (Answer Ref)
+abbrev pub answer_after : Grammar → List Choice → Choice → Option (Answer Ref)
 answer_after g cs x = option_map (λ (w : Joint). answer_of (joint_outcome w g x)) (joint_run g empty_joint cs)
 
 -- A test at a clinic and its laboratory.
@@ -49,7 +55,7 @@ answer_after g cs x = option_map (λ (w : Joint). answer_of (joint_outcome w g x
 --   sort visit clinic 0 1 · sort test lab 1 1 · start visit
 --   rule admit {who} : visit()<report(who, r)> = test(blood(who))<r>
 --   rule analyse {v} : test(blood(w))<found(w, v)> · rule skip : test(x)<none>
-abbrev clinic : Grammar
+abbrev pub clinic : Grammar
 clinic = record {
   roles = 2;
   arities = 1 ∷ 2 ∷ 2 ∷ 0 ∷ [];
@@ -60,19 +66,19 @@ clinic = record {
       ∷ [];
 }
 
-abbrev visit : Node
+abbrev pub visit : Node
 visit = root 0 1
 
-abbrev test : Node
+abbrev pub test : Node
 test = below visit 0 1
 
-abbrev ada : {A : Type 0} → Tree A
+abbrev pub ada : {A : Type 0} → Tree A
 ada = Made (Text (codes "Ada")) Nil
 
-abbrev seven : {A : Type 0} → Tree A
+abbrev pub seven : {A : Type 0} → Tree A
 seven = Made (Num 7) Nil
 
-abbrev clinic_choices : List Choice
+abbrev pub clinic_choices : List Choice
 clinic_choices = Start 0 1 ∷ Develop visit 0 (ada ∷ []) ∷ Develop test 1 (seven ∷ []) ∷ []
 
 -- visit#1:p1 = "Ada" · visit#1:p2 = blood(visit#1:p1) · visit#1:r1 = report(visit#1:p1, visit#1/admit.1:r1)
@@ -98,7 +104,7 @@ ClinicValues = option_map (values clinic) (joint_run clinic empty_joint clinic_c
 -- A subtask waits for the result of another.
 --   role r · con ok 0 · sort top r 0 0 · sort p r 0 1 · sort q r 1 0 · start top
 --   rule two : top()<> = p()<y> ; q(y)<> · rule make : p()<ok> · rule take : q(ok)<>
-abbrev hole_first : Grammar
+abbrev pub hole_first : Grammar
 hole_first = record {
   roles = 1;
   arities = 0 ∷ [];
@@ -106,7 +112,7 @@ hole_first = record {
   rules = rule 0 [] 0 [] (call 1 [] 1 ∷ call 2 (Leaf 0 ∷ []) 0 ∷ []) ∷ rule 1 [] 0 (con 0 ∷ []) [] ∷ rule 2 (con 0 ∷ []) 0 [] [] ∷ [];
 }
 
-abbrev top : Node
+abbrev pub top : Node
 top = root 0 1
 
 -- choose top#1/two.2 take: waits top#1/two.1:r1
@@ -127,10 +133,10 @@ own_result = record {
   rules = rule 0 [] 0 (con2 1 (Leaf 0) (Leaf 1) ∷ []) (call 1 (Leaf 1 ∷ []) 2 ∷ []) ∷ rule 1 (Leaf 0 ∷ []) 0 (Leaf 0 ∷ con 0 ∷ []) [] ∷ [];
 }
 
-abbrev fed : Node
+abbrev pub fed : Node
 fed = below top 0 1
 
-abbrev own_choices : List Choice
+abbrev pub own_choices : List Choice
 own_choices = Start 0 1 ∷ Develop top 0 [] ∷ Develop fed 1 [] ∷ []
 
 -- top#1:r1 = two(top#1/call.1:r1, top#1/call.1:r2) · top#1/call.1:r1 = top#1/call.1:r2 · top#1/call.1:r2 = ok

@@ -11,7 +11,7 @@ use Rattle.aw_store.specs.EquationView.{equation_of}
 use Rattle.aw_store.specs.NamedRefs.{has_names_of, has_names}
 use Rattle.aw_store.specs.ListStore.{lacking}
 use Rattle.aw_store.specs.declared.equation.Equation.{Equation}
-use Rattle.aw_store.proofs.RefLemmas.{ref_eq-true, ref_eq-self}
+use Rattle.aw_term.proofs.RefTests.{ref_eq-true, ref_eq-self}
 use Rattle.aw_store.proofs.NameLemmas.{has_names-push}
 
 -- Members

@@ -1,11 +1,10 @@
 -- Where a chase ends: one that ends at all does so within as many steps as there are equations, and one that goes round does so with any bound.
 use Rattle.std.proofs.Common.{◌≡◌, ℕ, zero, suc, ◌<◌, ◌≤◌, Bool, true, false, cond, List, [], ◌∷◌, length, Option, Some, None, refl, sym, ap, ◌∙◌, subst, arith}
 use Rattle.aw_term.specs.Trees.{Head}
-use Rattle.aw_term.specs.Names.{Ref}
-use Rattle.aw_store.specs.Refs.{ref_eq}
+use Rattle.aw_term.specs.Names.{Ref, ref_eq}
 use Rattle.aw_store.specs.Equations.{Body, Same, Is, Equation, Map, find}
 use Rattle.aw_store.specs.Chase.{Chased, Found, Missing, Round, chase_on, chase_in, chase, End, At_body, At_missing, as_chased, Ends, stands, lacks, follows}
-use Rattle.aw_store.proofs.RefLemmas.{ref_eq-true}
+use Rattle.aw_term.proofs.RefTests.{ref_eq-true}
 
 -- the equations of all other references
 abbrev without : Ref → Map → Map

@@ -1,4 +1,3 @@
-pub mod RefLemmas
 pub mod ChaseLemmas
 pub mod NameLemmas
 pub mod StoreLemmas

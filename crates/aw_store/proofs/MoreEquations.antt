@@ -1,11 +1,10 @@
 -- Finding in more equations than there were.
 use Rattle.std.proofs.Common.{◌≡◌, Bool, true, false, cond, List, [], ◌∷◌, ◌++◌, Option, Some, None, refl, ◌∙◌}
 use Rattle.aw_term.specs.Trees.{Never}
-use Rattle.aw_term.specs.Names.{Ref}
 use Rattle.aw_term.specs.WellFormed.{Each}
-use Rattle.aw_store.specs.Refs.{ref_eq}
+use Rattle.aw_term.specs.Names.{Ref, ref_eq}
 use Rattle.aw_store.specs.Equations.{Body, Equation, Map, find}
-use Rattle.aw_store.proofs.RefLemmas.{ref_eq-true}
+use Rattle.aw_term.proofs.RefTests.{ref_eq-true}
 
 absent_cases : (b : Bool) (r : Ref) (e : Equation) (o : Option Body) → ref_eq r e.left ≡ b → (r ≡ e.left → Never) → cond b (Some e.body) o ≡ o
 absent_cases true r e o f n = elim (n (ref_eq-true r e.left f)) [ ]

@@ -8,7 +8,7 @@ use Rattle.aw_term.specs.Names.{Ref}
 use Rattle.aw_store.specs.Refs.{ref_eq}
 use Rattle.aw_store.specs.Equations.{Equation, Map, mentions}
 use Rattle.aw_store.specs.NamedRefs.{is_named, all_named, has_names_of, has_names, with_name, IsNamedOnce, Grows}
-use Rattle.aw_store.proofs.RefLemmas.{ref_eq-self}
+use Rattle.aw_term.proofs.RefTests.{ref_eq-self}
 
 pub grows_more : (a b c : List Ref) → Grows a b → Grows b c → Grows a c
 grows_more a b c (m, e) (n, f) = (m ++ n, f ∙ ap (λ x. x ++ n) e ∙ append_assoc a m n)

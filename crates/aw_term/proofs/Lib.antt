@@ -1,5 +1,14 @@
+pub mod ByNodeLemmas
 pub mod Eaches
+pub mod GrammarTests
+pub mod HeadTests
 pub mod Joined
+pub mod LastSteps
+pub mod NodeOrder
 pub mod NodeTests
+pub mod NumbersFirst
+pub mod RefOrder
+pub mod RefTests
 pub mod RowParts
+pub mod StrictOrders
 pub mod ViewLemmas

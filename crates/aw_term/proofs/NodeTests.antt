@@ -1,5 +1,5 @@
 -- The test of nodes is exact.
-use Rattle.std.proofs.Common.{◌≡◌, true, List, [], ◌∷◌, refl, eq-eqb}
+use Rattle.std.proofs.Common.{◌≡◌, true, List, [], ◌∷◌, Decides, refl, subst, eq-eqb}
 use Rattle.std.proofs.lemmas.Bool.{eqb-true, and_parts, and_from}
 use Rattle.aw_term.specs.Names.{Step, Node, steps_eq, node_eq}
 
@@ -30,3 +30,6 @@ steps_self (x ∷ xs) = and_from _ _ (eq-eqb x.rule x.rule refl) (and_from _ _ (
 
 pub node_self : (a : Node) → node_eq a a ≡ true
 node_self a = and_from _ _ (eq-eqb a.start a.start refl) (and_from _ _ (eq-eqb a.case a.case refl) (steps_self a.steps))
+
+pub node_Decides : (a b : Node) → Decides (node_eq a b) (a ≡ b)
+node_Decides a b = (node_is a b, λ e. subst (λ n. node_eq a n ≡ true) e (node_self a))

@@ -1,6 +1,6 @@
 -- The views at a constructor with parts.
-use Rattle.std.specs.Prelude.{◌≡◌, ℕ, List, [], ◌∷◌, map}
-use Rattle.std.proofs.Common.{refl, sym, ap, ◌∙◌}
+use Rattle.std.specs.Prelude.{◌≡◌, ℕ, List, map}
+use Rattle.std.proofs.Common.{refl, ap, ◌∙◌}
 use Rattle.aw_term.specs.Trees as P
 use Rattle.aw_term.specs.Trees.{Leaf, Made, Nil, More, join}
 use Rattle.aw_term.specs.declared.term.Pattern as pattern

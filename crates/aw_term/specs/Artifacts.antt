@@ -1,11 +1,11 @@
 -- Texts: of names, references, values, answers, and of the rows of a configuration.
-use Rattle.std.specs.Prelude.{◌≡◌, ℕ, zero, suc, List, [], ◌∷◌, ◌++◌, map, codes, Option, None, Some}
+use Rattle.std.specs.Prelude.{ℕ, List, [], ◌∷◌, ◌++◌, map, codes, Option, None, Some}
 use Rattle.std.specs.Fmt.{decimal}
 use Rattle.aw_text.specs.Spelling.{quoted}
-use Rattle.aw_term.specs.Trees.{Never, Head, Con, Num, Text, Tree, Leaf, Made, Trees, Nil, More}
+use Rattle.aw_term.specs.Trees.{Head, Con, Num, Text, Tree, Leaf, Made, Trees, Nil, More}
 use Rattle.aw_term.specs.Names.{Step, Node, Slot, Result, Part, Ref}
 use Rattle.aw_term.specs.Rules.{Ground, Value, get}
-use Rattle.aw_term.specs.Configs.{State, Pending, Done, Row, Config, lift}
+use Rattle.aw_term.specs.Configs.{State, Pending, Done, Row, Config}
 use Rattle.aw_term.specs.Choices.{Answer, Known, NotHere, Developed, NotItsRule, Arguments, WaitsFor, Mismatch, CircleAt, TooDeep, Taken}
 
 -- the names that a specification declares, each list in its order

@@ -1,7 +1,8 @@
 -- Configurations: rows in the order of nodes, and what one taken choice does to them.
-use Rattle.std.specs.Prelude.{◌≡◌, ℕ, zero, suc, Bool, true, false, List, [], ◌∷◌, ◌++◌, map, length, Option, Some, None, if◌then◌else◌}
-use Rattle.aw_term.specs.Trees.{Never, Num, Leaf, Made, Nil, Tree, bind}
-use Rattle.aw_term.specs.Names.{Node, Ref, Slot, Result, Part, node_eq, node_lt, below, result}
+use Rattle.std.specs.Prelude.{ℕ, zero, suc, List, [], ◌∷◌, ◌++◌, map, length, Option, if◌then◌else◌}
+use Rattle.aw_term.specs.Trees.{Num, Leaf, Made, Nil, Tree, bind}
+use Rattle.aw_term.specs.Names.{Node, Ref, Slot, Result, Part, node_eq, below, result}
+use Rattle.aw_term.specs.ByNode.{insert_by, insert_all_by, find_by}
 use Rattle.aw_term.specs.Rules.{Term, Ground, Value, Child, Rule, get, nth, upto}
 
 pub data State : Type 0 where
@@ -53,17 +54,15 @@ child_rows n r e k (c ∷ cs) =
 
 -- a row before the first that is after it
 abbrev pub insert_row : Row → Config → Config
-insert_row r [] = r ∷ []
-insert_row r (q ∷ qs) = if node_lt r.node q.node then r ∷ q ∷ qs else q ∷ insert_row r qs
+insert_row r c = insert_by (λ (q : Row). q.node) r c
 
+-- each of some rows in turn
 abbrev pub insert_rows : List Row → Config → Config
-insert_rows [] c = c
-insert_rows (r ∷ rs) c = insert_rows rs (insert_row r c)
+insert_rows rs c = insert_all_by (λ (q : Row). q.node) rs c
 
 -- the row of a node, where it is held
 abbrev pub row_of : Node → Config → Option Row
-row_of n [] = None
-row_of n (q ∷ qs) = if node_eq n q.node then Some q else row_of n qs
+row_of n c = find_by (λ (q : Row). q.node) n c
 
 -- the row of n takes this state, and each other row stays
 abbrev pub done_row : Node → State → Row → Row

@@ -2,10 +2,13 @@ pub mod Trees
 pub mod Names
 pub mod Rules
 pub mod Matching
+pub mod ByNode
 pub mod Configs
+pub mod Held
 pub mod Choices
 pub mod Artifacts
 pub mod WellFormed
+pub mod SameGrammar
 pub mod Views
 pub mod Runs
 pub mod Worked

@@ -1,5 +1,5 @@
 -- Matching patterns: the first place in depth-first order that does not match decides.
-use Rattle.std.specs.Prelude.{◌≡◌, ℕ, zero, suc, Bool, true, false, ◌&&◌, List, [], ◌∷◌, ◌++◌, nat_eq, if◌then◌else◌}
+use Rattle.std.specs.Prelude.{ℕ, suc, ◌&&◌, List, [], ◌∷◌, ◌++◌, nat_eq, if◌then◌else◌}
 use Rattle.aw_term.specs.Trees.{Tree, Leaf, Made, Trees, Nil, More, count, head_eq}
 use Rattle.aw_term.specs.Rules.{Term}
 

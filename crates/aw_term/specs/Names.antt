@@ -1,5 +1,5 @@
 -- Names of nodes and references: whether two are one, which comes first, and what stands below a node.
-use Rattle.std.specs.Prelude.{◌≡◌, ℕ, zero, suc, Bool, true, false, ◌&&◌, ◌||◌, List, [], ◌∷◌, ◌++◌, nat_eq, nat_lt}
+use Rattle.std.specs.Prelude.{ℕ, Bool, true, false, ◌&&◌, ◌||◌, List, [], ◌∷◌, ◌++◌, nat_eq, nat_lt}
 pub use Rattle.aw_name.specs.declared.node.Step.{Step}
 pub use Rattle.aw_name.specs.declared.node.Node.{Node}
 pub use Rattle.aw_name.specs.declared.node.Slot.{Slot}
@@ -24,6 +24,27 @@ steps_lt (a ∷ xs) (b ∷ ys) = nat_lt a.rule b.rule || (nat_eq a.rule b.rule &
 -- whether a node comes before another: by start sort, case, and steps, a proper prefix first
 abbrev pub node_lt : Node → Node → Bool
 node_lt a b = nat_lt a.start b.start || (nat_eq a.start b.start && (nat_lt a.case b.case || (nat_eq a.case b.case && steps_lt a.steps b.steps)))
+
+-- whether two values of a node are one
+abbrev pub slot_eq : Slot → Slot → Bool
+slot_eq (Result i) (Result j) = nat_eq i j
+slot_eq (Part i) (Part j) = nat_eq i j
+slot_eq _ _ = false
+
+-- whether two references are one
+abbrev pub ref_eq : Ref → Ref → Bool
+ref_eq a b = node_eq a.node b.node && slot_eq a.slot b.slot
+
+-- whether a value of a node comes before another: results before parts, and then by number
+abbrev pub slot_lt : Slot → Slot → Bool
+slot_lt (Result i) (Result j) = nat_lt i j
+slot_lt (Result i) (Part j) = true
+slot_lt (Part i) (Result j) = false
+slot_lt (Part i) (Part j) = nat_lt i j
+
+-- whether a reference comes before another: by node, and then by slot
+abbrev pub ref_lt : Ref → Ref → Bool
+ref_lt a b = node_lt a.node b.node || (node_eq a.node b.node && slot_lt a.slot b.slot)
 
 -- the node that a case begins with
 abbrev pub root : ℕ → ℕ → Node

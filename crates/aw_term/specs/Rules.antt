@@ -1,5 +1,6 @@
 -- Sorts and rules, with constructors, sorts, rules and roles by their positions from 0.
-use Rattle.std.specs.Prelude.{◌≡◌, ℕ, zero, suc, ◌-◌, Bool, true, false, List, [], ◌∷◌, length, Option, Some, None, slice_get, nat_eq, nat_lt, if◌then◌else◌, option_and_then, option_map}
+use Rattle.std.specs.Prelude.{ℕ, zero, suc, Bool, List, [], ◌∷◌, Option, Some, None, slice_get, nat_eq, if◌then◌else◌, option_and_then, option_map, filter}
+use Rattle.std.specs.Option.{unwrap_or}
 use Rattle.aw_term.specs.Trees.{Never, Tree}
 use Rattle.aw_term.specs.Names.{Step, Node, Ref}
 
@@ -79,3 +80,34 @@ sort_of g n = option_and_then (λ (s : Sort). if s.start then sort_after g n.sta
 -- the role at which a node is worked on: that of its sort
 abbrev pub home_of : Grammar → Node → Option ℕ
 home_of g n = option_and_then (λ s. option_map (λ (t : Sort). t.role) (slice_get g.sorts s)) (sort_of g n)
+
+-- the sort of the child that a step names, or sort 0 where there is none
+abbrev pub sort_of_child : Grammar → Step → ℕ
+sort_of_child g step =
+    unwrap_or (option_and_then (λ (r : Rule). option_map (λ (c : Child). c.sort) (child_at r.children step.child)) (slice_get g.rules step.rule)) 0
+
+-- the last of some steps, where there is one
+abbrev pub last_step : List Step → Option Step
+last_step [] = None
+last_step (step ∷ []) = Some step
+last_step (step ∷ next ∷ steps) = last_step (next ∷ steps)
+
+-- the sort of a node by the last step of its name: that of the child that it names, or the start sort where there is no step
+abbrev pub sort_at : Grammar → Node → ℕ
+sort_at g n = unwrap_or (option_map (sort_of_child g) (last_step n.steps)) n.start
+
+abbrev pub role_or_0 : Option Sort → ℕ
+role_or_0 None = 0
+role_or_0 (Some s) = s.role
+
+-- the role of a sort, or 0 where no such sort is declared
+abbrev pub role_of : List Sort → ℕ → ℕ
+role_of sorts s = role_or_0 (slice_get sorts s)
+
+-- the role at which a node is worked on, by the last step of its name
+abbrev pub home_at : Grammar → Node → ℕ
+home_at g n = role_of g.sorts (sort_at g n)
+
+-- the grammar with those of its rules of which the test holds, in their order
+abbrev pub some_rules : (Rule → Bool) → Grammar → Grammar
+some_rules p g = record g { rules = filter p g.rules }

@@ -2,7 +2,7 @@
 use Rattle.std.specs.Prelude.{ℕ, suc, List, [], ◌∷◌, ◌++◌, length, codes, Option, None, Some, nat_eq, if◌then◌else◌}
 use Rattle.std.specs.Fmt.{decimal}
 use Rattle.aw_term.specs.Names.{Ref}
-use Rattle.aw_term.specs.Rules.{Value, Rule, Grammar, get}
+use Rattle.aw_term.specs.Rules.{Rule, Grammar, get}
 use Rattle.aw_term.specs.Matching.{match_all}
 use Rattle.aw_term.specs.Configs.{State, Pending, Done, Row, Config}
 use Rattle.aw_term.specs.Choices.{Choice, Start, Develop, Answer, Outcome, Refused, Starts, Takes, after_guard, answer, after}
@@ -35,7 +35,8 @@ artifacts w c = codes "artifacts " ++ (decimal (length c) ++ (codes "\n" ++ arti
 abbrev pub plain_text : Words → Grammar → List Choice → List ℕ
 plain_text w g xs = answer_lines w g [] xs ++ artifacts w (after_all g [] xs)
 
-abbrev pub refusal_of : Outcome Value Ref → Option (Answer Ref)
+-- the refusal that a choice leads to, over values or over references
+abbrev pub refusal_of : {A R : Type 0} → Outcome A R → Option (Answer R)
 refusal_of (Refused a) = Some a
 refusal_of Starts = None
 refusal_of (Takes rule bound) = None

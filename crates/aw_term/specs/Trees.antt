@@ -1,5 +1,5 @@
 -- Trees: one type for written terms, for arguments and for values.
-use Rattle.std.specs.Prelude.{◌≡◌, ℕ, zero, suc, Bool, true, false, ◌&&◌, List, [], ◌∷◌, nat_eq, ◌⊎◌}
+use Rattle.std.specs.Prelude.{◌≡◌, ℕ, suc, Bool, true, false, ◌&&◌, List, [], ◌∷◌, nat_eq, ◌⊎◌}
 
 -- no leaf is of this type
 pub data Never : Type 0 where

@@ -1,5 +1,5 @@
 -- The program's terms and arguments as plain trees.
-use Rattle.std.specs.Prelude.{◌≡◌, ℕ, List, [], ◌∷◌, map}
+use Rattle.std.specs.Prelude.{ℕ}
 use Rattle.aw_term.specs.Trees as P
 use Rattle.aw_term.specs.Trees.{Leaf, Made, Nil, More}
 use Rattle.aw_term.specs.Rules as R

@@ -1,8 +1,8 @@
 -- Well-formed grammars: what reading a specification makes sure of.
-use Rattle.std.specs.Prelude.{◌≡◌, ◌≢◌, ℕ, zero, suc, ◌+◌, ◌<◌, ◌≤◌, Bool, true, false, ◌&&◌, List, [], ◌∷◌, ◌++◌, map, length, max, Option, Some, None, slice_get, nat_eq, nat_lt, nat_le, option_map}
+use Rattle.std.specs.Prelude.{◌≡◌, ◌≢◌, ℕ, suc, ◌+◌, ◌<◌, ◌≤◌, Bool, true, false, ◌&&◌, List, [], ◌∷◌, ◌++◌, length, max, Option, Some, None, slice_get, nat_eq}
 use Rattle.aw_text.specs.Spelling.{is_name, is_content}
 use Rattle.aw_term.specs.Trees.{Head, Con, Num, Text, Tree, Leaf, Made, Trees, Nil, More, count}
-use Rattle.aw_term.specs.Rules.{Term, Child, Rule, Sort, Grammar, upto}
+use Rattle.aw_term.specs.Rules.{Child, Rule, Sort, Grammar, upto}
 use Rattle.aw_term.specs.Choices.{gives_of}
 use Rattle.aw_term.specs.Artifacts.{Words}
 
@@ -129,9 +129,13 @@ pub record SortFits (roles : ℕ) (s : Sort) : Type 0 where
   pub few_gives : s.gives ≤ 8
   pub start : s.start ≡ true → s.takes ≡ 0
 
--- the limits on counts, the names, and that everything written fits what is declared
+-- The limits on counts, the names, one for each declaration, and that everything written fits what is declared.
+-- What is asked of the names of variables, which a grammar does not hold, is `VariablesFit` in specs/Variables of aw_grammar.
 pub record IsWellFormed (w : Words) (g : Grammar) : Type 0 where
   pub roles : g.roles ≡ length w.roles
+  pub all_cons : length g.arities ≡ length w.cons
+  pub all_sorts : length g.sorts ≡ length w.sorts
+  pub all_rules : length g.rules ≡ length w.rules
   pub few_roles : length w.roles ≤ 64
   pub few_cons : length w.cons ≤ 1024
   pub few_sorts : length w.sorts ≤ 256

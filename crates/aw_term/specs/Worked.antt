@@ -1,6 +1,6 @@
 -- Small cases that were worked by hand, on which the definitions are tried.
 use Rattle.std.specs.Prelude.{◌≡◌, ℕ, Bool, true, false, List, [], ◌∷◌, codes}
-use Rattle.aw_term.specs.Trees.{Tree, Con, Num, Text, Leaf, Made, Trees, Nil, More}
+use Rattle.aw_term.specs.Trees.{Tree, Con, Num, Text, Leaf, Made, Nil, More}
 use Rattle.aw_term.specs.Names.{Node, root, below}
 use Rattle.aw_term.specs.Rules.{Term, Child, Rule, Sort, Grammar}
 use Rattle.aw_term.specs.Choices.{Choice, Start, Develop}

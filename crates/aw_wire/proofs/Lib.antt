@@ -7,7 +7,6 @@ pub mod GroundLaws
 pub mod ChoiceLaws
 pub mod Placing
 pub mod Adding
-pub mod Fronts
 pub mod GroundWriting
 pub mod Extending
 pub mod ReadersExtend

@@ -3,7 +3,8 @@ use Rattle.std.proofs.lemmas.Bool.Decides.{same_from_decides}
 use Rattle.aw_term.specs.Views.{head_of}
 use Rattle.aw_store.specs.NamedRefs.{body_at}
 use Rattle.aw_apply.specs.Named.{is_head}
-use Rattle.aw_apply.proofs.GuardLemmas.{nats_Decides, is_text}
+use Rattle.aw_term.proofs.HeadTests.{nats_Decides}
+use Rattle.aw_apply.proofs.GuardLemmas.{is_text}
 use Rattle.aw_apply.proofs.guarding.is_lit.Goals as goal
 
 pub returns-in-Text-lit-2 : goal.returns-in-Text-lit-2

@@ -9,7 +9,7 @@ use Rattle.aw_store.specs.EquationView.{equation_of}
 use Rattle.aw_apply.specs.MadeView.{as_child}
 use Rattle.aw_apply.specs.declared.making.Made.{Made}
 use Rattle.aw_apply.proofs.MakeLemmas.{rule_found}
-use Rattle.aw_apply.proofs.RuleLemmas.{results_few, symbols_few}
+use Rattle.aw_grammar.proofs.RuleSizes.{results_few, symbols_few}
 use Rattle.aw_apply.proofs.make.made.Goals as goal
 
 pub made_by-requires-clause-gives : goal.made_by-requires-clause-gives

@@ -3,4 +3,4 @@ use Rattle.aw_name.proofs.Equal.{node_Decides}
 use Rattle.aw_name.proofs.compare.is_same_node.Goals as goal
 
 pub returns : goal.returns
-returns c = Decides-at c.eq.result _ c.eq.ensures (node_Decides c.args.a.now c.args.b.now)
+returns c = Decides-at c.eq.result _ c.eq.ensures (node_Decides c.args.m.now c.args.n.now)

@@ -8,7 +8,8 @@ use Rattle.aw_plain.specs.Cases.{AreApart}
 use Rattle.aw_plain.specs.Changes.{row_fed, row_after, changed}
 use Rattle.aw_plain.specs.Ordered.{IsOrdered}
 use Rattle.aw_plain.proofs.ChangeLemmas.{developed}
-use Rattle.aw_plain.proofs.OrderedLemmas.{ordered_mapped, after_node}
+use Rattle.aw_term.proofs.ByNodeLemmas.{ordered_mapped}
+use Rattle.aw_plain.proofs.OrderedLemmas.{at_row, after_node}
 use Rattle.aw_plain.proofs.develop.develop.Goals as goal
 
 pub touched-places-requires-clause-apart : goal.touched-places-requires-clause-apart
@@ -48,4 +49,4 @@ add_rows-requires-clause-ordered c =
     ∙ c.in_ok-changed.ensures
     ∙ ap (λ ts. map (row_after n state (values_of ts)) (config_of c.as_slice-held.result.now)) c.as_slice-given.ensures
     ∙ ap (λ rows. map (row_after n state results) (config_of rows)) held in
-    subst IsOrdered (sym after) (ordered_mapped (row_after n state results) (after_node n state (length results) (put n results)) (config_of c.args.rows.now.items) c.requires.ordered)
+    subst IsOrdered (sym after) (ordered_mapped at_row (row_after n state results) (after_node n state (length results) (put n results)) (config_of c.args.rows.now.items) c.requires.ordered)

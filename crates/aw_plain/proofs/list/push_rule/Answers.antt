@@ -7,7 +7,8 @@ use Rattle.aw_grammar.specs.GrammarOf.{grammar_of}
 use Rattle.aw_choice.specs.ChoiceView.{item_of}
 use Rattle.aw_plain.specs.RowView.{plain_row}
 use Rattle.aw_plain.specs.TreeView.{value_of}
-use Rattle.aw_plain.proofs.FitLemmas.{patterns_narrow, patterns_shallow, patterns_few, patterns_taken}
+use Rattle.aw_grammar.proofs.RuleSizes.{patterns_shallow, patterns_few, patterns_taken}
+use Rattle.aw_plain.proofs.FitLemmas.{patterns_narrow}
 use Rattle.aw_plain.proofs.OutcomeLemmas.{found_rule, no_rule}
 use Rattle.aw_plain.proofs.ListLemmas.{plain_here, plain_past, rule_kept, rule_passed, rule_past}
 use Rattle.aw_plain.proofs.list.push_rule.Goals as goal

@@ -1,6 +1,6 @@
 use Rattle.std.proofs.Common.{ap, ◌∙◌}
 use Rattle.std.specs.Ordering.{is_lt}
-use Rattle.aw_plain.proofs.OrderLemmas.{node_before}
+use Rattle.aw_term.proofs.NodeOrder.{node_before}
 use Rattle.aw_plain.proofs.order.is_before.Goals as goal
 
 pub returns : goal.returns

@@ -10,7 +10,8 @@ use Rattle.aw_plain.specs.declared.outcome.Outcome.{Outcome}
 use Rattle.aw_plain.specs.TreeView.{value_of}
 use Rattle.aw_plain.specs.RowView.{plain_row, config_of}
 use Rattle.aw_plain.specs.Filled.{IsFilled}
-use Rattle.aw_plain.proofs.FitLemmas.{patterns_narrow, patterns_shallow, patterns_few, patterns_taken}
+use Rattle.aw_grammar.proofs.RuleSizes.{patterns_shallow, patterns_few, patterns_taken}
+use Rattle.aw_plain.proofs.FitLemmas.{patterns_narrow}
 use Rattle.aw_plain.proofs.OutcomeLemmas.{found_row, found_rule, no_rule, at_open, takable_here, found_each}
 use Rattle.aw_plain.proofs.outcome.weigh.Goals as goal
 

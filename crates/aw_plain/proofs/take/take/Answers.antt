@@ -1,5 +1,5 @@
 use Rattle.std.proofs.Common.{◌≡◌, Some, slice_get}
-use Rattle.aw_plain.proofs.FitLemmas.{children_few}
+use Rattle.aw_grammar.proofs.RuleSizes.{children_few}
 use Rattle.aw_plain.proofs.OutcomeLemmas.{of_taken}
 use Rattle.aw_plain.proofs.take.take.Goals as goal
 

@@ -1,6 +1,6 @@
 use Rattle.std.proofs.Common.{Some, refl, ap, sym, ◌∙◌}
 use Rattle.std.proofs.lemmas.Option.{slice_get_read}
-use Rattle.aw_store.proofs.RefLemmas.{ref_eq-true}
+use Rattle.aw_term.proofs.RefTests.{ref_eq-true}
 use Rattle.aw_store.proofs.names.slot_in.Goals as goal
 
 pub returns-then-is_ref : goal.returns-then-is_ref

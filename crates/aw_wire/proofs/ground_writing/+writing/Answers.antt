@@ -7,7 +7,7 @@ use Rattle.aw_term.specs.Views.{ground_of}
 use Rattle.aw_wire.specs.Grounds.{spelled_ground}
 use Rattle.aw_wire.specs.Ranges.{HeadsInRange}
 use Rattle.aw_wire.proofs.Adding.{one_more, each_at}
-use Rattle.aw_wire.proofs.Fronts.{behind, in_both}
+use Rattle.aw_list.proofs.Fronts.{behind, in_both}
 use Rattle.aw_wire.proofs.GroundWriting.{con_added}
 use Rattle.aw_wire.proofs.ground_writing.+writing.Goals as goal
 

@@ -1,0 +1,141 @@
+//! The lines that several commands write: of a choice with its answer, before the artifacts, and of the items of a worklist.
+ghost use Rattle.std.specs.Prelude.{◌≡◌, ◌++◌, codes, decimal, map, OnOk, OnErr};
+ghost use Rattle.std.specs.Io.{StartsWith};
+ghost use Rattle.aw_term.specs.Artifacts.{item_text};
+ghost use Rattle.aw_term.specs.Runs.{choice_text, answer_line, item_lines};
+ghost use Rattle.aw_choice.specs.ChoiceView.{answer_of, choice_of, item_of};
+ghost use Rattle.aw_grammar.specs.GrammarOf.{words_of};
+
+use crate::texts::{push_answer, push_item, push_node, rule_name, sort_name};
+use aw_choice::{Answer, Choice, Item};
+use aw_grammar::Grammar;
+use aw_list::Text;
+use aw_text::push_number;
+use std::alloc::AllocError;
+
+fn add_choice(text: &mut Text, g: &Grammar, choice: &Choice) -> Result<(), AllocError>
+    ensures ok { OnOk result (text.new ≡ text.old ++ choice_text (words_of g.now) (choice_of choice.now)) }
+    ensures err { OnErr result (StartsWith text.new text.old) }
+{
+    match choice {
+        Choice::Start { sort, case } => {
+            text.push_bytes(b"start ")?;
+            text.push_bytes(sort_name(g, *sort))?;
+            text.push_bytes(b" ")?;
+            push_number(text, *case)
+        }
+        Choice::Develop { node, rule, .. } => {
+            text.push_bytes(b"choose ")?;
+            push_node(text, g, node)?;
+            text.push_bytes(b" ")?;
+            text.push_bytes(rule_name(g, *rule))
+        }
+    }
+}
+
+fn add_choice_line(
+    text: &mut Text,
+    g: &Grammar,
+    choice: &Choice,
+    answer: &Answer,
+) -> Result<(), AllocError>
+    ensures ok { OnOk result (text.new ≡ text.old ++ answer_line (words_of g.now) (choice_of choice.now) (answer_of answer.now)) }
+    ensures err { OnErr result (StartsWith text.new text.old) }
+{
+    push_choice(text, g, choice)?;
+    text.push_bytes(b": ")?;
+    push_answer(text, g, answer)?;
+    text.push_bytes(b"\n")
+}
+
+fn add_artifacts_line(text: &mut Text, count: usize) -> Result<(), AllocError>
+    ensures ok { OnOk result (text.new ≡ text.old ++ (codes "artifacts " ++ (decimal count ++ codes "\n"))) }
+    ensures err { OnErr result (StartsWith text.new text.old) }
+{
+    text.push_bytes(b"artifacts ")?;
+    push_number(text, count as u64)?;
+    text.push_bytes(b"\n")
+}
+
+fn add_item_line(text: &mut Text, g: &Grammar, item: &Item) -> Result<(), AllocError>
+    ensures ok { OnOk result (text.new ≡ text.old ++ (item_text (words_of g.now) (item_of item.now) ++ codes "\n")) }
+    ensures err { OnErr result (StartsWith text.new text.old) }
+{
+    push_item(text, g, item)?;
+    text.push_bytes(b"\n")
+}
+
+fn add_item_lines(text: &mut Text, g: &Grammar, items: &[Item]) -> Result<(), AllocError>
+    ensures ok { OnOk result (text.new ≡ text.old ++ item_lines (words_of g.now) (map item_of items.now)) }
+    ensures err { OnErr result (StartsWith text.new text.old) }
+{
+    for item in items {
+        add_item_line(text, g, item)?;
+    }
+    Ok(())
+}
+
+/// Adds the text of a choice, as `start visit 1` or `choose visit#1 admit`. An error changes nothing.
+pub fn push_choice(text: &mut Text, g: &Grammar, choice: &Choice) -> Result<(), AllocError>
+    ensures ok { OnOk result (text.new ≡ text.old ++ choice_text (words_of g.now) (choice_of choice.now)) }
+    ensures err { OnErr result (text.new ≡ text.old) }
+{
+    let before = text.len();
+    match add_choice(text, g, choice) {
+        Ok(()) => Ok(()),
+        Err(failed) => {
+            text.truncate(before);
+            Err(failed)
+        }
+    }
+}
+
+/// Adds the line of a choice and its answer, as `start visit 1: taken`. An error changes nothing.
+pub fn push_choice_line(
+    text: &mut Text,
+    g: &Grammar,
+    choice: &Choice,
+    answer: &Answer,
+) -> Result<(), AllocError>
+    ensures ok { OnOk result (text.new ≡ text.old ++ answer_line (words_of g.now) (choice_of choice.now) (answer_of answer.now)) }
+    ensures err { OnErr result (text.new ≡ text.old) }
+{
+    let before = text.len();
+    match add_choice_line(text, g, choice, answer) {
+        Ok(()) => Ok(()),
+        Err(failed) => {
+            text.truncate(before);
+            Err(failed)
+        }
+    }
+}
+
+/// Adds the line that stands before so many artifacts, as `artifacts 2`. An error changes nothing.
+pub fn push_artifacts_line(text: &mut Text, count: usize) -> Result<(), AllocError>
+    ensures ok { OnOk result (text.new ≡ text.old ++ (codes "artifacts " ++ (decimal count ++ codes "\n"))) }
+    ensures err { OnErr result (text.new ≡ text.old) }
+{
+    let before = text.len();
+    match add_artifacts_line(text, count) {
+        Ok(()) => Ok(()),
+        Err(failed) => {
+            text.truncate(before);
+            Err(failed)
+        }
+    }
+}
+
+/// Adds a line for each item, as `item visit#1 admit ready`. An error changes nothing.
+pub fn push_item_lines(text: &mut Text, g: &Grammar, items: &[Item]) -> Result<(), AllocError>
+    ensures ok { OnOk result (text.new ≡ text.old ++ item_lines (words_of g.now) (map item_of items.now)) }
+    ensures err { OnErr result (text.new ≡ text.old) }
+{
+    let before = text.len();
+    match add_item_lines(text, g, items) {
+        Ok(()) => Ok(()),
+        Err(failed) => {
+            text.truncate(before);
+            Err(failed)
+        }
+    }
+}
