@@ -1,5 +1,6 @@
 pub mod Allowances
 pub mod ChildPlaces
+pub mod ValidHomes
 pub mod NamesAt
 pub mod NodeReads
 pub mod ValidNodes

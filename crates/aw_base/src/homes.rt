@@ -1,6 +1,6 @@
 //! The sort and the role of a node by the last step of its name alone, exact where the name is valid.
-ghost use Rattle.std.specs.Prelude.{◌≡◌};
-ghost use Rattle.aw_term.specs.Rules.{sort_of_child, sort_at, role_of, home_at};
+ghost use Rattle.std.specs.Prelude.{◌≡◌, true, Some, is_some};
+ghost use Rattle.aw_term.specs.Rules.{sort_of_child, sort_at, role_of, home_at, sort_of, home_of};
 ghost use Rattle.aw_grammar.specs.GrammarOf.{grammar_of};
 
 use crate::names::sort_of_child;
@@ -42,4 +42,12 @@ pub fn home_at(g: &Grammar, n: &Node) -> u16
     ensures { result ≡ home_at (grammar_of g.now) n.now }
 {
     role_of(g, sort_at(g, n))
+}
+
+/// The role at which a node is worked on, where its name is valid. Only its last step is looked at.
+pub fn home_of_valid(g: &Grammar, n: &Node) -> u16
+    requires { is_some (sort_of (grammar_of g.now) n.now) ≡ true }
+    ensures { home_of (grammar_of g.now) n.now ≡ Some result }
+{
+    home_at(g, n)
 }

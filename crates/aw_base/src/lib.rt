@@ -22,11 +22,8 @@ pub use aw_name::{
 pub use aw_term::{Expr, Ground, Grounds, Lit, Pattern, Patterns, Terms};
 pub use aw_text::{content_ok, name_ok};
 pub use choice_fits::{args_ok, choice_ok, is_start};
-<<<<<<< HEAD
+pub use homes::{home_at, home_of_valid, sort_at};
 pub use lines::{push_artifacts_line, push_choice, push_choice_line, push_item_lines};
-=======
-pub use homes::{home_at, sort_at};
->>>>>>> terms_in2
 pub use names::{child_node, home_of, ref_ok, sort_of};
 pub use read_node::{NameFault, parse_node};
 pub use texts::{

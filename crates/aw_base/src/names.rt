@@ -1,5 +1,5 @@
 //! Which names of nodes and references are valid, where a node is worked on, and the nodes of a rule's children.
-ghost use Rattle.std.specs.Prelude.{◌≡◌, ◌<◌, List, length, map, option_map, IfOk};
+ghost use Rattle.std.specs.Prelude.{◌≡◌, ◌<◌, List, length, map, is_some, option_map, slice_get, IfOk};
 ghost use Rattle.aw_term.specs.Names.{below};
 ghost use Rattle.aw_term.specs.Rules.{child_at, sort_of_step, sort_after, sort_of, home_of};
 ghost use Rattle.aw_grammar.specs.GrammarView.{child_of};
@@ -68,13 +68,21 @@ pub fn child_node(node: &Node, rule: u16, child: u8) -> Result<Node, AllocError>
     Ok(below)
 }
 
-/// The role at which a node is worked on; `None` exactly where its name is not valid.
-pub fn home_of(g: &Grammar, n: &Node) -> Option<u16>
-    ensures { result ≡ home_of (grammar_of g.now) n.now }
+/// The role of a sort, where it is declared.
+fn role_of_sort(g: &Grammar, sort: u16) -> Option<u16>
+    ensures { result ≡ option_map (λ s. s.role) (slice_get (grammar_of g.now).sorts sort) }
 {
-    let sort = sort_of(g, n)?;
     let sort = g.sort(sort)?;
     Some(sort.role)
+}
+
+/// The role at which a node is worked on; `None` exactly where its name is not valid.
+pub fn home_of(g: &Grammar, n: &Node) -> Option<u16>
+    ensures value { result ≡ home_of (grammar_of g.now) n.now }
+    ensures exact { is_some result ≡ is_some (sort_of (grammar_of g.now) n.now) }
+{
+    let sort = sort_of(g, n)?;
+    role_of_sort(g, sort)
 }
 
 fn slot_ok(g: &Grammar, sort: u16, slot: Slot) -> bool
