@@ -6,3 +6,4 @@ pub mod MadeByRules
 pub mod Numbering
 pub mod MadeFits
 pub mod MadeCalls
+pub mod TellLemmas

@@ -1,11 +1,11 @@
 -- Slots and the references that they name.
-use Rattle.std.proofs.Common.{◌≡◌, ℕ, zero, suc, ◌+◌, ◌<◌, ◌≤◌, true, List, [], ◌∷◌, ◌++◌, length, map, take, get_or, Option, Some, None, slice_get, refl, ap, sym, ◌∙◌, subst, arith}
-use Rattle.std.specs.Prelude.{All, option_map, option_and_then}
+use Rattle.std.proofs.Common.{◌≡◌, ℕ, zero, suc, ◌+◌, ◌<◌, ◌≤◌, true, List, [], ◌∷◌, ◌++◌, length, map, take, get_or, Some, slice_get, refl, ap, sym, ◌∙◌, arith}
+use Rattle.std.specs.Prelude.{All}
 use Rattle.std.proofs.lemmas.Bool.{and_from}
 use Rattle.std.proofs.lemmas.List.{take_more, take_all, map-append}
 use Rattle.std.proofs.lemmas.Option.{slice_get_within, get_or_from_slice_get}
 use Rattle.aw_term.specs.Names.{Ref}
-use Rattle.aw_store.specs.NamedRefs.{names_at, AreNamed, is_named, all_named, Grows}
+use Rattle.aw_store.specs.NamedRefs.{names_at, AreNamed, all_named, Grows}
 use Rattle.aw_store.proofs.NameLemmas.{is_named-at}
 
 -- a slot keeps its name where more names come
@@ -48,19 +48,19 @@ AreNamed-all names (s ∷ slots) (r ∷ rs) e =
     let there : AreNamed names slots rs = cc in
     and_from _ _ (is_named-at names s r here) (AreNamed-all names slots rs there)
 
+pub same_somes : {A : Type 0} (xs ys : List A) → map Some xs ≡ map Some ys → xs ≡ ys
+same_somes [] [] e = refl
+same_somes [] (y ∷ ys) e = absurd cc
+same_somes (x ∷ xs) [] e = absurd cc
+same_somes (x ∷ xs) (y ∷ ys) e =
+    let here : x ≡ y = cc in
+    let rest : map Some xs ≡ map Some ys = cc in
+    let there = same_somes xs ys rest in
+    λ i. here i ∷ there i
+
 -- slots name one list of references
 pub AreNamed-one : (names : List Ref) (slots : List ℕ) (rs ts : List Ref) → AreNamed names slots rs → AreNamed names slots ts → rs ≡ ts
-AreNamed-one names slots rs ts e f = somes rs ts (sym e ∙ f)
-  where
-    somes : (xs ys : List Ref) → map Some xs ≡ map Some ys → xs ≡ ys
-    somes [] [] g = refl
-    somes [] (y ∷ ys) g = absurd cc
-    somes (x ∷ xs) [] g = absurd cc
-    somes (x ∷ xs) (y ∷ ys) g =
-        let here : x ≡ y = cc in
-        let rest : map Some xs ≡ map Some ys = cc in
-        let there = somes xs ys rest in
-        λ i. here i ∷ there i
+AreNamed-one names slots rs ts e f = same_somes rs ts (sym e ∙ f)
 
 -- one slot more
 pub named_push : (names : List Ref) (slots : List ℕ) (rs : List Ref) (s : ℕ) (r : Ref) → AreNamed names slots rs → slice_get names s ≡ Some r → AreNamed names (slots ++ s ∷ []) (rs ++ r ∷ [])
