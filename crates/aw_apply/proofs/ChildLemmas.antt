@@ -10,8 +10,9 @@ use Rattle.aw_term.proofs.Joined.{upto_end}
 use Rattle.aw_grammar.specs.declared.rule.Sort.{Sort}
 use Rattle.aw_grammar.specs.declared.rule.Child.{Child}
 use Rattle.aw_grammar.specs.GrammarView.{child_of}
+use Rattle.aw_store.specs.Equations.{Equation}
 use Rattle.aw_apply.specs.Made.{Laid, lay_list, lay_children}
-use Rattle.aw_apply.specs.MadeView.{with_one, as_children}
+use Rattle.aw_apply.specs.MadeView.{with_one, as_children, laid_behind}
 use Rattle.aw_apply.specs.declared.making.MadeChild.{MadeChild}
 use Rattle.aw_apply.proofs.LayLemmas.{joined, before, joined-one, lay_list-next}
 
@@ -35,6 +36,16 @@ symbols_apart s t (c ∷ cs) = ap (λ m. symbols_of (map term_of c.args) + m) (s
 -- a child whose inherited values were laid down
 abbrev pub child_at : Node → Laid (List Ref) → Laid MadeChild
 child_at n l = record { roots = record { node = n; inherited = l.roots }; equations = l.equations; next = l.next }
+
+-- one more child
+pub one_called : (old new : List Equation) (cs ds : List MadeChild) (k m : ℕ) (node low : Node) (roots : List Ref) (next : ℕ) (l : Laid (List Ref)) → node ≡ low → record { roots = roots; equations = new; next = next } ≡ laid_behind old l →
+    ds ≡ cs ++ record { node = node; inherited = roots } ∷ [] → m ≡ next → record { roots = ds; equations = new; next = m } ≡ with_one (record { roots = cs; equations = old; next = k }) (child_at low l)
+one_called old new cs ds k m node low roots next l en el ed em =
+    λ i. record {
+      roots = (ed ∙ ap (λ z. cs ++ record { node = z; inherited = roots } ∷ []) en ∙ ap (λ (z : Laid (List Ref)). cs ++ record { node = low; inherited = z.roots } ∷ []) el) i;
+      equations = (el i).equations;
+      next = (em ∙ ap (λ (z : Laid (List Ref)). z.next) el) i;
+    }
 
 abbrev values_at : Node → (ℕ → Ref) → ℕ → Child → Laid (List Ref)
 values_at n f k c = lay_list n f k (map term_of c.args)

@@ -1,5 +1,6 @@
 -- Laying down one thing after the other.
 use Rattle.std.proofs.Common.{◌≡◌, ℕ, zero, suc, ◌+◌, ◌<◌, ◌≤◌, List, [], ◌∷◌, ◌++◌, length, map, drop, get_or, refl, ap, sym, ◌∙◌, arith, append_assoc}
+use Rattle.std.proofs.Math.ListN.{set}
 use Rattle.std.proofs.lemmas.List.{at_drop_more}
 use Rattle.aw_term.specs.Trees as P
 use Rattle.aw_term.specs.Trees.{Head, Tree, Leaf, Made, Trees, Nil, More, join}
@@ -12,8 +13,11 @@ use Rattle.aw_term.specs.declared.ground.Ground as grounds
 use Rattle.aw_term.proofs.Joined.{symbols_join}
 use Rattle.aw_term.proofs.ViewLemmas.{ground_con, term_con}
 use Rattle.aw_store.specs.Equations.{Body, Is, Equation}
+use Rattle.aw_store.specs.EquationView.{body_of, equation_of}
+use Rattle.aw_store.specs.declared.equation.Equation as declared_equation
+use Rattle.aw_store.specs.declared.equation.Body as declared_body
 use Rattle.aw_apply.specs.Made.{Laid, lay, lays, lay_list}
-use Rattle.aw_apply.specs.MadeView.{with_one}
+use Rattle.aw_apply.specs.MadeView.{with_one, laid_behind, with_body}
 
 -- these, and then those
 abbrev pub joined : {A : Type 0} → Laid (List A) → Laid (List A) → Laid (List A)
@@ -84,6 +88,47 @@ symbol_laid n f k h body ts all t ea eb et =
     ap (λ b. head_over n k b all.equations all.next) eb
     ∙ ap (λ (a : Laid (List Ref)). head_over n k (Is h a.roots) a.equations a.next) same
     ∙ ap (lay n f k) (sym et)
+
+-- a body that is written at a place, through the view
+pub body_set : (es : List declared_equation.Equation) (i : ℕ) (d : declared_equation.Equation) (b : declared_body.Body) → i < length es → map equation_of (set es i (record { left = (get_or es i d).left; body = b })) ≡ with_body i (body_of b) (map equation_of es)
+body_set [] i d b l = absurd (omega (arith, l))
+body_set (e ∷ es) zero d b l = refl
+body_set (e ∷ es) (suc i) d b l = ap (λ z. equation_of e ∷ z) (body_set es i d b (omega (arith, l)))
+
+-- the body is written behind what stood before it
+body_written : (old : List Equation) (e : Equation) (b : Body) (es : List Equation) → with_body (length old) b (old ++ e ∷ es) ≡ old ++ record { left = e.left; body = b } ∷ es
+body_written [] e b es = refl
+body_written (x ∷ old) e b es = ap (λ z. x ∷ z) (body_written old e b es)
+
+-- a place was kept, the parts were laid down behind it, and then the body was written
+pub written : (old mid new : List Equation) (at : ℕ) (e : Equation) (b : Body) (parts : List Equation) → at ≡ length old → mid ≡ old ++ e ∷ [] → new ≡ with_body at b (mid ++ parts) → new ≡ old ++ record { left = e.left; body = b } ∷ parts
+written old mid new at e b parts ea em en =
+    en
+    ∙ ap (λ i. with_body i b (mid ++ parts)) ea
+    ∙ ap (with_body (length old) b) (ap (λ z. z ++ parts) em ∙ append_assoc old (e ∷ []) parts)
+    ∙ body_written old e b parts
+
+pub con_laid : {L : Type 0} (n : Node) (f : L → Ref) (k : ℕ) (h : Head) (ts : List (Tree L)) (t : Tree L) (old mid new : List Equation) (at : ℕ) (left root : Ref) (place : Body) (all : Laid (List Ref)) →
+    at ≡ length old → mid ≡ old ++ record { left = left; body = place } ∷ [] → all ≡ laid_behind mid (lay_list n f (k + 1) ts) → new ≡ with_body at (Is h all.roots) all.equations → left ≡ root → root ≡ part n k → t ≡ Made h (join ts) →
+    record { roots = root; equations = new; next = all.next } ≡ laid_behind old (lay n f k t)
+con_laid n f k h ts t old mid new at left root place all ea em el en es er et =
+    let l = lay_list n f (k + 1) ts in
+    let w = written old mid new at (record { left = left; body = place }) (Is h l.roots) l.equations ea em (en ∙ ap (λ (z : Laid (List Ref)). with_body at (Is h z.roots) z.equations) el) in
+    let p = er in
+    let q = es ∙ er in
+    let whole : record { roots = root; equations = new; next = all.next } ≡ laid_behind old (head_over n k (Is h l.roots) l.equations l.next) =
+    λ i. record { roots = p i; equations = (w ∙ ap (λ r. old ++ record { left = r; body = Is h l.roots } ∷ l.equations) q) i; next = (el i).next } in
+    whole ∙ ap (laid_behind old) (symbol_laid n f k h (Is h l.roots) ts l t refl refl et)
+
+-- one more root
+pub one_more : (old new : List Equation) (rs ss : List Ref) (k m : ℕ) (r : Ref) (next : ℕ) (one : Laid Ref) → record { roots = r; equations = new; next = next } ≡ laid_behind old one → ss ≡ rs ++ r ∷ [] → m ≡ next →
+    record { roots = ss; equations = new; next = m } ≡ with_one (record { roots = rs; equations = old; next = k }) one
+one_more old new rs ss k m r next one e er en =
+    λ i. record {
+      roots = (er ∙ ap (λ (z : Laid Ref). rs ++ z.roots ∷ []) e) i;
+      equations = (e i).equations;
+      next = (en ∙ ap (λ (z : Laid Ref). z.next) e) i;
+    }
 
 pub ground_term : (qs ps : List grounds.Ground) (g : grounds.Ground) (c : ℕ) → qs ≡ ps → g ≡ grounds.Con c ps → ground_of g ≡ Made (P.Con c) (join (map ground_of qs))
 ground_term qs ps g c e i = ap ground_of i ∙ ground_con c ps ∙ ap (λ zs. Made (P.Con c) (join (map ground_of zs))) (sym e)

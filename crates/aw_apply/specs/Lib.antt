@@ -3,3 +3,4 @@ pub mod Made
 pub mod Named
 pub mod GuardView
 pub mod MadeView
+pub mod Telling

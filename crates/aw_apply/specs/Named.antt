@@ -1,17 +1,10 @@
 -- Slots and the references that they name.
-use Rattle.std.specs.Prelude.{◌≡◌, ℕ, Bool, false, ◌&&◌, List, ◌++◌, map, length, Option, Some, slice_get, nat_eq}
+use Rattle.std.specs.Prelude.{ℕ, Bool, false, ◌&&◌, List, ◌++◌, map, length, Option, Some, nat_eq}
 use Rattle.aw_term.specs.Trees.{Head, head_eq}
 use Rattle.aw_term.specs.Names.{Ref}
 use Rattle.aw_term.specs.Matching.{Matched, Yes, Waits, Differs, Circle}
 use Rattle.aw_store.specs.Equations.{Body, Is}
-
--- what these slots name
-abbrev pub names_at : List Ref → List ℕ → List (Option Ref)
-names_at names slots = map (slice_get names) slots
-
--- these slots name these references
-abbrev pub AreNamed : List Ref → List ℕ → List Ref → Type 0
-AreNamed names slots rs = names_at names slots ≡ map Some rs
+pub use Rattle.aw_store.specs.NamedRefs.{names_at, AreNamed}
 
 -- a match of references, as one of what slots name
 abbrev pub as_named : Matched Ref Ref → Matched (Option Ref) (Option Ref)

@@ -8,14 +8,13 @@ ghost use Rattle.aw_grammar.specs.declared.rule.Sort.{Sort as SortValue};
 ghost use Rattle.aw_store.specs.EquationView.{equation_of};
 ghost use Rattle.aw_grammar.specs.GrammarView.{child_of};
 ghost use Rattle.aw_apply.specs.Made.{lay_list, lay_children as plain_children, child_refs as plain_refs, no_ref};
-ghost use Rattle.aw_apply.specs.MadeView.{as_children, called_of, with_one};
+ghost use Rattle.aw_apply.specs.MadeView.{as_children, called_of, laid_behind};
 
-use crate::laid::{LaidAll, append, lay_terms};
+use crate::laid::{LaidAll, lay_terms};
 use crate::making::MadeChild;
 use aw_base::{Child, Grammar, child_node};
-use aw_list::Items;
 use aw_name::{Node, Ref, Slot, copy_node};
-use aw_store::Equation;
+use aw_store::{Equation, Refs};
 use std::alloc::{AllocError, Global};
 
 /// Adds the first results of a node.
@@ -65,38 +64,33 @@ pub fn push_children_results(
     Ok(())
 }
 
-/// Children that were laid down one after the other.
+/// Children whose inherited values were laid down one after the other, and the next part number.
 #[derive(Debug, Drop)]
 pub struct Called {
     pub children: Vec<MadeChild>,
-    pub equations: Vec<Equation>,
     pub next: u16,
 }
 
 impl Called {
     /// Nothing yet; the next part has this number.
     fn new(alloc: Global, next: u16) -> Called
-        ensures { called_of result ≡ record { roots = []; equations = []; next = next } }
+        ensures children { result.children.items ≡ [] }
+        ensures next { result.next ≡ next }
     {
         Called {
             children: Vec::new(alloc),
-            equations: Vec::new(alloc),
             next,
         }
     }
 
     /// One more child, whose inherited values were laid down.
     fn add(&mut self, node: Node, inherited: LaidAll) -> Result<(), AllocError>
-        ensures { OnOk result (called_of self.new ≡ with_one (called_of self.old) (record { roots = record { node = node; inherited = inherited.roots.items }; equations = map equation_of inherited.equations.items; next = inherited.next })) }
+        ensures children { OnOk result (self.new.children.items ≡ self.old.children.items ++ record { node = node; inherited = inherited.roots.items } ∷ []) }
+        ensures next { OnOk result (self.new.next ≡ inherited.next) }
     {
-        let LaidAll {
-            roots,
-            equations,
-            next,
-        } = inherited;
-        let inherited = Items::from_vec(roots);
+        let LaidAll { roots, next } = inherited;
+        let inherited = Refs::from_vec(roots)?;
         self.children.push(MadeChild { node, inherited })?;
-        append(&mut self.equations, equations)?;
         self.next = next;
         Ok(())
     }
@@ -105,6 +99,7 @@ impl Called {
 /// The children of a rule with their inherited references, from part k on.
 pub fn lay_children(
     alloc: Global,
+    equations: &mut Vec<Equation>,
     node: &Node,
     rule: u16,
     refs: &[Ref],
@@ -114,14 +109,15 @@ pub fn lay_children(
     requires few { length children.now ≤ 8 }
     requires room { 0 < length children.now → length node.now.steps < 250 }
     requires parts { (sorts : List SortValue) → k + child_symbols (map (child_of sorts) children.now) ≤ 65535 }
-    ensures { IfOk result (λ c. (sorts : List SortValue) → called_of c ≡ as_children (plain_children node.now rule (get (no_ref node.now) refs.now) 1 k (map (child_of sorts) children.now))) }
+    ensures { IfOk result (λ c. (sorts : List SortValue) → called_of (map equation_of equations.new.items) c ≡ laid_behind (map equation_of equations.old.items) (as_children (plain_children node.now rule (get (no_ref node.now) refs.now) 1 k (map (child_of sorts) children.now)))) }
 {
     let mut called = Called::new(alloc, k);
     for i in 0..children.len() {
         let below = child_node(node, rule, i as u8 + 1)?;
         let next = called.next;
         let args = children[i].args.as_slice();
-        called.add(below, lay_terms(alloc, node, refs, next, args)?)?;
+        let inherited = lay_terms(alloc, equations, node, refs, next, args)?;
+        called.add(below, inherited)?;
     }
     Ok(called)
 }

@@ -1,5 +1,6 @@
-//! Terms and arguments laid down as equations of parts, each symbol before its parts.
-ghost use Rattle.std.specs.Prelude.{◌≡◌, ◌≤◌, ◌+◌, ◌++◌, ◌∷◌, [], IfOk, OnOk, map};
+//! Terms and arguments laid down as equations of parts behind those that stand, each symbol before its parts.
+ghost use Rattle.std.specs.Prelude.{◌≡◌, ◌≤◌, ◌<◌, ◌+◌, ◌++◌, ◌∷◌, [], IfOk, OnOk, length, map};
+ghost use Rattle.aw_term.specs.Trees.{Con};
 ghost use Rattle.aw_term.specs.Names.{part};
 ghost use Rattle.aw_term.specs.Rules.{get};
 ghost use Rattle.aw_term.specs.WellFormed.{symbols, symbols_of};
@@ -7,65 +8,50 @@ ghost use Rattle.aw_term.specs.Views.{head_of, ground_of, term_of};
 ghost use Rattle.aw_store.specs.Equations.{Is};
 ghost use Rattle.aw_store.specs.EquationView.{body_of, equation_of};
 ghost use Rattle.aw_apply.specs.Made.{lay, lay_list, no_ref};
-ghost use Rattle.aw_apply.specs.MadeView.{one_of, all_of, with_one};
+ghost use Rattle.aw_apply.specs.MadeView.{one_of, all_of, laid_behind, with_body};
 
 use aw_base::{Expr, Ground, Lit};
-use aw_list::{Items, Text};
+use aw_list::Text;
 use aw_name::{Node, Ref, Slot, copy_node, copy_ref};
-use aw_store::{Body, Equation};
+use aw_store::{Body, Equation, Refs};
 use std::alloc::{AllocError, Global};
 
-/// Something that was laid down: the reference that stands for it, its equations, and the next part number.
+/// The reference that stands for something that was laid down, and the next part number.
 #[derive(Debug, Drop)]
 pub struct LaidOne {
     pub root: Ref,
-    pub equations: Vec<Equation>,
     pub next: u16,
 }
 
-/// Several things that were laid down one after the other.
+/// The references that stand for several things that were laid down one after the other, and the next part number.
 #[derive(Debug, Drop)]
 pub struct LaidAll {
     pub roots: Vec<Ref>,
-    pub equations: Vec<Equation>,
     pub next: u16,
 }
 
 impl LaidAll {
     /// Nothing yet; the next part has this number.
     fn new(alloc: Global, next: u16) -> LaidAll
-        ensures { all_of result ≡ record { roots = []; equations = []; next = next } }
+        ensures roots { result.roots.items ≡ [] }
+        ensures next { result.next ≡ next }
     {
         LaidAll {
             roots: Vec::new(alloc),
-            equations: Vec::new(alloc),
             next,
         }
     }
 
-    /// One more behind the others.
+    /// One more.
     fn add(&mut self, one: LaidOne) -> Result<(), AllocError>
-        ensures { OnOk result (all_of self.new ≡ with_one (all_of self.old) (one_of one)) }
+        ensures roots { OnOk result (self.new.roots.items ≡ self.old.roots.items ++ one.root ∷ []) }
+        ensures next { OnOk result (self.new.next ≡ one.next) }
     {
-        let LaidOne {
-            root,
-            equations,
-            next,
-        } = one;
+        let LaidOne { root, next } = one;
         self.roots.push(root)?;
-        append(&mut self.equations, equations)?;
         self.next = next;
         Ok(())
     }
-}
-
-/// Adds equations at the end.
-pub fn append(equations: &mut Vec<Equation>, more: Vec<Equation>) -> Result<(), AllocError>
-    ensures { OnOk result (map equation_of equations.new.items ≡ map equation_of equations.old.items ++ map equation_of more.items) }
-{
-    let mut more = more;
-    equations.append(&mut more)?;
-    Ok(())
 }
 
 /// Part k of a node.
@@ -78,37 +64,60 @@ fn part_of(node: &Node, k: u16) -> Result<Ref, AllocError>
     })
 }
 
-/// An equation, and then the equations of its parts.
-pub fn headed(
-    alloc: Global,
-    left: Ref,
-    body: Body,
-    parts: Vec<Equation>,
-) -> Result<Vec<Equation>, AllocError>
-    ensures { IfOk result (λ es. map equation_of es.items ≡ record { left = left; body = body_of body } ∷ map equation_of parts.items) }
+/// Adds an equation at the end.
+pub fn add_equation(equations: &mut Vec<Equation>, left: Ref, body: Body) -> Result<(), AllocError>
+    ensures { OnOk result (map equation_of equations.new.items ≡ map equation_of equations.old.items ++ record { left = left; body = body_of body } ∷ []) }
 {
-    let mut equations = Vec::new(alloc);
     equations.push(Equation { left, body })?;
-    append(&mut equations, parts)?;
-    Ok(equations)
+    Ok(())
 }
 
-/// A symbol as part k, behind which the equations of its parts stand.
-fn lay_symbol(
-    alloc: Global,
+/// Adds an equation at the end whose body is written later, and tells its place.
+pub fn add_place(equations: &mut Vec<Equation>, left: Ref) -> Result<usize, AllocError>
+    ensures place { IfOk result (λ at. at ≡ length equations.old.items) }
+    ensures equations { OnOk result (map equation_of equations.new.items ≡ map equation_of equations.old.items ++ record { left = left; body = body_of (Body.Num 0) } ∷ []) }
+{
+    let at = equations.len();
+    add_equation(equations, left, Body::Num(0))?;
+    Ok(at)
+}
+
+/// Writes the body of the equation at a place.
+fn write_body(equations: &mut [Equation], at: usize, body: Body)
+    requires { at < length equations.old }
+    ensures { map equation_of equations.new ≡ with_body at (body_of body) (map equation_of equations.old) }
+{
+    equations[at].body = body;
+}
+
+/// Writes a constructor over these parts at a place.
+pub fn write_con(
+    equations: &mut Vec<Equation>,
+    at: usize,
+    con: u16,
+    roots: Vec<Ref>,
+) -> Result<(), AllocError>
+    requires { at < length equations.old.items }
+    ensures { OnOk result (map equation_of equations.new.items ≡ with_body at (Is (Con con) roots.items) (map equation_of equations.old.items)) }
+{
+    let parts = Refs::from_vec(roots)?;
+    write_body(equations.as_mut_slice(), at, Body::Con(con, parts));
+    Ok(())
+}
+
+/// A symbol without parts, as part k.
+fn lay_lone(
+    equations: &mut Vec<Equation>,
     node: &Node,
     k: u16,
     body: Body,
-    parts: Vec<Equation>,
-    next: u16,
 ) -> Result<LaidOne, AllocError>
-    ensures { IfOk result (λ l. one_of l ≡ record { roots = part node.now k; equations = record { left = part node.now k; body = body_of body } ∷ map equation_of parts.items; next = next }) }
+    requires { k < 65535 }
+    ensures { IfOk result (λ l. one_of (map equation_of equations.new.items) l ≡ laid_behind (map equation_of equations.old.items) (record { roots = part node.now k; equations = record { left = part node.now k; body = body_of body } ∷ []; next = k + 1 })) }
 {
-    Ok(LaidOne {
-        root: part_of(node, k)?,
-        equations: headed(alloc, part_of(node, k)?, body, parts)?,
-        next,
-    })
+    let root = part_of(node, k)?;
+    add_equation(equations, copy_ref(&root)?, body)?;
+    Ok(LaidOne { root, next: k + 1 })
 }
 
 /// A number or a text as a body.
@@ -123,25 +132,29 @@ pub fn lit_body(alloc: Global, lit: &Lit) -> Result<Body, AllocError>
 
 /// An argument from part k on.
 #[cycle(lay_ground)]
-fn lay_ground(alloc: Global, node: &Node, k: u16, ground: &Ground) -> Result<LaidOne, AllocError>
+fn lay_ground(
+    alloc: Global,
+    equations: &mut Vec<Equation>,
+    node: &Node,
+    k: u16,
+    ground: &Ground,
+) -> Result<LaidOne, AllocError>
     requires { k + symbols (ground_of ground.now) ≤ 65535 }
-    ensures { IfOk result (λ l. one_of l ≡ lay node.now (λ x. elim x [ ]) k (ground_of ground.now)) }
+    ensures { IfOk result (λ l. one_of (map equation_of equations.new.items) l ≡ laid_behind (map equation_of equations.old.items) (lay node.now (λ x. elim x [ ]) k (ground_of ground.now))) }
 {
     match ground {
-        Ground::Num(n) => lay_symbol(alloc, node, k, Body::Num(*n), Vec::new(alloc), k + 1),
+        Ground::Num(n) => lay_lone(equations, node, k, Body::Num(*n)),
         Ground::Text(t) => {
             let text = Text::from_bytes(alloc, t.as_slice())?;
-            lay_symbol(alloc, node, k, Body::Text(text), Vec::new(alloc), k + 1)
+            lay_lone(equations, node, k, Body::Text(text))
         }
         Ground::Con(c, parts) => {
-            let all = lay_grounds(alloc, node, k + 1, parts.as_slice())?;
-            let LaidAll {
-                roots,
-                equations,
-                next,
-            } = all;
-            let body = Body::Con(*c, Items::from_vec(roots));
-            lay_symbol(alloc, node, k, body, equations, next)
+            let root = part_of(node, k)?;
+            let at = add_place(equations, copy_ref(&root)?)?;
+            let all = lay_grounds(alloc, equations, node, k + 1, parts.as_slice())?;
+            let LaidAll { roots, next } = all;
+            write_con(equations, at, *c, roots)?;
+            Ok(LaidOne { root, next })
         }
     }
 }
@@ -150,17 +163,18 @@ fn lay_ground(alloc: Global, node: &Node, k: u16, ground: &Ground) -> Result<Lai
 #[cycle(lay_ground)]
 pub fn lay_grounds(
     alloc: Global,
+    equations: &mut Vec<Equation>,
     node: &Node,
     k: u16,
     grounds: &[Ground],
 ) -> Result<LaidAll, AllocError>
     requires { k + symbols_of (map ground_of grounds.now) ≤ 65535 }
-    ensures { IfOk result (λ l. all_of l ≡ lay_list node.now (λ x. elim x [ ]) k (map ground_of grounds.now)) }
+    ensures { IfOk result (λ l. all_of (map equation_of equations.new.items) l ≡ laid_behind (map equation_of equations.old.items) (lay_list node.now (λ x. elim x [ ]) k (map ground_of grounds.now))) }
 {
     let mut all = LaidAll::new(alloc, k);
     for ground in grounds {
         let next = all.next;
-        all.add(lay_ground(alloc, node, next, ground)?)?;
+        all.add(lay_ground(alloc, equations, node, next, ground)?)?;
     }
     Ok(all)
 }
@@ -179,33 +193,31 @@ pub fn ref_at(node: &Node, refs: &[Ref], variable: u8) -> Result<Ref, AllocError
 #[cycle(lay_term)]
 fn lay_term(
     alloc: Global,
+    equations: &mut Vec<Equation>,
     node: &Node,
     refs: &[Ref],
     k: u16,
     term: &Expr,
 ) -> Result<LaidOne, AllocError>
     requires { k + symbols (term_of term.now) ≤ 65535 }
-    ensures { IfOk result (λ l. one_of l ≡ lay node.now (get (no_ref node.now) refs.now) k (term_of term.now)) }
+    ensures { IfOk result (λ l. one_of (map equation_of equations.new.items) l ≡ laid_behind (map equation_of equations.old.items) (lay node.now (get (no_ref node.now) refs.now) k (term_of term.now))) }
 {
     match term {
         Expr::Var(x) => Ok(LaidOne {
             root: ref_at(node, refs, *x)?,
-            equations: Vec::new(alloc),
             next: k,
         }),
         Expr::Lit(lit) => {
             let body = lit_body(alloc, lit)?;
-            lay_symbol(alloc, node, k, body, Vec::new(alloc), k + 1)
+            lay_lone(equations, node, k, body)
         }
         Expr::Con(c, parts) => {
-            let all = lay_terms(alloc, node, refs, k + 1, parts.as_slice())?;
-            let LaidAll {
-                roots,
-                equations,
-                next,
-            } = all;
-            let body = Body::Con(*c, Items::from_vec(roots));
-            lay_symbol(alloc, node, k, body, equations, next)
+            let root = part_of(node, k)?;
+            let at = add_place(equations, copy_ref(&root)?)?;
+            let all = lay_terms(alloc, equations, node, refs, k + 1, parts.as_slice())?;
+            let LaidAll { roots, next } = all;
+            write_con(equations, at, *c, roots)?;
+            Ok(LaidOne { root, next })
         }
     }
 }
@@ -214,18 +226,19 @@ fn lay_term(
 #[cycle(lay_term)]
 pub fn lay_terms(
     alloc: Global,
+    equations: &mut Vec<Equation>,
     node: &Node,
     refs: &[Ref],
     k: u16,
     terms: &[Expr],
 ) -> Result<LaidAll, AllocError>
     requires { k + symbols_of (map term_of terms.now) ≤ 65535 }
-    ensures { IfOk result (λ l. all_of l ≡ lay_list node.now (get (no_ref node.now) refs.now) k (map term_of terms.now)) }
+    ensures { IfOk result (λ l. all_of (map equation_of equations.new.items) l ≡ laid_behind (map equation_of equations.old.items) (lay_list node.now (get (no_ref node.now) refs.now) k (map term_of terms.now))) }
 {
     let mut all = LaidAll::new(alloc, k);
     for term in terms {
         let next = all.next;
-        all.add(lay_term(alloc, node, refs, next, term)?)?;
+        all.add(lay_term(alloc, equations, node, refs, next, term)?)?;
     }
     Ok(all)
 }

@@ -10,12 +10,11 @@ pub mod laid;
 pub mod make;
 pub mod making;
 pub mod steps;
+pub mod telling;
 
 pub use binding::Binding;
 pub use guard::{Guard, guard_uncounted, test_guard};
 pub use make::made;
 pub use making::{Made, MadeChild, MadeChildren};
 pub use steps::Steps;
-
-#[cfg(test)]
-mod tests;
+pub use telling::{Tested, Weighed, slots_of, standing_of, tell_guard, test_rule, weigh_guard};

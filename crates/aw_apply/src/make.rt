@@ -1,5 +1,5 @@
 //! What a taken rule makes: by three groups of equations, with parts numbered from 1 over all of them.
-ghost use Rattle.std.specs.Prelude.{◌≡◌, ◌<◌, ◌≤◌, ◌+◌, ◌++◌, ◌∷◌, [], Some, List, IfOk, IsSome, length, map, slice_get};
+ghost use Rattle.std.specs.Prelude.{◌≡◌, ◌<◌, ◌≤◌, ◌+◌, ◌++◌, ◌∷◌, [], Some, List, IfOk, OnOk, IsSome, length, map, slice_get};
 ghost use Rattle.aw_term.specs.Names.{result as result_ref};
 ghost use Rattle.aw_term.specs.Rules.{Rule as PlainRule, get};
 ghost use Rattle.aw_term.specs.WellFormed.{symbols, symbols_of, child_symbols};
@@ -12,20 +12,15 @@ ghost use Rattle.aw_apply.specs.Made.{lay_result as plain_result, lay_results as
 ghost use Rattle.aw_apply.specs.MadeView.{as_child};
 
 use crate::children::{Called, lay_children, push_children_results};
-use crate::laid::{LaidAll, append, headed, lay_grounds, lay_terms, lit_body, ref_at};
+use crate::laid::{
+    LaidAll, add_equation, add_place, lay_grounds, lay_terms, lit_body, ref_at, write_con,
+};
 use crate::making::Made;
 use aw_base::{Expr, Grammar, Grounds, Rule};
 use aw_list::Items;
 use aw_name::{Node, Ref, Slot, copy_node, copy_ref};
 use aw_store::{Body, Equation, Refs};
 use std::alloc::{AllocError, Global};
-
-/// Equations of results, and the next part number.
-#[derive(Debug, Drop)]
-pub struct Given {
-    pub equations: Vec<Equation>,
-    pub next: u16,
-}
 
 /// Result j of a node.
 fn result_of(node: &Node, j: u8) -> Result<Ref, AllocError>
@@ -37,44 +32,38 @@ fn result_of(node: &Node, j: u8) -> Result<Ref, AllocError>
     })
 }
 
-/// The equation of result j, and those of its parts from part k on.
+/// The equation of result j, and those of its parts from part k on; the next part number.
 fn lay_result(
     alloc: Global,
+    equations: &mut Vec<Equation>,
     node: &Node,
     refs: &[Ref],
     k: u16,
     j: u8,
     term: &Expr,
-) -> Result<Given, AllocError>
+) -> Result<u16, AllocError>
     requires { k + symbols (term_of term.now) ≤ 65535 }
-    ensures equations { IfOk result (λ r. map equation_of r.equations.items ≡ (plain_result node.now (get (no_ref node.now) refs.now) k j (term_of term.now)).equations) }
-    ensures next { IfOk result (λ r. r.next ≡ (plain_result node.now (get (no_ref node.now) refs.now) k j (term_of term.now)).next) }
+    ensures equations { OnOk result (map equation_of equations.new.items ≡ map equation_of equations.old.items ++ (plain_result node.now (get (no_ref node.now) refs.now) k j (term_of term.now)).equations) }
+    ensures next { IfOk result (λ next. next ≡ (plain_result node.now (get (no_ref node.now) refs.now) k j (term_of term.now)).next) }
 {
     let left = result_of(node, j)?;
     match term {
         Expr::Var(x) => {
             let body = Body::Same(ref_at(node, refs, *x)?);
-            Ok(Given {
-                equations: headed(alloc, left, body, Vec::new(alloc))?,
-                next: k,
-            })
+            add_equation(equations, left, body)?;
+            Ok(k)
         }
-        Expr::Lit(lit) => Ok(Given {
-            equations: headed(alloc, left, lit_body(alloc, lit)?, Vec::new(alloc))?,
-            next: k,
-        }),
+        Expr::Lit(lit) => {
+            let body = lit_body(alloc, lit)?;
+            add_equation(equations, left, body)?;
+            Ok(k)
+        }
         Expr::Con(c, parts) => {
-            let all = lay_terms(alloc, node, refs, k, parts.as_slice())?;
-            let LaidAll {
-                roots,
-                equations,
-                next,
-            } = all;
-            let body = Body::Con(*c, Items::from_vec(roots));
-            Ok(Given {
-                equations: headed(alloc, left, body, equations)?,
-                next,
-            })
+            let at = add_place(equations, left)?;
+            let all = lay_terms(alloc, equations, node, refs, k, parts.as_slice())?;
+            let LaidAll { roots, next } = all;
+            write_con(equations, at, *c, roots)?;
+            Ok(next)
         }
     }
 }
@@ -82,27 +71,21 @@ fn lay_result(
 /// The equations of the results of a rule, with parts from k on.
 fn lay_results(
     alloc: Global,
+    equations: &mut Vec<Equation>,
     node: &Node,
     refs: &[Ref],
     k: u16,
     results: &[Expr],
-) -> Result<Vec<Equation>, AllocError>
+) -> Result<(), AllocError>
     requires few { length results.now ≤ 8 }
     requires parts { k + symbols_of (map term_of results.now) ≤ 65535 }
-    ensures { IfOk result (λ es. map equation_of es.items ≡ plain_results node.now (get (no_ref node.now) refs.now) k 1 (map term_of results.now)) }
+    ensures { OnOk result (map equation_of equations.new.items ≡ map equation_of equations.old.items ++ plain_results node.now (get (no_ref node.now) refs.now) k 1 (map term_of results.now)) }
 {
-    let mut equations = Vec::new(alloc);
     let mut next = k;
     for j in 0..results.len() {
-        let given = lay_result(alloc, node, refs, next, j as u8 + 1, &results[j])?;
-        let Given {
-            equations: more,
-            next: after,
-        } = given;
-        append(&mut equations, more)?;
-        next = after;
+        next = lay_result(alloc, equations, node, refs, next, j as u8 + 1, &results[j])?;
     }
-    Ok(equations)
+    Ok(())
 }
 
 /// The references of a rule's variables by number: bound by its patterns, entered, and results of its children.
@@ -155,29 +138,22 @@ fn made_by(
     ensures equations { IfOk result (λ m. map equation_of m.equations ≡ (plain_made node.now number (rule_of g.now.sorts rule.now) (map ground_of args.now) bound.now).equations) }
     ensures children { IfOk result (λ m. m.children ≡ map as_child (plain_made node.now number (rule_of g.now.sorts rule.now) (map ground_of args.now) bound.now).calls) }
 {
-    let LaidAll {
-        roots,
-        equations,
-        next,
-    } = lay_grounds(alloc, node, 1, args.as_slice())?;
+    let mut equations = Vec::new(alloc);
+    let entered = lay_grounds(alloc, &mut equations, node, 1, args.as_slice())?;
+    let LaidAll { roots, next } = entered;
     let refs = variables(alloc, g, node, number, rule, bound.as_slice(), roots)?;
     let called = lay_children(
         alloc,
+        &mut equations,
         node,
         number,
         refs.as_slice(),
         next,
         rule.children.as_slice(),
     )?;
-    let Called {
-        children,
-        equations: inherited,
-        next,
-    } = called;
-    let given = lay_results(alloc, node, refs.as_slice(), next, rule.results.as_slice())?;
-    let mut equations = equations;
-    append(&mut equations, inherited)?;
-    append(&mut equations, given)?;
+    let Called { children, next } = called;
+    let results = rule.results.as_slice();
+    lay_results(alloc, &mut equations, node, refs.as_slice(), next, results)?;
     Ok(Made {
         equations: Items::from_vec(equations),
         children: Items::from_vec(children),

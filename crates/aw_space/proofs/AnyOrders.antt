@@ -15,9 +15,9 @@ use Rattle.aw_iograph.specs.Graphs.{Member}
 use Rattle.aw_space.specs.Joint.{Held, held_of, insert_held, insert_all, mark, root_held, called_held, by_rule, by_state, by_held, Joint, empty_joint, joint_outcome, add_made, joint_taken, joint_run}
 use Rattle.aw_iograph.proofs.Members.{never, member_unmap, member_map}
 use Rattle.aw_accept.proofs.ConfigLemmas.{insert_cases, inserted_cases}
-use Rattle.aw_space.proofs.Numbering.{find-left_more, find-right_more, Holds-wider, made-holds}
+use Rattle.aw_store.proofs.MoreEquations.{find-left_more, find-right_more, Holds, Holds-wider}
+use Rattle.aw_apply.proofs.Numbering.{made-holds}
 use Rattle.aw_space.proofs.Guarding.{guard_all-keeps, Final}
-use Rattle.aw_space.proofs.Substituting.{Holds}
 use Rattle.aw_accept.proofs.Binding.{yes-inj}
 use Rattle.aw_accept.proofs.UndividedRuns.{found_cases, tests-take}
 use Rattle.aw_term.proofs.NodeTests.{node_is, node_self}
@@ -93,7 +93,7 @@ IsPartOf-at : (v w : Joint) → IsPartOf v w → (h : Held) → Is_at h v.held �
 IsPartOf-at v w p h (h', m, a, b, c, s) = let (h'', m', a', b', c', s') = p.held h' m in (h'', m', a ∙ a', b ∙ b', c ∙ c', goes_on h.state h'.state h''.state s s')
 
 pub yes-kept : (k k' : Map) → ((r : Ref) (b : Body) → find k r ≡ Some b → find k' r ≡ Some b) → (ps : List Term) (rs bound : List Ref) → guard_all k 1 ps rs ≡ Yes bound → guard_all k' 1 ps rs ≡ Yes bound
-yes-kept k k' f ps rs bound e = guard_all-keeps k k' f 1 ps rs (subst Final (sym e) tt) ∙ e
+yes-kept k k' f ps rs bound e = guard_all-keeps k k' f 1 ps rs (subst (Final k') (sym e) tt) ∙ e
 
 pub Fixed-more : (g : Grammar) (v w : Joint) → IsPartOf v w → (c : Choice) → Fixed g v c → Fixed g w c
 Fixed-more g v w p (Start s k) f = IsPartOf-at v w p (root_held s k) f

@@ -1,5 +1,5 @@
 -- Guards over references: they keep over more equations, and they are matches of the values.
-use Rattle.std.proofs.Common.{◌≡◌, ℕ, suc, Bool, true, false, cond, List, [], ◌∷◌, length, Some, refl, sym, ap, ◌∙◌, subst}
+use Rattle.std.proofs.Common.{◌≡◌, ℕ, suc, Bool, true, false, cond, List, [], ◌∷◌, length, Some, None, refl, sym, ap, ◌∙◌, subst}
 use Rattle.std.specs.Prelude.{◌&&◌, nat_eq}
 use Rattle.aw_term.specs.Trees.{Never, Head, Tree, Leaf, Made, Trees, Nil, More, count, head_eq}
 use Rattle.aw_term.specs.Names.{Ref}
@@ -8,71 +8,63 @@ use Rattle.aw_term.specs.Matching.{Matched, Yes, Waits, Differs, Circle, and_the
 use Rattle.aw_store.specs.Equations.{Body, Same, Map, find}
 use Rattle.aw_store.specs.Chase.{Chased, Found, Missing, Round, chase, At_body, At_missing, Ends, stands, lacks, follows}
 use Rattle.aw_store.specs.Unfold.{Unfolds, UnfoldAll, missing, same, is, none, one}
+use Rattle.aw_store.proofs.ChaseEnds.{ends-chase, found-more, missing-more, round-more}
 use Rattle.aw_apply.specs.Guard.{guard_end, guard, guard_parts, guard_all}
 use Rattle.aw_iograph.proofs.Members.{never}
 use Rattle.aw_accept.specs.Acyclic.{Pairs}
 use Rattle.aw_accept.proofs.Binding.{Pairs-append}
 use Rattle.aw_space.specs.Laws.{AllUnfold}
-use Rattle.aw_space.proofs.Chasing.{ends-chase, chase_in-ends}
 
--- an answer that more equations do not change
-abbrev pub Final : {A R : Type 0} → Matched A R → Type 0
-Final (Yes xs) = Unit {0}
-Final (Differs p) = Unit {0}
-Final (Waits r) = Never
-Final (Circle r) = Never
+-- an answer that l does not change: it waits for nothing that has an equation there
+abbrev pub Final : Map → Matched Ref Ref → Type 0
+Final l (Yes xs) = Unit {0}
+Final l (Differs p) = Unit {0}
+Final l (Waits r) = find l r ≡ None
+Final l (Circle r) = Unit {0}
 
-and_then-keeps : {A R : Type 0} (m n m' n' : Matched A R) → (Final m → m' ≡ m) → (Final n → n' ≡ n) → Final (and_then m n) → and_then m' n' ≡ and_then m n
-and_then-keeps (Yes xs) (Yes ys) m' n' f g h = let a = f tt in let b = g tt in λ i. and_then (a i) (b i)
-and_then-keeps (Yes xs) (Differs p) m' n' f g h = let a = f tt in let b = g tt in λ i. and_then (a i) (b i)
-and_then-keeps (Yes xs) (Waits r) m' n' f g h = never h
-and_then-keeps (Yes xs) (Circle r) m' n' f g h = never h
-and_then-keeps (Differs p) n m' n' f g h = ap (λ z. and_then z n') (f tt)
-and_then-keeps (Waits r) n m' n' f g h = never h
-and_then-keeps (Circle r) n m' n' f g h = never h
+and_then-keeps : (l : Map) (m n m' n' : Matched Ref Ref) → (Final l m → m' ≡ m) → (Final l n → n' ≡ n) → Final l (and_then m n) → and_then m' n' ≡ and_then m n
+and_then-keeps l (Yes xs) (Yes ys) m' n' f g h = let a = f tt in let b = g tt in λ i. and_then (a i) (b i)
+and_then-keeps l (Yes xs) (Differs p) m' n' f g h = let a = f tt in let b = g tt in λ i. and_then (a i) (b i)
+and_then-keeps l (Yes xs) (Waits r) m' n' f g h = let a = f tt in let b = g h in λ i. and_then (a i) (b i)
+and_then-keeps l (Yes xs) (Circle r) m' n' f g h = let a = f tt in let b = g tt in λ i. and_then (a i) (b i)
+and_then-keeps l (Differs p) n m' n' f g h = ap (λ z. and_then z n') (f tt)
+and_then-keeps l (Waits r) n m' n' f g h = ap (λ z. and_then z n') (f h)
+and_then-keeps l (Circle r) n m' n' f g h = ap (λ z. and_then z n') (f tt)
 
-under-keeps : {A R : Type 0} (k : ℕ) (m m' : Matched A R) → (Final m → m' ≡ m) → Final (under k m) → under k m' ≡ under k m
-under-keeps k (Yes xs) m' f h = ap (under k) (f tt)
-under-keeps k (Differs p) m' f h = ap (under k) (f tt)
-under-keeps k (Waits r) m' f h = never h
-under-keeps k (Circle r) m' f h = never h
+under-keeps : (l : Map) (k : ℕ) (m m' : Matched Ref Ref) → (Final l m → m' ≡ m) → Final l (under k m) → under k m' ≡ under k m
+under-keeps l k (Yes xs) m' f h = ap (under k) (f tt)
+under-keeps l k (Differs p) m' f h = ap (under k) (f tt)
+under-keeps l k (Waits r) m' f h = ap (under k) (f h)
+under-keeps l k (Circle r) m' f h = ap (under k) (f tt)
 
-module _ (k k' : Map) (extends : (r : Ref) (b : Body) → find k r ≡ Some b → find k' r ≡ Some b) where
-  Ends-more : (h : Head) (rs : List Ref) {n : ℕ} {r : Ref} → Ends k (At_body h rs) n r → Ends k' (At_body h rs) n r
-  Ends-more h rs (stands f e) = stands (extends _ _ f) e
-  Ends-more h rs (lacks f e) = absurd cc
-  Ends-more h rs (follows f d) = follows (extends _ _ f) (Ends-more h rs d)
-
-  pub found-more : (r : Ref) (h : Head) (rs : List Ref) → chase k r ≡ Found h rs → chase k' r ≡ Found h rs
-  found-more r h rs e = let (n, d) = chase_in-ends k (At_body h rs) (length k) r e in ends-chase k' (At_body h rs) (Ends-more h rs d)
-
-  end-keeps : (c c' : Chased) (go go' : List Ref → Matched Ref Ref) (h : Head) (n : ℕ) (r : Ref) → ((h' : Head) (rs : List Ref) → c ≡ Found h' rs → c' ≡ Found h' rs) → ((rs : List Ref) → Final (go rs) → go' rs ≡ go rs) → Final (guard_end c go h n r) → guard_end c' go' h n r ≡ guard_end c go h n r
-  end-keeps (Missing s) c' go go' h n r f g x = never x
-  end-keeps Round c' go go' h n r f g x = never x
-  end-keeps (Found h' rs) c' go go' h n r f g x = ap (λ z. guard_end z go' h n r) (f h' rs refl) ∙ tested (head_eq h h' && nat_eq n (length rs)) x
+module _ (k l : Map) (extends : (r : Ref) (b : Body) → find k r ≡ Some b → find l r ≡ Some b) where
+  end-keeps : (c : Chased) (go go' : List Ref → Matched Ref Ref) (h : Head) (n : ℕ) (r : Ref) → chase k r ≡ c → ((rs : List Ref) → Final l (go rs) → go' rs ≡ go rs) → Final l (guard_end c go h n r) → guard_end (chase l r) go' h n r ≡ guard_end c go h n r
+  end-keeps (Missing s) go go' h n r e g x = ap (λ z. guard_end z go' h n r) (missing-more k l extends r s x e)
+  end-keeps Round go go' h n r e g x = ap (λ z. guard_end z go' h n r) (round-more k l extends r e)
+  end-keeps (Found h' rs) go go' h n r e g x = ap (λ z. guard_end z go' h n r) (found-more k l extends r h' rs e) ∙ tested (head_eq h h' && nat_eq n (length rs)) x
     where
-      tested : (b : Bool) → Final (cond b (go rs) (Differs [])) → cond b (go' rs) (Differs []) ≡ cond b (go rs) (Differs [])
+      tested : (b : Bool) → Final l (cond b (go rs) (Differs [])) → cond b (go' rs) (Differs []) ≡ cond b (go rs) (Differs [])
       tested true y = g rs y
       tested false y = refl
 
   mutual
-    pub guard-keeps : (p : Term) (r : Ref) → Final (guard k p r) → guard k' p r ≡ guard k p r
+    pub guard-keeps : (p : Term) (r : Ref) → Final l (guard k p r) → guard l p r ≡ guard k p r
     guard-keeps (Leaf v) r x = refl
-    guard-keeps (Made h ps) r x = end-keeps (chase k r) (chase k' r) (guard_parts k 1 ps) (guard_parts k' 1 ps) h (count ps) r (found-more r) (guard_parts-keeps ps 1) x
+    guard-keeps (Made h ps) r x = end-keeps (chase k r) (guard_parts k 1 ps) (guard_parts l 1 ps) h (count ps) r refl (guard_parts-keeps ps 1) x
 
-    pub guard_parts-keeps : (ps : Trees ℕ) (n : ℕ) (rs : List Ref) → Final (guard_parts k n ps rs) → guard_parts k' n ps rs ≡ guard_parts k n ps rs
+    pub guard_parts-keeps : (ps : Trees ℕ) (n : ℕ) (rs : List Ref) → Final l (guard_parts k n ps rs) → guard_parts l n ps rs ≡ guard_parts k n ps rs
     guard_parts-keeps Nil n rs x = refl
     guard_parts-keeps (More p ps) n [] x = refl
     guard_parts-keeps (More p ps) n (r ∷ rs) x =
-        and_then-keeps (under n (guard k p r)) (guard_parts k (suc n) ps rs) (under n (guard k' p r)) (guard_parts k' (suc n) ps rs)
-        (under-keeps n (guard k p r) (guard k' p r) (guard-keeps p r)) (guard_parts-keeps ps (suc n) rs) x
+        and_then-keeps l (under n (guard k p r)) (guard_parts k (suc n) ps rs) (under n (guard l p r)) (guard_parts l (suc n) ps rs)
+        (under-keeps l n (guard k p r) (guard l p r) (guard-keeps p r)) (guard_parts-keeps ps (suc n) rs) x
 
-  pub guard_all-keeps : (n : ℕ) (ps : List Term) (rs : List Ref) → Final (guard_all k n ps rs) → guard_all k' n ps rs ≡ guard_all k n ps rs
+  pub guard_all-keeps : (n : ℕ) (ps : List Term) (rs : List Ref) → Final l (guard_all k n ps rs) → guard_all l n ps rs ≡ guard_all k n ps rs
   guard_all-keeps n [] rs x = refl
   guard_all-keeps n (p ∷ ps) [] x = refl
   guard_all-keeps n (p ∷ ps) (r ∷ rs) x =
-      and_then-keeps (under n (guard k p r)) (guard_all k (suc n) ps rs) (under n (guard k' p r)) (guard_all k' (suc n) ps rs)
-      (under-keeps n (guard k p r) (guard k' p r) (guard-keeps p r)) (guard_all-keeps (suc n) ps rs) x
+      and_then-keeps l (under n (guard k p r)) (guard_all k (suc n) ps rs) (under n (guard l p r)) (guard_all l (suc n) ps rs)
+      (under-keeps l n (guard k p r) (guard l p r) (guard-keeps p r)) (guard_all-keeps (suc n) ps rs) x
 
 module _ (k : Map) where
   -- the same answer, over references and over values

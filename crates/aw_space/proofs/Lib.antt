@@ -1,10 +1,9 @@
 pub mod Lists
 pub mod Ordering
-pub mod Chasing
+pub mod LeftSides
 pub mod Guarding
 pub mod Unfolding
 pub mod Substituting
-pub mod Numbering
 pub mod Entering
 pub mod FlatSteps
 pub mod AnyOrders

@@ -22,8 +22,8 @@ use Rattle.aw_iograph.proofs.Members.{never, member_got}
 use Rattle.aw_accept.proofs.Sources.{EntersAt, env_enters}
 use Rattle.aw_accept.proofs.ConfigLemmas.{child_row, rounds-inherited-list, rounds-results-list, rounds-sort, rounds-state, item-mapped, Member-inserted, done_row-same}
 use Rattle.aw_accept.proofs.Developing.{Taking, Known, Item-at, sigma}
-use Rattle.aw_space.proofs.Chasing.{find-left, lefts}
-use Rattle.aw_space.proofs.Substituting.{Holds, Holds-left, Holds-right}
+use Rattle.aw_space.proofs.LeftSides.{find-left, lefts}
+use Rattle.aw_store.proofs.MoreEquations.{Holds, Holds-left, Holds-right}
 use Rattle.aw_space.proofs.FlatSteps.{FlatTaking, value_changes, term_changes, child_ref_ok, made_holds, left_own}
 use Rattle.aw_accept.proofs.UndividedRuns.{Good, Decoded, decode_on, taking, kept_row, still_closed, own_closed, done-same, developed, started, held_none, row_of-none, empty_good}
 use Rattle.aw_space.proofs.AnyOrders.{option_cases, marked}

@@ -1,27 +1,15 @@
 -- Flat equations are substitution.
-use Rattle.std.proofs.Common.{◌≡◌, ℕ, zero, suc, List, [], ◌∷◌, ◌++◌, Some, None, refl, sym, ap, ◌∙◌, subst, inl, inr}
+use Rattle.std.proofs.Common.{◌≡◌, ℕ, zero, suc, List, [], Some, None, refl, sym, ap, ◌∙◌, subst, inl, inr}
 use Rattle.std.specs.Prelude.{◌⊎◌}
 use Rattle.aw_term.specs.Trees.{Never, Head, Tree, Leaf, Made, Trees, Nil, More, In, Ins, bind, binds}
 use Rattle.aw_term.specs.Names.{Node, Ref, result}
 use Rattle.aw_term.specs.Rules.{Term}
 use Rattle.aw_term.specs.Configs.{rounds}
-use Rattle.aw_store.specs.Equations.{Body, Equation, Map, find}
+use Rattle.aw_store.specs.Equations.{Body, Map, find}
 use Rattle.aw_store.specs.Unfold.{Unfolds, UnfoldAll, missing, same, is, none, one}
+use Rattle.aw_store.proofs.MoreEquations.{Holds, Holds-left, Holds-right}
 use Rattle.aw_apply.specs.Made.{lay, lays, lay_result}
 use Rattle.aw_iograph.proofs.Members.{never}
-
--- each of these equations is the map's
-abbrev pub Holds : Map → List Equation → Type 0
-Holds k [] = Unit {0}
-Holds k (e ∷ es) = (find k e.left ≡ Some e.body) × Holds k es
-
-pub Holds-left : (k : Map) (es fs : List Equation) → Holds k (es ++ fs) → Holds k es
-Holds-left k [] fs h = tt
-Holds-left k (e ∷ es) fs h = (h.0, Holds-left k es fs h.1)
-
-pub Holds-right : (k : Map) (es fs : List Equation) → Holds k (es ++ fs) → Holds k fs
-Holds-right k [] fs h = h
-Holds-right k (e ∷ es) fs h = Holds-right k es fs h.1
 
 -- what is laid down unfolds to the term with its leaves replaced
 module _ {L : Type 0} (k : Map) (n : Node) (f : L → Ref) (u : L → Tree Ref) where

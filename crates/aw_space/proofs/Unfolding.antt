@@ -4,12 +4,10 @@ use Rattle.std.specs.Prelude.{option_and_then, option_map}
 use Rattle.aw_term.specs.Trees.{Head, Tree, Leaf, Made, Trees, Nil, More}
 use Rattle.aw_term.specs.Names.{Ref}
 use Rattle.aw_store.specs.Equations.{Body, Same, Is, Map, find}
+use Rattle.aw_store.proofs.ChaseEnds.{same_to}
 use Rattle.aw_store.specs.Unfold.{Unfolds, UnfoldAll, missing, same, is, none, one, unfold_all, unfold_on, unfold_in}
 
 -- one value for a reference
-pub same_to : {o : Option Body} {a b : Ref} → o ≡ Some (Same a) → o ≡ Some (Same b) → a ≡ b
-same_to e f = cc
-
 is_to : {o : Option Body} {h h' : Head} {rs rs' : List Ref} → o ≡ Some (Is h rs) → o ≡ Some (Is h' rs') → (h ≡ h') × (rs ≡ rs')
 is_to e f = (cc, cc)
 

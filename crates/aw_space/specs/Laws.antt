@@ -3,7 +3,7 @@ use Rattle.std.specs.Prelude.{◌≡◌, ℕ, List, [], Option, Some, None}
 use Rattle.aw_term.specs.Trees.{Never}
 use Rattle.aw_term.specs.Names.{Ref, result}
 use Rattle.aw_term.specs.Rules.{Term, Value, Grammar}
-use Rattle.aw_term.specs.Matching.{Yes, Differs}
+use Rattle.aw_term.specs.Matching.{Yes, Waits, Differs, Circle}
 use Rattle.aw_term.specs.Configs.{Row, Config}
 use Rattle.aw_term.specs.Choices.{Choice, answer_of, outcome, taken, undivided}
 use Rattle.aw_term.specs.Artifacts.{Words}
@@ -84,6 +84,14 @@ YesStays k l = (ps : List Term) (rs bound : List Ref) → guard_all k 1 ps rs �
 -- a guard that differs over the one differs over the other, at the same place
 abbrev pub DiffersStays : Map → Map → Type 0
 DiffersStays k l = (ps : List Term) (rs : List Ref) (path : List ℕ) → guard_all k 1 ps rs ≡ Differs path → guard_all l 1 ps rs ≡ Differs path
+
+-- a guard that waits over the one waits for the same reference over the other, where that has no equation there either
+abbrev pub WaitsStays : Map → Map → Type 0
+WaitsStays k l = (ps : List Term) (rs : List Ref) (r : Ref) → find l r ≡ None → guard_all k 1 ps rs ≡ Waits r → guard_all l 1 ps rs ≡ Waits r
+
+-- a guard that meets a circle over the one meets it over the other, from the same reference
+abbrev pub CircleStays : Map → Map → Type 0
+CircleStays k l = (ps : List Term) (rs : List Ref) (r : Ref) → guard_all k 1 ps rs ≡ Circle r → guard_all l 1 ps rs ≡ Circle r
 
 -- a reference has at most one value
 abbrev pub HasOneValue : Map → Ref → Type 0

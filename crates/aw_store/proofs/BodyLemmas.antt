@@ -4,8 +4,6 @@ use Rattle.std.specs.Cmp.Lexicographic.{pointwise_decides}
 use Rattle.std.proofs.lemmas.Bool.Decides.{Decides-eqb, Decides-and, Decides-like}
 use Rattle.aw_name.specs.contracts.node.RefPartialEq.TheImpl as reference
 use Rattle.aw_name.proofs.Equal.{ref_exact}
-use Rattle.aw_term.specs.Trees as T
-use Rattle.aw_store.specs.Equations as P
 use Rattle.aw_store.specs.declared.equation.Body.{Body}
 use Rattle.aw_store.specs.declared.equation.Body.TheVariants.{Same, Con, Num, Text}
 use Rattle.aw_store.specs.contracts.equation.BodyPartialEq.TheImpl as bodies

@@ -1,5 +1,5 @@
 -- The references that a store has named, each by its place in one list: its slot.
-use Rattle.std.specs.Prelude.{◌≡◌, ℕ, Bool, true, false, ◌&&◌, ◌||◌, if◌then◌else◌, List, [], ◌∷◌, ◌++◌, Option, Some, None, slice_get, option_and_then}
+use Rattle.std.specs.Prelude.{◌≡◌, ℕ, Bool, true, false, ◌&&◌, ◌||◌, if◌then◌else◌, List, [], ◌∷◌, ◌++◌, map, Option, Some, None, slice_get, option_and_then}
 use Rattle.aw_term.specs.Trees.{Con, Text}
 use Rattle.aw_term.specs.Names.{Ref}
 use Rattle.aw_store.specs.Refs.{ref_eq}
@@ -32,6 +32,14 @@ Grows old new = (more : List Ref) × (new ≡ old ++ more)
 -- the names with this one among them, at the end where it was not
 abbrev pub with_name : List Ref → Ref → List Ref
 with_name names r = if is_named names r then names else names ++ r ∷ []
+
+-- what these slots name
+abbrev pub names_at : List Ref → List ℕ → List (Option Ref)
+names_at names slots = map (slice_get names) slots
+
+-- these slots name these references
+abbrev pub AreNamed : List Ref → List ℕ → List Ref → Type 0
+AreNamed names slots rs = names_at names slots ≡ map Some rs
 
 -- the body of the reference at a slot, where it has an equation
 abbrev pub body_at : Map → List Ref → ℕ → Option Body

@@ -46,7 +46,7 @@ pub fn child_of(names: &[Ref], body: &Body, k: u8) -> usize
     ensures { slice_get names.now result ≡ slice_get (con_parts (Some (body_of body.now))) k }
 {
     match body {
-        Body::Con(_, parts) => place_of(names, parts.at(usize::from(k))),
+        Body::Con(_, parts) => place_of(names, &parts.as_slice()[usize::from(k)]),
         Body::Same(_) | Body::Num(_) | Body::Text(_) => unreachable!(),
     }
 }

@@ -2,10 +2,7 @@
 ghost use Rattle.std.specs.Prelude.{◌≡◌};
 
 use aw_list::{Items, Text};
-use aw_name::Ref;
-
-/// The parts of a constructor, or the inherited values of a node, each by its reference.
-pub use aw_name::Refs;
+use aw_name::{Ref, Refs};
 
 /// What a reference stands for: another reference, or a constructor with its parts, a number, or a text.
 #[derive(Debug, Clone, PartialEq, Eq, Drop)]

@@ -6,9 +6,9 @@ ghost use Rattle.aw_store.specs.EquationView.{body_of, equation_of};
 ghost use Rattle.aw_store.specs.NamedRefs.{is_named, has_names, with_name, IsNamedOnce, Grows, body_at, parts_at, text_at};
 ghost use Rattle.aw_store.specs.StoreView.{IsKindOf, Adds, IsAddable, has_few, all_few};
 
-use crate::equation::{Body, Equation, Equations, Refs};
+use crate::equation::{Body, Equation, Equations};
 use aw_list::Text;
-use aw_name::Ref;
+use aw_name::{Ref, Refs};
 use std::alloc::AllocError;
 
 /// What stands at a slot.
@@ -63,8 +63,8 @@ pub trait Facts {
     /// The named references, by slot.
     ghost names: { Self → List RefName };
 
-    /// Equations for which memory was taken. A call whose clauses say nothing of them may let them go.
-    ghost ready: { Self → List PlainEquation };
+    /// Whether memory was taken for adding an equation. A call whose clauses say nothing of it may let it go.
+    ghost is_ready: { Self → PlainEquation → Type 0 };
 
     /// The slot of a reference, or none where it is not named.
     fn slot_of(&self, r: &Ref) -> Option<usize>
@@ -110,7 +110,7 @@ pub trait Facts {
         requires { all_few (list_map equation_of es.now) ≡ true }
         ensures map { map self.new ≡ map self.old }
         ensures names { Grows (names self.old) (names self.new) }
-        ensures ready { OnOk result ((e : PlainEquation) → Contains (list_map equation_of es.now) e → Contains (ready self.new) e) };
+        ensures ready { OnOk result ((e : PlainEquation) → Contains (list_map equation_of es.now) e → is_ready self.new e) };
 
     /// Adds an equation where its left side has none. A constructor has at most 8 references. Where the left side has an
     /// equation, nothing changes, neither names nor what is ready, also on an error. Else an error leaves the equations
@@ -122,9 +122,9 @@ pub trait Facts {
         ensures err { OnErr result (map self.new ≡ map self.old) }
         ensures names { Grows (names self.old) (names self.new) }
         ensures kept_names { IsSome (find (map self.old) e.left) → names self.new ≡ names self.old }
-        ensures kept_ready { IsSome (find (map self.old) e.left) → ready self.new ≡ ready self.old }
-        ensures ready { Contains (ready self.old) (equation_of e) → ready self.new ≡ ready self.old }
-        ensures sure { Contains (ready self.old) (equation_of e) → IsAddable (map self.old) (equation_of e) → IsOk result };
+        ensures kept_ready { IsSome (find (map self.old) e.left) → (x : PlainEquation) → is_ready self.old x → is_ready self.new x }
+        ensures ready { is_ready self.old (equation_of e) → (x : PlainEquation) → is_ready self.old x → is_ready self.new x }
+        ensures sure { is_ready self.old (equation_of e) → IsAddable (map self.old) (equation_of e) → IsOk result };
 
     /// No reference is named twice.
     ghost once: { (x : Self) → IsNamedOnce (names x) };

@@ -1,5 +1,6 @@
 //! A store that scans a list.
 ghost use Rattle.std.specs.Prelude.{◌≡◌, ◌≤◌, ◌+◌, ◌<◌, ◌++◌, [], Some, true, false, IfOk, OnOk, OnErr, IsOk, IsSome, MatchOption, Contains, length, map, slice_get, vec_len, vec_capacity};
+ghost use Rattle.aw_store.specs.Equations.{Equation as PlainEquation};
 ghost use Rattle.aw_store.specs.EquationView.{equation_of};
 ghost use Rattle.aw_store.specs.ListStore.{IsSound, lacking};
 
@@ -27,7 +28,7 @@ impl ListFacts {
     pub fn new(alloc: Global) -> ListFacts
         ensures map { ⟦<ListFacts as Facts>⟧.map result ≡ [] }
         ensures names { ⟦<ListFacts as Facts>⟧.names result ≡ [] }
-        ensures ready { ⟦<ListFacts as Facts>⟧.ready result ≡ [] }
+        ensures ready { (e : PlainEquation) → ¬ (⟦<ListFacts as Facts>⟧.is_ready result e) }
     {
         ListFacts {
             equations: Vec::new(alloc),
@@ -42,7 +43,7 @@ impl Facts for ListFacts {
 
     ghost names = { λ f. f.names.items };
 
-    ghost ready = { λ f. map equation_of f.ready.items };
+    ghost is_ready = { λ f e. Contains (map equation_of f.ready.items) e };
 
     ghost once = { λ f. f.sound.once };
 

@@ -1,25 +1,24 @@
-use Rattle.std.proofs.Common.{◌≡◌, ◌<◌, length, map, ap, ◌∙◌, arith}
-use Rattle.std.proofs.lemmas.Result.{IfOk-weaker}
+use Rattle.std.proofs.Common.{◌<◌, length, map, refl, sym, ◌∙◌, arith}
+use Rattle.std.proofs.lemmas.List.{length-map}
 use Rattle.aw_term.specs.Trees.{Con}
-use Rattle.aw_store.specs.Equations.{Is}
+use Rattle.aw_store.specs.EquationView.{equation_of}
 use Rattle.aw_term.specs.Views.{ground_of}
-use Rattle.aw_apply.specs.Made.{lay}
-use Rattle.aw_apply.specs.MadeView.{one_of, all_of}
-use Rattle.aw_apply.specs.declared.laid.LaidOne.{LaidOne}
-use Rattle.aw_apply.proofs.LayLemmas.{ground_term, symbol_laid, symbols_over, symbols_within, symbols_more, laid_more}
+use Rattle.aw_apply.specs.MadeView.{all_of}
+use Rattle.aw_apply.proofs.LayLemmas.{ground_term, con_laid, one_more, symbols_over, symbols_within, symbols_more, laid_more}
 use Rattle.aw_apply.proofs.laid.+lay_ground.Goals as goal
 
 pub lay_ground-lay_grounds-requires : goal.lay_ground-lay_grounds-requires
 lay_ground-lay_grounds-requires t c =
     let e = symbols_over (Con c.in-Con.c) (map ground_of c.as_slice-in-Con.result.now) _ (ground_term c.as_slice-in-Con.result.now _ _ _ c.as_slice-in-Con.ensures c.in-Con.is) in (omega (arith, c.decreases, e), omega (arith, c.requires, e))
 
-pub lay_ground-returns-in_ok-all-in-Con : goal.lay_ground-returns-in_ok-all-in-Con
-lay_ground-returns-in_ok-all-in-Con t c =
-    let n = c.args.node.now in
+pub lay_ground-returns-in_ok-write_con-in-Con : goal.lay_ground-returns-in_ok-write_con-in-Con
+lay_ground-returns-in_ok-write_con-in-Con t c =
     let qs = c.as_slice-in-Con.result.now in
-    IfOk-weaker c.lay_symbol-in-Con.result _ (λ (l : LaidOne). one_of l ≡ lay n (λ x. elim x [ ]) c.args.k (ground_of c.args.ground.now))
-    (λ l w. w ∙ symbol_laid n (λ x. elim x [ ]) c.args.k (Con c.in-Con.c) _ (map ground_of qs) (all_of c.in_ok-all-in-Con.all) _ c.in_ok-all-in-Con.ensures (ap (Is (Con c.in-Con.c)) c.from_vec.ensures) (ground_term qs _ _ _ c.as_slice-in-Con.ensures c.in-Con.is))
-    c.lay_symbol-in-Con.ensures
+    con_laid c.args.node.now (λ x. elim x [ ]) c.args.k (Con c.in-Con.c) (map ground_of qs) (ground_of c.args.ground.now)
+    (map equation_of c.args.equations.now.items) (map equation_of c.add_place.new.equations.items) (map equation_of c.write_con.new.equations.items) c.in_ok-at-in-Con.at
+    c.in_ok-copy_ref-in-Con.field-0 c.in_ok-root-in-Con.root _ (all_of (map equation_of c.lay_grounds.new.equations.items) c.in_ok-all-in-Con.all)
+    (c.in_ok-at-in-Con.ensures.place ∙ sym (length-map c.args.equations.now.items equation_of)) c.in_ok-at-in-Con.ensures.equations c.in_ok-all-in-Con.ensures c.in_ok-write_con-in-Con.ensures
+    c.in_ok-copy_ref-in-Con.ensures c.in_ok-root-in-Con.ensures (ground_term qs _ _ _ c.as_slice-in-Con.ensures c.in-Con.is)
 
 pub lay_grounds-lay_ground-requires : goal.lay_grounds-lay_ground-requires
 lay_grounds-lay_ground-requires t c =
@@ -31,5 +30,11 @@ lay_grounds-lay_ground-requires t c =
 
 pub lay_grounds-loop-ground-preserved : goal.lay_grounds-loop-ground-preserved
 lay_grounds-loop-ground-preserved t c =
-    laid_more c.args.node.now (λ x. elim x [ ]) ground_of c.args.grounds.now c.loop-ground.ground-index c.ground-item.result (all_of c.loop-ground.all) (all_of c.add.new.self) (one_of c.in_ok-lay_ground.field-0) _ 65535
-    c.loop-ground-test.true c.ground-item.is c.in_ok-lay_ground.ensures c.in_ok-add.ensures c.loop-ground.invariant
+    let old = map equation_of c.loop-ground.equations.items in
+    let new = map equation_of c.lay_ground.new.equations.items in
+    let a = c.loop-ground.all in
+    let one = c.in_ok-lay_ground.field-0 in
+    laid_more c.args.node.now (λ x. elim x [ ]) ground_of c.args.grounds.now c.loop-ground.ground-index c.ground-item.result (all_of old a) (all_of new c.add.new.self) _ _ 65535
+    c.loop-ground-test.true c.ground-item.is refl
+    (one_more old new a.roots.items c.add.new.self.roots.items a.next c.add.new.self.next one.root one.next _ c.in_ok-lay_ground.ensures c.in_ok-add.ensures.roots c.in_ok-add.ensures.next)
+    c.loop-ground.invariant

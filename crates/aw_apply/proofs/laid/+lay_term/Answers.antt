@@ -1,26 +1,26 @@
-use Rattle.std.proofs.Common.{◌≡◌, ◌<◌, length, map, ap, ◌∙◌, arith}
-use Rattle.std.proofs.lemmas.Result.{IfOk-weaker}
+use Rattle.std.proofs.Common.{◌<◌, length, map, refl, sym, ◌∙◌, arith}
+use Rattle.std.proofs.lemmas.List.{length-map}
 use Rattle.aw_term.specs.Trees.{Con}
 use Rattle.aw_term.specs.Rules.{get}
-use Rattle.aw_store.specs.Equations.{Is}
+use Rattle.aw_store.specs.EquationView.{equation_of}
 use Rattle.aw_term.specs.Views.{term_of}
-use Rattle.aw_apply.specs.Made.{lay, no_ref}
-use Rattle.aw_apply.specs.MadeView.{one_of, all_of}
-use Rattle.aw_apply.specs.declared.laid.LaidOne.{LaidOne}
-use Rattle.aw_apply.proofs.LayLemmas.{expr_term, symbol_laid, symbols_over, symbols_within, symbols_more, laid_more}
+use Rattle.aw_apply.specs.Made.{no_ref}
+use Rattle.aw_apply.specs.MadeView.{all_of}
+use Rattle.aw_apply.proofs.LayLemmas.{expr_term, con_laid, one_more, symbols_over, symbols_within, symbols_more, laid_more}
 use Rattle.aw_apply.proofs.laid.+lay_term.Goals as goal
 
 pub lay_term-lay_terms-requires : goal.lay_term-lay_terms-requires
 lay_term-lay_terms-requires t c =
     let e = symbols_over (Con c.in-Con.c) (map term_of c.as_slice.result.now) _ (expr_term c.as_slice.result.now _ _ _ c.as_slice.ensures c.in-Con.is) in (omega (arith, c.decreases, e), omega (arith, c.requires, e))
 
-pub lay_term-returns-in_ok-all-in-Con : goal.lay_term-returns-in_ok-all-in-Con
-lay_term-returns-in_ok-all-in-Con t c =
-    let n = c.args.node.now in
+pub lay_term-returns-in_ok-write_con-in-Con : goal.lay_term-returns-in_ok-write_con-in-Con
+lay_term-returns-in_ok-write_con-in-Con t c =
     let qs = c.as_slice.result.now in
-    IfOk-weaker c.lay_symbol-in-Con.result _ (λ (l : LaidOne). one_of l ≡ lay n (get (no_ref n) c.args.refs.now) c.args.k (term_of c.args.term.now))
-    (λ l w. w ∙ symbol_laid n (get (no_ref n) c.args.refs.now) c.args.k (Con c.in-Con.c) _ (map term_of qs) (all_of c.in_ok-all-in-Con.all) _ c.in_ok-all-in-Con.ensures (ap (Is (Con c.in-Con.c)) c.from_vec.ensures) (expr_term qs _ _ _ c.as_slice.ensures c.in-Con.is))
-    c.lay_symbol-in-Con.ensures
+    con_laid c.args.node.now (get (no_ref c.args.node.now) c.args.refs.now) c.args.k (Con c.in-Con.c) (map term_of qs) (term_of c.args.term.now)
+    (map equation_of c.args.equations.now.items) (map equation_of c.add_place.new.equations.items) (map equation_of c.write_con.new.equations.items) c.in_ok-at-in-Con.at
+    c.in_ok-copy_ref-in-Con.field-0 c.in_ok-root-in-Con.root _ (all_of (map equation_of c.lay_terms.new.equations.items) c.in_ok-all-in-Con.all)
+    (c.in_ok-at-in-Con.ensures.place ∙ sym (length-map c.args.equations.now.items equation_of)) c.in_ok-at-in-Con.ensures.equations c.in_ok-all-in-Con.ensures c.in_ok-write_con-in-Con.ensures
+    c.in_ok-copy_ref-in-Con.ensures c.in_ok-root-in-Con.ensures (expr_term qs _ _ _ c.as_slice.ensures c.in-Con.is)
 
 pub lay_terms-lay_term-requires : goal.lay_terms-lay_term-requires
 lay_terms-lay_term-requires t c =
@@ -32,5 +32,11 @@ lay_terms-lay_term-requires t c =
 
 pub lay_terms-loop-term-preserved : goal.lay_terms-loop-term-preserved
 lay_terms-loop-term-preserved t c =
-    laid_more c.args.node.now (get (no_ref c.args.node.now) c.args.refs.now) term_of c.args.terms.now c.loop-term.term-index c.term-item.result (all_of c.loop-term.all) (all_of c.add.new.self) (one_of c.in_ok-lay_term.field-0) _ 65535
-    c.loop-term-test.true c.term-item.is c.in_ok-lay_term.ensures c.in_ok-add.ensures c.loop-term.invariant
+    let old = map equation_of c.loop-term.equations.items in
+    let new = map equation_of c.lay_term.new.equations.items in
+    let a = c.loop-term.all in
+    let one = c.in_ok-lay_term.field-0 in
+    laid_more c.args.node.now (get (no_ref c.args.node.now) c.args.refs.now) term_of c.args.terms.now c.loop-term.term-index c.term-item.result (all_of old a) (all_of new c.add.new.self) _ _ 65535
+    c.loop-term-test.true c.term-item.is refl
+    (one_more old new a.roots.items c.add.new.self.roots.items a.next c.add.new.self.next one.root one.next _ c.in_ok-lay_term.ensures c.in_ok-add.ensures.roots c.in_ok-add.ensures.next)
+    c.loop-term.invariant

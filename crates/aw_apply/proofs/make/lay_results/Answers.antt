@@ -1,4 +1,4 @@
-use Rattle.std.proofs.Common.{◌≡◌, ◌+◌, ◌<◌, ◌++◌, suc, length, map, drop, ap, ◌∙◌, arith}
+use Rattle.std.proofs.Common.{◌≡◌, ◌+◌, ◌<◌, ◌++◌, suc, length, map, drop, refl, ap, ◌∙◌, arith}
 use Rattle.aw_term.specs.Rules.{get}
 use Rattle.aw_term.specs.Views.{term_of}
 use Rattle.aw_store.specs.EquationView.{equation_of}
@@ -15,9 +15,9 @@ loop-j-preserved c =
     let j = c.loop-j.j in
     let x = c.index-results-j.result in
     let lt : j < length xs = c.loop-j-test.true in
-    let given = c.in_ok-given.given in
-    let next : j + 1 + 1 ≡ suc (j + 1) = omega arith in (
-      ap (λ m. map equation_of c.append.new.equations.items ++ lay_results n f given.next m (map term_of (drop (j + 1) xs))) next
-          ∙ results_follow n f c.loop-j.next (j + 1) given.next xs j x (map equation_of c.loop-j.equations.items) _ (map equation_of given.equations.items) _ lt c.index-results-j.is c.in_ok-append.ensures c.in_ok-given.ensures.equations c.in_ok-given.ensures.next c.loop-j.invariant.0,
-      omega (arith, c.loop-j.invariant.1, symbols_more term_of xs j x lt c.index-results-j.is, c.in_ok-given.ensures.next, lay_result-next n f c.loop-j.next (j + 1) (term_of x)),
+    let after = c.in_ok-next.next in
+    let num : j + 1 + 1 ≡ suc (j + 1) = omega arith in (
+      ap (λ m. map equation_of c.lay_result.new.equations.items ++ lay_results n f after m (map term_of (drop (j + 1) xs))) num
+          ∙ results_follow n f c.loop-j.next (j + 1) after xs j x (map equation_of c.loop-j.equations.items) (map equation_of c.lay_result.new.equations.items) _ _ lt c.index-results-j.is c.in_ok-next.ensures.equations refl c.in_ok-next.ensures.next c.loop-j.invariant.0,
+      omega (arith, c.loop-j.invariant.1, symbols_more term_of xs j x lt c.index-results-j.is, c.in_ok-next.ensures.next, lay_result-next n f c.loop-j.next (j + 1) (term_of x)),
     )

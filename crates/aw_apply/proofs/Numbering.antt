@@ -1,42 +1,18 @@
 -- The equations of one choice have different left sides.
-use Rattle.std.proofs.Common.{◌≡◌, ℕ, suc, ◌+◌, ◌<◌, ◌≤◌, Bool, true, false, cond, List, [], ◌∷◌, ◌++◌, length, Option, Some, None, refl, sym, ap, ◌∙◌, subst, arith}
+use Rattle.std.proofs.Common.{◌≡◌, ℕ, suc, ◌+◌, ◌<◌, ◌≤◌, cond, List, [], ◌∷◌, ◌++◌, length, Some, None, refl, sym, ap, subst, arith}
 use Rattle.aw_term.specs.Trees.{Never, Tree, Leaf, Made, Trees, Nil, More}
 use Rattle.aw_term.specs.Names.{Node, Ref, Slot, Result, Part, result, part}
 use Rattle.aw_term.specs.Rules.{Term, Ground, Child, Rule, get}
-use Rattle.aw_store.specs.Refs.{ref_eq}
-use Rattle.aw_store.specs.Equations.{Body, Same, Is, Equation, Map, find}
-use Rattle.aw_apply.specs.Made.{lay, lays, lay_list, lay_children, lay_result, lay_results, child_refs, made}
-use Rattle.aw_iograph.proofs.Members.{never}
 use Rattle.aw_term.specs.WellFormed.{Each, Later}
-use Rattle.aw_space.proofs.Lists.{later-append}
-use Rattle.aw_space.proofs.Substituting.{Holds}
-use Rattle.aw_accept.proofs.Fitting.{each_member}
-use Rattle.aw_term.proofs.RefTests.{ref_eq-self, ref_eq-true}
 use Rattle.aw_term.proofs.Eaches.{each_map, each_append}
+use Rattle.aw_store.specs.Equations.{Same, Is, Equation, Map, find}
+use Rattle.aw_term.proofs.RefTests.{ref_eq-self}
+use Rattle.aw_store.proofs.MoreEquations.{find-absent, find-left_more, Holds, Holds-wider, Holds-past, Holds-append}
+use Rattle.aw_apply.specs.Made.{lay, lays, lay_list, lay_children, lay_result, lay_results, child_refs, made}
 
-absent_cases : (b : Bool) (r : Ref) (e : Equation) (o : Option Body) → ref_eq r e.left ≡ b → (r ≡ e.left → Never) → cond b (Some e.body) o ≡ o
-absent_cases true r e o f n = never (n (ref_eq-true r e.left f))
-absent_cases false r e o f n = refl
-
-pub find-absent : (k : Map) (r : Ref) → Each (λ (e : Equation). r ≡ e.left → Never) k → find k r ≡ None
-find-absent [] r n = refl
-find-absent (e ∷ k) r n = absent_cases (ref_eq r e.left) r e (find k r) refl n.0 ∙ find-absent k r n.1
-
-append_cases : (b : Bool) (x : Option Body) (o p : Option Body) (y : Body) → (o ≡ Some y → p ≡ Some y) → cond b x o ≡ Some y → cond b x p ≡ Some y
-append_cases true x o p y f g = g
-append_cases false x o p y f g = f g
-
-pub find-left_more : (k es : Map) (r : Ref) (b : Body) → find k r ≡ Some b → find (k ++ es) r ≡ Some b
-find-left_more [] es r b f = absurd cc
-find-left_more (e ∷ k) es r b f = append_cases (ref_eq r e.left) (Some e.body) (find k r) (find (k ++ es) r) b (find-left_more k es r b) f
-
-right_cases : (b : Bool) (x : Body) (o p q : Option Body) → (o ≡ None → p ≡ q) → cond b (Some x) o ≡ None → cond b (Some x) p ≡ q
-right_cases true x o p q f g = absurd cc
-right_cases false x o p q f g = f g
-
-pub find-right_more : (k es : Map) (r : Ref) → find k r ≡ None → find (k ++ es) r ≡ find es r
-find-right_more [] es r f = refl
-find-right_more (e ∷ k) es r f = right_cases (ref_eq r e.left) e.body (find k r) (find (k ++ es) r) (find es r) (find-right_more k es r) f
+later_append : {A : Type 0} (R : A → A → Type 0) (xs ys : List A) → Later R xs → Later R ys → Each (λ x. Each (R x) ys) xs → Later R (xs ++ ys)
+later_append R [] ys a b f = b
+later_append R (x ∷ xs) ys a b f = (each_append (R x) xs ys a.0 f.0, later_append R xs ys a.1 b f.1)
 
 -- parts from a below b, results from c below d
 abbrev pub Covers : ℕ → ℕ → ℕ → ℕ → Slot → Type 0
@@ -60,18 +36,6 @@ covers-apart : (a b e c d f : ℕ) (s : Slot) → Covers a b c d s → Covers b 
 covers-apart a b e c d f (Part i) h g = absurd (omega (arith, h.1, g.0))
 covers-apart a b e c d f (Result j) h g = absurd (omega (arith, h.1, g.0))
 
-pub Holds-wider : (k k' : Map) → ((r : Ref) (b : Body) → find k r ≡ Some b → find k' r ≡ Some b) → (es : List Equation) → Holds k es → Holds k' es
-Holds-wider k k' f [] h = tt
-Holds-wider k k' f (e ∷ es) h = (f e.left e.body h.0, Holds-wider k k' f es h.1)
-
-Holds-past : (k fs : Map) (es : List Equation) → Each (λ (e : Equation). find k e.left ≡ None) es → Holds fs es → Holds (k ++ fs) es
-Holds-past k fs [] n h = tt
-Holds-past k fs (e ∷ es) n h = (find-right_more k fs e.left n.0 ∙ h.0, Holds-past k fs es n.1 h.1)
-
-Holds-append : (k : Map) (es fs : List Equation) → Holds k es → Holds k fs → Holds k (es ++ fs)
-Holds-append k [] fs a b = b
-Holds-append k (e ∷ es) fs a b = (a.0, Holds-append k es fs a.1 b)
-
 absent_from : (n : Node) (a b e c d f : ℕ) (es : List Equation) (r : Ref) → Each (Lies n a b c d) es → Covers b e d f r.slot → Each (λ (e : Equation). r ≡ e.left → Never) es
 absent_from n a b e c d f [] r l h = tt
 absent_from n a b e c d f (x ∷ es) r l h = ((λ p. covers-apart a b e c d f r.slot (subst (λ (r : Ref). Covers a b c d r.slot) (sym p) l.0.1) h), absent_from n a b e c d f es r l.1 h)
@@ -86,9 +50,10 @@ Apart-append n a b e c d f es fs p q u v x y = record {
       (Holds-past es fs fs
       (each_map (Lies n b e d f) (λ (z : Equation). find es z.left ≡ None) fs (λ z h. find-absent es z.left (absent_from n a b e c d f es z.left x.lie h.1)) y.lie)
       y.hold);
-  differ = later-append (λ (e f : Equation). e.left ≡ f.left → Never) es fs x.differ y.differ
-      (λ u v i j q. let l = each_member (Lies n a b c d) es u x.lie i in let r = each_member (Lies n b e d f) fs v y.lie j in
-      covers-apart a b e c d f v.left.slot (subst (λ (r : Ref). Covers a b c d r.slot) q l.1) r.1);
+  differ = later_append (λ (e f : Equation). e.left ≡ f.left → Never) es fs x.differ y.differ
+      (each_map (Lies n a b c d) (λ (u : Equation). Each (λ (v : Equation). u.left ≡ v.left → Never) fs) es
+      (λ u l. each_map (Lies n b e d f) (λ (v : Equation). u.left ≡ v.left → Never) fs (λ v r q. covers-apart a b e c d f v.left.slot (subst (λ (r : Ref). Covers a b c d r.slot) q l.1) r.1) y.lie)
+      x.lie);
 }
 
 one_apart : (n : Node) (a b c d : ℕ) (e : Equation) → Lies n a b c d e → Apart n a b c d (e ∷ [])

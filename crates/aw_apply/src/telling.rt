@@ -1,0 +1,138 @@
+//! What a guard says by references: of a rule at a node, to a choice of it, and in a worklist.
+ghost use Rattle.std.specs.Prelude.{◌≡◌, ◌≤◌, ◌+◌, ◌<◌, List, true, All, IfOk, Some, length, map, slice_get};
+ghost use Rattle.aw_term.specs.Trees.{join};
+ghost use Rattle.aw_term.specs.Choices.{after_guard};
+ghost use Rattle.aw_term.specs.Runs.{refusal_of as plain_refusal};
+ghost use Rattle.aw_term.specs.Views.{pattern_of};
+ghost use Rattle.aw_term.specs.WellFormed.{all_leaves, all_nesting};
+ghost use Rattle.aw_choice.specs.ChoiceView.{refusal_of};
+ghost use Rattle.aw_grammar.specs.declared.rule.Sort.{Sort as SortValue};
+ghost use Rattle.aw_grammar.specs.GrammarView.{rule_of};
+ghost use Rattle.aw_store.specs.NamedRefs.{is_named, all_named, AreNamed};
+ghost use Rattle.aw_apply.specs.Guard.{guard_all as plain_guard};
+ghost use Rattle.aw_apply.specs.GuardView.{guard_of};
+ghost use Rattle.aw_apply.specs.Named.{as_named};
+ghost use Rattle.aw_apply.specs.Telling.{IsLive, matched_of, weighed_of, HasRoom};
+
+use crate::binding::Binding;
+use crate::guard::{Guard, test_guard};
+use crate::steps::Steps;
+use aw_base::{Answer, Place, Rule, Standing};
+use aw_name::{Node, Ref, Trail};
+use aw_store::{Facts, Refs, ref_at, refs_at};
+use std::alloc::{AllocError, Global};
+use std::sync::ledger::Ledger;
+
+/// What a guard gives, by references: those that the variables of the patterns take; or the missing one; or the place
+/// that differs; or the one at a pattern's place from which a chase goes round.
+#[derive(Debug, Drop)]
+pub enum Tested {
+    Yes(Refs),
+    Waits(Ref),
+    Differs(Place),
+    Circle(Ref),
+}
+
+/// A refusal, or the references that the patterns of a rule bind.
+#[derive(Debug, Drop)]
+pub enum Weighed {
+    Refused(Answer),
+    Takes(Refs),
+}
+
+/// The slot of a reference that is named.
+fn slot_named<F: Facts>(f: &F, r: &Ref) -> usize
+    requires { is_named (F.names f.now) r.now ≡ true }
+    ensures slot { slice_get (F.names f.now) result ≡ Some r.now }
+    ensures live { result < length (F.names f.now) }
+{
+    match f.slot_of(r) {
+        Some(slot) => slot,
+        None => unreachable!(),
+    }
+}
+
+/// The slots of references that are named. It takes no memory.
+pub fn slots_of<F: Facts>(f: &F, refs: &[Ref]) -> Binding
+    requires named { all_named (F.names f.now) refs.now ≡ true }
+    requires few { length refs.now ≤ 64 }
+    ensures named { AreNamed (F.names f.now) result refs.now }
+    ensures live { All (λ slot. slot < length (F.names f.now)) result }
+{
+    let mut slots = Binding::new();
+    for r in refs {
+        slots.push(slot_named(f, r));
+    }
+    slots
+}
+
+/// What a guard gives, by copies of the references that its slots name.
+pub fn tell_guard<F: Facts>(alloc: Global, f: &F, guard: &Guard) -> Result<Tested, AllocError>
+    requires { IsLive (F.names f.now) guard.now }
+    ensures { IfOk result (λ t. as_named (matched_of t) ≡ guard_of (F.names f.now) guard.now) }
+{
+    match guard {
+        Guard::Yes(bound) => Ok(Tested::Yes(refs_at(alloc, f, bound.as_slice())?)),
+        Guard::Waits(slot) => Ok(Tested::Waits(ref_at(f, *slot)?)),
+        Guard::Differs(place) => Ok(Tested::Differs(*place)),
+        Guard::Circle(slot) => Ok(Tested::Circle(ref_at(f, *slot)?)),
+    }
+}
+
+/// The guard of a rule on references that are named. One call is one step.
+pub fn test_rule<F: Facts, L: Ledger>(
+    alloc: Global,
+    f: &F,
+    rule: &Rule,
+    inherited: &[Ref],
+    steps: &mut Steps<L>,
+) -> Result<Tested, AllocError>
+    requires named { all_named (F.names f.now) inherited.now ≡ true }
+    requires same { length rule.now.patterns ≡ length inherited.now }
+    requires few { length rule.now.patterns ≤ 8 }
+    requires shallow { all_nesting (join (map pattern_of rule.now.patterns)) ≤ 32 }
+    requires room { length (all_leaves (join (map pattern_of rule.now.patterns))) ≤ 64 }
+    ensures guard { IfOk result (λ t. matched_of t ≡ plain_guard (F.map f.now) 1 (map pattern_of rule.now.patterns) inherited.now) }
+    ensures step { steps.new ≡ steps.old + 1 }
+{
+    let slots = slots_of(f, inherited);
+    let guard = test_guard(f, rule, slots.as_slice(), steps);
+    tell_guard(alloc, f, &guard)
+}
+
+/// A rule of the node's sort, with the right number of arguments, whose guard gives this.
+pub fn weigh_guard(node: &Node, rule: &Rule, tested: Tested) -> Weighed
+    ensures room { HasRoom (length rule.now.children) node.now result }
+    ensures value { (sorts : List SortValue) → weighed_of (rule_of sorts rule.now) result ≡ after_guard node.now (rule_of sorts rule.now) (matched_of tested) }
+{
+    match tested {
+        Tested::Yes(bound) => {
+            if node.steps.len() == Trail::MOST && !rule.children.is_empty() {
+                Weighed::Refused(Answer::TooDeep)
+            } else {
+                Weighed::Takes(bound)
+            }
+        }
+        Tested::Waits(on) => Weighed::Refused(Answer::Waits(on)),
+        Tested::Differs(place) => Weighed::Refused(Answer::Differs(place)),
+        Tested::Circle(at) => Weighed::Refused(Answer::Circle(at)),
+    }
+}
+
+/// How a rule of the node's sort stands there, where its guard gives this.
+pub fn standing_of(node: &Node, rule: &Rule, tested: Tested) -> Standing
+    ensures { (sorts : List SortValue) → refusal_of result ≡ plain_refusal (after_guard node.now (rule_of sorts rule.now) (matched_of tested)) }
+{
+    match tested {
+        Tested::Yes(_) => {
+            if node.steps.len() == Trail::MOST && !rule.children.is_empty() {
+                Standing::TooDeep
+            } else {
+                Standing::Ready
+            }
+        }
+        Tested::Waits(on) => Standing::Waits(on),
+        Tested::Differs(place) => Standing::Differs(place),
+        Tested::Circle(at) => Standing::Circle(at),
+    }
+}
