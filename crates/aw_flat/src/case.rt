@@ -10,11 +10,12 @@ use aw_base::{
     Answer, Choice, Grammar, Grounds, Node, Ref, Trail, push_answer, push_node, push_ref,
 };
 use aw_form::Unread;
-use aw_list::{Items, Text};
+use aw_list::Text;
 use aw_name::is_same_node;
 use aw_sched::{Event, SchedFault, read_schedule};
 use aw_store::{
-    Added, Body, Chase, Equation, Equations, Facts, ListFacts, Refs, body_text, chase, push_body,
+    Added, Body, Chase, Equation, Equations, Facts, ListFacts, Refs, body_text, chase, intern_all,
+    push_body,
 };
 use bstr::ByteSlice;
 use std::alloc::{AllocError, Global};
@@ -68,14 +69,6 @@ fn are_narrow(es: &[Equation]) -> bool
         }
     }
     true
-}
-
-/// Names references in a store.
-fn intern_all<F: Facts>(f: &mut F, refs: &[Ref]) -> Result<(), AllocError> {
-    for r in refs {
-        f.intern(r)?;
-    }
-    Ok(())
 }
 
 /// How a chase ends, in a word, and at which slot.
@@ -165,7 +158,8 @@ impl<'g> Case<'g> {
         self.told.push_bytes(b" ")?;
         push_refs(&mut self.told, self.grammar, inherited.as_slice())?;
         self.told.push_bytes(b"\n")?;
-        intern_all(&mut self.facts, inherited.as_slice())?;
+        let alloc = self.told.allocator();
+        let _slots = intern_all(alloc, &mut self.facts, inherited.as_slice())?;
         self.held.push(Held {
             node,
             inherited,
@@ -196,7 +190,7 @@ impl<'g> Case<'g> {
             return self.refuse(&Answer::Known);
         }
         self.told.push_bytes(b"taken\n  ")?;
-        self.hold(node, Items::new(alloc))
+        self.hold(node, Refs::new(alloc))
     }
 
     /// Tells a refusal.

@@ -1,5 +1,5 @@
 //! References, bodies and equations as a table spells them.
-use aw_base::{Grammar, Items, NameFault, Node, Ref, Slot, parse_node};
+use aw_base::{Grammar, NameFault, Node, Ref, Slot, parse_node};
 use aw_form::Unread;
 use aw_list::Text;
 use aw_store::{Body, Equation, Refs};
@@ -41,14 +41,14 @@ pub fn read_ref(alloc: Global, g: &Grammar, text: &[u8]) -> Result<Ref, Unread> 
 
 /// References in parentheses, a comma and a space between them.
 fn read_refs(alloc: Global, g: &Grammar, text: &[u8]) -> Result<Refs, Unread> {
-    let mut refs = Items::new(alloc);
     match text {
-        [] | [b'(', b')'] => Ok(refs),
+        [] | [b'(', b')'] => Ok(Refs::new(alloc)),
         [b'(', inner @ .., b')'] => {
+            let mut refs = Vec::new(alloc);
             for part in inner.split_str(b", ") {
                 refs.push(read_ref(alloc, g, part)?)?;
             }
-            Ok(refs)
+            Ok(Refs::from_vec(refs)?)
         }
         _ => Err(Unread::Form),
     }

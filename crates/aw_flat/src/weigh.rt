@@ -1,22 +1,21 @@
 //! What a choice of a rule on a node leads to over a store.
-ghost use Rattle.std.specs.Prelude.{◌≡◌, ◌<◌, ◌≤◌, All, IfOk, IfSome, length, map};
+ghost use Rattle.std.specs.Prelude.{◌≤◌, IfOk, IfSome, length, map};
 ghost use Rattle.aw_term.specs.Trees.{join};
 ghost use Rattle.aw_term.specs.Views.{pattern_of};
 ghost use Rattle.aw_term.specs.WellFormed.{all_leaves, all_nesting};
-ghost use Rattle.aw_apply.specs.Named.{AreNamed};
+ghost use Rattle.aw_store.specs.NamedRefs.{AreNamed};
+ghost use Rattle.aw_apply.specs.Telling.{HasRoom};
 
-use aw_apply::{Guard, Made, guard_uncounted, made};
-use aw_base::{Answer, Grammar, Grounds, Node, Ref, Rule, Trail, args_ok, sort_of};
-use aw_list::Items;
-use aw_name::copy_ref;
+use aw_apply::{Made, Weighed, guard_uncounted, made, tell_guard, weigh_guard};
+use aw_base::{Answer, Grammar, Grounds, Node, Ref, Rule, args_ok, sort_of};
 use aw_store::{Facts, Refs};
 use std::alloc::{AllocError, Global};
 
-/// A refusal; or what is wanted, as the references that the patterns bind, or what a taken rule makes.
+/// A refusal, or what a taken rule makes.
 #[derive(Debug, Drop)]
-pub enum Answered<T> {
+pub enum Answered {
     Refused(Answer),
-    Gives(T),
+    Gives(Made),
 }
 
 /// The slots of references, where all of them are named.
@@ -33,37 +32,25 @@ fn slots_of<F: Facts>(f: &F, alloc: Global, refs: &[Ref]) -> Result<Option<Vec<u
     Ok(Some(slots))
 }
 
-/// The references of slots.
-fn refs_of<F: Facts>(f: &F, alloc: Global, slots: &[usize]) -> Result<Refs, AllocError>
-    requires { All (λ slot. slot < length (F.names f.now)) slots.now }
-{
-    let mut refs = Items::new(alloc);
-    for slot in slots {
-        refs.push(copy_ref(f.name(*slot))?)?;
-    }
-    Ok(refs)
-}
-
 /// The guard of a rule on references that are named.
 fn guard<F: Facts>(
     f: &F,
     alloc: Global,
+    node: &Node,
     rule: &Rule,
     inherited: &[Ref],
-) -> Result<Answered<Refs>, AllocError>
+) -> Result<Weighed, AllocError>
     requires shallow { all_nesting (join (map pattern_of rule.now.patterns)) ≤ 32 }
     requires room { length (all_leaves (join (map pattern_of rule.now.patterns))) ≤ 64 }
+    ensures { IfOk result (λ w. HasRoom (length rule.now.children) node.now w) }
 {
     let slots = match slots_of(f, alloc, inherited)? {
         Some(slots) if slots.len() == rule.patterns.len() && slots.len() <= 8 => slots,
-        _ => return Ok(Answered::Refused(Answer::NotItsRule)),
+        _ => return Ok(Weighed::Refused(Answer::NotItsRule)),
     };
-    match guard_uncounted(f, rule, slots.as_slice()) {
-        Guard::Yes(bound) => Ok(Answered::Gives(refs_of(f, alloc, bound.as_slice())?)),
-        Guard::Waits(slot) => Ok(Answered::Refused(Answer::Waits(copy_ref(f.name(slot))?))),
-        Guard::Circle(slot) => Ok(Answered::Refused(Answer::Circle(copy_ref(f.name(slot))?))),
-        Guard::Differs(place) => Ok(Answered::Refused(Answer::Differs(place))),
-    }
+    let guard = guard_uncounted(f, rule, slots.as_slice());
+    let tested = tell_guard(alloc, f, &guard)?;
+    Ok(weigh_guard(node, rule, tested))
 }
 
 /// What a choice of a rule on an open node leads to, where its inherited references are named.
@@ -75,7 +62,7 @@ pub fn weigh<F: Facts>(
     inherited: &Refs,
     number: u16,
     args: &Grounds,
-) -> Result<Answered<Made>, AllocError> {
+) -> Result<Answered, AllocError> {
     let Some(rule) = g.rule(number) else {
         return Ok(Answered::Refused(Answer::NotItsRule));
     };
@@ -85,12 +72,11 @@ pub fn weigh<F: Facts>(
     if args.len() != usize::from(rule.params) || !args_ok(g, args) {
         return Ok(Answered::Refused(Answer::Arguments));
     }
-    let bound = match guard(f, alloc, rule, inherited.as_slice())? {
-        Answered::Refused(answer) => return Ok(Answered::Refused(answer)),
-        Answered::Gives(bound) => bound,
-    };
-    if node.steps.len() == Trail::MOST && !rule.children.is_empty() {
-        return Ok(Answered::Refused(Answer::TooDeep));
+    match guard(f, alloc, node, rule, inherited.as_slice())? {
+        Weighed::Refused(answer) => Ok(Answered::Refused(answer)),
+        Weighed::Takes(bound) => {
+            let made = made(alloc, g, node, number, args, &bound)?;
+            Ok(Answered::Gives(made))
+        }
     }
-    Ok(Answered::Gives(made(alloc, g, node, number, args, &bound)?))
 }

@@ -1,5 +1,5 @@
 use Rattle.std.proofs.Common.{take}
-use Rattle.aw_apply.specs.Named.{AreNamed}
+use Rattle.aw_store.specs.NamedRefs.{AreNamed}
 use Rattle.aw_flat.proofs.weigh.slots_of.Given as goal
 
 abbrev pub invariant-loop-r : goal.invariant-loop-r
