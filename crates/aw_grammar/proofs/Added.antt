@@ -16,7 +16,7 @@ use Rattle.aw_grammar.specs.GrammarView.{sort_of, plain_grammar, plain_words}
 use Rattle.aw_grammar.specs.GrammarOf.{entry}
 use Rattle.aw_grammar.specs.Declarations.{Declarations, sort_declared, with_start_at}
 use Rattle.aw_grammar.specs.Kinds.{role_tests, con_tests, sort_tests, role_kind, con_kind, sort_kind, start_kind, start_kind_of}
-use Rattle.aw_grammar.proofs.NoKind.{none_holds}
+use Rattle.aw_index.proofs.FirstTold.{none_holds}
 use Rattle.aw_grammar.proofs.Declared.{well_formed_role, well_formed_con, well_formed_sort, well_formed_start, names_of_start}
 
 -- the declarations of these lists

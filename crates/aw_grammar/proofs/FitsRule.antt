@@ -15,7 +15,7 @@ use Rattle.aw_grammar.specs.Written.{Written, WrittenChild, WrittenRule}
 use Rattle.aw_grammar.specs.Terms.{args_of, results_of, uses_of, terms_of, all_have_contents, depth_of_all, symbols_in_all, has_contents}
 use Rattle.aw_grammar.specs.Resolved.{all_resolved, entering, numbered, child_numbered, rule_numbered}
 use Rattle.aw_grammar.specs.Kinds.{sort_called, takes_and_gives, children_fit, all_known, all_have_arities, is_past_counts, is_past_terms, child_sorts, rule_kind, rule_tests}
-use Rattle.aw_grammar.proofs.NoKind.{none_holds}
+use Rattle.aw_index.proofs.FirstTold.{none_holds}
 use Rattle.aw_grammar.proofs.Added.{listed}
 use Rattle.aw_grammar.proofs.Appends.{and_more, known_append, arities_append, depth_append, symbols_append, variables_append, all_append}
 use Rattle.aw_grammar.proofs.Numbering.{numbers_first, numbers_below}

@@ -22,7 +22,7 @@ use Rattle.aw_grammar.specs.Written.{WrittenRule}
 use Rattle.aw_grammar.specs.Terms.{all_have_contents, terms_of}
 use Rattle.aw_grammar.specs.Declarations.{Entry, Declarations, entry_of, with_rule}
 use Rattle.aw_grammar.specs.Kinds.{rule_kind, rule_tests, is_past_counts, is_past_terms}
-use Rattle.aw_grammar.proofs.NoKind.{none_holds}
+use Rattle.aw_index.proofs.FirstTold.{none_holds}
 use Rattle.aw_term.proofs.Eaches.{each_push, each_map}
 use Rattle.aw_grammar.proofs.Counted.{rules_counted}
 use Rattle.aw_grammar.proofs.Growth.{differ_push, four_from, four_to}

@@ -11,7 +11,6 @@ pub mod GoodRule
 pub mod Growth
 pub mod InTurn
 pub mod MadeLemmas
-pub mod NoKind
 pub mod Numbering
 pub mod Numbers
 pub mod PlacedNames

@@ -1,13 +1,13 @@
 -- Which kind of a rule is told, group by group of tests.
 use Rattle.std.proofs.Common.{◌≡◌, ℕ, ◌≤◌, Bool, true, false, cond, not, ◌||◌, nat_le, nat_lt, List, [], ◌∷◌, ◌++◌, length, Option, Some, None, MatchOption, refl, sym, ap, ◌∙◌}
 use Rattle.std.proofs.lemmas.Bool.{ltb-false, or_parts}
-use Rattle.aw_index.specs.Places.{has_double}
+use Rattle.aw_index.specs.Places.{has_double, first_told}
 use Rattle.aw_grammar.specs.declared.fault.DeclKind.{DeclKind}
 use Rattle.aw_grammar.specs.declared.fault.DeclKind.TheVariants.{Limit, Twice, Never}
 use Rattle.aw_grammar.specs.declared.variables.Variables.{Variables}
 use Rattle.aw_grammar.specs.Written.{WrittenRule}
 use Rattle.aw_grammar.specs.Declarations.{Declarations}
-use Rattle.aw_grammar.specs.Kinds.{first_kind, is_past_counts}
+use Rattle.aw_grammar.specs.Kinds.{is_past_counts}
 
 abbrev or_kind : Option DeclKind → Option DeclKind → Option DeclKind
 or_kind None later = later
@@ -17,24 +17,24 @@ one_test : (test : Bool) (kind : DeclKind) (rest later told : Option DeclKind) �
 one_test true kind rest later told e = refl
 one_test false kind rest later told e = e
 
-first_append : (xs ys : List (Bool × DeclKind)) → first_kind (xs ++ ys) ≡ or_kind (first_kind xs) (first_kind ys)
+first_append : (xs ys : List (Bool × DeclKind)) → first_told (xs ++ ys) ≡ or_kind (first_told xs) (first_told ys)
 first_append [] ys = refl
-first_append (x ∷ xs) ys = one_test x.0 x.1 (first_kind xs) (first_kind ys) (first_kind (xs ++ ys)) (first_append xs ys)
+first_append (x ∷ xs) ys = one_test x.0 x.1 (first_told xs) (first_told ys) (first_told (xs ++ ys)) (first_append xs ys)
 
 -- where the tests before tell nothing, those after decide
-pub later_tests : (past : Bool) (before after : List (Bool × DeclKind)) → past ≡ false → None ≡ first_kind before → first_kind ((past, Limit) ∷ (before ++ after)) ≡ first_kind after
+pub later_tests : (past : Bool) (before after : List (Bool × DeclKind)) → past ≡ false → None ≡ first_told before → first_told ((past, Limit) ∷ (before ++ after)) ≡ first_told after
 later_tests past before after fits none =
-    ap (λ b. cond b (Some Limit) (first_kind (before ++ after))) fits ∙ first_append before after ∙ ap (λ o. or_kind o (first_kind after)) (sym none)
+    ap (λ b. cond b (Some Limit) (first_told (before ++ after))) fits ∙ first_append before after ∙ ap (λ o. or_kind o (first_told after)) (sym none)
 
-pub terms_told : (past : Bool) (names terms variables : List (Bool × DeclKind)) (kind : DeclKind) → past ≡ false → None ≡ first_kind names → Some kind ≡ first_kind terms → first_kind ((past, Limit) ∷ (names ++ (terms ++ variables))) ≡ Some kind
+pub terms_told : (past : Bool) (names terms variables : List (Bool × DeclKind)) (kind : DeclKind) → past ≡ false → None ≡ first_told names → Some kind ≡ first_told terms → first_told ((past, Limit) ∷ (names ++ (terms ++ variables))) ≡ Some kind
 terms_told past names terms variables kind fits none told =
-    later_tests past names (terms ++ variables) fits none ∙ first_append terms variables ∙ ap (λ o. or_kind o (first_kind variables)) (sym told)
+    later_tests past names (terms ++ variables) fits none ∙ first_append terms variables ∙ ap (λ o. or_kind o (first_told variables)) (sym told)
 
-pub variables_told : (past : Bool) (names terms variables : List (Bool × DeclKind)) → past ≡ false → None ≡ first_kind names → None ≡ first_kind terms → first_kind ((past, Limit) ∷ (names ++ (terms ++ variables))) ≡ first_kind variables
+pub variables_told : (past : Bool) (names terms variables : List (Bool × DeclKind)) → past ≡ false → None ≡ first_told names → None ≡ first_told terms → first_told ((past, Limit) ∷ (names ++ (terms ++ variables))) ≡ first_told variables
 variables_told past names terms variables fits none nothing =
-    later_tests past names (terms ++ variables) fits none ∙ first_append terms variables ∙ ap (λ o. or_kind o (first_kind variables)) (sym nothing)
+    later_tests past names (terms ++ variables) fits none ∙ first_append terms variables ∙ ap (λ o. or_kind o (first_told variables)) (sym nothing)
 
-pub never_told : (double enter : Bool) → double ≡ false → enter ≡ false → first_kind ((double, Twice) ∷ (not enter, Never) ∷ []) ≡ Some Never
+pub never_told : (double enter : Bool) → double ≡ false → enter ≡ false → first_told ((double, Twice) ∷ (not enter, Never) ∷ []) ≡ Some Never
 never_told double enter h k = ap (λ b. cond b (Some Twice) (cond (not enter) (Some Never) None)) h ∙ ap (λ b. cond (not b) (Some Never) None) k
 
 -- what was found of names

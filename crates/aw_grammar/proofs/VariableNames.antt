@@ -17,7 +17,7 @@ use Rattle.aw_grammar.specs.Declarations.{Entry, entry_of}
 use Rattle.aw_grammar.specs.GrammarOf.{entry}
 use Rattle.aw_grammar.specs.Kinds.{rule_kind, rule_tests}
 use Rattle.aw_grammar.specs.Variables.{VariablesFit, AllVariablesFit}
-use Rattle.aw_grammar.proofs.NoKind.{none_holds}
+use Rattle.aw_index.proofs.FirstTold.{none_holds}
 use Rattle.aw_term.proofs.Eaches.{each_append, each_map, each_push}
 use Rattle.aw_grammar.proofs.Growth.{differ_push}
 use Rattle.aw_grammar.proofs.Added.{listed}

@@ -1,6 +1,6 @@
 -- What is wrong with a declaration, in the order in which it is told.
 use Rattle.std.specs.Prelude.{ℕ, suc, Bool, true, false, ◌&&◌, ◌||◌, not, List, [], ◌∷◌, ◌++◌, map, length, Option, Some, None, slice_get, nat_eq, nat_lt, nat_le, if◌then◌else◌, option_and_then}
-use Rattle.aw_index.specs.Places.{place_of, stands, any_stands, all_stand, has_double}
+use Rattle.aw_index.specs.Places.{place_of, stands, any_stands, all_stand, has_double, first_told}
 use Rattle.aw_term.specs.WellFormed.{leaves_of}
 use Rattle.aw_grammar.specs.declared.rule.Con.{Con}
 use Rattle.aw_grammar.specs.declared.rule.Sort.{Sort}
@@ -13,24 +13,19 @@ use Rattle.aw_grammar.specs.Terms.{symbols_in_all, depth_of_all, results_of, use
 use Rattle.aw_grammar.specs.Resolved.{all_resolved, entering}
 use Rattle.aw_grammar.specs.Declarations.{Declarations, con_names, sort_names, rule_names}
 
--- the first kind whose test holds
-abbrev pub first_kind : List (Bool × DeclKind) → Option DeclKind
-first_kind [] = None
-first_kind (test ∷ tests) = if test.0 then Some test.1 else first_kind tests
-
 -- a role: past 64, or declared already
 abbrev pub role_tests : Declarations → List ℕ → List (Bool × DeclKind)
 role_tests d name = (nat_le 64 (length d.roles), Limit) ∷ (stands name d.roles, Double) ∷ []
 
 abbrev pub role_kind : Declarations → List ℕ → Option DeclKind
-role_kind d name = first_kind (role_tests d name)
+role_kind d name = first_told (role_tests d name)
 
 -- a constructor: past 1,024 or with more than 8 parts, or declared already
 abbrev pub con_tests : Declarations → RawCon → List (Bool × DeclKind)
 con_tests d c = (nat_le 1024 (length d.cons) || nat_lt 8 c.arity, Limit) ∷ (stands c.name (con_names d), Double) ∷ []
 
 abbrev pub con_kind : Declarations → RawCon → Option DeclKind
-con_kind d c = first_kind (con_tests d c)
+con_kind d c = first_told (con_tests d c)
 
 -- a sort: past 256 or with more than 8 inherited values or results, declared already, or of a role that is not declared
 abbrev pub sort_tests : Declarations → RawSort → List (Bool × DeclKind)
@@ -41,7 +36,7 @@ sort_tests d s =
     ∷ []
 
 abbrev pub sort_kind : Declarations → RawSort → Option DeclKind
-sort_kind d s = first_kind (sort_tests d s)
+sort_kind d s = first_told (sort_tests d s)
 
 -- the sort of this name
 abbrev pub sort_called : List ℕ → List Sort → Option Sort
@@ -49,7 +44,7 @@ sort_called name sorts = option_and_then (λ i. slice_get sorts i) (place_of nam
 
 abbrev pub start_kind_of : Option Sort → Option DeclKind
 start_kind_of None = Some Unknown
-start_kind_of (Some s) = first_kind ((s.start, Double) ∷ (nat_lt 0 s.takes, Inherits) ∷ [])
+start_kind_of (Some s) = first_told ((s.start, Double) ∷ (nat_lt 0 s.takes, Inherits) ∷ [])
 
 -- a start: no sort of that name is declared, it is a start sort already, or it takes inherited values
 abbrev pub start_kind : Declarations → List ℕ → Option DeclKind
@@ -155,4 +150,4 @@ abbrev pub rule_tests : Declarations → WrittenRule → List (Bool × DeclKind)
 rule_tests d r = (is_past_counts d r || is_past_terms r, Limit) ∷ (name_tests d r ++ (term_tests d r ++ variable_tests d r))
 
 abbrev pub rule_kind : Declarations → WrittenRule → Option DeclKind
-rule_kind d r = first_kind (rule_tests d r)
+rule_kind d r = first_told (rule_tests d r)

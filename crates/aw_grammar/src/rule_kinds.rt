@@ -1,11 +1,11 @@
 //! What is wrong with a rule.
 ghost use Rattle.std.specs.Prelude.{◌≡◌, ◌+◌, ◌<◌, ◌≤◌, ◌++◌, ◌⊎◌, length, true, not, MatchOption, IfOk, nat_lt};
-ghost use Rattle.aw_index.specs.Places.{any_stands, all_stand, stands};
+ghost use Rattle.aw_index.specs.Places.{any_stands, all_stand, stands, first_told};
 ghost use Rattle.aw_term.specs.WellFormed.{leaves_of};
 ghost use Rattle.aw_grammar.specs.Written.{rule_of_raw};
 ghost use Rattle.aw_grammar.specs.Terms.{results_of, uses_of, terms_of, depth_of_all, symbols_in_all};
 ghost use Rattle.aw_grammar.specs.Resolved.{all_resolved, entering};
-ghost use Rattle.aw_grammar.specs.Kinds.{is_past_counts, is_past_terms, all_known, all_have_arities, takes_and_gives, sort_called, names_unknown, arity_differs, first_kind, name_tests, term_tests};
+ghost use Rattle.aw_grammar.specs.Kinds.{is_past_counts, is_past_terms, all_known, all_have_arities, takes_and_gives, sort_called, names_unknown, arity_differs, name_tests, term_tests};
 ghost use Rattle.aw_grammar.specs.GrammarOf.{declarations_of, words_of};
 
 use crate::children::{
@@ -130,7 +130,7 @@ fn arity_differs(grammar: &Grammar, rule: &RawRule) -> bool
 /// The first kind that the names of a rule's declarations tell; `names` are those that enter.
 pub(crate) fn kind_of_names(grammar: &Grammar, rule: &RawRule, names: &Names) -> Option<DeclKind>
     requires { names.now ≡ entering (words_of grammar.now).cons (rule_of_raw rule.now) }
-    ensures { result ≡ first_kind (name_tests (declarations_of grammar.now) (rule_of_raw rule.now)) }
+    ensures { result ≡ first_told (name_tests (declarations_of grammar.now) (rule_of_raw rule.now)) }
 {
     if names.len() > 64 {
         return Some(DeclKind::Limit);
@@ -146,7 +146,7 @@ pub(crate) fn kind_of_names(grammar: &Grammar, rule: &RawRule, names: &Names) ->
 
 /// The first kind that the names and numbers in a rule's terms tell.
 pub(crate) fn kind_of_terms(grammar: &Grammar, rule: &RawRule) -> Option<DeclKind>
-    ensures { result ≡ first_kind (term_tests (declarations_of grammar.now) (rule_of_raw rule.now)) }
+    ensures { result ≡ first_told (term_tests (declarations_of grammar.now) (rule_of_raw rule.now)) }
 {
     if names_unknown(grammar, rule) {
         return Some(DeclKind::Unknown);

@@ -1,4 +1,4 @@
--- Places of names in a list.
+-- Places of names in a list, and the first fault of a list of tests.
 use Rattle.std.specs.Prelude.{ℕ, suc, Bool, true, false, ◌&&◌, ◌||◌, List, [], ◌∷◌, ◌++◌, length, Option, Some, None, nat_eq, if◌then◌else◌, option_map}
 use Rattle.std.specs.Cmp.Lexicographic.{pointwise}
 
@@ -42,3 +42,8 @@ any_stands (x ∷ xs) names = stands x names || any_stands xs names
 abbrev pub all_stand : List (List ℕ) → List (List ℕ) → Bool
 all_stand [] names = true
 all_stand (x ∷ xs) names = stands x names && all_stand xs names
+
+-- the first of these faults whose test holds
+abbrev pub first_told : {K : Type 0} → List (Bool × K) → Option K
+first_told [] = None
+first_told (test ∷ tests) = if test.0 then Some test.1 else first_told tests

@@ -3,7 +3,7 @@ use Rattle.std.proofs.Common.{◌≡◌, ℕ, ◌<◌, refl, sym, ap, ◌∙◌,
 use Rattle.std.specs.Prelude.{Err, is_none}
 use Rattle.std.proofs.lemmas.List.{length-map}
 use Rattle.std.proofs.lemmas.Bool.{or_right}
-use Rattle.aw_index.specs.Places.{number_of, stands}
+use Rattle.aw_index.specs.Places.{number_of, stands, first_told}
 use Rattle.aw_term.specs.Names.{Node}
 use Rattle.aw_term.specs.Choices.{Start, Develop}
 use Rattle.aw_term.specs.Views.{ground_of}
@@ -22,7 +22,7 @@ use Rattle.aw_grammar.specs.Named.{number_named}
 use Rattle.aw_base.specs.ChoiceFits.{args_ok}
 use Rattle.aw_sched.specs.Lines.{StartLine, ChooseLine, ListLine}
 use Rattle.aw_sched.specs.Events as P
-use Rattle.aw_sched.specs.Events.{first_kind, event_of, line_kind, is_long, args_are_past, args_unknown, ground_named, node_or_none}
+use Rattle.aw_sched.specs.Events.{event_of, line_kind, is_long, args_are_past, args_unknown, ground_named, node_or_none}
 use Rattle.aw_sched.specs.Grounds.{known_grounds, Finds}
 use Rattle.aw_sched.specs.LineEvents.{GivesEvent, args_kind, AreFound, GivesArgs}
 use Rattle.aw_sched.specs.declared.fault.SchedKind.{SchedKind}
@@ -33,11 +33,11 @@ use Rattle.aw_sched.proofs.LookedUp.{unnamed, named_stands, named_number, named_
 use Rattle.aw_sched.proofs.KnownLaw.{unknown_when, known_when}
 use Rattle.aw_sched.proofs.AlikeArguments.{args_fit}
 
-first_is : (a : Bool) (k : SchedKind) (rest : List (Bool × SchedKind)) → a ≡ true → first_kind ((a, k) ∷ rest) ≡ Some k
-first_is a k rest e = ap (λ b. cond b (Some k) (first_kind rest)) e
+first_is : (a : Bool) (k : SchedKind) (rest : List (Bool × SchedKind)) → a ≡ true → first_told ((a, k) ∷ rest) ≡ Some k
+first_is a k rest e = ap (λ b. cond b (Some k) (first_told rest)) e
 
-next_is : (a : Bool) (k : SchedKind) (rest : List (Bool × SchedKind)) → a ≡ false → first_kind ((a, k) ∷ rest) ≡ first_kind rest
-next_is a k rest e = ap (λ b. cond b (Some k) (first_kind rest)) e
+next_is : (a : Bool) (k : SchedKind) (rest : List (Bool × SchedKind)) → a ≡ false → first_told ((a, k) ∷ rest) ≡ first_told rest
+next_is a k rest e = ap (λ b. cond b (Some k) (first_told rest)) e
 
 -- a start
 pub start_unknown : (g : Grammar) (sort : List ℕ) (case : ℕ) → None ≡ number_named (words_of g).sorts sort → line_kind (declarations_of g) (StartLine sort case) ≡ Some Unknown
@@ -48,7 +48,7 @@ starts : (g : Grammar) (sort : List ℕ) (i : ℕ) (b : Bool) → Some i ≡ num
 starts g sort i b e h = ap (λ k. is_start (slice_get (grammar_of g).sorts k)) (named_number (words_of g).sorts sort i e) ∙ h
 
 declared_start : (g : Grammar) (sort : List ℕ) (case i : ℕ) → Some i ≡ number_named (words_of g).sorts sort
-    → line_kind (declarations_of g) (StartLine sort case) ≡ first_kind ((not (is_start (slice_get (grammar_of g).sorts (number_of sort (words_of g).sorts))), NotStart) ∷ [])
+    → line_kind (declarations_of g) (StartLine sort case) ≡ first_told ((not (is_start (slice_get (grammar_of g).sorts (number_of sort (words_of g).sorts))), NotStart) ∷ [])
 declared_start g sort case i e = next_is (not (stands sort (words_of g).sorts)) Unknown ((not (is_start (slice_get (grammar_of g).sorts (number_of sort (words_of g).sorts))), NotStart) ∷ []) (ap not (named_stands (words_of g).sorts sort i e))
 
 pub start_good : (g : Grammar) (sort : List ℕ) (case i : ℕ) → Some i ≡ number_named (words_of g).sorts sort → is_start (slice_get (grammar_of g).sorts i) ≡ true
@@ -74,10 +74,10 @@ list_good g role i e =
 
 -- a choice: its kind by that of its arguments and its node
 abbrev three : Bool → Bool → Bool → Option SchedKind
-three p u a = first_kind ((p, Limit) ∷ (u, Unknown) ∷ (a, Arity) ∷ [])
+three p u a = first_told ((p, Limit) ∷ (u, Unknown) ∷ (a, Arity) ∷ [])
 
 abbrev four : Bool → Bool → Bool → Bool → Bool → Option SchedKind
-four p l u a m = first_kind ((p || l, Limit) ∷ (u, Unknown) ∷ (a, Arity) ∷ (m, Name) ∷ [])
+four p l u a m = first_told ((p || l, Limit) ∷ (u, Unknown) ∷ (a, Arity) ∷ (m, Name) ∷ [])
 
 four_args : (p l u a m : Bool) (k : SchedKind) → l ≡ false → three p u a ≡ Some k → four p l u a m ≡ Some k
 four_args true l u a m k e h = h

@@ -1,6 +1,6 @@
 -- What a line of a schedule asks for, and what is wrong with it.
 use Rattle.std.specs.Prelude.{ℕ, Bool, false, ◌||◌, not, List, [], ◌∷◌, length, map, Option, None, Some, slice_get, nat_lt, is_none, if◌then◌else◌, unwrap_or}
-use Rattle.aw_index.specs.Places.{number_of, stands}
+use Rattle.aw_index.specs.Places.{number_of, stands, first_told}
 use Rattle.aw_text.specs.Spelling.{parts_of_name}
 use Rattle.aw_term.specs.Trees.{Num, Made, Nil, bind}
 use Rattle.aw_term.specs.Names.{Node, root}
@@ -54,18 +54,13 @@ args_are_past args = nat_lt 8 (length args) || (nat_lt 256 (symbols_in_all args)
 abbrev pub args_unknown : Declarations → List Written → Bool
 args_unknown d args = not (all_known (con_names d) args) || nat_lt 0 (length (leaves_of (all_resolved (con_names d) args)))
 
--- the first kind whose test holds
-abbrev pub first_kind : List (Bool × SchedKind) → Option SchedKind
-first_kind [] = None
-first_kind (test ∷ tests) = if test.0 then Some test.1 else first_kind tests
-
 -- What is wrong with a line: past a limit; a sort, a rule, a role or a name in an argument is not declared;
 -- a constructor in an argument has another number of parts; the sort is no start sort; the node name is not valid.
 abbrev pub line_kind : Declarations → Line → Option SchedKind
 line_kind d (StartLine sort case) =
-    first_kind ((not (stands sort (sort_names d)), Unknown) ∷ (not (is_start (slice_get (grammar_in d).sorts (number_of sort (sort_names d)))), NotStart) ∷ [])
+    first_told ((not (stands sort (sort_names d)), Unknown) ∷ (not (is_start (slice_get (grammar_in d).sorts (number_of sort (sort_names d)))), NotStart) ∷ [])
 line_kind d (ChooseLine n rule args) =
-    first_kind
+    first_told
     ((args_are_past args || is_long n, Limit)
     ∷ (not (stands rule (rule_names d)) || args_unknown d args, Unknown)
     ∷ (not (all_have_arities d.cons args), Arity)
@@ -73,4 +68,4 @@ line_kind d (ChooseLine n rule args) =
     ∷ [])
 line_kind d (DeliverLine message) = None
 line_kind d SettleLine = None
-line_kind d (ListLine role) = first_kind ((not (stands role d.roles), Unknown) ∷ [])
+line_kind d (ListLine role) = first_told ((not (stands role d.roles), Unknown) ∷ [])

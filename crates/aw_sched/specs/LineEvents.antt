@@ -1,6 +1,6 @@
 -- What a line gives, part by part.
 use Rattle.std.specs.Prelude.{◌≡◌, ℕ, Bool, true, false, ◌||◌, not, List, [], ◌∷◌, map, Option, None, Some, Result, Ok, Err, is_some, slice_get}
-use Rattle.aw_index.specs.Places.{number_of, stands}
+use Rattle.aw_index.specs.Places.{number_of, stands, first_told}
 use Rattle.aw_term.specs.Names.{Node}
 use Rattle.aw_term.specs.Rules.{Grammar, sort_of}
 use Rattle.aw_term.specs.Views.{ground_of}
@@ -10,7 +10,7 @@ use Rattle.aw_grammar.specs.Kinds.{all_have_arities}
 use Rattle.aw_grammar.specs.Declarations.{Declarations, con_names, rule_names}
 use Rattle.aw_base.specs.ChoiceFits.{args_ok}
 use Rattle.aw_sched.specs.Events as P
-use Rattle.aw_sched.specs.Events.{first_kind, args_are_past, args_unknown, ground_named}
+use Rattle.aw_sched.specs.Events.{args_are_past, args_unknown, ground_named}
 use Rattle.aw_sched.specs.Answers.{event_seen}
 use Rattle.aw_sched.specs.Schedules.{LineRead, Nothing, Gives, Faulty as BadLine, Read, with_event, in_front}
 use Rattle.aw_sched.specs.declared.fault.SchedFault.{SchedFault}
@@ -38,7 +38,7 @@ SaysNode g long named Faulty = (long ≡ false) × (named ≡ None)
 -- what is wrong with a chosen rule and its arguments
 abbrev pub args_kind : Declarations → List ℕ → List Written → Option SchedKind
 args_kind d rule args =
-    first_kind
+    first_told
     ((args_are_past args, Limit)
     ∷ (not (stands rule (rule_names d)) || args_unknown d args, Unknown)
     ∷ (not (all_have_arities d.cons args), Arity)

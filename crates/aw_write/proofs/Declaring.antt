@@ -27,7 +27,8 @@ use Rattle.aw_write.specs.SpecLines.{named_rule, con_line, sort_line, start_line
 use Rattle.aw_grammar.specs.Variables.{VariablesFit}
 use Rattle.aw_write.specs.Writable.{VariablesNamed, AreApart}
 use Rattle.aw_write.proofs.Placed.{each_mid, number_again, stands_at, new_name, place_mid}
-use Rattle.aw_write.proofs.NamedRules.{no_kind, entry_again, no_fault}
+use Rattle.aw_index.proofs.FirstTold.{none_told}
+use Rattle.aw_write.proofs.NamedRules.{entry_again, no_fault}
 use Rattle.aw_write.proofs.Leading.{Through, through_none, through_line, through_same, all_through}
 
 -- what reading needs of declarations
@@ -61,7 +62,7 @@ role_said : (all pre : List (List ℕ)) (x : List ℕ) (post : List (List ℕ)) 
 role_said all pre x post few differ e =
     let s = with_roles pre in
     ap (λ k. declaring s k (with_role s.declared x))
-    (no_kind (role_tests s.declared x) (lt-leb 64 (length pre) (below_all all pre x post 64 e few), (new_name pre x post (subst Differ e differ), tt)))
+    (none_told (role_tests s.declared x) (lt-leb 64 (length pre) (below_all all pre x post 64 e few), (new_name pre x post (subst Differ e differ), tt)))
 
 pub roles_lead : (roles : List (List ℕ)) → length roles ≤ 64 → Differ roles → Through 1 no_spec (map (λ name. RoleLine name) roles) (with_roles roles)
 roles_lead roles few differ = all_through 1 (λ name. RoleLine name) with_roles roles (λ x. refl) (λ pre x post e. role_said roles pre x post few differ e)
@@ -77,7 +78,7 @@ con_said roles all pre c post few differ small e =
     let s = with_cons roles pre in
     let raw : RawCon = record { name = c.name; arity = c.arity } in
     ap (λ k. declaring s k (with_con s.declared raw))
-    (no_kind (con_tests s.declared raw) (
+    (none_told (con_tests s.declared raw) (
       or_from _ _ (lt-leb 1024 (length pre) (below_all all pre c post 1024 e few)) (le-ltb 8 c.arity (each_mid (λ (k : decl.Con). k.arity ≤ 8) pre c post (subst (Each (λ (k : decl.Con). k.arity ≤ 8)) e small))),
       (split_names (λ (k : decl.Con). k.name) all pre c post e differ, tt),
     ))
@@ -105,7 +106,7 @@ sort_said roles cons all pre s post roles_differ few differ fit e =
     let fits = each_mid (λ (t : Sort). SortFits (length roles) (sort_of t)) pre s post (subst (Each (λ (t : Sort). SortFits (length roles) (sort_of t))) e fit) in
     let few_before : length (map unstarted pre) < 256 = omega (arith, length-map pre unstarted, below_all all pre s post 256 e few) in
     ap (λ k. declaring at k (with_sort at.declared raw))
-    (no_kind (sort_tests at.declared raw) (
+    (none_told (sort_tests at.declared raw) (
       or_from _ _ (lt-leb 256 (length (map unstarted pre)) few_before) (or_from _ _ (le-ltb 8 s.takes fits.few_takes) (le-ltb 8 s.gives fits.few_gives)),
       (
         ap (stands s.name) (names_unstarted pre) ∙ split_names (λ (t : Sort). t.name) all pre s post e differ,

@@ -3,7 +3,7 @@ use Rattle.std.proofs.Common.{◌≡◌, ℕ, zero, suc, ◌+◌, ◌-◌, ◌<�
 use Rattle.std.proofs.Math.Seq.{take-add}
 use Rattle.std.proofs.lemmas.List.{length-map, length-take-le, take_all, take-append-drop}
 use Rattle.std.proofs.lemmas.Bool.{and_from, or_from, not_from_true, eq-eqb, le-ltb, lt-leb}
-use Rattle.aw_index.specs.Places.{stands, all_stand, has_double}
+use Rattle.aw_index.specs.Places.{stands, all_stand, has_double, first_told}
 use Rattle.aw_term.specs.Rules as P
 use Rattle.aw_term.specs.Rules.{Term, get, upto}
 use Rattle.aw_term.specs.Choices.{gives_of}
@@ -15,19 +15,15 @@ use Rattle.aw_grammar.specs.GrammarView.{sort_of, sorts_of}
 use Rattle.aw_grammar.specs.Terms.{args_of, results_of, terms_of, depth_of_all, symbols_in_all}
 use Rattle.aw_grammar.specs.Resolved.{all_resolved, entering, child_numbered, rule_numbered}
 use Rattle.aw_grammar.specs.Declarations.{Entry, Declarations, con_names, sort_names, rule_names, entry_of, grammar_in}
-use Rattle.aw_grammar.specs.Kinds.{first_kind, sort_called, takes_and_gives, children_fit, child_sorts, all_known, all_have_arities, rule_kind, rule_tests, is_past_counts, is_past_terms}
+use Rattle.aw_grammar.specs.Kinds.{sort_called, takes_and_gives, children_fit, child_sorts, all_known, all_have_arities, rule_kind, rule_tests, is_past_counts, is_past_terms}
 use Rattle.aw_grammar.specs.declared.fault.DeclKind.{DeclKind}
-use Rattle.aw_grammar.proofs.NoKind.{NoneHolds}
+use Rattle.aw_index.proofs.FirstTold.{none_told}
 use Rattle.aw_grammar.proofs.Appends.{known_append, arities_append, depth_append, symbols_append, variables_append, all_append}
 use Rattle.aw_grammar.proofs.PlacedNames.{place_again}
 use Rattle.aw_write.specs.SpecLines.{named, named_children, later_variables, named_rule}
 use Rattle.aw_grammar.specs.Variables.{VariablesFit}
 use Rattle.aw_write.proofs.Placed.{number_again, stands_at, no_double, none_stands, each_take, each_drop, all_stand_at, gets_in_turn, each_upto}
 use Rattle.aw_write.proofs.NamedTerms.{names_in, arities_in, AllWell, all_well}
-
-pub no_kind : (tests : List (Bool × DeclKind)) → NoneHolds tests → first_kind tests ≡ None
-no_kind [] h = refl
-no_kind (test ∷ tests) h = ap (λ b. cond b (Some test.1) (first_kind tests)) h.0 ∙ no_kind tests h.1
 
 -- sorts
 
@@ -211,7 +207,7 @@ no_fault d e cons_differ sorts_differ sorts_fit fits vars few new =
     let enter : all_stand (leaves_of (all_resolved names uses)) (entering names w) ≡ true =
     ap (all_stand (leaves_of (all_resolved names uses))) parts.enter ∙ ap (λ ns. all_stand ns e.vars) (variables_append names (args_of kids) w.results)
     ∙ all_append e.vars (leaves_of (all_resolved names (args_of kids))) (leaves_of (all_resolved names w.results)) ∙ and_from _ _ parts.children.enter results_enter in
-    no_kind (rule_tests d w) (
+    none_told (rule_tests d w) (
       or_from (is_past_counts d w) (is_past_terms w)
           (or_from _ _ (lt-leb 1024 (length d.rules) few)
           (or_from _ _ (le-ltb 8 (length w.patterns) few_patterns) (or_from _ _ (le-ltb 8 (length w.results) few_results) (or_from _ _ (le-ltb 8 (length w.params) few_params) (le-ltb 8 (length w.children) few_children)))))

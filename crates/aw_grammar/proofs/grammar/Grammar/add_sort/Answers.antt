@@ -5,7 +5,7 @@ use Rattle.aw_index.specs.Places.{stands, number_of}
 use Rattle.aw_grammar.specs.declared.rule.Sort.{Sort}
 use Rattle.aw_grammar.specs.Declarations.{sort_declared}
 use Rattle.aw_grammar.specs.Kinds.{sort_tests}
-use Rattle.aw_grammar.proofs.NoKind.{none_holds}
+use Rattle.aw_index.proofs.FirstTold.{none_holds}
 use Rattle.aw_grammar.proofs.Added.{listed, good_sort}
 use Rattle.aw_grammar.proofs.VariableNames.{no_variables}
 use Rattle.aw_grammar.proofs.grammar.Grammar.add_sort.Goals as goal
