@@ -11,3 +11,4 @@ pub mod GroundWriting
 pub mod Extending
 pub mod ReadersExtend
 pub mod Cuts
+pub mod OkInRange
