@@ -5,9 +5,10 @@ use Rattle.aw_term.specs.Names.{Node, Ref, Slot, Result, Part, result, part}
 use Rattle.aw_term.specs.Rules.{Term, Ground, Child, Rule, get}
 use Rattle.aw_term.specs.WellFormed.{Each, Later}
 use Rattle.aw_term.proofs.Eaches.{each_map, each_append}
+use Rattle.aw_store.specs.Adding.{AreNew}
 use Rattle.aw_store.specs.Equations.{Same, Is, Equation, Map, find}
 use Rattle.aw_term.proofs.RefTests.{ref_eq-self}
-use Rattle.aw_store.proofs.MoreEquations.{find-absent, find-left_more, Holds, Holds-wider, Holds-past, Holds-append}
+use Rattle.aw_store.proofs.MoreEquations.{find-absent, find-left_more, Holds, Holds-wider, Holds-past, Holds-append, new_apart}
 use Rattle.aw_apply.specs.Made.{lay, lays, lay_list, lay_children, lay_result, lay_results, child_refs, made}
 
 later_append : {A : Type 0} (R : A → A → Type 0) (xs ys : List A) → Later R xs → Later R ys → Each (λ x. Each (R x) ys) xs → Later R (xs ++ ys)
@@ -136,3 +137,10 @@ made-holds k n ri r args bound free =
     let (e, a) = made-apart n ri r args bound in
     let es = (made n ri r args bound).equations in
     Holds-past k es es (each_map (Lies n 1 e 1 (1 + length r.results)) (λ (e : Equation). find k e.left ≡ None) es (λ x l. free x.left l.0) a.lie) a.hold
+
+-- behind equations that have none of the node they can be added one after the other
+pub made-new : (k : Map) (n : Node) (ri : ℕ) (r : Rule) (args : List Ground) (bound : List Ref) → ((x : Ref) → x.node ≡ n → find k x ≡ None) → AreNew k (made n ri r args bound).equations
+made-new k n ri r args bound free =
+    let (e, a) = made-apart n ri r args bound in
+    let es = (made n ri r args bound).equations in
+    new_apart k es (each_map (Lies n 1 e 1 (1 + length r.results)) (λ (x : Equation). find k x.left ≡ None) es (λ x l. free x.left l.0) a.lie) a.differ

@@ -23,6 +23,12 @@ has_names-member ns k e w = at_place k w.0 w.1 w.2
     at_place (x ∷ k) zero l f v = ap (has_names_of ns) (sym f) ∙ (and_parts (has_names_of ns x) _ v).0
     at_place (x ∷ k) (suc i) l f v = at_place k i (omega (arith, l)) f (and_parts (has_names_of ns x) _ v).1
 
+pub contains_first : {A : Type 0} (y : A) (xs : List A) → Contains (y ∷ xs) y
+contains_first y xs = (0, omega arith, refl)
+
+pub contains_later : {A : Type 0} (y : A) (xs : List A) (x : A) → Contains xs x → Contains (y ∷ xs) x
+contains_later y xs x (i, l, e) = (suc i, omega (arith, l), e)
+
 some_found : (b : Bool) (x : P.Body) (o : Option P.Body) → is_none o ≡ false → is_none (cond b (Some x) o) ≡ false
 some_found true x o e = refl
 some_found false x o e = e

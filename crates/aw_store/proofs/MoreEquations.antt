@@ -1,8 +1,9 @@
 -- Finding in more equations than there were.
-use Rattle.std.proofs.Common.{◌≡◌, Bool, true, false, cond, List, [], ◌∷◌, ◌++◌, Option, Some, None, refl, ◌∙◌}
+use Rattle.std.proofs.Common.{◌≡◌, Bool, true, false, cond, List, [], ◌∷◌, ◌++◌, Option, Some, None, refl, sym, ◌∙◌}
 use Rattle.aw_term.specs.Trees.{Never}
-use Rattle.aw_term.specs.WellFormed.{Each}
+use Rattle.aw_term.specs.WellFormed.{Each, Later}
 use Rattle.aw_term.specs.Names.{Ref, ref_eq}
+use Rattle.aw_store.specs.Adding.{AreNew}
 use Rattle.aw_store.specs.Equations.{Body, Equation, Map, find}
 use Rattle.aw_term.proofs.RefTests.{ref_eq-true}
 
@@ -54,3 +55,16 @@ Holds-past k fs (e ∷ es) n h = (find-right_more k fs e.left n.0 ∙ h.0, Holds
 pub Holds-append : (k : Map) (es fs : List Equation) → Holds k es → Holds k fs → Holds k (es ++ fs)
 Holds-append k [] fs a b = b
 Holds-append k (e ∷ es) fs a b = (a.0, Holds-append k es fs a.1 b)
+
+-- what has no equation has none behind one of another left side
+absent_more : (k : Map) (e : Equation) (fs : List Equation) → Each (λ f. find k f.left ≡ None) fs → Each (λ f. e.left ≡ f.left → Never) fs → Each (λ f. find (k ++ e ∷ []) f.left ≡ None) fs
+absent_more k e [] none other = tt
+absent_more k e (f ∷ fs) none other = (
+  find-right_more k (e ∷ []) f.left none.0 ∙ find-absent (e ∷ []) f.left ((λ q. other.0 (sym q)), tt),
+  absent_more k e fs none.1 other.1,
+)
+
+-- equations with different left sides that have none
+pub new_apart : (k : Map) (es : List Equation) → Each (λ e. find k e.left ≡ None) es → Later (λ (e f : Equation). e.left ≡ f.left → Never) es → AreNew k es
+new_apart k [] none differ = tt
+new_apart k (e ∷ es) none differ = (none.0, new_apart (k ++ e ∷ []) es (absent_more k e es none.1 differ.0) differ.1)

@@ -8,3 +8,4 @@ pub mod StoreView
 pub mod ChaseView
 pub mod ListStore
 pub mod BodyTexts
+pub mod Adding

@@ -1,5 +1,6 @@
 //! Texts of bodies. A number that is not declared prints as an empty name.
 ghost use Rattle.std.specs.Prelude.{◌≡◌, ◌++◌, [], map, OnOk, OnErr, IfOk};
+ghost use Rattle.std.specs.Io.{StartsWith};
 ghost use Rattle.aw_term.specs.Rules.{get};
 ghost use Rattle.aw_term.specs.Artifacts.{ref_text, with_parts};
 ghost use Rattle.aw_grammar.specs.GrammarOf.{words_of};
@@ -15,7 +16,8 @@ use aw_text::{push_number, push_quoted};
 use std::alloc::{AllocError, Global};
 
 fn add_con(text: &mut Text, g: &Grammar, con: u16, parts: &[Ref]) -> Result<(), AllocError>
-    ensures { OnOk result (text.new ≡ text.old ++ with_parts (get [] (words_of g.now).cons con) (map (ref_text (words_of g.now)) parts.now)) }
+    ensures ok { OnOk result (text.new ≡ text.old ++ with_parts (get [] (words_of g.now).cons con) (map (ref_text (words_of g.now)) parts.now)) }
+    ensures err { OnErr result (StartsWith text.new text.old) }
 {
     text.push_bytes(con_name(g, con))?;
     if parts.is_empty() {
@@ -27,7 +29,8 @@ fn add_con(text: &mut Text, g: &Grammar, con: u16, parts: &[Ref]) -> Result<(), 
 }
 
 fn add_body(text: &mut Text, g: &Grammar, body: &Body) -> Result<(), AllocError>
-    ensures { OnOk result (text.new ≡ text.old ++ body_text (words_of g.now) (body_of body.now)) }
+    ensures ok { OnOk result (text.new ≡ text.old ++ body_text (words_of g.now) (body_of body.now)) }
+    ensures err { OnErr result (StartsWith text.new text.old) }
 {
     match body {
         Body::Same(r) => push_ref(text, g, r),
@@ -51,6 +54,12 @@ pub fn push_body(text: &mut Text, g: &Grammar, body: &Body) -> Result<(), AllocE
     ensures ok { OnOk result (text.new ≡ text.old ++ body_text (words_of g.now) (body_of body.now)) }
     ensures err { OnErr result (text.new ≡ text.old) }
 {
-    let added = body_text(text.allocator(), g, body)?;
-    text.push_bytes(added.as_slice())
+    let before = text.len();
+    match add_body(text, g, body) {
+        Ok(()) => Ok(()),
+        Err(failed) => {
+            text.truncate(before);
+            Err(failed)
+        }
+    }
 }
