@@ -10,3 +10,4 @@ pub mod SortsOfRows
 pub mod Sources
 pub mod Spots
 pub mod UndividedRuns
+pub mod OneMore

@@ -25,15 +25,17 @@ use Rattle.aw_react.specs.Sites.{Reaction}
 use Rattle.aw_react.specs.Bounds.{bound, child_results, created, is_called, part_lefts, part_on}
 use Rattle.aw_react.specs.Homes.{has_steps, home, parent}
 use Rattle.aw_react.specs.Reacting.{receive}
-use Rattle.aw_react.specs.Worlds.{IsQuiet, World, deliver, deliver_on, first_false, received_at, settle, site_at, undelivered}
+use Rattle.aw_react.specs.Worlds.{IsQuiet, World, deliver, deliver_on, first_false, received_at, settle, site_at, undelivered, count_set}
 use Rattle.aw_merge.specs.Invariant.{watch}
 use Rattle.aw_merge.specs.Mentioned.{IsCreated, IsPartSlot}
+use Rattle.aw_merge.proofs.Counting.{count_all}
 use Rattle.aw_merge.proofs.Changes.{get-left}
 use Rattle.aw_merge.proofs.Delivering.{has-end, not-eq, parent-below}
 use Rattle.aw_merge.proofs.Learning.{get-before}
 use Rattle.aw_merge.proofs.Lists.{Later-mapped, Member-filter, length-mapped}
 use Rattle.aw_merge.proofs.Parts.{Apart, KindKin, Sound}
 use Rattle.aw_merge.proofs.Runs.{IsWorld, deliver-kept}
+use Rattle.aw_merge.proofs.Settling.{deliver_counts}
 
 -- what tells messages apart
 data Key : Type 0 where
@@ -116,42 +118,6 @@ created-there g x r (inr (h, j, m, s, lo, l, p)) = member_right r (part_lefts x.
 no_more : (n m : ℕ) → (m < n → Never) → n ≤ m
 no_more n m f = elim (cases_lt m n) [ inl a ↦ never (f a) | inr a ↦ a ]
 
-pub count_true : List Bool → ℕ
-count_true [] = 0
-count_true (true ∷ ds) = suc (count_true ds)
-count_true (false ∷ ds) = count_true ds
-
-count-most : (ds : List Bool) → count_true ds ≤ length ds
-unfolding count_true
-count-most [] = omega arith
-count-most (true ∷ ds) = let i = count-most ds in omega (arith, i)
-count-most (false ∷ ds) = let i = count-most ds in omega (arith, i)
-
-count-all : (ds : List Bool) (i : ℕ) → length ds ≤ count_true ds → first_false i ds ≡ None
-unfolding count_true
-count-all [] i l = refl
-count-all (true ∷ ds) i l = count-all ds (suc i) (omega arith)
-count-all (false ∷ ds) i l = let z = count-most ds in absurd (omega (arith, z, l))
-
-count-more : (ds es : List Bool) → count_true ds ≤ count_true (ds ++ es)
-unfolding count_true
-count-more [] es = omega arith
-count-more (true ∷ ds) es = let i = count-more ds es in omega (arith, i)
-count-more (false ∷ ds) es = count-more ds es
-
-first-place : (ds : List Bool) (i k : ℕ) → first_false i ds ≡ Some k → (j : ℕ) × (k ≡ i + j) × (slice_get ds j ≡ Some false)
-first-place [] i k e = absurd cc
-first-place (false ∷ ds) i k e = let p : i ≡ k = same_Some _ _ e in (0, omega (arith, p), refl)
-first-place (true ∷ ds) i k e = let (j, p, f) = first-place ds (suc i) k e in (suc j, omega (arith, p), f)
-
-count-set : (ds : List Bool) (j : ℕ) → slice_get ds j ≡ Some false → count_true (slice_set ds j true) ≡ suc (count_true ds)
-unfolding count_true
-count-set [] j e = absurd cc
-count-set (true ∷ ds) zero e = absurd cc
-count-set (false ∷ ds) zero e = refl
-count-set (true ∷ ds) (suc j) e = ap suc (count-set ds j e)
-count-set (false ∷ ds) (suc j) e = count-set ds j e
-
 module _ (words : Words) (g : Grammar) (accepted : IsAccepted words g) (loads : Bool) where
   abbrev fit : IsGivenGrammar g
   fit = given_of words g accepted.0
@@ -219,38 +185,16 @@ module _ (words : Words) (g : Grammar) (accepted : IsAccepted words g) (loads : 
         (Later-mapped Apart (λ a b. a ≡ b → Never) key (λ m n f e. f (key-kin m.to n.to m.kind n.kind e)) w.messages W.inv.apart) lt).1 refl) in
         omega (arith, l, p, z)
 
-    counted_on : (k : ℕ) (r : Received Reaction) (to : ℕ) → slice_get w.delivered k ≡ Some false → suc (count_true w.delivered) ≤ count_true (received_at w k to r).world.delivered
-    counted_on k (New y) to e =
-        let a = count-set (w.delivered ++ map (λ m. false) y.sent) k (get-left w.delivered (map (λ m. false) y.sent) k false e) in
-        let b = count-more w.delivered (map (λ m. false) y.sent) in
-        omega (arith, a, b)
-    counted_on k BadName to e = let a = count-set w.delivered k e in omega (arith, a)
-    counted_on k NotMine to e = let a = count-set w.delivered k e in omega (arith, a)
-    counted_on k (Conflict c d) to e = let a = count-set w.delivered k e in omega (arith, a)
-    counted_on k Repeat to e = let a = count-set w.delivered k e in omega (arith, a)
-
-    counted : (k : ℕ) → slice_get w.delivered k ≡ Some false → (o : Option Message) → slice_get w.messages k ≡ o → suc (count_true w.delivered) ≤ count_true (deliver_on g w k o).world.delivered
-    counted k e None f = absurd (omega (arith, get-before w.delivered k false e, none_past w.messages k f, W.marks))
-      where
-        none_past : (ms : List Message) (k : ℕ) → slice_get ms k ≡ None → length ms ≤ k
-        none_past [] k f = omega arith
-        none_past (m ∷ ms) zero f = absurd cc
-        none_past (m ∷ ms) (suc k) f = let i = none_past ms k f in omega (arith, i)
-    counted k e (Some m) f = counted_on k (receive g (site_at w m.to) m) m.to e
-
   -- Settle leaves nothing undelivered
-  settle_on : (n : ℕ) (w : World) (x : Joint) → Good w x → bound g x ≤ suc n + count_true w.delivered → ((v : World) → Good v x → bound g x ≤ n + count_true v.delivered → IsQuiet (settle n g v))
+  settle_on : (n : ℕ) (w : World) (x : Joint) → Good w x → bound g x ≤ suc n + count_set w.delivered → ((v : World) → Good v x → bound g x ≤ n + count_set v.delivered → IsQuiet (settle n g v))
       → (o : Option ℕ) → undelivered w ≡ o → IsQuiet (elim o [ None ↦ w | Some k ↦ settle n g (deliver g w k).world ])
   settle_on n w x W l ih None e = e
   settle_on n w x W l ih (Some k) e =
-      let (j, p, f) = first-place w.delivered 0 k e in
-      let q : j ≡ k = omega (arith, p) in
-      let f' = subst (λ j. slice_get w.delivered j ≡ Some false) q f in
-      let c = counted w x W k f' (slice_get w.messages k) refl in
+      let c = deliver_counts g w k e W.marks in
       ih (deliver g w k).world (deliver-kept words g accepted loads w x W k) (omega (arith, c, l))
 
-  pub settles_quiet : (n : ℕ) (w : World) (x : Joint) → Good w x → bound g x ≤ n + count_true w.delivered → IsQuiet (settle n g w)
-  settles_quiet zero w x W l = count-all w.delivered 0 (let b = bounded w x W in omega (arith, b, l, W.marks))
+  pub settles_quiet : (n : ℕ) (w : World) (x : Joint) → Good w x → bound g x ≤ n + count_set w.delivered → IsQuiet (settle n g w)
+  settles_quiet zero w x W l = count_all w.delivered 0 (let b = bounded w x W in omega (arith, b, l, W.marks))
   settles_quiet (suc n) w x W l = settle_on n w x W l (λ v V m. settles_quiet n v x V m) (undelivered w) refl
 
   pub settled : (w : World) (x : Joint) → Good w x → IsQuiet (settle (bound g x) g w)

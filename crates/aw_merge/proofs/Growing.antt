@@ -92,6 +92,7 @@ equations_stay s t k = record {
   equations = k;
   yes = λ n ps rs bound e. decided-stays s t k n ps rs (subst (Final t.equations) (sym e) tt) ∙ e;
   differs = λ n ps rs path e. decided-stays s t k n ps rs (subst (Final t.equations) (sym e) tt) ∙ e;
+  waits = λ n ps rs r gone e. decided-stays s t k n ps rs (subst (Final t.equations) (sym e) gone) ∙ e;
 }
 
 received_stays : (g : Grammar) (s : Site) (m : Message) (o : Received Reaction) → receive g s m ≡ o → Keeps s (after_message s o) × Holds_on s (after_message s o)

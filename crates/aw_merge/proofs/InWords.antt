@@ -20,12 +20,12 @@ use Rattle.aw_react.specs.Asking.{ask_message}
 use Rattle.aw_react.specs.Homes.{home}
 use Rattle.aw_react.specs.Sites.{Site}
 use Rattle.aw_react.specs.Worlds.{World, site_at}
-use Rattle.aw_merge.specs.Invariant.{IsInvariant, IsSent, IsSentOnce, equation, sender, tell_message, watch}
+use Rattle.aw_merge.specs.Invariant.{IsInvariant, call_message, IsSent, IsSentOnce, equation, sender, tell_message, watch}
 use Rattle.aw_merge.proofs.Answering.{brought_told, one-place}
 use Rattle.aw_merge.proofs.Learning.{find-member}
 use Rattle.aw_merge.proofs.Parts.{Effect, Kin, KindKin, Sound}
 use Rattle.aw_merge.proofs.Quieting.{member-get}
-use Rattle.aw_merge.proofs.Runs.{IsWorld}
+use Rattle.aw_merge.proofs.Runs.{IsWorld, to-within}
 
 module _ (words : Words) (g : Grammar) (accepted : IsAccepted words g) (loads : Bool) where
   abbrev fit : IsGivenGrammar g
@@ -116,4 +116,9 @@ module _ (words : Words) (g : Grammar) (accepted : IsAccepted words g) (loads : 
         let j = member_got w.messages k m e in
         let h = each_member (λ (e : Equation). home g e.left.node ≡ sender g m.kind) (carried m.kind) q (W.inv.senders m j) i in
         subst (λ b. find (site_at w b).equations q.left ≡ Some q.body) h (W.inv.homes q.left q.body (W.keyed q (carried_known w x m.to m.kind (W.inv.sound m j) q i)));
+    boxes = W.inv.boxes;
+    boxed = W.inv.boxed;
+    addressed = λ m i. to-within words g accepted loads w x W m m.kind i refl;
+    once = λ k m e. only w x W m k e;
+    one_call = λ j k h l other e f. one-place w.messages W.inv.apart j k (call_message g h l) (call_message g h other) e f (refl, refl) (refl, refl);
   }

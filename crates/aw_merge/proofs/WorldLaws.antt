@@ -1,6 +1,6 @@
 -- The laws of worlds, as they are stated.
 use Rattle.std.specs.Prelude.{◌⊎◌}
-use Rattle.std.proofs.Common.{Bool, List, None, Option, Some, [], ap, false, inl, inr, map, refl, subst, suc, sym, zero, ℕ, ◌∙◌, ◌∷◌, ◌≡◌}
+use Rattle.std.proofs.Common.{◌≤◌, length, Bool, List, None, Option, Some, [], ap, false, inl, inr, map, refl, subst, suc, sym, zero, ℕ, ◌∙◌, ◌∷◌, ◌≡◌}
 use Rattle.aw_iograph.proofs.Relations.{io_closed}
 use Rattle.aw_term.specs.Artifacts.{Words, artifact_text}
 use Rattle.aw_term.specs.Rules.{Grammar}
@@ -18,12 +18,12 @@ use Rattle.aw_space.proofs.Entering.{VariablesEnter, variables_enter}
 use Rattle.aw_space.proofs.FlatSteps.{es}
 use Rattle.aw_space.proofs.SameConfigs.{fit_of, same_configuration}
 use Rattle.aw_react.specs.Homes.{home}
-use Rattle.aw_react.specs.Bounds.{settled_by}
+use Rattle.aw_react.specs.Bounds.{bound_on}
 use Rattle.aw_react.specs.Reacting.{react}
 use Rattle.aw_react.specs.Sites.{Reaction, Site}
-use Rattle.aw_react.specs.Worlds.{Delivers, Move, World, deliver, run, settle, site_at, undelivered, gather}
+use Rattle.aw_react.specs.Worlds.{IsQuiet, Delivers, node_of, Move, World, deliver, run, settle, site_at, undelivered, gather}
 use Rattle.aw_merge.specs.Invariant.{equation}
-use Rattle.aw_merge.specs.Laws.{Artifacts, Headline, HoldsConfig, InvariantHolds, Knowledge, MayCome, MessagesAreBounded, NoCircle, QuietHolds, Repeats, RuleStaysEnabled, SettlingIsDelivering, StartStaysEnabled, Stays, world_after, ValuesAreFinite, PrintsOne, QuietAnswers, OneRole}
+use Rattle.aw_merge.specs.Laws.{Artifacts, Headline, HoldsConfig, HomesAreRoles, InvariantHolds, Knowledge, MayCome, MessagesAreBounded, NoCircle, QuietHolds, Repeats, RuleStaysEnabled, SettlingIsDelivering, StartStaysEnabled, Stays, world_after, ValuesAreFinite, PrintsOne, QuietAnswers, OneRole}
 use Rattle.aw_merge.proofs.QuietAnswers.{quiet_answer, no_messages, always_quiet}
 use Rattle.aw_merge.proofs.Learning.{find-member}
 use Rattle.aw_merge.proofs.PartValues.{part_acyclic, rows_of_values}
@@ -36,7 +36,8 @@ use Rattle.aw_merge.proofs.NoCircles.{choice_circle}
 use Rattle.aw_merge.proofs.Parts.{Effect, Mark}
 use Rattle.aw_merge.proofs.Quieting.{is_undivided, never_circle, quiet_pairs}
 use Rattle.aw_merge.proofs.Reading.{printed, printed_only, read_only}
-use Rattle.aw_merge.proofs.Runs.{IsWorld, invariant_holds, to-within}
+use Rattle.aw_merge.proofs.Runs.{IsWorld, homes, invariant_holds, to-within}
+use Rattle.aw_merge.proofs.Sorts.{choice_node}
 
 module _ (words : Words) (g : Grammar) (accepted : IsAccepted words g) where
   abbrev fit : IsGivenGrammar g
@@ -53,6 +54,9 @@ module _ (words : Words) (g : Grammar) (accepted : IsAccepted words g) where
 
   pub invariant_law : InvariantHolds g
   invariant_law loads es a = let (x, W) = at_end loads es a in (x, in_words words g accepted loads (world_after g loads es) x W)
+
+  pub homes_law : HomesAreRoles g
+  homes_law c e = (homes words g accepted false).within (node_of c) (choice_node g c e)
 
   pub knowledge_law : Knowledge g
   knowledge_law loads es a k m e =
@@ -151,7 +155,10 @@ module _ (words : Words) (g : Grammar) (accepted : IsAccepted words g) where
   pub bound_law : MessagesAreBounded g
   bound_law loads es a =
       let (x, W) = at_end loads es a in
-      (x, W.whole, bounded words g accepted loads (world_after g loads es) x W, settled words g accepted loads (world_after g loads es) x W, ap (settled_by g (world_after g loads es)) W.whole)
+      let w = world_after g loads es in (
+        subst (λ o. length w.messages ≤ bound_on g o) (sym W.whole) (bounded words g accepted loads w x W),
+        subst (λ o. IsQuiet (settle (bound_on g o) g w)) (sym W.whole) (settled words g accepted loads w x W),
+      )
 
 settle_on : (g : Grammar) (n : ℕ) (w : World) → ((v : World) → (ks : List ℕ) × (settle n g v ≡ run g v (map Delivers ks))) → (o : Option ℕ)
     → (ks : List ℕ) × ((elim o [ None ↦ w | Some k ↦ settle n g (deliver g w k).world ]) ≡ run g w (map Delivers ks))

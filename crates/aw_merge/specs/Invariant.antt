@@ -1,5 +1,5 @@
 -- What holds of a world at every moment.
-use Rattle.std.specs.Prelude.{◌≡◌, ℕ, Bool, true, false, List, Some, slice_get, ◌⊎◌, length}
+use Rattle.std.specs.Prelude.{◌≡◌, ℕ, ◌<◌, Bool, true, false, List, Some, slice_get, ◌⊎◌, length}
 use Rattle.aw_term.specs.Trees.{Never}
 use Rattle.aw_term.specs.Names.{Ref}
 use Rattle.aw_term.specs.Rules.{Grammar, sort_of}
@@ -81,10 +81,12 @@ pub record IsInvariant (g : Grammar) (loads : Bool) (w : World) (x : Joint) : Ty
   -- each mentioned reference of another role was asked for, or its equation is held at the site that mentions it; without loads it was asked for
   pub asked : (a : ℕ) (r : Ref) → IsMentioned r (site_at w a).equations (site_at w a).held
       → (home g r.node ≡ a) ⊎ (Member r (site_at w a).asked ⊎ ((b : Body) × (find (site_at w a).equations r ≡ Some b)))
-  pub asked_all : loads ≡ false → (a : ℕ) (r : Ref) → IsMentioned r (site_at w a).equations (site_at w a).held → (home g r.node ≡ a) ⊎ Member r (site_at w a).asked
+  pub asked_all : loads ≡ false → (a : ℕ) (r : Ref) → IsMentioned r (site_at w a).equations (site_at w a).held →
+      (home g r.node ≡ a) ⊎ Member r (site_at w a).asked
   -- for each reference that was asked for there is one question, and it was delivered exactly where the asker is a watcher
   pub one_ask : (a : ℕ) (r : Ref) → Member r (site_at w a).asked → (k : ℕ) × IsSentOnce w (ask_message g a r) k
-      × (IsDelivered w k → Member (watch r a) (site_at w (home g r.node)).watchers) × (Member (watch r a) (site_at w (home g r.node)).watchers → IsDelivered w k)
+      × (IsDelivered w k → Member (watch r a) (site_at w (home g r.node)).watchers)
+      × (Member (watch r a) (site_at w (home g r.node)).watchers → IsDelivered w k)
   -- for each watcher whose equation is at its home there is one tell, and no other tell was sent
   pub one_tell : (a : ℕ) (v : Watch) (b : Body) → Member v (site_at w a).watchers → find (site_at w a).equations v.reference ≡ Some b
       → (k : ℕ) × (load : List Equation) × IsSent w (tell_message v.role (equation v.reference b) load) k
@@ -96,3 +98,10 @@ pub record IsInvariant (g : Grammar) (loads : Bool) (w : World) (x : Joint) : Ty
       → (find (site_at w a).equations r ≡ Some b → IsBrought (IsDelivered w) w.messages a r b) × (IsBrought (IsDelivered w) w.messages a r b → find (site_at w a).equations r ≡ Some b)
   -- each equation that a message carries is held at its sender
   pub sender_has : (k : ℕ) (m : Message) → IsSent w m k → (e : Equation) → Member e (carried m.kind) → find (site_at w (sender g m.kind)).equations e.left ≡ Some e.body
+  -- what a site has in its outbox is what it sent, and each message is in the outbox of its sender
+  pub boxes : (a : ℕ) (m : Message) → Member m (site_at w a).outbox → Member m w.messages × (sender g m.kind ≡ a)
+  pub boxed : (m : Message) → Member m w.messages → Member m (site_at w (sender g m.kind)).outbox
+  -- each message is for a role that is declared, and was sent with one number; and no node is called twice, whatever the loads
+  pub addressed : (m : Message) → Member m w.messages → m.to < g.roles
+  pub once : (k : ℕ) (m : Message) → IsSent w m k → IsSentOnce w m k
+  pub one_call : (j k : ℕ) (h : Held) (load other : List Equation) → IsSent w (call_message g h load) j → IsSent w (call_message g h other) k → j ≡ k

@@ -11,7 +11,7 @@ use Rattle.aw_react.specs.Reacting.{receive}
 use Rattle.aw_react.specs.Sites.{Reaction}
 use Rattle.aw_react.specs.Worlds.{node_of, World, site_at, Move, Chooses}
 use Rattle.aw_merge.specs.Invariant.{sender, IsSent}
-use Rattle.aw_merge.specs.Laws.{MayCome, world_after}
+use Rattle.aw_merge.specs.Laws.{HomesAreRoles, InvariantHolds, Knowledge, MayCome, world_after}
 
 -- the messages of a world are those of the outboxes, each is for a role, was sent once, and is new or a repeat where it comes
 pub record Mail (g : Grammar) (w : World) : Type 0 where
@@ -29,3 +29,22 @@ pub record Given (g : Grammar) : Type 0 where
   pub good : (c : Choice) → choice_ok g c ≡ true → MayCome g (Chooses c)
   pub homes : (c : Choice) → MayCome g (Chooses c) → home g (node_of c) < g.roles
   pub mail : (loads : Bool) (es : List Move) → Each (MayCome g) es → Mail g (world_after g loads es)
+
+-- every world of which the laws of worlds hold has it
+pub given : (g : Grammar) → InvariantHolds g → Knowledge g → HomesAreRoles g → Given g
+given g invariant knowledge homes = record {
+  good = λ c e. e;
+  homes = homes;
+  mail = λ loads es may.
+      let (x, I) = invariant loads es may in
+      record {
+        sites = I.sites;
+        marks = I.marks;
+        roles = I.roles;
+        boxes = I.boxes;
+        boxed = I.boxed;
+        within = I.addressed;
+        once = λ j k m e f. (I.once k m f).1 j e;
+        known = knowledge loads es may;
+      };
+}

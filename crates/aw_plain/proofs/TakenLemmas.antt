@@ -22,6 +22,7 @@ use Rattle.aw_grammar.proofs.Fits.{each_at}
 use Rattle.aw_iograph.specs.Dependence.{IO, HasNoCircle}
 use Rattle.aw_iograph.proofs.Relations.{io_closed}
 use Rattle.aw_iograph.proofs.Members.{never}
+use Rattle.aw_accept.proofs.OneMore.{undivided_more}
 use Rattle.aw_accept.specs.Acyclic.{IsAcyclic, IsTree}
 use Rattle.aw_accept.specs.Missing.{IsMissing}
 use Rattle.aw_accept.specs.Sorts.{HaveTheirSorts, IsAtStart}
@@ -89,20 +90,6 @@ module _ (w : Words) (g : Grammar) (fits : IsWellFormed w g) (c : Config) (fille
   -- a choice leaves rows filled
   pub filled_after : (x : Choice) → choice_ok g x ≡ true → AreFilled g (after g c x)
   filled_after x ok = filled_taken x (outcome g c x) refl ok
-
-alone : (g : Grammar) (o : Option Config) → option_and_then (λ z. undivided g z []) o ≡ o
-alone g None = refl
-alone g (Some z) = refl
-
-later : (g : Grammar) (cs ds : List Choice) (d : Config) (whole o : Option Config) → ((z : Config) → undivided g z cs ≡ Some d → undivided g z ds ≡ whole) → option_and_then (λ z. undivided g z cs) o ≡ Some d → option_and_then (λ z. undivided g z ds) o ≡ whole
-later g cs ds d whole None f e = absurd cc
-later g cs ds d whole (Some z) f e = f z e
-
--- one more choice at the end
-undivided_more : (g : Grammar) (c : Config) (cs : List Choice) (x : Choice) (d : Config) → undivided g c cs ≡ Some d → undivided g c (cs ++ x ∷ []) ≡ taken g d x (outcome g d x)
-undivided_more g c [] x d e =
-    let same : c ≡ d = cc in alone g (taken g c x (outcome g c x)) ∙ ap (λ z. taken g z x (outcome g z x)) same
-undivided_more g c (y ∷ cs) x d e = later g cs (cs ++ x ∷ []) d _ (taken g c y (outcome g c y)) (λ z. undivided_more g z cs x d) e
 
 reached_taken : (g : Grammar) (c : Config) (x : Choice) (o : Option Config) → taken g c x (outcome g c x) ≡ o → IsReached g c → IsReached g (or_same c o)
 reached_taken g c x None e w = w

@@ -2,6 +2,7 @@
 use Rattle.std.specs.Prelude.{ℕ, ◌+◌, ◌*◌, Bool, not, ◌&&◌, List, [], ◌∷◌, ◌++◌, map, length, Option, None, Some, nat_eq, filter, if◌then◌else◌}
 use Rattle.aw_term.specs.Names.{Slot, Result, Part, Ref, result}
 use Rattle.aw_term.specs.Rules.{Grammar, upto}
+use Rattle.aw_term.specs.Choices.{Choice}
 use Rattle.aw_term.specs.Held.{Held}
 use Rattle.aw_accept.specs.Acyclic.{gives}
 use Rattle.aw_store.specs.Equations.{Map}
@@ -35,10 +36,14 @@ is_called g h = has_steps h.node.steps && not (nat_eq (home g (parent h.node)) (
 abbrev pub bound : Grammar → Joint → ℕ
 bound g x = length (filter (is_called g) x.held) + 2 * (length (created g x) * g.roles)
 
-abbrev pub settled_by : Grammar → World → Option Joint → World
-settled_by g w None = w
-settled_by g w (Some x) = settle (bound g x) g w
+abbrev pub bound_on : Grammar → Option Joint → ℕ
+bound_on g None = 0
+bound_on g (Some x) = bound g x
+
+-- the bound of the nodes and equations that these choices lead to
+abbrev pub bound_of : Grammar → List Choice → ℕ
+bound_of g cs = bound_on g (joint_run g empty_joint cs)
 
 -- a world is settled: as many times as there may be messages, the first undelivered one is delivered
 abbrev pub settled : Grammar → World → World
-settled g w = settled_by g w (joint_run g empty_joint w.taken)
+settled g w = settle (bound_of g w.taken) g w

@@ -13,4 +13,5 @@ pub mod Bounds
 pub mod SiteEvents
 pub mod Worklists
 pub mod Transcripts
+pub mod Outputs
 pub mod Worked

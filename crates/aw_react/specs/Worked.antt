@@ -1,55 +1,32 @@
 -- Small cases that were worked by hand, on which the definitions of sites and worlds are tried.
-use Rattle.std.specs.Prelude.{◌≡◌, ℕ, Bool, true, false, List, [], ◌∷◌, ◌++◌, map, codes, None}
-use Rattle.aw_term.specs.Trees.{Tree, Con, Num, Text, Leaf, Made, Nil, More}
-use Rattle.aw_term.specs.Names.{Node, Ref, root, below, result, part}
-use Rattle.aw_term.specs.Rules.{Term, Child, Rule, Sort, Grammar}
+use Rattle.std.specs.Prelude.{◌≡◌, ℕ, Bool, true, false, List, [], ◌∷◌, ◌++◌, map, codes}
+use Rattle.aw_term.specs.Trees.{Tree, Con, Num, Text, Leaf, Made, Nil}
+use Rattle.aw_term.specs.Names.{Ref, root, below, result, part}
+use Rattle.aw_term.specs.Rules.{Grammar}
 use Rattle.aw_term.specs.Choices.{Start, Develop}
 use Rattle.aw_term.specs.Artifacts.{Words, listed, ref_text}
 use Rattle.aw_term.specs.Runs.{answer_line}
+use Rattle.aw_term.specs.Worked.{con, con1, con2, sort, call, rule}
+use Rattle.aw_choice.specs.Events.{Event, Chooses, Delivers, Settles}
 use Rattle.aw_store.specs.Equations.{Same, Is, Equation}
 use Rattle.aw_store.specs.BodyTexts.{body_text}
 use Rattle.aw_apply.specs.Messages.{Calls, Asks, Tells, Message, Content, OfNode, OfReference, Received, BadName, NotMine, Conflict, Repeat, New}
+pub use Rattle.aw_space.specs.Worked.{clinic, visit, test, ada, seven}
 use Rattle.aw_react.specs.Sites.{Site, empty_site, Reaction}
 use Rattle.aw_react.specs.Choosing.{answer_to, choose}
 use Rattle.aw_react.specs.Reacting.{receive}
 use Rattle.aw_react.specs.SiteEvents.{SiteEvent, Chose, Got, site_step}
-use Rattle.aw_react.specs.Worlds.{World, empty_world, Move, Chooses, Delivers, run, undelivered, settle}
-use Rattle.aw_react.specs.Transcripts.{run_lines, settle_lines, list_lines}
+use Rattle.aw_react.specs.Worlds as V
+use Rattle.aw_react.specs.Worlds.{World, empty_world, run}
+use Rattle.aw_react.specs.Transcripts.{run_lines, list_lines}
+use Rattle.aw_react.specs.Outputs.{output_of}
 
-abbrev con : {A : Type 0} → ℕ → Tree A
-con c = Made (Con c) Nil
+-- these lines, one below the other
+abbrev pub lines : List (List ℕ) → List ℕ
+lines [] = []
+lines (l ∷ ls) = l ++ (codes "\n" ++ lines ls)
 
-abbrev con1 : {A : Type 0} → ℕ → Tree A → Tree A
-con1 c a = Made (Con c) (More a Nil)
-
-abbrev con2 : {A : Type 0} → ℕ → Tree A → Tree A → Tree A
-con2 c a b = Made (Con c) (More a (More b Nil))
-
-abbrev sort : ℕ → ℕ → ℕ → Bool → Sort
-sort role takes gives start = record { role = role; takes = takes; gives = gives; start = start }
-
-abbrev call : ℕ → List Term → ℕ → Child
-call s args outs = record { sort = s; args = args; outs = outs }
-
-abbrev rule : ℕ → List Term → ℕ → List Term → List Child → Rule
-rule s patterns params results children = record { sort = s; patterns = patterns; params = params; results = results; children = children }
-
--- A test at a clinic and its laboratory.
---   role clinic · role lab · con blood 1 · con report 2 · con found 2 · con none 0
---   sort visit clinic 0 1 · sort test lab 1 1 · start visit
---   rule admit {who} : visit()<report(who, r)> = test(blood(who))<r>
---   rule analyse {v} : test(blood(w))<found(w, v)> · rule skip : test(x)<none>
-abbrev pub clinic : Grammar
-clinic = record {
-  roles = 2;
-  arities = 1 ∷ 2 ∷ 2 ∷ 0 ∷ [];
-  sorts = sort 0 0 1 true ∷ sort 1 1 1 false ∷ [];
-  rules = rule 0 [] 1 (con2 1 (Leaf 0) (Leaf 1) ∷ []) (call 1 (con1 0 (Leaf 0) ∷ []) 1 ∷ [])
-      ∷ rule 1 (con1 0 (Leaf 0) ∷ []) 1 (con2 2 (Leaf 0) (Leaf 1) ∷ []) []
-      ∷ rule 1 (Leaf 0 ∷ []) 0 (con 3 ∷ []) []
-      ∷ [];
-}
-
+-- the names of the clinic and its laboratory
 abbrev pub clinic_words : Words
 clinic_words = record {
   roles = codes "clinic" ∷ codes "lab" ∷ [];
@@ -58,78 +35,189 @@ clinic_words = record {
   rules = codes "admit" ∷ codes "analyse" ∷ codes "skip" ∷ [];
 }
 
-abbrev visit : Node
-visit = root 0 1
+-- a visit is admitted, and its test is analysed
+abbrev admits : List Event
+admits = Chooses (Start 0 1) ∷ Chooses (Develop visit 0 (ada ∷ [])) ∷ []
 
-abbrev test : Node
-test = below visit 0 1
+abbrev analyses : List Event
+analyses = Chooses (Develop test 1 (seven ∷ [])) ∷ Settles ∷ []
 
-abbrev ada : {A : Type 0} → Tree A
-ada = Made (Text (codes "Ada")) Nil
-
-abbrev seven : {A : Type 0} → Tree A
-seven = Made (Num 7) Nil
-
-abbrev admit : List Move
-admit = Chooses (Start 0 1) ∷ Chooses (Develop visit 0 (ada ∷ [])) ∷ []
-
-abbrev analyse : List Move
-analyse = Chooses (Develop test 1 (seven ∷ [])) ∷ []
-
-abbrev admitted : Bool → World
-admitted loads = run clinic (empty_world clinic loads) admit
-
--- what is told of some events and of settling
-abbrev lines : Grammar → Words → World → List Move → List ℕ
-lines g w v es = run_lines w g v es ++ settle_lines 9 0 w g (run g v es)
-
--- the world after some events and settling
-abbrev settled : Grammar → World → List Move → World
-settled g v es = settle 9 g (run g v es)
-
-abbrev pub ClinicAdmits : Type 0
-ClinicAdmits = lines clinic clinic_words (empty_world clinic false) admit
-    ≡ codes "start visit 1: taken\nchoose visit#1 admit: taken\nsent 0 to lab call visit#1/admit.1 (visit#1:p2)\nsent 1 to lab ask visit#1/admit.1:r1 from clinic\ndeliver 0: new\nsent 2 to clinic ask visit#1:p2 from lab\ndeliver 1: new\ndeliver 2: new\nsent 3 to lab tell visit#1:p2 = blood(visit#1:p1)\ndeliver 3: new\nsent 4 to clinic ask visit#1:p1 from lab\ndeliver 4: new\nsent 5 to lab tell visit#1:p1 = \"Ada\"\ndeliver 5: new\nsettled 6\n"
-
-abbrev pub ClinicAnalyses : Type 0
-ClinicAnalyses = lines clinic clinic_words (settled clinic (empty_world clinic false) admit) analyse
-    ≡ codes "choose visit#1/admit.1 analyse: taken\nsent 6 to clinic tell visit#1/admit.1:r1 = found(visit#1:p1, visit#1/admit.1:p1)\ndeliver 6: new\nsent 7 to lab ask visit#1/admit.1:p1 from clinic\ndeliver 7: new\nsent 8 to clinic tell visit#1/admit.1:p1 = 7\ndeliver 8: new\nsettled 3\n"
-
--- the world after the whole case of the clinic
-abbrev all_settled : Bool → World
-all_settled loads = settled clinic (settled clinic (empty_world clinic loads) admit) analyse
-
-abbrev pub ClinicIsQuiet : Type 0
-ClinicIsQuiet = undelivered (all_settled false) ≡ None
+-- all messages are delivered after each choice
+abbrev pub ClinicSettles : Type 0
+ClinicSettles =
+    output_of clinic_words clinic false (admits ++ Settles ∷ analyses)
+    ≡ lines
+    (codes "start visit 1: taken"
+    ∷ codes "choose visit#1 admit: taken"
+    ∷ codes "sent 0 to lab call visit#1/admit.1 (visit#1:p2)"
+    ∷ codes "sent 1 to lab ask visit#1/admit.1:r1 from clinic"
+    ∷ codes "deliver 0: new"
+    ∷ codes "sent 2 to clinic ask visit#1:p2 from lab"
+    ∷ codes "deliver 1: new"
+    ∷ codes "deliver 2: new"
+    ∷ codes "sent 3 to lab tell visit#1:p2 = blood(visit#1:p1)"
+    ∷ codes "deliver 3: new"
+    ∷ codes "sent 4 to clinic ask visit#1:p1 from lab"
+    ∷ codes "deliver 4: new"
+    ∷ codes "sent 5 to lab tell visit#1:p1 = \"Ada\""
+    ∷ codes "deliver 5: new"
+    ∷ codes "settled 6"
+    ∷ codes "choose visit#1/admit.1 analyse: taken"
+    ∷ codes "sent 6 to clinic tell visit#1/admit.1:r1 = found(visit#1:p1, visit#1/admit.1:p1)"
+    ∷ codes "deliver 6: new"
+    ∷ codes "sent 7 to lab ask visit#1/admit.1:p1 from clinic"
+    ∷ codes "deliver 7: new"
+    ∷ codes "sent 8 to clinic tell visit#1/admit.1:p1 = 7"
+    ∷ codes "deliver 8: new"
+    ∷ codes "settled 3"
+    ∷ codes "artifacts 2"
+    ∷ codes "visit#1 admit {\"Ada\"} () <report(\"Ada\", found(\"Ada\", 7))>"
+    ∷ codes "visit#1/admit.1 analyse {7} (blood(\"Ada\")) <found(\"Ada\", 7)>"
+    ∷ [])
 
 -- the same with loads: the values come with the call and with the tell
-abbrev pub ClinicWithLoads : Type 0
-ClinicWithLoads = lines clinic clinic_words (empty_world clinic true) admit ++ lines clinic clinic_words (settled clinic (empty_world clinic true) admit) analyse
-    ≡ codes "start visit 1: taken\nchoose visit#1 admit: taken\nsent 0 to lab call visit#1/admit.1 (visit#1:p2) with visit#1:p2 = blood(visit#1:p1); visit#1:p1 = \"Ada\"\nsent 1 to lab ask visit#1/admit.1:r1 from clinic\ndeliver 0: new\ndeliver 1: new\nsettled 2\nchoose visit#1/admit.1 analyse: taken\nsent 2 to clinic tell visit#1/admit.1:r1 = found(visit#1:p1, visit#1/admit.1:p1) with visit#1/admit.1:p1 = 7\ndeliver 2: new\nsettled 1\n"
-
-abbrev pub LoadsAreQuiet : Type 0
-LoadsAreQuiet = undelivered (all_settled true) ≡ None
+abbrev pub ClinicLoads : Type 0
+ClinicLoads =
+    output_of clinic_words clinic true (admits ++ Settles ∷ analyses)
+    ≡ lines
+    (codes "start visit 1: taken"
+    ∷ codes "choose visit#1 admit: taken"
+    ∷ codes "sent 0 to lab call visit#1/admit.1 (visit#1:p2) with visit#1:p2 = blood(visit#1:p1); visit#1:p1 = \"Ada\""
+    ∷ codes "sent 1 to lab ask visit#1/admit.1:r1 from clinic"
+    ∷ codes "deliver 0: new"
+    ∷ codes "deliver 1: new"
+    ∷ codes "settled 2"
+    ∷ codes "choose visit#1/admit.1 analyse: taken"
+    ∷ codes "sent 2 to clinic tell visit#1/admit.1:r1 = found(visit#1:p1, visit#1/admit.1:p1) with visit#1/admit.1:p1 = 7"
+    ∷ codes "deliver 2: new"
+    ∷ codes "settled 1"
+    ∷ codes "artifacts 2"
+    ∷ codes "visit#1 admit {\"Ada\"} () <report(\"Ada\", found(\"Ada\", 7))>"
+    ∷ codes "visit#1/admit.1 analyse {7} (blood(\"Ada\")) <found(\"Ada\", 7)>"
+    ∷ [])
 
 -- an ask that comes before the call of its node is noted, and answered later
-abbrev pub AskComesFirst : Type 0
-AskComesFirst = lines clinic clinic_words (admitted false) (Delivers 1 ∷ [])
-    ≡ codes "deliver 1: new\ndeliver 0: new\nsent 2 to clinic ask visit#1:p2 from lab\ndeliver 2: new\nsent 3 to lab tell visit#1:p2 = blood(visit#1:p1)\ndeliver 3: new\nsent 4 to clinic ask visit#1:p1 from lab\ndeliver 4: new\nsent 5 to lab tell visit#1:p1 = \"Ada\"\ndeliver 5: new\nsettled 5\n"
+abbrev pub AskBeforeCall : Type 0
+AskBeforeCall =
+    output_of clinic_words clinic false (admits ++ Delivers 1 ∷ Settles ∷ analyses)
+    ≡ lines
+    (codes "start visit 1: taken"
+    ∷ codes "choose visit#1 admit: taken"
+    ∷ codes "sent 0 to lab call visit#1/admit.1 (visit#1:p2)"
+    ∷ codes "sent 1 to lab ask visit#1/admit.1:r1 from clinic"
+    ∷ codes "deliver 1: new"
+    ∷ codes "deliver 0: new"
+    ∷ codes "sent 2 to clinic ask visit#1:p2 from lab"
+    ∷ codes "deliver 2: new"
+    ∷ codes "sent 3 to lab tell visit#1:p2 = blood(visit#1:p1)"
+    ∷ codes "deliver 3: new"
+    ∷ codes "sent 4 to clinic ask visit#1:p1 from lab"
+    ∷ codes "deliver 4: new"
+    ∷ codes "sent 5 to lab tell visit#1:p1 = \"Ada\""
+    ∷ codes "deliver 5: new"
+    ∷ codes "settled 5"
+    ∷ codes "choose visit#1/admit.1 analyse: taken"
+    ∷ codes "sent 6 to clinic tell visit#1/admit.1:r1 = found(visit#1:p1, visit#1/admit.1:p1)"
+    ∷ codes "deliver 6: new"
+    ∷ codes "sent 7 to lab ask visit#1/admit.1:p1 from clinic"
+    ∷ codes "deliver 7: new"
+    ∷ codes "sent 8 to clinic tell visit#1/admit.1:p1 = 7"
+    ∷ codes "deliver 8: new"
+    ∷ codes "settled 3"
+    ∷ codes "artifacts 2"
+    ∷ codes "visit#1 admit {\"Ada\"} () <report(\"Ada\", found(\"Ada\", 7))>"
+    ∷ codes "visit#1/admit.1 analyse {7} (blood(\"Ada\")) <found(\"Ada\", 7)>"
+    ∷ [])
 
--- messages that come again, newest first, change nothing
-abbrev pub AllComeAgain : Type 0
-AllComeAgain = run_lines clinic_words clinic (all_settled false) (map Delivers (8 ∷ 7 ∷ 6 ∷ 5 ∷ 4 ∷ 3 ∷ 2 ∷ 1 ∷ 0 ∷ []))
-    ≡ codes "deliver 8: again\ndeliver 7: again\ndeliver 6: again\ndeliver 5: again\ndeliver 4: again\ndeliver 3: again\ndeliver 2: again\ndeliver 1: again\ndeliver 0: again\n"
+-- the messages with these numbers come
+abbrev comes_again : List Event
+comes_again = map Delivers (8 ∷ 7 ∷ 6 ∷ 5 ∷ 4 ∷ 3 ∷ 2 ∷ 1 ∷ 0 ∷ [])
 
--- the refusals of a choice, and a number that no message has
-abbrev pub Refusals : Type 0
-Refusals = run_lines clinic_words clinic (run clinic (empty_world clinic false) (Chooses (Start 0 1) ∷ []))
-    (Chooses (Develop visit 0 []) ∷ Chooses (Develop visit 2 []) ∷ Chooses (Develop visit 0 (ada ∷ [])) ∷ Chooses (Develop visit 0 (ada ∷ [])) ∷ Delivers 9 ∷ [])
-    ≡ codes "choose visit#1 admit: arguments\nchoose visit#1 skip: wrong rule\nchoose visit#1 admit: taken\nsent 0 to lab call visit#1/admit.1 (visit#1:p2)\nsent 1 to lab ask visit#1/admit.1:r1 from clinic\nchoose visit#1 admit: developed\ndeliver 9: no message\n"
+-- messages that come again, newest first and twice, change nothing
+abbrev pub AllAgain : Type 0
+AllAgain =
+    output_of clinic_words clinic false (admits ++ Settles ∷ analyses ++ (comes_again ++ comes_again))
+    ≡ lines
+    (codes "start visit 1: taken"
+    ∷ codes "choose visit#1 admit: taken"
+    ∷ codes "sent 0 to lab call visit#1/admit.1 (visit#1:p2)"
+    ∷ codes "sent 1 to lab ask visit#1/admit.1:r1 from clinic"
+    ∷ codes "deliver 0: new"
+    ∷ codes "sent 2 to clinic ask visit#1:p2 from lab"
+    ∷ codes "deliver 1: new"
+    ∷ codes "deliver 2: new"
+    ∷ codes "sent 3 to lab tell visit#1:p2 = blood(visit#1:p1)"
+    ∷ codes "deliver 3: new"
+    ∷ codes "sent 4 to clinic ask visit#1:p1 from lab"
+    ∷ codes "deliver 4: new"
+    ∷ codes "sent 5 to lab tell visit#1:p1 = \"Ada\""
+    ∷ codes "deliver 5: new"
+    ∷ codes "settled 6"
+    ∷ codes "choose visit#1/admit.1 analyse: taken"
+    ∷ codes "sent 6 to clinic tell visit#1/admit.1:r1 = found(visit#1:p1, visit#1/admit.1:p1)"
+    ∷ codes "deliver 6: new"
+    ∷ codes "sent 7 to lab ask visit#1/admit.1:p1 from clinic"
+    ∷ codes "deliver 7: new"
+    ∷ codes "sent 8 to clinic tell visit#1/admit.1:p1 = 7"
+    ∷ codes "deliver 8: new"
+    ∷ codes "settled 3"
+    ∷ codes "deliver 8: again"
+    ∷ codes "deliver 7: again"
+    ∷ codes "deliver 6: again"
+    ∷ codes "deliver 5: again"
+    ∷ codes "deliver 4: again"
+    ∷ codes "deliver 3: again"
+    ∷ codes "deliver 2: again"
+    ∷ codes "deliver 1: again"
+    ∷ codes "deliver 0: again"
+    ∷ codes "deliver 8: again"
+    ∷ codes "deliver 7: again"
+    ∷ codes "deliver 6: again"
+    ∷ codes "deliver 5: again"
+    ∷ codes "deliver 4: again"
+    ∷ codes "deliver 3: again"
+    ∷ codes "deliver 2: again"
+    ∷ codes "deliver 1: again"
+    ∷ codes "deliver 0: again"
+    ∷ codes "artifacts 2"
+    ∷ codes "visit#1 admit {\"Ada\"} () <report(\"Ada\", found(\"Ada\", 7))>"
+    ∷ codes "visit#1/admit.1 analyse {7} (blood(\"Ada\")) <found(\"Ada\", 7)>"
+    ∷ [])
+
+-- the refusals of a choice, a number that no message has, and messages that are not delivered
+abbrev pub RefusedChoices : Type 0
+RefusedChoices =
+    output_of clinic_words clinic false (Chooses (Start 0 1) ∷ Chooses (Develop visit 0 []) ∷ Chooses (Develop visit 2 []) ∷ Chooses (Develop visit 0 (ada ∷ []))
+    ∷ Chooses (Develop visit 0 (ada ∷ [])) ∷ Delivers 9 ∷ [])
+    ≡ lines
+    (codes "start visit 1: taken"
+    ∷ codes "choose visit#1 admit: arguments"
+    ∷ codes "choose visit#1 skip: wrong rule"
+    ∷ codes "choose visit#1 admit: taken"
+    ∷ codes "sent 0 to lab call visit#1/admit.1 (visit#1:p2)"
+    ∷ codes "sent 1 to lab ask visit#1/admit.1:r1 from clinic"
+    ∷ codes "choose visit#1 admit: developed"
+    ∷ codes "deliver 9: no message"
+    ∷ codes "undelivered 2"
+    ∷ [])
+
+-- the world of the clinic once the visit was admitted
+abbrev admitted : World
+admitted = run clinic (empty_world clinic false) (V.Chooses (Start 0 1) ∷ V.Chooses (Develop visit 0 (ada ∷ [])) ∷ [])
 
 -- a node is not known before its call came, and its worklist waits for a value
 abbrev pub WaitsAtLab : Type 0
-WaitsAtLab = run_lines clinic_words clinic (admitted false) (Chooses (Develop test 2 []) ∷ Delivers 0 ∷ []) ++ list_lines clinic_words clinic (run clinic (admitted false) (Delivers 0 ∷ [])) 1
-    ≡ codes "choose visit#1/admit.1 skip: unknown\ndeliver 0: new\nsent 2 to clinic ask visit#1:p2 from lab\nlist lab\nitem visit#1/admit.1 analyse waits visit#1:p2\nitem visit#1/admit.1 skip ready\n"
+WaitsAtLab =
+    run_lines clinic_words clinic admitted (V.Chooses (Develop test 2 []) ∷ V.Delivers 0 ∷ [])
+    ++ list_lines clinic_words clinic (run clinic admitted (V.Delivers 0 ∷ [])) 1
+    ≡ lines
+    (codes "choose visit#1/admit.1 skip: unknown"
+    ∷ codes "deliver 0: new"
+    ∷ codes "sent 2 to clinic ask visit#1:p2 from lab"
+    ∷ codes "list lab"
+    ∷ codes "item visit#1/admit.1 analyse waits visit#1:p2"
+    ∷ codes "item visit#1/admit.1 skip ready"
+    ∷ [])
 
 -- what is kept and what came
 abbrev content_text : Content → List ℕ
@@ -192,7 +280,7 @@ AskedAtClinic = answers (empty_site false 0)
 -- A guard against a value that has not arrived.
 --   role desk · role lab · con ok 0 · con pair 2 · con done 1 · sort job desk 0 1 · sort work lab 1 1 · start job
 --   rule give {v} : job()<r> = work(pair(v, ok))<r> · rule take : work(pair(x, ok))<done(x)>
-abbrev pair : Grammar
+abbrev pub pair : Grammar
 pair = record {
   roles = 2;
   arities = 0 ∷ 2 ∷ 1 ∷ [];
@@ -202,7 +290,7 @@ pair = record {
       ∷ [];
 }
 
-abbrev pair_words : Words
+abbrev pub pair_words : Words
 pair_words = record {
   roles = codes "desk" ∷ codes "lab" ∷ [];
   cons = codes "ok" ∷ codes "pair" ∷ codes "done" ∷ [];
@@ -210,9 +298,37 @@ pair_words = record {
   rules = codes "give" ∷ codes "take" ∷ [];
 }
 
-abbrev given_early : List Move
-given_early = Chooses (Start 0 1) ∷ Chooses (Develop visit 0 (Made (Num 5) Nil ∷ [])) ∷ Delivers 0 ∷ Chooses (Develop test 1 []) ∷ []
-
-abbrev pub WaitsForPair : Type 0
-WaitsForPair = lines pair pair_words (empty_world pair false) given_early ++ lines pair pair_words (settled pair (empty_world pair false) given_early) (Chooses (Develop test 1 []) ∷ [])
-    ≡ codes "start job 1: taken\nchoose job#1 give: taken\nsent 0 to lab call job#1/give.1 (job#1:p2)\nsent 1 to lab ask job#1/give.1:r1 from desk\ndeliver 0: new\nsent 2 to desk ask job#1:p2 from lab\nchoose job#1/give.1 take: waits job#1:p2\ndeliver 1: new\ndeliver 2: new\nsent 3 to lab tell job#1:p2 = pair(job#1:p1, job#1:p3)\ndeliver 3: new\nsent 4 to desk ask job#1:p1 from lab\nsent 5 to desk ask job#1:p3 from lab\ndeliver 4: new\nsent 6 to lab tell job#1:p1 = 5\ndeliver 5: new\nsent 7 to lab tell job#1:p3 = ok\ndeliver 6: new\ndeliver 7: new\nsettled 7\nchoose job#1/give.1 take: taken\nsent 8 to desk tell job#1/give.1:r1 = done(job#1:p1)\ndeliver 8: new\nsettled 1\n"
+-- the guard waits until the value is told
+abbrev pub ValueLate : Type 0
+ValueLate =
+    output_of pair_words pair false (Chooses (Start 0 1) ∷ Chooses (Develop visit 0 (Made (Num 5) Nil ∷ [])) ∷ Delivers 0 ∷ Chooses (Develop test 1 []) ∷ Settles
+    ∷ Chooses (Develop test 1 []) ∷ Settles ∷ [])
+    ≡ lines
+    (codes "start job 1: taken"
+    ∷ codes "choose job#1 give: taken"
+    ∷ codes "sent 0 to lab call job#1/give.1 (job#1:p2)"
+    ∷ codes "sent 1 to lab ask job#1/give.1:r1 from desk"
+    ∷ codes "deliver 0: new"
+    ∷ codes "sent 2 to desk ask job#1:p2 from lab"
+    ∷ codes "choose job#1/give.1 take: waits job#1:p2"
+    ∷ codes "deliver 1: new"
+    ∷ codes "deliver 2: new"
+    ∷ codes "sent 3 to lab tell job#1:p2 = pair(job#1:p1, job#1:p3)"
+    ∷ codes "deliver 3: new"
+    ∷ codes "sent 4 to desk ask job#1:p1 from lab"
+    ∷ codes "sent 5 to desk ask job#1:p3 from lab"
+    ∷ codes "deliver 4: new"
+    ∷ codes "sent 6 to lab tell job#1:p1 = 5"
+    ∷ codes "deliver 5: new"
+    ∷ codes "sent 7 to lab tell job#1:p3 = ok"
+    ∷ codes "deliver 6: new"
+    ∷ codes "deliver 7: new"
+    ∷ codes "settled 7"
+    ∷ codes "choose job#1/give.1 take: taken"
+    ∷ codes "sent 8 to desk tell job#1/give.1:r1 = done(job#1:p1)"
+    ∷ codes "deliver 8: new"
+    ∷ codes "settled 1"
+    ∷ codes "artifacts 2"
+    ∷ codes "job#1 give {5} () <done(5)>"
+    ∷ codes "job#1/give.1 take {} (pair(5, ok)) <done(5)>"
+    ∷ [])

@@ -5,6 +5,7 @@ use Rattle.aw_term.specs.Rules.{Grammar, get, upto}
 use Rattle.aw_term.specs.Choices.{Choice, Start, Develop, Answer, Taken}
 use Rattle.aw_term.specs.Held.{Held, insert_all}
 use Rattle.aw_apply.specs.Messages.{Message, Received, New}
+use Rattle.aw_base.specs.ChoiceFits.{choice_ok}
 use Rattle.aw_react.specs.Homes.{home}
 use Rattle.aw_react.specs.Sites.{Site, empty_site, Reaction}
 use Rattle.aw_react.specs.Choosing.{Chosen, No, Did, choose}
@@ -86,6 +87,7 @@ abbrev pub run : Grammar → World → List Move → World
 run g w [] = w
 run g w (e ∷ es) = run g (step g w e).world es
 
+-- the place of the first that is not set, where the places are counted from i
 abbrev pub first_false : ℕ → List Bool → Option ℕ
 first_false i [] = None
 first_false i (true ∷ ds) = first_false (suc i) ds
@@ -95,6 +97,18 @@ first_false i (false ∷ ds) = Some i
 abbrev pub undelivered : World → Option ℕ
 undelivered w = first_false 0 w.delivered
 
+-- how many are set
+abbrev pub count_set : List Bool → ℕ
+count_set [] = 0
+count_set (true ∷ ds) = suc (count_set ds)
+count_set (false ∷ ds) = count_set ds
+
+-- how many are not set
+abbrev pub count_open : List Bool → ℕ
+count_open [] = 0
+count_open (true ∷ ds) = count_open ds
+count_open (false ∷ ds) = suc (count_open ds)
+
 -- each message was delivered at least once
 abbrev pub IsQuiet : World → Type 0
 IsQuiet w = undelivered w ≡ None
@@ -103,3 +117,12 @@ IsQuiet w = undelivered w ≡ None
 abbrev pub settle : ℕ → Grammar → World → World
 settle zero g w = w
 settle (suc n) g w = elim (undelivered w) [ None ↦ w | Some k ↦ settle n g (deliver g w k).world ]
+
+-- a choice may be asked of the grammar, and any number may be delivered
+abbrev pub MayCome : Grammar → Move → Type 0
+MayCome g (Chooses c) = choice_ok g c ≡ true
+MayCome g (Delivers k) = Unit {0}
+
+-- the world after these events
+abbrev pub world_after : Grammar → Bool → List Move → World
+world_after g loads es = run g (empty_world g loads) es
