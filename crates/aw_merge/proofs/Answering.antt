@@ -2,7 +2,7 @@
 use Rattle.std.specs.Prelude.{nat_eq, slice_get, ◌&&◌, ◌||◌, ◌⊎◌}
 use Rattle.std.proofs.Common.{Bool, List, None, Option, Some, [], ap, cond, false, inl, inr, length, refl, subst, suc, sym, true, zero, ℕ, ◌++◌, ◌<◌, ◌∙◌, ◌∷◌, ◌≡◌}
 use Rattle.std.proofs.lemmas.Bool.{and_from, and_parts, eq-eqb, eqb-true}
-use Rattle.std.proofs.lemmas.Option.{same_Some}
+use Rattle.std.proofs.lemmas.Option.{same_Some, slice_get_within}
 use Rattle.aw_term.specs.Names.{Ref, ref_eq}
 use Rattle.aw_term.specs.Rules.{Grammar}
 use Rattle.aw_term.specs.Trees.{Never}
@@ -21,7 +21,7 @@ use Rattle.aw_react.specs.Sites.{Site, Watch}
 use Rattle.aw_react.specs.Telling.{has_watch, tell, tell_back}
 use Rattle.aw_merge.specs.Invariant.{IsBrought, sender, watch}
 use Rattle.aw_merge.proofs.Changes.{Change, NewSound}
-use Rattle.aw_merge.proofs.Learning.{find-member, get-before}
+use Rattle.aw_merge.proofs.Learning.{find-member}
 use Rattle.aw_merge.proofs.Parts.{Apart, Carries, Effect, Inv, IsLight, IsTold, Kin, KindKin, Mark, Sends_own, Sound}
 
 -- a load is of the sender's own equations
@@ -227,7 +227,7 @@ module _ (g : Grammar) (loads : Bool) (S : ℕ → Site) (M : List Message) (D :
           (λ z. elim (I.foreign from r z.1.0 z.1.1) [ inl h ↦ elsewhere (sym h ∙ here) | inr q ↦ no_watch (brought_told z.0 from r z.1.0 q) ]);
       not_sent = λ n o i j q. let (b, f, p) = new_case o j in no_watch (sent_told n o (record { left = r; body = b }) _ from i p q);
       apart = back-apart g (S a) (find (S a).equations r) r from;
-      now_before = λ j e. subst (λ j. j < length M) (sym e) (get-before M k m at);
+      now_before = λ j e. subst (λ j. j < length M) (sym e) (slice_get_within M k m at);
       now_effect = λ j n e q. let p : m ≡ n = same_Some _ _ (sym at ∙ (ap (slice_get M) (sym e) ∙ q)) in
           (ap (λ (m : Message). m.to) (sym p) ∙ to, subst (λ k. Effect s' k) (sym is ∙ ap (λ (m : Message). m.kind) p) (member_right (watch r from) (S a).watchers (watch r from ∷ []) (inl refl)));
       back = λ j n f t i. back_kind j n n.kind refl f t i;

@@ -1,8 +1,7 @@
 -- The messages of a world are at most its bound, and settling leaves none undelivered.
-use Rattle.std.specs.Prelude.{filter, nat_eq, not, slice_get, slice_set, ◌⊎◌}
-use Rattle.std.proofs.Common.{Bool, List, None, Option, Some, [], ap, arith, cond, false, inl, inr, length, length-append, map, refl, subst, suc, sym, true, zero, ℕ, ◌*◌, ◌++◌, ◌+◌, ◌<◌, ◌∙◌, ◌∷◌, ◌≡◌, ◌≤◌}
+use Rattle.std.specs.Prelude.{filter, nat_eq, not, ◌⊎◌}
+use Rattle.std.proofs.Common.{Bool, List, None, Option, Some, [], ap, arith, cond, inl, inr, length, length-append, map, refl, subst, suc, sym, true, zero, ℕ, ◌*◌, ◌++◌, ◌+◌, ◌<◌, ◌∙◌, ◌∷◌, ◌≡◌, ◌≤◌}
 use Rattle.std.proofs.lemmas.Bool.{and_from, cases_lt}
-use Rattle.std.proofs.lemmas.Option.{same_Some}
 use Rattle.aw_term.specs.Artifacts.{Words}
 use Rattle.aw_term.specs.Names.{Node, Part, Ref, Result, Slot, below, result}
 use Rattle.aw_term.specs.Rules.{Grammar, upto}
@@ -16,22 +15,18 @@ use Rattle.aw_accept.proofs.ConfigLemmas.{Member-upto, length-upto}
 use Rattle.aw_accept.proofs.Fitting.{given_of}
 use Rattle.aw_accept.proofs.Pigeonholes.{pigeon}
 use Rattle.aw_store.specs.Equations.{Equation, Map}
-use Rattle.aw_apply.specs.Messages.{Asks, Calls, Kind, Message, Tells, BadName, Conflict, New, NotMine, Received, Repeat}
+use Rattle.aw_apply.specs.Messages.{Asks, Calls, Kind, Message, Tells}
 use Rattle.aw_space.specs.Joint.{Joint, called_held}
 use Rattle.aw_space.specs.Laws.{IsAccepted}
 use Rattle.aw_space.proofs.Entering.{VariablesEnter, variables_enter}
 use Rattle.aw_space.proofs.Lists.{each_of}
-use Rattle.aw_react.specs.Sites.{Reaction}
 use Rattle.aw_react.specs.Bounds.{bound, child_results, created, is_called, part_lefts, part_on}
 use Rattle.aw_react.specs.Homes.{has_steps, home, parent}
-use Rattle.aw_react.specs.Reacting.{receive}
-use Rattle.aw_react.specs.Worlds.{IsQuiet, World, deliver, deliver_on, first_false, received_at, settle, site_at, undelivered, count_set}
+use Rattle.aw_react.specs.Worlds.{IsQuiet, World, deliver, settle, site_at, undelivered, count_set}
 use Rattle.aw_merge.specs.Invariant.{watch}
 use Rattle.aw_merge.specs.Mentioned.{IsCreated, IsPartSlot}
 use Rattle.aw_merge.proofs.Counting.{count_all}
-use Rattle.aw_merge.proofs.Changes.{get-left}
 use Rattle.aw_merge.proofs.Delivering.{has-end, not-eq, parent-below}
-use Rattle.aw_merge.proofs.Learning.{get-before}
 use Rattle.aw_merge.proofs.Lists.{Later-mapped, Member-filter, length-mapped}
 use Rattle.aw_merge.proofs.Parts.{Apart, KindKin, Sound}
 use Rattle.aw_merge.proofs.Runs.{IsWorld, deliver-kept}

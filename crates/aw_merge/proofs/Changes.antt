@@ -1,7 +1,6 @@
 -- One site changes and the others stay: the invariant is kept.
 use Rattle.std.specs.Prelude.{slice_get, ◌⊎◌}
 use Rattle.std.proofs.Common.{Bool, List, Some, [], arith, false, inl, inr, length, refl, subst, suc, sym, zero, ℕ, ◌++◌, ◌<◌, ◌∙◌, ◌∷◌, ◌≡◌, ◌≤◌}
-use Rattle.std.proofs.lemmas.Bool.{cases_lt}
 use Rattle.aw_term.specs.Configs.{Done}
 use Rattle.aw_term.specs.Names.{Node, Ref, below}
 use Rattle.aw_term.specs.Rules.{Grammar}
@@ -22,14 +21,7 @@ use Rattle.aw_merge.specs.Invariant.{IsBrought, sender, watch}
 use Rattle.aw_merge.specs.Mentioned.{IsMentioned}
 use Rattle.aw_merge.proofs.Lists.{each_by, later_both}
 use Rattle.aw_merge.proofs.Parts.{Apart, Carries, Effect, HeldBefore, HoldsAll, Inv, IsCalled, IsLight, IsTold, Is_held, Mark, Sends_own, Settled, Sound}
-
-pub same_or_not : (a b : ℕ) → (a ≡ b) ⊎ (a ≡ b → Never)
-same_or_not a b = elim (cases_lt a b) [ inl x ↦ inr (λ e. absurd (omega arith)) | inr x ↦ elim (cases_lt b a) [ inl y ↦ inr (λ e. absurd (omega arith)) | inr y ↦ inl (omega arith) ] ]
-
-pub get-left : {A : Type 0} (xs ys : List A) (k : ℕ) (x : A) → slice_get xs k ≡ Some x → slice_get (xs ++ ys) k ≡ Some x
-get-left [] ys k x e = absurd cc
-get-left (z ∷ xs) ys zero x e = e
-get-left (z ∷ xs) ys (suc k) x e = get-left xs ys k x e
+use Rattle.aw_merge.proofs.Places.{get-left, same_or_not}
 
 pub get-append : {A : Type 0} (xs ys : List A) (k : ℕ) (x : A) → slice_get (xs ++ ys) k ≡ Some x → (slice_get xs k ≡ Some x) ⊎ (Member x ys × (length xs ≤ k))
 get-append [] ys k x e = inr (member_got ys k x e, omega arith)

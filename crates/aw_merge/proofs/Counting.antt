@@ -1,5 +1,5 @@
 -- How many of some places are set, and which is the first that is not.
-use Rattle.std.proofs.Common.{Bool, List, None, Some, [], ap, arith, false, length, map, refl, suc, true, zero, ℕ, ◌++◌, ◌+◌, ◌<◌, ◌∷◌, ◌≡◌, ◌≤◌}
+use Rattle.std.proofs.Common.{Bool, List, None, Some, [], ap, arith, false, length, map, refl, suc, true, zero, ℕ, ◌++◌, ◌+◌, ◌∷◌, ◌≡◌, ◌≤◌}
 use Rattle.std.specs.Prelude.{slice_get, slice_set}
 use Rattle.std.proofs.lemmas.Option.{same_Some}
 use Rattle.aw_react.specs.Worlds.{count_open, count_set, first_false}

@@ -14,7 +14,7 @@ use Rattle.aw_react.specs.Sites.{Reaction, Site, empty_site}
 use Rattle.aw_react.specs.Worlds.{Chooses, Delivers, Move, World, chosen_at, deliver_on, empty_world, node_of, received_at, run, site_at, step, with_site}
 use Rattle.aw_merge.specs.Laws.{SiteIsFold}
 use Rattle.aw_merge.proofs.Lists.{length-mapped}
-use Rattle.aw_merge.proofs.Runs.{get-set, get-set_other, length-set}
+use Rattle.aw_merge.proofs.Places.{get-set, get-set_other, length-set}
 
 run-append : (g : Grammar) (s : Site) (xs ys : List SiteEvent) → site_run g s (xs ++ ys) ≡ site_run g (site_run g s xs) ys
 run-append g s [] ys = refl

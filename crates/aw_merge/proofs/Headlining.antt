@@ -1,5 +1,5 @@
 -- What holds of the output of events, from the laws of worlds.
-use Rattle.std.proofs.Common.{◌≡◌, ℕ, zero, suc, Bool, List, [], ◌∷◌, ◌++◌, Option, Some, None, ap, sym, ◌∙◌, refl, subst, inl, inr}
+use Rattle.std.proofs.Common.{◌≡◌, ℕ, zero, suc, List, [], ◌∷◌, ◌++◌, Option, Some, None, ap, sym, ◌∙◌, refl, subst, inl, inr}
 use Rattle.std.specs.Prelude.{take, ◌⊎◌}
 use Rattle.aw_term.specs.Rules.{Grammar}
 use Rattle.aw_term.specs.Trees.{Never}
@@ -17,16 +17,13 @@ use Rattle.aw_space.proofs.Entering.{variables_enter}
 use Rattle.aw_space.proofs.SameConfigs.{same_configuration}
 use Rattle.aw_react.specs.Homes.{home}
 use Rattle.aw_react.specs.Choosing.{outcome}
-use Rattle.aw_react.specs.Worlds as V
 use Rattle.aw_react.specs.Worlds.{World, Move, MayCome, step, deliver, settle, undelivered, empty_world, run, site_at}
 use Rattle.aw_react.specs.Bounds.{bound_of}
 use Rattle.aw_react.specs.Outputs.{after_event, after_events, all_lines, artifacts_on, ending_on, settle_moves, moves_of, all_moves, MayStand}
-use Rattle.aw_merge.specs.Headline.{HeadlineHolds, OutputsHold, EventsAreMoves}
+use Rattle.aw_merge.specs.Headline.{OutputsHold, EventsAreMoves}
+use Rattle.aw_merge.proofs.Settling.{run_both}
 use Rattle.aw_merge.proofs.WorldLaws.{rule_law, start_law, headline}
-
-run_both : (g : Grammar) (v : World) (es fs : List Move) → run g v (es ++ fs) ≡ run g (run g v es) fs
-run_both g v [] fs = refl
-run_both g v (e ∷ es) fs = run_both g (step g v e).world es fs
+use Rattle.aw_react.specs.Worlds as V
 
 settle_on : (g : Grammar) (n : ℕ) (v : World) → ((u : World) → run g u (settle_moves n g u) ≡ settle n g u) → (o : Option ℕ)
     → run g v (elim o [ None ↦ [] | Some k ↦ V.Delivers k ∷ settle_moves n g (deliver g v k).world ]) ≡ elim o [ None ↦ v | Some k ↦ settle n g (deliver g v k).world ]

@@ -1,6 +1,6 @@
 -- Finding held nodes, and what they inherited.
 use Rattle.std.specs.Prelude.{nat_eq, slice_get, ◌⊎◌}
-use Rattle.std.proofs.Common.{Bool, List, None, Option, Some, [], ap, cond, false, inl, inr, length, refl, subst, sym, true, ℕ, ◌++◌, ◌∙◌, ◌∷◌, ◌≡◌}
+use Rattle.std.proofs.Common.{Bool, List, None, Option, Some, [], ap, cond, false, inl, inr, length, refl, subst, sym, true, ℕ, ◌∙◌, ◌∷◌, ◌≡◌}
 use Rattle.std.proofs.lemmas.Option.{same_Some}
 use Rattle.aw_term.specs.Choices.{Arguments, NotItsRule, Refused, after_guard}
 use Rattle.aw_term.specs.Configs.{Done, Pending, State}
@@ -71,7 +71,3 @@ of-inherited r (x ∷ hs) m = elim (member_split r x.inherited (all_inherited hs
   | inl a ↦ (x, inl refl, a)
   | inr a ↦ (let (e, b, c) = of-inherited r hs a in (e, inr b, c))
 ]
-
-pub append-none : {A : Type 0} (xs : List A) → xs ++ [] ≡ xs
-append-none [] = refl
-append-none (x ∷ xs) = ap (λ ys. x ∷ ys) (append-none xs)

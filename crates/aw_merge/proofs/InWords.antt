@@ -24,8 +24,8 @@ use Rattle.aw_merge.specs.Invariant.{IsInvariant, call_message, IsSent, IsSentOn
 use Rattle.aw_merge.proofs.Answering.{brought_told, one-place}
 use Rattle.aw_merge.proofs.Learning.{find-member}
 use Rattle.aw_merge.proofs.Parts.{Effect, Kin, KindKin, Sound}
-use Rattle.aw_merge.proofs.Quieting.{member-get}
 use Rattle.aw_merge.proofs.Runs.{IsWorld, to-within}
+use Rattle.aw_merge.proofs.Places.{member-get}
 
 module _ (words : Words) (g : Grammar) (accepted : IsAccepted words g) (loads : Bool) where
   abbrev fit : IsGivenGrammar g

@@ -1,7 +1,7 @@
 -- A call or a tell that is new: what the site learns.
 use Rattle.std.specs.Prelude.{slice_get, ◌⊎◌}
-use Rattle.std.proofs.Common.{Bool, List, None, Option, Some, [], ap, arith, cond, false, inl, inr, length, refl, subst, suc, sym, true, zero, ℕ, ◌<◌, ◌∙◌, ◌∷◌, ◌≡◌}
-use Rattle.std.proofs.lemmas.Option.{same_Some}
+use Rattle.std.proofs.Common.{Bool, List, None, Option, Some, [], ap, cond, false, inl, inr, length, refl, subst, sym, true, ℕ, ◌<◌, ◌∙◌, ◌∷◌, ◌≡◌}
+use Rattle.std.proofs.lemmas.Option.{same_Some, slice_get_within}
 use Rattle.aw_term.specs.Names.{Ref, ref_eq}
 use Rattle.aw_term.specs.Rules.{Grammar}
 use Rattle.aw_term.specs.Trees.{Never}
@@ -96,11 +96,6 @@ of-mentions r (x ∷ es) m = elim (member_split r (mentions x.body) (all_mention
   | inr a ↦ (let (e, b, c) = of-mentions r es a in (e, inr b, c))
 ]
 
-pub get-before : {A : Type 0} (xs : List A) (k : ℕ) (x : A) → slice_get xs k ≡ Some x → k < length xs
-get-before [] k x e = absurd cc
-get-before (z ∷ xs) zero x e = omega arith
-get-before (z ∷ xs) (suc k) x e = let i = get-before xs k x e in omega (arith, i)
-
 module _ (g : Grammar) (loads : Bool) (S : ℕ → Site) (M : List Message) (D : ℕ → Type 0) (x : Joint) (I : Inv g loads S M D x) (keyed : Keyed x.equations)
     (a k : ℕ) (m : Message) (at : slice_get M k ≡ Some m) (to : m.to ≡ a) (within : a < g.roles)
     (H : List Held) (es : List Equation) (rs : List Ref)
@@ -175,7 +170,7 @@ module _ (g : Grammar) (loads : Bool) (S : ℕ → Site) (M : List Message) (D :
       no_mark = asks_no_mark g loads S M D x I a s1 rs (I.roles a) refl;
       not_sent = asks_not_sent g loads S M D x I a s1 rs (I.roles a) refl;
       apart = asks_apart g loads S M D x I a s1 rs (I.roles a) refl;
-      now_before = λ j e. subst (λ j. j < length M) (sym e) (get-before M k m at);
+      now_before = λ j e. subst (λ j. j < length M) (sym e) (slice_get_within M k m at);
       now_effect = λ j n e q. let p : m ≡ n = same_Some _ _ (sym at ∙ (ap (slice_get M) (sym e) ∙ q)) in (ap (λ (m : Message). m.to) (sym p) ∙ to, subst (λ (m : Message). Effect R m.kind) p effect);
       back = back;
     }

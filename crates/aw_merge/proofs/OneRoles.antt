@@ -1,16 +1,14 @@
 -- One role alone: what is written of its choices is what the undivided run writes of them.
-use Rattle.std.proofs.Common.{◌≡◌, ℕ, Bool, true, List, [], ◌∷◌, ◌++◌, length, map, Option, Some, None, ap, sym, ◌∙◌, refl, subst, append_assoc}
-use Rattle.std.specs.Prelude.{drop}
+use Rattle.std.proofs.Common.{◌≡◌, ℕ, Bool, true, List, [], ◌∷◌, ◌++◌, length, map, Some, None, ap, sym, ◌∙◌, refl, append_assoc}
 use Rattle.aw_term.specs.Trees.{Never}
 use Rattle.aw_term.specs.Names.{Ref}
 use Rattle.aw_term.specs.Rules.{Grammar, Value}
 use Rattle.aw_term.specs.WellFormed.{Each}
 use Rattle.aw_term.specs.Configs.{Config}
-use Rattle.aw_term.specs.Choices.{Choice, Start, Develop, Answer, Taken, Outcome, Refused, Starts, Takes, answer, answer_of, after, outcome, or_same, taken, undivided}
+use Rattle.aw_term.specs.Choices.{Choice, Start, Develop, Taken, Outcome, Refused, Starts, Takes, answer, answer_of, after, outcome, or_same, taken, undivided}
 use Rattle.aw_term.specs.Artifacts.{Words}
 use Rattle.aw_term.specs.Runs.{answer_line, answer_lines, after_all, artifacts}
 use Rattle.aw_term.proofs.Eaches.{each_push}
-use Rattle.aw_choice.specs.Events as E
 use Rattle.aw_base.specs.ChoiceFits.{choice_ok}
 use Rattle.aw_iograph.proofs.Members.{never}
 use Rattle.aw_accept.proofs.OneMore.{undivided_more}
@@ -19,12 +17,13 @@ use Rattle.aw_space.specs.Laws.{IsAccepted}
 use Rattle.aw_react.specs.Homes.{home}
 use Rattle.aw_react.specs.Choosing.{Chosen, No, Did, answer_to, choose}
 use Rattle.aw_react.specs.Transcripts.{answered, sent_since}
-use Rattle.aw_react.specs.Worlds.{World, Move, MayCome, Chooses, chosen_at, empty_world, node_of, run, site_at, step, undelivered, world_after}
-use Rattle.aw_react.specs.Outputs.{after_events, all_lines, artifacts_on, ending, ending_on, event_lines, output_of}
+use Rattle.aw_react.specs.Worlds.{World, Move, MayCome, Chooses, chosen_at, empty_world, node_of, site_at, step, undelivered, world_after}
+use Rattle.aw_react.specs.Outputs.{after_events, all_lines, artifacts_on, ending, ending_on, event_lines}
 use Rattle.aw_merge.specs.Headline.{OneRoleIsPlain}
 use Rattle.aw_merge.proofs.Refusing.{refusals_law}
 use Rattle.aw_merge.proofs.Settling.{run_more}
 use Rattle.aw_merge.proofs.WorldLaws.{answers_law, one_role_law, quiet_law}
+use Rattle.aw_choice.specs.Events as E
 
 -- a world tells the answer of the site
 told : (w : World) (role : ℕ) (c : Choice) (x : Chosen) → answered (chosen_at w role c x).reply ≡ answer_to x

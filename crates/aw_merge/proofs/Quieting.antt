@@ -1,7 +1,7 @@
 -- A quiet world holds the undivided configuration, and no guard meets a circle.
 use Rattle.std.specs.Prelude.{is_some, nat_eq, slice_get, ◌&&◌, ◌⊎◌}
 use Rattle.std.proofs.Common.{Bool, List, None, Option, Some, [], ap, arith, cond, false, inl, inr, length, refl, subst, suc, sym, true, zero, ℕ, ◌<◌, ◌∙◌, ◌∷◌, ◌≡◌}
-use Rattle.std.proofs.lemmas.Option.{same_Some}
+use Rattle.std.proofs.lemmas.Option.{same_Some, slice_get_within}
 use Rattle.aw_term.specs.Artifacts.{Words}
 use Rattle.aw_term.specs.Choices.{undivided}
 use Rattle.aw_term.specs.Configs.{Config, Row}
@@ -36,9 +36,10 @@ use Rattle.aw_react.specs.Worlds.{IsQuiet, World, first_false, gather, site_at}
 use Rattle.aw_merge.specs.Invariant.{watch}
 use Rattle.aw_merge.specs.Mentioned.{IsMentioned}
 use Rattle.aw_merge.proofs.HeldOrdering.{gather-member, gather-ordered, gather-there, same_held}
-use Rattle.aw_merge.proofs.Learning.{find-member, get-before}
+use Rattle.aw_merge.proofs.Learning.{find-member}
 use Rattle.aw_merge.proofs.Parts.{Effect, HeldBefore}
 use Rattle.aw_merge.proofs.Runs.{IsWorld, homes}
+use Rattle.aw_merge.proofs.Places.{member-get}
 
 -- at quiet: what is mentioned here has its equation here, if there is one at all
 module _ (e k : Map) (Mention : Ref → Type 0)
@@ -60,11 +61,6 @@ module _ (e k : Map) (Mention : Ref → Type 0)
   own_list [] (t ∷ ts) a m = never a
   own_list (r ∷ rs) [] a m = never a
   own_list (r ∷ rs) (t ∷ ts) a m = (own_value a.0 (m r (inl refl)), own_list rs ts a.1 (λ s i. m s (inr i)))
-
-pub member-get : {A : Type 0} (xs : List A) (x : A) → Member x xs → (k : ℕ) × (slice_get xs k ≡ Some x)
-member-get [] x m = never m
-member-get (y ∷ xs) x (inl p) = (0, ap Some (sym p))
-member-get (y ∷ xs) x (inr m) = let (k, e) = member-get xs x m in (suc k, e)
 
 pub all-true : (ds : List Bool) (i k : ℕ) → first_false i ds ≡ None → k < length ds → slice_get ds k ≡ Some true
 all-true [] i k e l = absurd (omega arith)
@@ -104,7 +100,7 @@ module _ (words : Words) (g : Grammar) (accepted : IsAccepted words g) (loads : 
     done : (m : Message) → Member m w.messages → Effect (S m.to) m.kind
     done m i =
         let (k, e) = member-get w.messages m i in
-        let l : k < length w.delivered = (let z = get-before w.messages k m e in omega (arith, z, W.marks)) in
+        let l : k < length w.delivered = (let z = slice_get_within w.messages k m e in omega (arith, z, W.marks)) in
         (W.inv.effect k m e).0 (all-true w.delivered 0 k quiet l)
 
     -- every node is held at its home

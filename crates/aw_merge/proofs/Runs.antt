@@ -1,7 +1,7 @@
 -- The invariant holds in every world.
 use Rattle.std.specs.Prelude.{is_some, option_and_then, slice_get, slice_set, ◌⊎◌}
 use Rattle.std.proofs.Common.{Bool, List, None, Option, Some, [], ap, arith, false, inl, inr, length, map, refl, subst, suc, sym, true, zero, ℕ, ◌++◌, ◌+◌, ◌<◌, ◌∙◌, ◌∷◌, ◌≡◌, ◌≤◌}
-use Rattle.std.proofs.lemmas.Option.{same_Some}
+use Rattle.std.proofs.lemmas.Option.{same_Some, slice_get_within}
 use Rattle.aw_term.specs.Artifacts.{Words}
 use Rattle.aw_term.specs.Choices.{Choice, Develop, Outcome, Refused, Start, Starts, Takes}
 use Rattle.aw_term.specs.Matching.{Yes}
@@ -32,51 +32,16 @@ use Rattle.aw_react.specs.Worlds.{Chooses, Delivers, Move, Stepped, World, chose
 use Rattle.aw_merge.specs.Invariant.{IsValid, watch}
 use Rattle.aw_merge.specs.Laws.{MayCome, StaysIn}
 use Rattle.aw_merge.specs.Mentioned.{IsMentioned, IsRooted}
-use Rattle.aw_merge.proofs.Changes.{Change, Grows, get-append, get-left, grown, kept}
+use Rattle.aw_merge.proofs.Changes.{Change, Grows, get-append, grown, kept}
 use Rattle.aw_merge.proofs.Delivering.{mention-ok, received}
-use Rattle.aw_merge.proofs.Learning.{Keyed, get-before}
+use Rattle.aw_merge.proofs.Learning.{Keyed}
 use Rattle.aw_merge.proofs.Naming.{valid_kept}
 use Rattle.aw_merge.proofs.Parts.{Effect, HeldBefore, Inv, Sound}
 use Rattle.aw_merge.proofs.Rooted.{rooted_kept}
 use Rattle.aw_merge.proofs.Sorts.{choice_node, home_within}
 use Rattle.aw_merge.proofs.Starting.{IsHomed, start_in, starting}
 use Rattle.aw_merge.proofs.Taking.{developing, in_outcome, keyed_next}
-
-pub get-set : {A : Type 0} (d : A) (xs : List A) (i : ℕ) (v : A) → i < length xs → get d (slice_set xs i v) i ≡ v
-get-set d [] i v h = absurd (omega arith)
-get-set d (x ∷ xs) zero v h = refl
-get-set d (x ∷ xs) (suc i) v h = get-set d xs i v (omega arith)
-
-pub get-set_other : {A : Type 0} (d : A) (xs : List A) (i j : ℕ) (v : A) → (i ≡ j → Never) → get d (slice_set xs i v) j ≡ get d xs j
-get-set_other d [] i j v h = refl
-get-set_other d (x ∷ xs) zero zero v h = never (h refl)
-get-set_other d (x ∷ xs) zero (suc j) v h = refl
-get-set_other d (x ∷ xs) (suc i) zero v h = refl
-get-set_other d (x ∷ xs) (suc i) (suc j) v h = get-set_other d xs i j v (λ e. h (ap suc e))
-
-pub length-set : {A : Type 0} (xs : List A) (i : ℕ) (v : A) → length (slice_set xs i v) ≡ length xs
-length-set [] i v = refl
-length-set (x ∷ xs) zero v = refl
-length-set (x ∷ xs) (suc i) v = ap suc (length-set xs i v)
-
-set-here : (xs : List Bool) (i : ℕ) → i < length xs → slice_get (slice_set xs i true) i ≡ Some true
-set-here [] i h = absurd (omega arith)
-set-here (x ∷ xs) zero h = refl
-set-here (x ∷ xs) (suc i) h = set-here xs i (omega arith)
-
-set-kept : (xs : List Bool) (i k : ℕ) → slice_get xs k ≡ Some true → slice_get (slice_set xs i true) k ≡ Some true
-set-kept [] i k e = e
-set-kept (x ∷ xs) zero zero e = refl
-set-kept (x ∷ xs) zero (suc k) e = e
-set-kept (x ∷ xs) (suc i) zero e = e
-set-kept (x ∷ xs) (suc i) (suc k) e = set-kept xs i k e
-
-set-from : (xs : List Bool) (i k : ℕ) → slice_get (slice_set xs i true) k ≡ Some true → (slice_get xs k ≡ Some true) ⊎ (k ≡ i)
-set-from [] i k e = inl e
-set-from (x ∷ xs) zero zero e = inr refl
-set-from (x ∷ xs) zero (suc k) e = inl e
-set-from (x ∷ xs) (suc i) zero e = inl e
-set-from (x ∷ xs) (suc i) (suc k) e = elim (set-from xs i k e) [ inl a ↦ inl a | inr a ↦ inr (ap suc a) ]
+use Rattle.aw_merge.proofs.Places.{get-left, get-set, get-set_other, length-set, set-from, set-here, set-kept}
 
 length-both : {A B : Type 0} (xs : List A) (ys : List B) (f : A → B) (zs : List A) → length ys ≡ length xs → length (ys ++ map f zs) ≡ length (xs ++ zs)
 length-both [] [] f [] e = refl
@@ -120,7 +85,7 @@ module _ (g : Grammar) (loads : Bool) (S : ℕ → Site) (M : List Message) (D D
     senders = I.senders;
     boxes = I.boxes;
     boxed = I.boxed;
-    before = λ j d. elim (from_new j d) [ inl o ↦ I.before j o | inr p ↦ subst (λ j. j < length M) (sym p) (get-before M k m at) ];
+    before = λ j d. elim (from_new j d) [ inl o ↦ I.before j o | inr p ↦ subst (λ j. j < length M) (sym p) (slice_get_within M k m at) ];
     apart = I.apart;
   }
 
@@ -245,7 +210,7 @@ module _ (words : Words) (g : Grammar) (accepted : IsAccepted words g) (loads : 
   deliver-on : (w : World) (x : Joint) → IsWorld w x → (k : ℕ) (m : Message) → slice_get w.messages k ≡ Some m → IsWorld (received_at w k m.to (receive g (site_at w m.to) m)).world x × Grows (site_at w) (site_at (received_at w k m.to (receive g (site_at w m.to) m)).world)
   deliver-on w x W k m at =
       let l = to-within w x W m m.kind (member_got w.messages k m at) refl in
-      let b : k < length w.delivered = (let z = get-before w.messages k m at in omega (arith, z, W.marks)) in
+      let b : k < length w.delivered = (let z = slice_get_within w.messages k m at in omega (arith, z, W.marks)) in
       elim (received g loads (site_at w) w.messages _ x W.inv W.keyed (fit_of g fit enter ok x W.fit_).apart W.valid.0 m.to k m at refl l) [
         | inl n ↦ subst (λ r. IsWorld (received_at w k m.to r).world x × Grows (site_at w) (site_at (received_at w k m.to r).world)) (sym n.0) (new_one l b n.1)
         | inr n ↦ subst (λ r. IsWorld (received_at w k m.to r).world x × Grows (site_at w) (site_at (received_at w k m.to r).world)) (sym n.0) (

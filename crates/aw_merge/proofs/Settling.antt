@@ -1,14 +1,14 @@
 -- What one delivery and what settling leaves: the choices taken, and one message more that counts as delivered.
-use Rattle.std.proofs.Common.{◌≡◌, ℕ, zero, suc, ◌+◌, ◌<◌, ◌≤◌, arith, false, List, [], ◌∷◌, ◌++◌, length, map, ap, sym, ◌∙◌, refl, subst}
+use Rattle.std.proofs.Common.{◌≡◌, ℕ, zero, suc, ◌≤◌, arith, false, List, [], ◌∷◌, ◌++◌, length, map, ap, sym, ◌∙◌, refl, subst}
+use Rattle.std.proofs.lemmas.Option.{slice_get_within}
 use Rattle.std.specs.Prelude.{slice_get, Option, Some, None}
 use Rattle.aw_term.specs.Rules.{Grammar}
 use Rattle.aw_apply.specs.Messages.{Message, Received, BadName, NotMine, Conflict, Repeat, New}
 use Rattle.aw_react.specs.Sites.{Reaction}
 use Rattle.aw_react.specs.Reacting.{receive}
-use Rattle.aw_react.specs.Worlds.{World, Move, Delivers, MayCome, count_set, deliver, deliver_on, received_at, run, settle, site_at, step, undelivered, empty_world, world_after}
-use Rattle.aw_merge.proofs.Changes.{get-left}
-use Rattle.aw_merge.proofs.Counting.{count_new, count_unset, count_within, first_place, none_past}
-use Rattle.aw_merge.proofs.Learning.{get-before}
+use Rattle.aw_react.specs.Worlds.{World, Move, count_set, deliver, deliver_on, received_at, run, settle, site_at, step, undelivered}
+use Rattle.aw_merge.proofs.Counting.{count_new, count_unset, first_place, none_past}
+use Rattle.aw_merge.proofs.Places.{get-left}
 
 got_taken : (v : World) (k to : ℕ) (r : Received Reaction) → (received_at v k to r).world.taken ≡ v.taken
 got_taken v k to BadName = refl
@@ -46,7 +46,7 @@ got_counts v k to (New y) e = count_new _ k (get-left v.delivered (map (λ m. fa
 
 on_counts : (g : Grammar) (v : World) (k : ℕ) (o : Option Message) → slice_get v.messages k ≡ o → length v.delivered ≡ length v.messages → slice_get v.delivered k ≡ Some false
     → count_set (deliver_on g v k o).world.delivered ≡ suc (count_set v.delivered)
-on_counts g v k None f l e = let a = none_past v.messages k f in let b = get-before v.delivered k false e in absurd (omega (arith, a, b, l))
+on_counts g v k None f l e = let a = none_past v.messages k f in let b = slice_get_within v.delivered k false e in absurd (omega (arith, a, b, l))
 on_counts g v k (Some m) f l e = got_counts v k m.to (receive g (site_at v m.to) m) e
 
 -- the first undelivered message counts as delivered afterwards
@@ -83,3 +83,7 @@ settle_done g (suc n) (suc m) v l e = done_on g n m v (λ u. settle_done g n m u
 pub run_more : (g : Grammar) (w : World) (es : List Move) (e : Move) → run g w (es ++ e ∷ []) ≡ (step g (run g w es) e).world
 run_more g w [] e = refl
 run_more g w (d ∷ es) e = run_more g (step g w d).world es e
+
+pub run_both : (g : Grammar) (v : World) (es fs : List Move) → run g v (es ++ fs) ≡ run g (run g v es) fs
+run_both g v [] fs = refl
+run_both g v (e ∷ es) fs = run_both g (step g v e).world es fs

@@ -1,5 +1,6 @@
 -- A start that is taken at its home is taken in the joint configuration, and keeps the invariant.
 use Rattle.std.specs.Prelude.{is_some, ◌⊎◌}
+use Rattle.std.proofs.lemmas.List.{append-nil}
 use Rattle.std.proofs.Common.{Bool, List, None, [], ap, inl, inr, refl, subst, sym, true, ℕ, ◌++◌, ◌<◌, ◌∙◌, ◌∷◌, ◌≡◌, ◌≤◌}
 use Rattle.aw_term.specs.Choices.{Start}
 use Rattle.aw_term.specs.Names.{Node, below, root}
@@ -21,7 +22,7 @@ use Rattle.aw_react.specs.Homes.{home}
 use Rattle.aw_react.specs.Sites.{Site}
 use Rattle.aw_merge.proofs.Changes.{Change}
 use Rattle.aw_merge.proofs.Delivering.{held_of-none}
-use Rattle.aw_merge.proofs.HeldLookups.{append-none, not-there}
+use Rattle.aw_merge.proofs.HeldLookups.{not-there}
 use Rattle.aw_merge.proofs.HeldOrdering.{insert-ordered}
 use Rattle.aw_merge.proofs.Learning.{Keyed}
 use Rattle.aw_merge.proofs.Parts.{Inv, KindKin, Mark, Sound}
@@ -111,7 +112,7 @@ module _ (g : Grammar) (fit : IsGivenGrammar g) (enter : VariablesEnter g) (ok :
       sound = λ m i. never i;
       light = λ f m i. never i;
       senders = λ m i. never i;
-      outbox = sym (append-none (S a).outbox);
+      outbox = sym (append-nil (S a).outbox);
       from_here = λ m i. never i;
       no_mark = λ m i. never i;
       not_sent = λ m n i j. never j;

@@ -38,7 +38,7 @@ use Rattle.aw_react.specs.Telling.{call_out, calls_in, calls_out, tell, tells}
 use Rattle.aw_merge.specs.Invariant.{sender, watch}
 use Rattle.aw_merge.proofs.Answering.{carries-own, load-none, load-own, own-sent}
 use Rattle.aw_merge.proofs.AskingLemmas.{ask_case, asked_cases, asked_more, asks, asks_apart, asks_away, asks_no_mark, asks_not_sent, asks_sound, settles}
-use Rattle.aw_merge.proofs.Changes.{Change, NewSound, same_or_not}
+use Rattle.aw_merge.proofs.Changes.{Change, NewSound}
 use Rattle.aw_merge.proofs.Delivering.{parent-below}
 use Rattle.aw_merge.proofs.HeldLookups.{held_of-there, inherited-of, mark_other, node_cases, of-inherited, same_state}
 use Rattle.aw_merge.proofs.HeldOrdering.{all-ordered, mark-ordered, own-differ}
@@ -46,6 +46,7 @@ use Rattle.aw_merge.proofs.Learning.{Keyed, find-member, member-found, mentions-
 use Rattle.aw_merge.proofs.Parts.{Apart, Inv, IsCalled, IsLight, Kin, KindKin, Mark, Sends_own, Sound}
 use Rattle.aw_merge.proofs.SentLemmas.{call_case, calls_differ, in_case, in_has, out_apart, out_case, out_has, tell_case, tell_has, tells_apart}
 use Rattle.aw_merge.proofs.Starting.{IsHomed, called_below}
+use Rattle.aw_merge.proofs.Places.{same_or_not}
 
 module _ (g : Grammar) (fit : IsGivenGrammar g) (enter : VariablesEnter g) (ok : HasNoCircle g (IO g)) (roles : IsHomed g) (loads : Bool) (S : ℕ → Site) (M : List Message) (D : ℕ → Type 0) (x : Joint) (I : Inv g loads S M D x) (F : Fit g fit enter ok x) (keyed : Keyed x.equations) where
   one : (h h' : Held) → Member h x.held → Member h' x.held → h.node ≡ h'.node → h ≡ h'

@@ -1,6 +1,6 @@
 -- The laws of worlds, as they are stated.
 use Rattle.std.specs.Prelude.{◌⊎◌}
-use Rattle.std.proofs.Common.{◌≤◌, length, Bool, List, None, Option, Some, [], ap, false, inl, inr, map, refl, subst, suc, sym, zero, ℕ, ◌∙◌, ◌∷◌, ◌≡◌}
+use Rattle.std.proofs.Common.{◌≤◌, length, Bool, List, None, Option, Some, [], false, inl, inr, map, refl, subst, suc, sym, zero, ℕ, ◌∙◌, ◌∷◌, ◌≡◌}
 use Rattle.aw_iograph.proofs.Relations.{io_closed}
 use Rattle.aw_term.specs.Artifacts.{Words, artifact_text}
 use Rattle.aw_term.specs.Rules.{Grammar}

@@ -1,5 +1,7 @@
 -- Where a courier over an honest wire answers Quiet, the world is quiet.
 use Rattle.std.specs.Prelude.{slice_get, slice_set, ◌⊎◌, ◌&&◌, not, nat_eq, nat_le, nat_lt}
+use Rattle.std.proofs.lemmas.List.{append-nil}
+use Rattle.std.proofs.lemmas.Option.{slice_get_within}
 use Rattle.std.proofs.Common.{◌≡◌, ℕ, zero, suc, ◌+◌, ◌-◌, ◌<◌, ◌≤◌, Bool, true, false, cond, List, [], ◌∷◌, ◌++◌, map, length, Option, Some, None, refl, sym, ap, ◌∙◌, subst, inl, inr, arith, append_assoc}
 use Rattle.std.proofs.lemmas.Bool.{eqb-true, eq-eqb, cases_lt, le-leb}
 use Rattle.aw_term.specs.Choices.{Choice, Answer}
@@ -7,6 +9,7 @@ use Rattle.aw_term.specs.Names.{Ref}
 use Rattle.aw_term.specs.Rules.{Grammar, get, upto}
 use Rattle.aw_term.specs.Trees.{Never}
 use Rattle.aw_term.specs.WellFormed.{Each}
+use Rattle.aw_term.proofs.Eaches.{each_append}
 use Rattle.aw_base.specs.ChoiceFits.{choice_ok}
 use Rattle.aw_iograph.specs.Graphs.{Member}
 use Rattle.aw_iograph.proofs.Members.{never, member_split, member_left, member_right, member_got}
@@ -18,23 +21,17 @@ use Rattle.aw_react.specs.Sites.{Site, empty_site, Reaction}
 use Rattle.aw_react.specs.Worlds.{node_of, World, empty_world, site_at, received_at, deliver_on, first_false, Move, Delivers, step, run, IsQuiet}
 use Rattle.aw_merge.specs.Invariant.{sender, IsSent, IsDelivered}
 use Rattle.aw_merge.specs.Laws.{MayCome, world_after}
-use Rattle.aw_merge.proofs.Changes.{same_or_not}
-use Rattle.aw_merge.proofs.Learning.{get-before}
 use Rattle.aw_merge.proofs.Lists.{Member-filter, Member-filtered}
-use Rattle.aw_merge.proofs.Quieting.{member-get}
-use Rattle.aw_merge.proofs.Runs.{get-set, get-set_other, length-set}
+use Rattle.aw_merge.proofs.Places.{get-set, get-set_other, length-set, member-get, same_or_not, set-here}
+use Rattle.aw_merge.proofs.Settling.{run_both}
+use Rattle.aw_merge.proofs.Counting.{none_past}
 use Rattle.aw_nodes.specs.Couriers.{Heard, Pushed, Gave, Had, hear, Session, Courier, new_courier, for_role, without, turn_room, turn_messages, asks, after_reply, behind, pulls, pushes, requests, note, noted, after_session, AreReplies, AreTurns, moves, round_moves, after_all, IsSpelling, flat, IsRound, IsQuietCall, Visit, choice_frame, asked_at, choice_frames, session_frames, visit_frames, IsPrefix, IsHonestWire, session_of, NoChoice, NoneLater, ChoicesOk}
 use Rattle.aw_nodes.specs.Nodes.{Frame, Push, Choose, Pull, Response, NotForMe, NotValid, Answers, Sends, chosen, at_place, Asked, ask, sites_after, all_replies, happening_of, happenings, ReadAs}
 use Rattle.aw_nodes.proofs.Mail.{Given}
-use Rattle.aw_nodes.proofs.Served.{set-same, append-nil, run-append, each-append, read-append, get-short, Follows, run-follows, IsReached, reached-run, reached-mail, Went, pushed, chose}
+use Rattle.aw_nodes.proofs.Served.{set-same, read-append, get-short, Follows, run-follows, IsReached, reached-run, reached-mail, Went, pushed, chose}
 
 some-inj : {A : Type 0} {a b : A} → Some a ≡ Some b → a ≡ b
 some-inj e = cc
-
-set-here : (xs : List Bool) (i : ℕ) → i < length xs → slice_get (slice_set xs i true) i ≡ Some true
-set-here [] i h = absurd (omega arith)
-set-here (x ∷ xs) zero h = refl
-set-here (x ∷ xs) (suc i) h = set-here xs i (omega arith)
 
 length-more : {A : Type 0} (xs ys : List A) → length xs ≤ length (xs ++ ys)
 length-more [] ys = omega arith
@@ -44,11 +41,6 @@ get-within : {A : Type 0} (xs : List A) (k : ℕ) → k < length xs → (x : A) 
 get-within [] k l = absurd (omega arith)
 get-within (x ∷ xs) zero l = (x, refl)
 get-within (x ∷ xs) (suc k) l = get-within xs k (omega arith)
-
-get-past : {A : Type 0} (xs : List A) (k : ℕ) → slice_get xs k ≡ None → length xs ≤ k
-get-past [] k e = omega arith
-get-past (x ∷ xs) zero e = absurd cc
-get-past (x ∷ xs) (suc k) e = let z = get-past xs k e in omega (arith, z)
 
 -- the waiting messages of a role
 cons-inj : {A : Type 0} {x y : A} {xs ys : List A} → x ∷ xs ≡ y ∷ ys → (x ≡ y) × (xs ≡ ys)
@@ -153,17 +145,17 @@ module _ (g : Grammar) (G : Given g) (loads : Bool) where
   abbrev ran-on : (w : World) (r : ℕ) (f : Frame) (W : Went g G loads w r f) (as_ : List Asked) → Ran (run g w W.events) as_ → Ran w (record { role = r; frame = f } ∷ as_)
   ran-on w r f W as_ R = record {
     events = W.events ++ R.events;
-    ok = each-append (MayCome g) W.events R.events W.ok R.ok;
+    ok = each_append (MayCome g) W.events R.events W.ok R.ok;
     read = read-append g w (happening_of f) (happenings as_) W.events R.events W.read R.read;
-    sites = ap (λ (w : World). w.sites) (run-append g w W.events R.events) ∙ (R.sites ∙ ap (λ ss. sites_after g ss as_) W.sites);
+    sites = ap (λ (w : World). w.sites) (run_both g w W.events R.events) ∙ (R.sites ∙ ap (λ ss. sites_after g ss as_) W.sites);
   }
 
   abbrev ran-append : (w : World) (xs : List Asked) (R : Ran w xs) (ys : List Asked) → Ran (run g w R.events) ys → Ran w (xs ++ ys)
   ran-append w xs R ys Q = record {
     events = R.events ++ Q.events;
-    ok = each-append (MayCome g) R.events Q.events R.ok Q.ok;
+    ok = each_append (MayCome g) R.events Q.events R.ok Q.ok;
     read = subst (λ hs. ReadAs g w hs (R.events ++ Q.events)) (sym (happenings-append xs ys)) (read-append g w (happenings xs) (happenings ys) R.events Q.events R.read Q.read);
-    sites = ap (λ (w : World). w.sites) (run-append g w R.events Q.events) ∙ (Q.sites ∙ (ap (λ ss. sites_after g ss ys) R.sites ∙ sym (sites-append g w.sites xs ys)));
+    sites = ap (λ (w : World). w.sites) (run_both g w R.events Q.events) ∙ (Q.sites ∙ (ap (λ ss. sites_after g ss ys) R.sites ∙ sym (sites-append g w.sites xs ys)));
   }
 
   -- a choice that is valid is answered at its home
@@ -197,7 +189,7 @@ module _ (g : Grammar) (G : Given g) (loads : Bool) where
   delivered-now : (w : World) → IsReached g G loads w → (k : ℕ) (m : Message) → IsSent w m k → IsDelivered (step g w (Delivers k)).world k
   delivered-now w R k m e =
       let M = reached-mail g G loads w R in
-      let l : k < length w.delivered = (let z = get-before w.messages k m e in let q = M.marks in omega (arith, z, q)) in
+      let l : k < length w.delivered = (let z = slice_get_within w.messages k m e in let q = M.marks in omega (arith, z, q)) in
       subst (λ o. IsDelivered (deliver_on g w k o).world k) (sym e) (marked w k m.to (receive g (site_at w m.to) m) l)
 
   abbrev IsThere : World → Message → Type 0
@@ -230,7 +222,7 @@ module _ (g : Grammar) (G : Given g) (loads : Bool) where
 
     longer-box : (xs ys : List Message) → ((p : ℕ) (m : Message) → slice_get xs p ≡ Some m → slice_get ys p ≡ Some m) → length xs ≤ length ys
     longer-box xs ys f = elim (cases_lt (length ys) (length xs)) [
-      | inl l ↦ (let (m, e) = get-within xs (length ys) l in let z = get-before ys (length ys) m (f (length ys) m e) in absurd (omega (arith, z)))
+      | inl l ↦ (let (m, e) = get-within xs (length ys) l in let z = slice_get_within ys (length ys) m (f (length ys) m e) in absurd (omega (arith, z)))
       | inr l ↦ l
     ]
 
@@ -271,7 +263,7 @@ module _ (g : Grammar) (G : Given g) (loads : Bool) where
           count = length-set c.places r (suc p) ∙ K.count;
           within = λ a b. elim (same_or_not r a) [
             | inl q ↦ subst (λ a. get 0 (slice_set c.places r (suc p)) a ≤ length (site_at w a).outbox) q
-                (let z = get-before (site_at w r).outbox p m d in let y = get-set 0 c.places r (suc p) l' in omega (arith, z, y))
+                (let z = slice_get_within (site_at w r).outbox p m d in let y = get-set 0 c.places r (suc p) l' in omega (arith, z, y))
             | inr q ↦ (let y = get-set_other 0 c.places r a (suc p) q in let z = K.within a b in omega (arith, y, z))
           ];
           pulled = λ a q o b k f. elim (same_or_not r a) [
@@ -367,7 +359,7 @@ module _ (g : Grammar) (G : Given g) (loads : Bool) where
         ((cons-inj h).1 ∙ ap (λ ss. map hear (all_replies g ss (map (asked_at r) rest))) (sym W.sites)) in
         record {
           ran = ran-on w r (Push m) W (map (asked_at r) rest) z.ran;
-          knows = subst (λ u. Knows u (noted r rest xs (note r (Push m) x c))) (sym (run-append g w W.events z.ran.events)) z.knows;
+          knows = subst (λ u. Knows u (noted r rest xs (note r (Push m) x c))) (sym (run_both g w W.events z.ran.events)) z.knows;
         }
 
     pushes-go : (ms : List Message) (room p : ℕ) (xs : List Heard) (w : World) → IsReached g G loads w → (c : Courier) → Knows w c → (r : ℕ) → r < g.roles → for_role r c.waiting ≡ ms → p ≡ get 0 c.places r
@@ -429,7 +421,7 @@ module _ (g : Grammar) (G : Given g) (loads : Bool) where
         record {
           ran = ran-append w (choice_frames g v) A (session_frames v ++ visit_frames g vs) D;
           knows = subst (λ z. Knows z (after_all (after_session c v.session) (map session_of vs)))
-              (sym (run-append g w A.events (B.ran.events ++ C.ran.events) ∙ run-append g (run g w A.events) B.ran.events C.ran.events)) C.knows;
+              (sym (run_both g w A.events (B.ran.events ++ C.ran.events) ∙ run_both g (run g w A.events) B.ran.events C.ran.events)) C.knows;
         }
 
     -- a turn without a move: nothing waits for its role, and its outbox is pulled
@@ -449,7 +441,7 @@ module _ (g : Grammar) (G : Given g) (loads : Bool) where
     still-pull w r p true (Gave o) xs rest e a h m = absurd (omega (arith, m))
     still-pull w r p true (Had n) xs rest e a h m = (
       refl,
-      get-past (site_at w r).outbox p (ended-at (length (site_at w r).outbox) n (slice_get (site_at w r).outbox p) (cons-inj h).0),
+      none_past (site_at w r).outbox p (ended-at (length (site_at w r).outbox) n (slice_get (site_at w r).outbox p) (cons-inj h).0),
       refl,
       (n, ap (λ xs. Had n ∷ xs) (no-frames [] xs refl a.1)),
     )
@@ -539,7 +531,7 @@ module _ (g : Grammar) (G : Given g) (loads : Bool) where
         let (p, d) = member-get (site_at w (sender g m.kind)).outbox m b in
         let a = in-range (sender g m.kind) (cases_lt (sender g m.kind) (length w.sites)) M.sites m b in
         let q = still (sender g m.kind) a in
-        let s = get-before (site_at w (sender g m.kind)).outbox p m d in
+        let s = slice_get_within (site_at w (sender g m.kind)).outbox p m d in
         elim (K.pulled (sender g m.kind) p m a (le-on p (length (site_at w (sender g m.kind)).outbox) (get 0 c.places (sender g m.kind)) s q.1) d) [
           | inl i ↦ never (none-of m.to c.waiting m (still m.to (K.waits m i).1).0 i refl)
           | inr t ↦ subst (IsDelivered w) (M.once t.0 k m t.1 e) t.2
@@ -594,7 +586,7 @@ module _ (g : Grammar) (G : Given g) (loads : Bool) where
 
     rounds-known : (rounds : List (List Visit)) → Each (IsRound g) (map (map session_of) rounds) → Each IsKnown (flat rounds)
     rounds-known [] e = tt
-    rounds-known (vs ∷ rounds) e = each-append IsKnown vs (flat rounds) (round-known vs 0 g.roles (omega arith) e.0) (rounds-known rounds e.1)
+    rounds-known (vs ∷ rounds) e = each_append IsKnown vs (flat rounds) (round-known vs 0 g.roles (omega arith) e.0) (rounds-known rounds e.1)
 
     of-round : (P : ℕ → Type 0) (vs : List Visit) (i n : ℕ) → map (λ (s : Session). s.role) (map session_of vs) ≡ upto i n → Each (λ (v : Visit). P v.session.role) vs → (r : ℕ) → i ≤ r → r < i + n → P r
     of-round P [] i zero e p r a b = absurd (omega arith)
@@ -622,7 +614,7 @@ module _ (g : Grammar) (G : Given g) (loads : Bool) where
         let B : Ran (run g w A.events) (session_frames v ++ visit_frames g vs) = record { events = []; ok = tt; read = subst (λ hs. ReadAs g (run g w A.events) hs []) (sym S.silent) tt; sites = sym S.sites } in
         record {
           ran = ran-append w (choice_frames g v) A (session_frames v ++ visit_frames g vs) (record { events = []; ok = tt; read = subst (λ hs. ReadAs g (run g w A.events) hs []) (sym S.silent) tt; sites = sym S.sites });
-          quiet = subst IsQuiet (sym (run-append g w A.events [])) (is-quiet (run g w A.events) U c L
+          quiet = subst IsQuiet (sym (run_both g w A.events [])) (is-quiet (run g w A.events) U c L
               (λ r l. of-round (IsStill (run g w A.events) c) (record { choices = []; session = v.session } ∷ vs) 0 g.roles o S.still r (omega arith) (omega arith)));
         }
 
@@ -643,7 +635,7 @@ module _ (g : Grammar) (G : Given g) (loads : Bool) where
         (subst (λ ss. IsHonestWire g ss last) (sym A.ran.sites) q.1) C.still in
         let Z = subst (Ended_quiet (world_after g loads es)) (sym (frames-append (flat rounds) last)) (record {
           ran = ran-append (world_after g loads es) (visit_frames g (flat rounds)) A.ran (visit_frames g last) B.ran;
-          quiet = subst IsQuiet (sym (run-append g (world_after g loads es) A.ran.events B.ran.events)) B.quiet;
+          quiet = subst IsQuiet (sym (run_both g (world_after g loads es) A.ran.events B.ran.events)) B.quiet;
         }) in
-        let e = run-append g (empty_world g loads) es Z.ran.events in
+        let e = run_both g (empty_world g loads) es Z.ran.events in
         (Z.ran.events, Z.ran.read, Z.ran.ok, ap (λ (w : World). w.sites) e ∙ Z.ran.sites, subst IsQuiet (sym e) Z.quiet)

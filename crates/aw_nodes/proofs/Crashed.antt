@@ -1,12 +1,14 @@
 -- A world with crashes is a world without them, of the events that remain.
 use Rattle.std.specs.Prelude.{slice_get, slice_set, ◌⊎◌, ◌&&◌, not, nat_eq, nat_le, filter}
+use Rattle.std.proofs.lemmas.Option.{slice_get_within}
 use Rattle.std.proofs.Common.{◌≡◌, ℕ, zero, suc, ◌+◌, ◌<◌, ◌≤◌, Bool, true, false, cond, List, [], ◌∷◌, ◌++◌, map, length, Option, Some, None, refl, sym, ap, ◌∙◌, subst, inl, inr, arith, length-append, append_assoc}
 use Rattle.std.proofs.lemmas.Bool.{eqb-true, eq-eqb, cases_lt, leb-true, le-leb}
-use Rattle.std.proofs.lemmas.List.{take_all, take-append-le}
+use Rattle.std.proofs.lemmas.List.{take_all, take-append-le, append-nil, map-append}
 use Rattle.aw_term.specs.Choices.{Choice}
 use Rattle.aw_term.specs.Rules.{Grammar, get, upto}
 use Rattle.aw_term.specs.Trees.{Never}
 use Rattle.aw_term.specs.WellFormed.{Each}
+use Rattle.aw_term.proofs.Eaches.{each_append}
 use Rattle.aw_base.specs.ChoiceFits.{choice_ok}
 use Rattle.aw_iograph.specs.Graphs.{Member}
 use Rattle.aw_iograph.proofs.Members.{never, member_left}
@@ -20,12 +22,11 @@ use Rattle.aw_react.specs.Sites.{Site, Reaction, empty_site}
 use Rattle.aw_react.specs.Worlds.{node_of, empty_world, site_at, with_site, chosen_at, mark_delivered, received_at, deliver_on, Move, Chooses, Delivers, run}
 use Rattle.aw_merge.specs.Invariant.{IsInvariant}
 use Rattle.aw_merge.specs.Laws.{MayCome, world_after, InvariantHolds}
-use Rattle.aw_merge.proofs.Changes.{same_or_not}
-use Rattle.aw_merge.proofs.Learning.{get-before}
-use Rattle.aw_merge.proofs.Runs.{get-set, get-set_other, length-set}
+use Rattle.aw_merge.proofs.Places.{get-set, get-set_other, length-set, same_or_not}
+use Rattle.aw_merge.proofs.Settling.{run_both}
 use Rattle.aw_nodes.specs.Crashes.{Kept, Posted, Past, Frail, new_kept, kept_at, start_at, kept_after, posting, posts_of, happen, chosen_frail, reaction_of, with_delivery, delivered_frail, frail_step, is_dropped, back_kept, back_post, back_posted, back_past, go_back, MayGoBack, FrailEvent, Happens, GoesBack, frail_run, AreAllowed, is_delivered, choices_in, remaining, world_of, kept_choice, kept_message, kept_frame, kept_frames}
 use Rattle.aw_nodes.specs.Nodes.{Frame, Push, Choose, Pull, Listed, NotValid, NotForMe, received, chosen, handle, site_after, ReadAs}
-use Rattle.aw_nodes.proofs.Served.{set-same, append-nil, run-append, each-append, read-append, filter-append}
+use Rattle.aw_nodes.proofs.Served.{set-same, read-append, filter-append}
 
 -- lists
 set-set : {A : Type 0} (xs : List A) (i : ℕ) (u v : A) → slice_set (slice_set xs i u) i v ≡ slice_set xs i v
@@ -59,10 +60,6 @@ map-get : {A B : Type 0} (f : A → B) (d : A) (xs : List A) (i : ℕ) → get (
 map-get f d [] i = refl
 map-get f d (x ∷ xs) zero = refl
 map-get f d (x ∷ xs) (suc i) = map-get f d xs i
-
-map-append : {A B : Type 0} (f : A → B) (xs ys : List A) → map f (xs ++ ys) ≡ map f xs ++ map f ys
-map-append f [] ys = refl
-map-append f (x ∷ xs) ys = ap (◌∷◌ (f x)) (map-append f xs ys)
 
 map-map : {A B C : Type 0} (f : B → C) (h : A → B) (xs : List A) → map f (map h xs) ≡ map (λ x. f (h x)) xs
 map-map f h [] = refl
@@ -479,7 +476,7 @@ module _ (g : Grammar) (loads : Bool) where
   run-back w r n (e ∷ es) k p M =
       let (fs, a, q) = step-back w r n e k.0 p (run-before (frail_step g w e) r n es M) in
       let (hs, b, s) = run-back (frail_step g w e) r n es k.1 (step-own w e p) M in
-      (fs ++ hs, each-append (MayCome g) fs hs a b, plain-append (go_back g loads r n w) fs hs ∙ (ap (λ u. plain_run u hs) q ∙ s))
+      (fs ++ hs, each_append (MayCome g) fs hs a b, plain-append (go_back g loads r n w) fs hs ∙ (ap (λ u. plain_run u hs) q ∙ s))
 
   -- the world in which nothing happened
   empty-kept : (i n j r : ℕ) → j < n → get (new_kept false r) (map (new_kept loads) (upto i n)) j ≡ new_kept loads (i + j)
@@ -511,7 +508,7 @@ module _ (g : Grammar) (loads : Bool) where
   without fs k [] h = (fs, k, refl)
   without fs k (Happens e ∷ es) h =
       let q = plain-append (start_at g loads) fs (e ∷ []) in
-      let (hs, a, s) = without (fs ++ e ∷ []) (each-append (MayCome g) fs (e ∷ []) k (h.0, tt)) es (subst (λ u. AreAllowed g loads u es) (sym q) h.1) in
+      let (hs, a, s) = without (fs ++ e ∷ []) (each_append (MayCome g) fs (e ∷ []) k (h.0, tt)) es (subst (λ u. AreAllowed g loads u es) (sym q) h.1) in
       (hs, a, s ∙ ap (λ u. frail_run g loads u es) q)
   without fs k (GoesBack r n ∷ es) h =
       let (hs, a, s) = run-back (start_at g loads) r n fs k start-own h.0 in
@@ -583,7 +580,7 @@ module _ (g : Grammar) (loads : Bool) where
 
     new-seen : (a : ℕ) (x : Reaction) → mark_delivered k (with_site (world_of w) a x) ≡ world_of (happen w a (Got p.message) (Some x) (slice_set w.posted k (with_delivery c p)))
     new-seen a x =
-        let l : k < length (map is_sent w.posted) = (let y = get-before w.posted k p e in let z = length-mapped is_sent w.posted in omega (arith, y, z)) in
+        let l : k < length (map is_sent w.posted) = (let y = slice_get_within w.posted k p e in let z = length-mapped is_sent w.posted in omega (arith, y, z)) in
         λ i. record {
           sites = sym (map-set site w.kept a (kept_after (kept_at w a) (Got p.message) (Some x))) i;
           messages = sym (messages-seen (slice_set w.posted k (with_delivery c p)) a (length (kept_at w a).events) x.sent ∙ ap (λ ms. ms ++ x.sent) noted-messages) i;
@@ -627,8 +624,8 @@ module _ (g : Grammar) (loads : Bool) where
     more = q.more ∙ (ap (λ es. es ++ q.past) p.more ∙ append_assoc u.past p.past q.past);
     read = subst (λ hs. ReadAs g (world_of u) hs (p.events ++ q.events)) (sym (map-append happening p.past q.past))
         (read-append g (world_of u) (map happening p.past) (map happening q.past) p.events q.events p.read (subst (λ x. ReadAs g x (map happening q.past) q.events) (sym p.is) q.read));
-    is = run-append g (world_of u) p.events q.events ∙ (ap (λ x. run g x q.events) p.is ∙ q.is);
-    ok = each-append (MayCome g) p.events q.events p.ok q.ok;
+    is = run_both g (world_of u) p.events q.events ∙ (ap (λ x. run g x q.events) p.is ∙ q.is);
+    ok = each_append (MayCome g) p.events q.events p.ok q.ok;
   }
 
   chose-tells : (w : Frail) (c : Choice) → MayCome g (Chooses c) → (z : Chosen) → choose g (kept_at w (home g (node_of c))).site c ≡ z → Tells w (chosen_frail w (home g (node_of c)) c z)

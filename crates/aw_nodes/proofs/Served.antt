@@ -1,5 +1,6 @@
 -- Nodes that are served honest frames have the sites of a world.
 use Rattle.std.specs.Prelude.{slice_get, slice_set, ◌⊎◌, not, nat_eq, filter}
+use Rattle.std.proofs.lemmas.List.{append-nil}
 use Rattle.std.proofs.Common.{◌≡◌, ℕ, zero, suc, ◌<◌, ◌≤◌, Bool, true, false, cond, List, [], ◌∷◌, ◌++◌, map, length, Option, Some, None, refl, sym, ap, ◌∙◌, subst, inl, inr, arith}
 use Rattle.std.proofs.lemmas.Bool.{eqb-true, eq-eqb, cases_lt}
 use Rattle.aw_term.specs.Choices.{Choice, Start, Develop, Answer, Outcome, Refused, Starts, Takes}
@@ -7,6 +8,7 @@ use Rattle.aw_term.specs.Names.{Ref}
 use Rattle.aw_term.specs.Rules.{Grammar, get, upto}
 use Rattle.aw_term.specs.Trees.{Never}
 use Rattle.aw_term.specs.WellFormed.{Each}
+use Rattle.aw_term.proofs.Eaches.{each_append}
 use Rattle.aw_base.specs.ChoiceFits.{choice_ok}
 use Rattle.aw_iograph.specs.Graphs.{Member}
 use Rattle.aw_iograph.proofs.Members.{never, member_right, member_got}
@@ -21,9 +23,8 @@ use Rattle.aw_react.specs.ValidNames.{message_ok}
 use Rattle.aw_react.specs.Worlds.{node_of, World, empty_world, site_at, with_site, chosen_at, mark_delivered, received_at, deliver_on, Move, Chooses, Delivers, step, run}
 use Rattle.aw_merge.specs.Invariant.{sender, IsSent, IsDelivered}
 use Rattle.aw_merge.specs.Laws.{MayCome, world_after}
-use Rattle.aw_merge.proofs.Changes.{get-left, same_or_not}
-use Rattle.aw_merge.proofs.Quieting.{member-get}
-use Rattle.aw_merge.proofs.Runs.{get-set, get-set_other, length-set}
+use Rattle.aw_merge.proofs.Places.{get-left, get-set, get-set_other, length-set, member-get, same_or_not, set-kept}
+use Rattle.aw_merge.proofs.Settling.{run_both}
 use Rattle.aw_nodes.specs.Nodes.{Frame, Push, Choose, Pull, Listed, Answers, NotValid, NotForMe, received, chosen, handle, Asked, site_of, ask, sites_after, IsHonestFrame, AreHonest, site_after, replies, all_replies, asked_of, replies_of, happening_of, happenings, ReadAs, SaysSame, world_replies, reply_of, event_replies, AllSaySame, sent_by}
 use Rattle.aw_nodes.proofs.Mail.{Mail, Given}
 
@@ -31,18 +32,6 @@ pub set-same : {A : Type 0} (d : A) (xs : List A) (i : ℕ) → slice_set xs i (
 set-same d [] i = refl
 set-same d (x ∷ xs) zero = refl
 set-same d (x ∷ xs) (suc i) = ap (◌∷◌ x) (set-same d xs i)
-
-pub append-nil : {A : Type 0} (xs : List A) → xs ++ [] ≡ xs
-append-nil [] = refl
-append-nil (x ∷ xs) = ap (◌∷◌ x) (append-nil xs)
-
-pub run-append : (g : Grammar) (w : World) (es fs : List Move) → run g w (es ++ fs) ≡ run g (run g w es) fs
-run-append g w [] fs = refl
-run-append g w (e ∷ es) fs = run-append g (step g w e).world es fs
-
-pub each-append : {A : Type 0} (P : A → Type 0) (xs ys : List A) → Each P xs → Each P ys → Each P (xs ++ ys)
-each-append P [] ys p q = q
-each-append P (x ∷ xs) ys p q = (p.0, each-append P xs ys p.1 q)
 
 pub read-append : (g : Grammar) (w : World) (hs is : List SiteEvent) (es fs : List Move) → ReadAs g w hs es → ReadAs g (run g w es) is fs → ReadAs g w (hs ++ is) (es ++ fs)
 read-append g w [] is [] fs p q = q
@@ -98,13 +87,6 @@ follows-on u v w p q = record {
   delivered = λ k e. q.delivered k (p.delivered k e);
   boxes = λ a i m e. q.boxes a i m (p.boxes a i m e);
 }
-
-set-kept : (xs : List Bool) (i k : ℕ) → slice_get xs k ≡ Some true → slice_get (slice_set xs i true) k ≡ Some true
-set-kept [] i k e = e
-set-kept (x ∷ xs) zero zero e = refl
-set-kept (x ∷ xs) zero (suc k) e = e
-set-kept (x ∷ xs) (suc i) zero e = e
-set-kept (x ∷ xs) (suc i) (suc k) e = set-kept xs i k e
 
 -- what a site sends is put behind what it sent before
 did-inj : {x y : Reaction} → Did x ≡ Did y → x ≡ y
@@ -210,8 +192,8 @@ module _ (g : Grammar) (G : Given g) (loads : Bool) where
   pub reached-run : (w : World) → IsReached w → (es : List Move) → Each (MayCome g) es → IsReached (run g w es)
   reached-run w R es k = record {
     events = R.events ++ es;
-    ok = each-append (MayCome g) R.events es R.ok k;
-    is = run-append g (empty_world g loads) R.events es ∙ ap (λ w. run g w es) R.is;
+    ok = each_append (MayCome g) R.events es R.ok k;
+    is = run_both g (empty_world g loads) R.events es ∙ ap (λ w. run g w es) R.is;
   }
 
   pub reached-mail : (w : World) → IsReached w → Mail g w
@@ -273,8 +255,8 @@ module _ (g : Grammar) (G : Given g) (loads : Bool) where
       let (fs, q, k, e) = served (run g w W.events) (reached-run w R W.events W.ok) as_ (subst (λ ss. AreHonest g ss as_) (sym W.sites) h.1) in (
         W.events ++ fs,
         read-append g w (happening_of a.frame) (happenings as_) W.events fs W.read q,
-        each-append (MayCome g) W.events fs W.ok k,
-        ap (λ (w : World). w.sites) (run-append g w W.events fs) ∙ (e ∙ ap (λ ss. sites_after g ss as_) W.sites),
+        each_append (MayCome g) W.events fs W.ok k,
+        ap (λ (w : World). w.sites) (run_both g w W.events fs) ∙ (e ∙ ap (λ ss. sites_after g ss as_) W.sites),
       )
 
   pub reached-empty : IsReached (empty_world g loads)

@@ -1,7 +1,7 @@
 -- Small cases that were worked by hand, on which the definitions of sites and worlds are tried.
-use Rattle.std.specs.Prelude.{◌≡◌, ℕ, Bool, true, false, List, [], ◌∷◌, ◌++◌, map, codes}
+use Rattle.std.specs.Prelude.{◌≡◌, ℕ, true, false, List, [], ◌∷◌, ◌++◌, map, codes}
 use Rattle.aw_term.specs.Trees.{Tree, Con, Num, Text, Leaf, Made, Nil}
-use Rattle.aw_term.specs.Names.{Ref, root, below, result, part}
+use Rattle.aw_term.specs.Names.{Ref, result, part}
 use Rattle.aw_term.specs.Rules.{Grammar}
 use Rattle.aw_term.specs.Choices.{Start, Develop}
 use Rattle.aw_term.specs.Artifacts.{Words, listed, ref_text}
