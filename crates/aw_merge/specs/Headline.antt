@@ -48,4 +48,5 @@ OutputsHold w g = (loads : Bool) (es : List E.Event) → Each (MayStand g) es �
 
 -- one role alone writes of these choices what the undivided run writes of them
 abbrev pub OneRoleIsPlain : Words → Grammar → Type 0
-OneRoleIsPlain w g = g.roles ≡ 1 → (loads : Bool) (cs : List Choice) → Each (λ c. choice_ok g c ≡ true) cs → output_of w g loads (map E.Chooses cs) ≡ plain_text w g cs
+OneRoleIsPlain w g = g.roles ≡ 1 → (loads : Bool) (cs : List Choice) → Each (λ c. choice_ok g c ≡ true) cs →
+    output_of w g loads (map E.Chooses cs) ≡ plain_text w g cs

@@ -16,9 +16,11 @@ use Rattle.aw_react.specs.ValidNames.{call_ok, equation_ok}
 use Rattle.aw_react.specs.Worlds.{World, site_at}
 use Rattle.aw_merge.specs.Mentioned.{IsMentioned, IsRooted}
 
+-- the message with this number was delivered
 abbrev pub IsDelivered : World → ℕ → Type 0
 IsDelivered w k = slice_get w.delivered k ≡ Some true
 
+-- the message was sent with this number
 abbrev pub IsSent : World → Message → ℕ → Type 0
 IsSent w m k = slice_get w.messages k ≡ Some m
 
@@ -26,9 +28,11 @@ IsSent w m k = slice_get w.messages k ≡ Some m
 abbrev pub IsSentOnce : World → Message → ℕ → Type 0
 IsSentOnce w m k = IsSent w m k × ((j : ℕ) → IsSent w m j → j ≡ k)
 
+-- this role asked for the reference
 abbrev pub watch : Ref → ℕ → Watch
 watch r role = record { reference = r; role = role }
 
+-- the reference has this body
 abbrev pub equation : Ref → Body → Equation
 equation r b = record { left = r; body = b }
 
@@ -95,9 +99,11 @@ pub record IsInvariant (g : Grammar) (loads : Bool) (w : World) (x : Joint) : Ty
       → Member (watch e.left role) (site_at w (home g e.left.node)).watchers × (find (site_at w (home g e.left.node)).equations e.left ≡ Some e.body)
   -- an equation of another role is held exactly where a message that carries it was delivered
   pub brought : (a : ℕ) (r : Ref) (b : Body) → (home g r.node ≡ a → Never)
-      → (find (site_at w a).equations r ≡ Some b → IsBrought (IsDelivered w) w.messages a r b) × (IsBrought (IsDelivered w) w.messages a r b → find (site_at w a).equations r ≡ Some b)
+      → (find (site_at w a).equations r ≡ Some b → IsBrought (IsDelivered w) w.messages a r b)
+      × (IsBrought (IsDelivered w) w.messages a r b → find (site_at w a).equations r ≡ Some b)
   -- each equation that a message carries is held at its sender
-  pub sender_has : (k : ℕ) (m : Message) → IsSent w m k → (e : Equation) → Member e (carried m.kind) → find (site_at w (sender g m.kind)).equations e.left ≡ Some e.body
+  pub sender_has : (k : ℕ) (m : Message) → IsSent w m k → (e : Equation) → Member e (carried m.kind) →
+      find (site_at w (sender g m.kind)).equations e.left ≡ Some e.body
   -- what a site has in its outbox is what it sent, and each message is in the outbox of its sender
   pub boxes : (a : ℕ) (m : Message) → Member m (site_at w a).outbox → Member m w.messages × (sender g m.kind ≡ a)
   pub boxed : (m : Message) → Member m w.messages → Member m (site_at w (sender g m.kind)).outbox

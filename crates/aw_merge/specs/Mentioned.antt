@@ -14,6 +14,7 @@ use Rattle.aw_react.specs.Homes.{has_steps}
 abbrev pub IsMentioned : Ref → Map → List Held → Type 0
 IsMentioned r k hs = ((e : Equation) × Member e k × Member r (mentions e.body)) ⊎ ((h : Held) × Member h hs × Member r h.inherited)
 
+-- a part, and no result
 abbrev pub IsPartSlot : Slot → Type 0
 IsPartSlot (Part k) = Unit {0}
 IsPartSlot (Result j) = Never

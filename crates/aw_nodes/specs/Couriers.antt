@@ -10,7 +10,8 @@ use Rattle.aw_react.specs.Homes.{home}
 use Rattle.aw_react.specs.Sites.{Site}
 use Rattle.aw_react.specs.Worlds.{node_of, Move, IsQuiet}
 use Rattle.aw_merge.specs.Laws.{MayCome, world_after}
-use Rattle.aw_nodes.specs.Nodes.{Frame, Push, Choose, Pull, Response, WasNew, WasHeld, Contradicts, NotForMe, NotValid, Answers, Sends, Shows, Ended, Asked, sites_after, all_replies, happenings, ReadAs}
+use Rattle.aw_nodes.specs.Nodes.{Frame, Push, Choose, Pull, Asked, sites_after, all_replies, happenings, ReadAs}
+use Rattle.aw_nodes.specs.Nodes.{Response, WasNew, WasHeld, Contradicts, NotForMe, NotValid, Answers, Sends, Shows, Ended}
 
 -- ---- what a courier writes and reads
 
@@ -83,7 +84,8 @@ behind (x ∷ xs) = xs
 -- pulls from this place on, as the replies go
 abbrev pub pulls : (Frame → ℕ) → ℕ → ℕ → ℕ → List Heard → List Frame
 pulls size room left p [] = asks (nat_lt 0 left && nat_le (size (Pull p)) room) (Pull p) []
-pulls size room left p (x ∷ xs) = asks (nat_lt 0 left && nat_le (size (Pull p)) room) (Pull p) (after_reply x (pulls size (room - size (Pull p)) (left - 1) (suc p) xs))
+pulls size room left p (x ∷ xs) =
+    asks (nat_lt 0 left && nat_le (size (Pull p)) room) (Pull p) (after_reply x (pulls size (room - size (Pull p)) (left - 1) (suc p) xs))
 
 -- pushes, and then the pulls; what has no room any more waits, with all behind it
 abbrev pub pushes : (Frame → ℕ) → ℕ → List Message → ℕ → List Heard → List Frame
@@ -253,13 +255,15 @@ NoneLater (v ∷ vs) = Each NoChoice vs
 abbrev pub ChoicesOk : Grammar → Visit → Type 0
 ChoicesOk g v = Each (λ (c : Choice). choice_ok g c ≡ true) v.choices
 
--- over a wire that was honest for a world and these choices, where the answer is Quiet and no choice comes after the first session of the last round was dialed, the world after these events has the sites that were asked and is quiet
+-- over a wire that was honest for a world and these choices, where the answer is Quiet and no choice comes after the first session of the last round
+-- was dialed, the world after these events has the sites that were asked and is quiet
 abbrev pub QuietMeansQuiet : Grammar → Type 0
 QuietMeansQuiet g = (size : Frame → ℕ) → ((p : ℕ) → size (Pull p) ≤ turn_room) → (loads : Bool) (es : List Move) → Each (MayCome g) es →
     (rounds : List (List Visit)) (last : List Visit) → IsQuietCall size g (map (map session_of) rounds) (map session_of last) →
     Each (ChoicesOk g) (flat rounds ++ last) → NoneLater last → IsHonestWire g (world_after g loads es).sites (flat rounds ++ last) →
     (fs : List Move) × ReadAs g (world_after g loads es) (happenings (visit_frames g (flat rounds ++ last))) fs × Each (MayCome g) fs
-    × ((world_after g loads (es ++ fs)).sites ≡ sites_after g (world_after g loads es).sites (visit_frames g (flat rounds ++ last))) × IsQuiet (world_after g loads (es ++ fs))
+    × ((world_after g loads (es ++ fs)).sites ≡ sites_after g (world_after g loads es).sites (visit_frames g (flat rounds ++ last)))
+    × IsQuiet (world_after g loads (es ++ fs))
 
 -- ---- in bytes
 

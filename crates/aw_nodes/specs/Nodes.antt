@@ -43,7 +43,6 @@ pub record Handled : Type 0 where
   pub site : Site
   pub response : Response
 
--- each argument has its constructors with so many parts
 -- only what is new changes a site
 abbrev pub received : Site → Received Reaction → Handled
 received s (New x) = record { site = x.site; response = WasNew }
@@ -70,7 +69,9 @@ handle g s (Choose c) =
     else if not (nat_eq (home g (node_of c)) s.role) then record { site = s; response = NotForMe }
     else chosen s (choose g s c)
 handle g s (Pull k) = record { site = s; response = at_place Sends (length s.outbox) (slice_get s.outbox k) }
-handle g s (Listed k) = record { site = s; response = at_place Shows (length (site_worklist g s.equations s.held)) (slice_get (site_worklist g s.equations s.held) k) }
+handle g s (Listed k) =
+    let items = site_worklist g s.equations s.held in
+    record { site = s; response = at_place Shows (length items) (slice_get items k) }
 
 -- the site after a session, and its replies
 abbrev pub site_after : Grammar → Site → List Frame → Site
@@ -188,18 +189,22 @@ sent_by g r ms = filter (λ (m : Message). nat_eq (sender g m.kind) r) ms
 -- honest frames, in the order in which they were answered, are events of one world, whose sites the nodes then have
 abbrev pub ServedNodes : Grammar → Type 0
 ServedNodes g = (loads : Bool) (as_ : List Asked) → AreHonest g (empty_world g loads).sites as_ →
-    (es : List Move) × ReadAs g (empty_world g loads) (happenings as_) es × Each (MayCome g) es × ((world_after g loads es).sites ≡ sites_after g (empty_world g loads).sites as_)
+    (es : List Move) × ReadAs g (empty_world g loads) (happenings as_) es × Each (MayCome g) es
+    × ((world_after g loads es).sites ≡ sites_after g (empty_world g loads).sites as_)
 
 -- and the replies to pushes and choices are those of that world
 abbrev pub ServedReplies : Grammar → Type 0
 ServedReplies g = (loads : Bool) (as_ : List Asked) → AreHonest g (empty_world g loads).sites as_ →
-    (es : List Move) → ReadAs g (empty_world g loads) (happenings as_) es → AllSaySame (world_replies g (empty_world g loads) es) (event_replies g (empty_world g loads).sites as_)
+    (es : List Move) → ReadAs g (empty_world g loads) (happenings as_) es →
+    AllSaySame (world_replies g (empty_world g loads) es) (event_replies g (empty_world g loads).sites as_)
 
 -- each site of a run, and its replies, are those of its own session
 abbrev pub OwnSessions : Grammar → Type 0
 OwnSessions g = (ss : List Site) (as_ : List Asked) (r : ℕ) → r < length ss →
-    (site_of (sites_after g ss as_) r ≡ site_after g (site_of ss r) (asked_of r as_)) × (replies_of r as_ (all_replies g ss as_) ≡ replies g (site_of ss r) (asked_of r as_))
+    (site_of (sites_after g ss as_) r ≡ site_after g (site_of ss r) (asked_of r as_))
+    × (replies_of r as_ (all_replies g ss as_) ≡ replies g (site_of ss r) (asked_of r as_))
 
 -- the messages of a world, by sender, are the outboxes of its sites
 abbrev pub MessagesAreOutboxes : Grammar → Type 0
-MessagesAreOutboxes g = (loads : Bool) (es : List Move) → Each (MayCome g) es → (r : ℕ) → (site_at (world_after g loads es) r).outbox ≡ sent_by g r (world_after g loads es).messages
+MessagesAreOutboxes g = (loads : Bool) (es : List Move) → Each (MayCome g) es → (r : ℕ) →
+    (site_at (world_after g loads es) r).outbox ≡ sent_by g r (world_after g loads es).messages

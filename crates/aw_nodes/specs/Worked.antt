@@ -80,9 +80,11 @@ first =
 abbrev next : List FrailEvent
 next = Happens (Delivers 0) ∷ Happens (Chooses (Develop test 2 [])) ∷ Happens (Delivers 2) ∷ []
 
+-- the world before the laboratory goes back
 abbrev pub before_it : Frail
 before_it = frail_run clinic true (start_at clinic true) first
 
+-- the world after all of it
 abbrev after_it : Frail
 after_it = frail_run clinic true (start_at clinic true) (first ++ GoesBack 1 1 ∷ next)
 
@@ -133,6 +135,7 @@ round =
 abbrev last : List Visit
 last = session_with 0 (Pull 2 ∷ []) (Had 2 ∷ []) ∷ session_with 1 (Pull 0 ∷ []) (Had 0 ∷ []) ∷ []
 
+-- the size of a frame in bytes, of each the same
 abbrev size : Frame → ℕ
 size f = 100
 
@@ -149,6 +152,7 @@ CourierIsSpent = IsSpentCall size clinic (map (map session_of) (round ∷ []))
 abbrev pub CourierBreaksOff : Type 0
 CourierBreaksOff = IsBrokenCall size clinic [] [] (Some (record { role = 0; asked = Pull 0 ∷ []; heard = [] }))
 
+-- another visit
 abbrev second : Node
 second = root 0 2
 
@@ -158,6 +162,7 @@ late =
     session_with 0 (Pull 2 ∷ []) (Had 2 ∷ [])
     ∷ record { choices = Start 0 2 ∷ Develop second 0 (ada ∷ []) ∷ []; session = record { role = 1; asked = Pull 0 ∷ []; heard = Had 0 ∷ [] } } ∷ []
 
+-- the events of the world that they are
 abbrev late_moves : List Move
 late_moves = Delivers 0 ∷ Delivers 1 ∷ Chooses (Start 0 2) ∷ Chooses (Develop second 0 (ada ∷ [])) ∷ []
 

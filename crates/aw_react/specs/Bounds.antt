@@ -10,6 +10,7 @@ use Rattle.aw_space.specs.Joint.{Joint, empty_joint, joint_run}
 use Rattle.aw_react.specs.Homes.{home, parent, has_steps}
 use Rattle.aw_react.specs.Worlds.{World, settle}
 
+-- a part stands in front of these, and a result does not
 abbrev pub part_on : Slot → Ref → List Ref → List Ref
 part_on (Part k) r rs = r ∷ rs
 part_on (Result j) r rs = rs
@@ -36,6 +37,7 @@ is_called g h = has_steps h.node.steps && not (nat_eq (home g (parent h.node)) (
 abbrev pub bound : Grammar → Joint → ℕ
 bound g x = length (filter (is_called g) x.held) + 2 * (length (created g x) * g.roles)
 
+-- no bound where the choices lead nowhere
 abbrev pub bound_on : Grammar → Option Joint → ℕ
 bound_on g None = 0
 bound_on g (Some x) = bound g x

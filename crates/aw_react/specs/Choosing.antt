@@ -19,10 +19,12 @@ joint_of s = record { held = s.held; equations = s.equations }
 abbrev pub outcome : Grammar → Site → Choice → Outcome Ref Ref
 outcome g s c = joint_outcome (joint_of s) g c
 
+-- a refusal, or what the site does
 pub data Chosen : Type 0 where
   No : (answer : Answer Ref) → Chosen
   Did : (reaction : Reaction) → Chosen
 
+-- the answer to a choice
 abbrev pub answer_to : Chosen → Answer Ref
 answer_to (No a) = a
 answer_to (Did x) = Taken
@@ -39,6 +41,7 @@ develop_site g s c n r args m =
 abbrev pub start_site : Site → ℕ → ℕ → Site
 start_site s st k = record s { held = insert_held (root_held st k) s.held; choices = s.choices ++ Start st k ∷ [] }
 
+-- the reaction, where the choice is taken
 abbrev pub choose_on : Grammar → Site → Choice → Outcome Ref Ref → Chosen
 choose_on g s c (Refused a) = No a
 choose_on g s (Start st k) Starts = Did (silently (start_site s st k))

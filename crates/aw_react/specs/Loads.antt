@@ -16,6 +16,7 @@ pub record Given : Type 0 where
   pub equation : Equation
   pub rest : List Ref
 
+-- the equation of a reference that may give it, or what later ones give
 abbrev pub given_on : Bool → Ref → Option Body → List Ref → Option Given → Option Given
 given_on true r (Some b) rs later = Some (record { equation = record { left = r; body = b }; rest = rs })
 given_on true r None rs later = later
@@ -29,7 +30,10 @@ next_given g s seen (r ∷ rs) = given_on (may_give g s seen r) r (find s.equati
 -- From these references, depth first: a reference that gives its equation, then the references of its body, then those behind it. At most n equations.
 abbrev pub walk : ℕ → Grammar → Site → List Ref → List Ref → List Equation
 walk zero g s seen rs = []
-walk (suc n) g s seen rs = elim (next_given g s seen rs) [ None ↦ [] | Some d ↦ d.equation ∷ walk n g s (d.equation.left ∷ seen) (mentions d.equation.body ++ d.rest) ]
+walk (suc n) g s seen rs = elim (next_given g s seen rs) [
+  | None ↦ []
+  | Some d ↦ d.equation ∷ walk n g s (d.equation.left ∷ seen) (mentions d.equation.body ++ d.rest)
+]
 
 -- empty where the site sends no loads
 abbrev pub load_of : Grammar → Site → List Ref → List Ref → List Equation

@@ -47,6 +47,7 @@ abbrev pub artifacts_on : Words → Option Config → List ℕ
 artifacts_on w None = []
 artifacts_on w (Some c) = artifacts w c
 
+-- by the first message that was not delivered, where there is one
 abbrev pub ending_on : Words → Grammar → World → Option ℕ → List ℕ
 ending_on w g v None = artifacts_on w (undivided g [] v.taken)
 ending_on w g v (Some k) = codes "undelivered " ++ (decimal (count_open v.delivered) ++ codes "\n")

@@ -20,7 +20,9 @@ add_held (Some h) c hs = hs
 -- A call adds its node and its load, and a tell its equation and its load; then what is wanted is asked for. A question is noted, and answered where
 -- the equation is here.
 abbrev pub react : Grammar → Site → Kind → Reaction
-react g s (Calls c load) = asking g (record s { held = add_held (held_of c.node s.held) c s.held; equations = add_all s.equations load }) [] (c.inherited ++ all_mentions load)
+react g s (Calls c load) =
+    let s' = record s { held = add_held (held_of c.node s.held) c s.held; equations = add_all s.equations load } in
+    asking g s' [] (c.inherited ++ all_mentions load)
 react g s (Asks r from) =
     let sent = tell_back g s (find s.equations r) r from in
     record { site = record s { watchers = s.watchers ++ record { reference = r; role = from } ∷ []; outbox = s.outbox ++ sent }; sent = sent }

@@ -26,11 +26,13 @@ about_ok g role (Tells e load) = none_mine g role (e ∷ load)
 abbrev pub is_mine : Grammar → ℕ → Message → Bool
 is_mine g role m = nat_eq m.to role && about_ok g role m.kind
 
+-- the same references in the same order
 abbrev pub refs_eq : List Ref → List Ref → Bool
 refs_eq [] [] = true
 refs_eq (r ∷ rs) (s ∷ ss) = ref_eq r s && refs_eq rs ss
 refs_eq _ _ = false
 
+-- one body
 abbrev pub body_eq : Body → Body → Bool
 body_eq (Same r) (Same s) = ref_eq r s
 body_eq (Is h rs) (Is k ss) = head_eq h k && refs_eq rs ss
@@ -41,10 +43,12 @@ abbrev pub add_on : Option Body → Map → Equation → Map
 add_on None k e = k ++ e ∷ []
 add_on (Some b) k e = k
 
+-- each of these equations in turn
 abbrev pub add_all : Map → List Equation → Map
 add_all k [] = k
 add_all k (e ∷ es) = add_all (add_on (find k e.left) k e) es
 
+-- another body than the one that is held, or a clash that comes later
 abbrev pub clash_on : Option Body → Body → Option Clash → Option Clash
 clash_on None b later = later
 clash_on (Some a) b later = if body_eq a b then later else Some (record { kept = OfReference a; came = OfReference b })
@@ -65,6 +69,7 @@ clash s (Calls c load) = call_clash (held_of c.node s.held) c (first_clash s.equ
 clash s (Asks r from) = None
 clash s (Tells e load) = first_clash s.equations (e ∷ load)
 
+-- each left side has an equation here
 abbrev pub all_held : Map → List Equation → Bool
 all_held k [] = true
 all_held k (e ∷ es) = is_some (find k e.left) && all_held k es

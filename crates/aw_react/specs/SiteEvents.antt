@@ -14,14 +14,17 @@ pub data SiteEvent : Type 0 where
   Chose : (choice : Choice) → SiteEvent
   Got : (message : Message) → SiteEvent
 
+-- a refusal changes nothing
 abbrev pub after_choice : Site → Chosen → Site
 after_choice s (No a) = s
 after_choice s (Did x) = x.site
 
+-- only what is new changes a site
 abbrev pub after_message : Site → Received Reaction → Site
 after_message s (New x) = x.site
 after_message s _ = s
 
+-- the site after one event
 abbrev pub site_step : Grammar → Site → SiteEvent → Site
 site_step g s (Chose c) = after_choice s (choose g s c)
 site_step g s (Got m) = after_message s (receive g s m)
@@ -31,6 +34,7 @@ abbrev pub site_run : Grammar → Site → List SiteEvent → Site
 site_run g s [] = s
 site_run g s (e ∷ es) = site_run g (site_step g s e) es
 
+-- the message came here, if it is for this role
 abbrev pub got : Option Message → ℕ → List SiteEvent
 got None role = []
 got (Some m) role = if nat_eq m.to role then Got m ∷ [] else []

@@ -21,6 +21,7 @@ abbrev pub load_text : Words → List Equation → List ℕ
 load_text w [] = []
 load_text w (e ∷ es) = codes " with " ++ joined (codes "; ") (map (equation_text w) (e ∷ es))
 
+-- `call visit#1/admit.1 (visit#1:p2)`, `ask visit#1:p2 from lab`, `tell visit#1:p1 = "Ada"`
 abbrev pub kind_text : Words → Kind → List ℕ
 kind_text w (Calls c load) = codes "call " ++ (node_text w c.node ++ (codes " (" ++ (listed (map (ref_text w) c.inherited) ++ (codes ")" ++ load_text w load))))
 kind_text w (Asks r from) = codes "ask " ++ (ref_text w r ++ (codes " from " ++ get [] w.roles from))
@@ -42,6 +43,7 @@ deliver_line k Again = codes "deliver " ++ (decimal k ++ codes ": again\n")
 deliver_line k NoMessage = codes "deliver " ++ (decimal k ++ codes ": no message\n")
 deliver_line k (Answered a) = []
 
+-- the answer that a reply has
 abbrev pub answered : Reply → Answer Ref
 answered (Answered a) = a
 answered _ = NotHere
@@ -50,6 +52,7 @@ answered _ = NotHere
 abbrev pub sent_since : Words → ℕ → World → List ℕ
 sent_since w n v = sent_lines w n (drop n v.messages)
 
+-- the line of the event itself
 abbrev pub move_line : Words → Move → Reply → List ℕ
 move_line w (Chooses c) reply = answer_line w c (answered reply)
 move_line w (Delivers k) reply = deliver_line k reply

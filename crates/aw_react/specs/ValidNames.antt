@@ -9,6 +9,7 @@ use Rattle.aw_apply.specs.Made.{Call}
 use Rattle.aw_apply.specs.Messages.{Kind, Calls, Asks, Tells, Message}
 use Rattle.aw_react.specs.Homes.{home, parent, has_steps}
 
+-- each is a valid reference
 abbrev pub refs_ok : Grammar → List Ref → Bool
 refs_ok g [] = true
 refs_ok g (r ∷ rs) = ref_ok g r && refs_ok g rs
@@ -18,9 +19,11 @@ abbrev pub body_ok : Grammar → Body → Bool
 body_ok g (Same r) = ref_ok g r
 body_ok g (Is h rs) = head_fits g.arities h (length rs) && refs_ok g rs
 
+-- a valid reference with a valid body
 abbrev pub equation_ok : Grammar → Equation → Bool
 equation_ok g e = ref_ok g e.left && body_ok g e.body
 
+-- each is a valid equation
 abbrev pub equations_ok : Grammar → List Equation → Bool
 equations_ok g [] = true
 equations_ok g (e ∷ es) = equation_ok g e && equations_ok g es
@@ -34,6 +37,7 @@ takes_as g (Some s) rs = nat_eq (length rs) (takes_of (slice_get g.sorts s))
 abbrev pub call_ok : Grammar → Call → Bool
 call_ok g c = takes_as g (sort_of g c.node) c.inherited && refs_ok g c.inherited
 
+-- its names are valid, whatever role it is for
 abbrev pub names_ok : Grammar → Kind → Bool
 names_ok g (Calls c load) = call_ok g c && equations_ok g load
 names_ok g (Asks r from) = ref_ok g r && nat_lt from g.roles

@@ -39,6 +39,7 @@ clinic_words = record {
 abbrev admits : List Event
 admits = Chooses (Start 0 1) ∷ Chooses (Develop visit 0 (ada ∷ [])) ∷ []
 
+-- the test of the visit is analysed
 abbrev analyses : List Event
 analyses = Chooses (Develop test 1 (seven ∷ [])) ∷ Settles ∷ []
 
@@ -232,6 +233,7 @@ received_line (Conflict kept came) = codes "kept " ++ (content_text kept ++ (cod
 received_line Repeat = codes "again\n"
 received_line (New x) = codes "new\n"
 
+-- what a site answers to an event, in a line
 abbrev event_line : Site → SiteEvent → List ℕ
 event_line s (Chose c) = answer_line clinic_words c (answer_to (choose clinic s c))
 event_line s (Got m) = received_line (receive clinic s m)
@@ -241,41 +243,86 @@ abbrev answers : Site → List SiteEvent → List ℕ
 answers s [] = []
 answers s (e ∷ es) = event_line s e ++ answers (site_step clinic s e) es
 
+-- a value that is a symbol without parts, or another reference
 abbrev is : Ref → Tree Ref → Equation
 is r (Leaf s) = record { left = r; body = Same s }
 is r (Made h ts) = record { left = r; body = Is h [] }
 
+-- another text
+abbrev eve : Tree Ref
+eve = Made (Text (codes "Eve")) Nil
+
+-- visit#1:p2 = blood(visit#1:p1)
 abbrev blood : Equation
 blood = record { left = part visit 2; body = Is (Con 0) (part visit 1 ∷ []) }
 
+-- the call of the test
 abbrev test_call : List Ref → List Equation → Message
 test_call inherited load = record { to = 1; kind = Calls (record { node = test; sort = 1; inherited = inherited }) load }
 
+-- an equation for the laboratory
 abbrev tell_lab : Equation → Message
 tell_lab e = record { to = 1; kind = Tells e [] }
 
 -- Forged messages at the laboratory: another text for what is held, a value that is its own, a question of the laboratory itself, an equation for
--- the clinic, a call of other references, and one of too many.
+-- the clinic, a call of other references, one of too many, and a question for a role that is not declared.
 abbrev pub ForgedAtLab : Type 0
 ForgedAtLab = answers (empty_site false 1)
-    (Got (test_call (part visit 2 ∷ []) []) ∷ Got (tell_lab (is (part visit 1) ada)) ∷ Got (tell_lab (is (part visit 1) (Made (Text (codes "Eve")) Nil)))
-    ∷ Got (tell_lab (is (part visit 2) (Leaf (part visit 2)))) ∷ Chose (Develop test 1 (seven ∷ [])) ∷ Got (record { to = 0; kind = Asks (part visit 2) 1 })
-    ∷ Got (record { to = 0; kind = Tells (is (result test 1) seven) [] }) ∷ Got (test_call (part visit 1 ∷ []) []) ∷ Got (test_call (part visit 1 ∷ part visit 2 ∷ []) []) ∷ [])
-    ≡ codes "new\nnew\nkept \"Ada\" came \"Eve\"\nnew\nchoose visit#1/admit.1 analyse: circle visit#1:p2\nbad name\nnot mine\nkept (visit#1:p2) came (visit#1:p1)\nbad name\n"
+    (Got (test_call (part visit 2 ∷ []) [])
+    ∷ Got (tell_lab (is (part visit 1) ada))
+    ∷ Got (tell_lab (is (part visit 1) eve))
+    ∷ Got (tell_lab (is (part visit 2) (Leaf (part visit 2))))
+    ∷ Chose (Develop test 1 (seven ∷ []))
+    ∷ Got (record { to = 0; kind = Asks (part visit 2) 1 })
+    ∷ Got (record { to = 0; kind = Tells (is (result test 1) seven) [] })
+    ∷ Got (test_call (part visit 1 ∷ []) [])
+    ∷ Got (test_call (part visit 1 ∷ part visit 2 ∷ []) [])
+    ∷ Got (record { to = 2; kind = Asks (part visit 2) 0 })
+    ∷ [])
+    ≡ lines
+    (codes "new"
+    ∷ codes "new"
+    ∷ codes "kept \"Ada\" came \"Eve\""
+    ∷ codes "new"
+    ∷ codes "choose visit#1/admit.1 analyse: circle visit#1:p2"
+    ∷ codes "bad name"
+    ∷ codes "not mine"
+    ∷ codes "kept (visit#1:p2) came (visit#1:p1)"
+    ∷ codes "bad name"
+    ∷ codes "bad name"
+    ∷ [])
 
 -- the call with its load comes, comes again, and comes with another text
 abbrev pub LoadComesAgain : Type 0
 LoadComesAgain = answers (empty_site true 1)
-    (Got (test_call (part visit 2 ∷ []) (blood ∷ is (part visit 1) ada ∷ [])) ∷ Got (test_call (part visit 2 ∷ []) (blood ∷ is (part visit 1) ada ∷ []))
-    ∷ Got (test_call (part visit 2 ∷ []) (blood ∷ is (part visit 1) (Made (Text (codes "Eve")) Nil) ∷ [])) ∷ [])
-    ≡ codes "new\nagain\nkept \"Ada\" came \"Eve\"\n"
+    (Got (test_call (part visit 2 ∷ []) (blood ∷ is (part visit 1) ada ∷ []))
+    ∷ Got (test_call (part visit 2 ∷ []) (blood ∷ is (part visit 1) ada ∷ []))
+    ∷ Got (test_call (part visit 2 ∷ []) (blood ∷ is (part visit 1) eve ∷ []))
+    ∷ [])
+    ≡ lines
+    (codes "new"
+    ∷ codes "again"
+    ∷ codes "kept \"Ada\" came \"Eve\""
+    ∷ [])
 
 -- a question comes and comes again; part 600 is no reference, and a value of the clinic is its own
 abbrev pub AskedAtClinic : Type 0
 AskedAtClinic = answers (empty_site false 0)
-    (Chose (Start 0 1) ∷ Chose (Develop visit 0 (ada ∷ [])) ∷ Got (record { to = 0; kind = Asks (part visit 2) 1 }) ∷ Got (record { to = 0; kind = Asks (part visit 2) 1 })
-    ∷ Got (record { to = 0; kind = Asks (part visit 600) 1 }) ∷ Got (record { to = 0; kind = Tells (is (part visit 1) ada) [] }) ∷ [])
-    ≡ codes "start visit 1: taken\nchoose visit#1 admit: taken\nnew\nagain\nbad name\nnot mine\n"
+    (Chose (Start 0 1)
+    ∷ Chose (Develop visit 0 (ada ∷ []))
+    ∷ Got (record { to = 0; kind = Asks (part visit 2) 1 })
+    ∷ Got (record { to = 0; kind = Asks (part visit 2) 1 })
+    ∷ Got (record { to = 0; kind = Asks (part visit 600) 1 })
+    ∷ Got (record { to = 0; kind = Tells (is (part visit 1) ada) [] })
+    ∷ [])
+    ≡ lines
+    (codes "start visit 1: taken"
+    ∷ codes "choose visit#1 admit: taken"
+    ∷ codes "new"
+    ∷ codes "again"
+    ∷ codes "bad name"
+    ∷ codes "not mine"
+    ∷ [])
 
 -- A guard against a value that has not arrived.
 --   role desk · role lab · con ok 0 · con pair 2 · con done 1 · sort job desk 0 1 · sort work lab 1 1 · start job
@@ -290,6 +337,7 @@ pair = record {
       ∷ [];
 }
 
+-- the names of the desk and its laboratory
 abbrev pub pair_words : Words
 pair_words = record {
   roles = codes "desk" ∷ codes "lab" ∷ [];

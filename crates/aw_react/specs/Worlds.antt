@@ -11,6 +11,8 @@ use Rattle.aw_react.specs.Sites.{Site, empty_site, Reaction}
 use Rattle.aw_react.specs.Choosing.{Chosen, No, Did, choose}
 use Rattle.aw_react.specs.Reacting.{receive}
 
+-- the sites by role, the messages in the order in which they were sent, which of them were delivered, and the choices in the order in which
+-- they were taken
 pub record World : Type 0 where
   pub sites : List Site
   pub messages : List Message
@@ -44,16 +46,19 @@ pub data Move : Type 0 where
   Chooses : (choice : Choice) → Move
   Delivers : (number : ℕ) → Move
 
+-- what is replied to an event
 pub data Reply : Type 0 where
   Answered : (answer : Answer Ref) → Reply
   IsNew : Reply
   Again : Reply
   NoMessage : Reply
 
+-- the world after an event, and the reply to it
 pub record Stepped : Type 0 where
   pub world : World
   pub reply : Reply
 
+-- a refused choice changes nothing, and a taken one is noted
 abbrev pub chosen_at : World → ℕ → Choice → Chosen → Stepped
 chosen_at w role c (No a) = record { world = w; reply = Answered a }
 chosen_at w role c (Did x) = record { world = record (with_site w role x) { taken = w.taken ++ c ∷ [] }; reply = Answered Taken }
@@ -62,13 +67,16 @@ chosen_at w role c (Did x) = record { world = record (with_site w role x) { take
 abbrev pub choose_in : Grammar → World → Choice → Stepped
 choose_in g w c = chosen_at w (home g (node_of c)) c (choose g (site_at w (home g (node_of c))) c)
 
+-- this message was delivered
 abbrev pub mark_delivered : ℕ → World → World
 mark_delivered k w = record w { delivered = slice_set w.delivered k true }
 
+-- what is new changes the site that it came to
 abbrev pub received_at : World → ℕ → ℕ → Received Reaction → Stepped
 received_at w k to (New x) = record { world = mark_delivered k (with_site w to x); reply = IsNew }
 received_at w k to _ = record { world = mark_delivered k w; reply = Again }
 
+-- no message has this number, or it comes to its role
 abbrev pub deliver_on : Grammar → World → ℕ → Option Message → Stepped
 deliver_on g w k None = record { world = w; reply = NoMessage }
 deliver_on g w k (Some m) = received_at w k m.to (receive g (site_at w m.to) m)
