@@ -35,7 +35,7 @@ clinic_words = record {
   rules = codes "admit" ∷ codes "analyse" ∷ codes "skip" ∷ [];
 }
 
--- a visit is admitted, and its test is analysed
+-- a visit begins and is admitted
 abbrev admits : List Event
 admits = Chooses (Start 0 1) ∷ Chooses (Develop visit 0 (ada ∷ [])) ∷ []
 
