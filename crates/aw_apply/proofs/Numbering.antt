@@ -11,7 +11,7 @@ use Rattle.aw_term.proofs.RefTests.{ref_eq-self}
 use Rattle.aw_store.proofs.MoreEquations.{find-absent, find-left_more, Holds, Holds-wider, Holds-past, Holds-append, new_apart}
 use Rattle.aw_apply.specs.Made.{lay, lays, lay_list, lay_children, lay_result, lay_results, child_refs, made}
 
-later_append : {A : Type 0} (R : A → A → Type 0) (xs ys : List A) → Later R xs → Later R ys → Each (λ x. Each (R x) ys) xs → Later R (xs ++ ys)
+pub later_append : {A : Type 0} (R : A → A → Type 0) (xs ys : List A) → Later R xs → Later R ys → Each (λ x. Each (R x) ys) xs → Later R (xs ++ ys)
 later_append R [] ys a b f = b
 later_append R (x ∷ xs) ys a b f = (each_append (R x) xs ys a.0 f.0, later_append R xs ys a.1 b f.1)
 

@@ -1,1 +1,2 @@
 pub mod ChoiceView
+pub mod Events

@@ -5,7 +5,8 @@ use Rattle.aw_text.specs.Spelling.{parts_of_name}
 use Rattle.aw_term.specs.Trees.{Num, Made, Nil, bind}
 use Rattle.aw_term.specs.Names.{Node, root}
 use Rattle.aw_term.specs.Rules.{Ground}
-use Rattle.aw_term.specs.Choices.{Choice, Start, Develop}
+use Rattle.aw_term.specs.Choices.{Start, Develop}
+pub use Rattle.aw_choice.specs.Events.{Event, Chooses, Delivers, Settles, Lists}
 use Rattle.aw_grammar.specs.Written.{Written}
 use Rattle.aw_grammar.specs.Terms.{symbols_in_all, depth_of_all}
 use Rattle.aw_term.specs.WellFormed.{leaves_of}
@@ -16,12 +17,6 @@ use Rattle.aw_base.specs.NodeNames.{node_named, is_start}
 use Rattle.aw_sched.specs.Lines.{Line, StartLine, ChooseLine, DeliverLine, SettleLine, ListLine}
 use Rattle.aw_sched.specs.declared.fault.SchedKind.{SchedKind}
 use Rattle.aw_sched.specs.declared.fault.SchedKind.TheVariants.{Limit, Unknown, Arity, NotStart, Name}
-
-pub data Event : Type 0 where
-  Chooses : (choice : Choice) → Event
-  Delivers : (message : ℕ) → Event
-  Settles : Event
-  Lists : (role : ℕ) → Event
 
 -- an argument; its names are those of constructors where there is no fault
 abbrev pub ground_named : List (List ℕ) → Written → Ground

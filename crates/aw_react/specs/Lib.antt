@@ -1,0 +1,16 @@
+pub mod Homes
+pub mod Sites
+pub mod InOrder
+pub mod Asking
+pub mod Loads
+pub mod Telling
+pub mod Choosing
+pub mod ValidNames
+pub mod Receiving
+pub mod Reacting
+pub mod Worlds
+pub mod Bounds
+pub mod SiteEvents
+pub mod Worklists
+pub mod Transcripts
+pub mod Worked
