@@ -2,12 +2,11 @@
 ghost use Rattle.std.specs.Prelude.{◌≡◌, ◌<◌, ◌≤◌, ◌+◌, ◌++◌, ◌∷◌, [], List, IfOk, OnOk, length, map};
 ghost use Rattle.aw_term.specs.Names.{below, result as result_ref};
 ghost use Rattle.aw_term.specs.Rules.{get, upto};
-ghost use Rattle.aw_term.specs.WellFormed.{symbols_of, child_symbols};
-ghost use Rattle.aw_term.specs.Views.{term_of};
+ghost use Rattle.aw_term.specs.WellFormed.{child_symbols};
 ghost use Rattle.aw_grammar.specs.declared.rule.Sort.{Sort as SortValue};
 ghost use Rattle.aw_store.specs.EquationView.{equation_of};
 ghost use Rattle.aw_grammar.specs.GrammarView.{child_of};
-ghost use Rattle.aw_apply.specs.Made.{lay_list, lay_children as plain_children, child_refs as plain_refs, no_ref};
+ghost use Rattle.aw_apply.specs.Made.{lay_children as plain_children, child_refs as plain_refs, no_ref};
 ghost use Rattle.aw_apply.specs.MadeView.{as_children, called_of, laid_behind};
 
 use crate::laid::{LaidAll, lay_terms};

@@ -1,5 +1,5 @@
 //! One pattern against the equations of a store: the first place in depth-first order that does not match decides.
-ghost use Rattle.std.specs.Prelude.{◌≡◌, ◌≤◌, ◌+◌, ◌<◌, ℕ, List, true, Some, map, length, slice_get};
+ghost use Rattle.std.specs.Prelude.{◌≡◌, ◌≤◌, ◌+◌, ◌<◌, ℕ, List, Some, map, length, slice_get};
 ghost use Rattle.aw_term.specs.Trees.{Con, Made, join};
 ghost use Rattle.aw_term.specs.Names.{Ref};
 ghost use Rattle.aw_term.specs.Matching.{Yes, and_then};

@@ -1,11 +1,11 @@
 //! What a taken rule makes: by three groups of equations, with parts numbered from 1 over all of them.
-ghost use Rattle.std.specs.Prelude.{◌≡◌, ◌<◌, ◌≤◌, ◌+◌, ◌++◌, ◌∷◌, [], Some, List, IfOk, OnOk, IsSome, length, map, slice_get};
+ghost use Rattle.std.specs.Prelude.{◌≡◌, ◌<◌, ◌≤◌, ◌+◌, ◌++◌, Some, IfOk, OnOk, IsSome, length, map, slice_get};
 ghost use Rattle.aw_term.specs.Names.{result as result_ref};
 ghost use Rattle.aw_term.specs.Rules.{Rule as PlainRule, get};
 ghost use Rattle.aw_term.specs.WellFormed.{symbols, symbols_of, child_symbols};
 ghost use Rattle.aw_term.specs.Views.{ground_of, term_of};
 ghost use Rattle.aw_grammar.specs.declared.rule.Rule.{Rule as RuleValue};
-ghost use Rattle.aw_grammar.specs.GrammarView.{child_of, rule_of};
+ghost use Rattle.aw_grammar.specs.GrammarView.{rule_of};
 ghost use Rattle.aw_grammar.specs.GrammarOf.{grammar_of};
 ghost use Rattle.aw_store.specs.EquationView.{equation_of};
 ghost use Rattle.aw_apply.specs.Made.{lay_result as plain_result, lay_results as plain_results, child_refs, no_ref, made as plain_made};

@@ -17,6 +17,7 @@ use Rattle.aw_spec.specs.declared.spec_text.SpecText.{SpecText}
 use Rattle.aw_spec.specs.Answers.{Spells}
 use Rattle.aw_spec.specs.Lines.{Line, RoleLine, ConLine, SortLine, StartLine, OfferLine, UseLine, RuleLine, ScheduleLine}
 use Rattle.aw_spec.specs.Reading.{Spec, Draft, On, declaring, if_kept, keeping, says, stage_of, no_draft, specification}
+use Rattle.aw_spec.specs.Stages.{rules_stage}
 use Rattle.aw_spec.proofs.KeptLines.{reading_keeps}
 use Rattle.aw_spec.proofs.Stages.{keeps_no_rules}
 
@@ -28,7 +29,7 @@ abbrev IsKept : Spec → Type 0
 IsKept s = rules_fault (sorts_of s.declared.sorts) s.offers s.uses 0 (map rule_in s.declared.rules) ≡ None
 
 abbrev IsGood : Draft → Type 0
-IsGood d = IsKept d.spec × (d.stage < 7 → length d.spec.declared.rules ≡ 0)
+IsGood d = IsKept d.spec × (d.stage < rules_stage → length d.spec.declared.rules ≡ 0)
 
 later_kept : (i : ℕ) (o : Option (ℕ × FaceKind)) (later new : Option (ℕ × ℕ × FaceKind)) → at_rule i o later ≡ None → (later ≡ None → new ≡ None) → at_rule i o new ≡ None
 later_kept i None later new e h = h e
@@ -41,9 +42,9 @@ rule_more sorts offers uses i (x ∷ xs) r e h = later_kept i (rule_fault sorts 
 no_rules_kept : (s : Spec) → length s.declared.rules ≡ 0 → IsKept s
 no_rules_kept s h = ap (λ rs. rules_fault (sorts_of s.declared.sorts) s.offers s.uses 0 (map rule_in rs)) (nil_from_length s.declared.rules h)
 
-early : (s after : Spec) (line : Line) (before : ℕ) → says s line ≡ On after → stage_of line < 7 → before ≤ stage_of line → (before < 7 → length s.declared.rules ≡ 0) → IsGood (record { spec = after; stage = stage_of line })
+early : (s after : Spec) (line : Line) (before : ℕ) → says s line ≡ On after → stage_of line < rules_stage → before ≤ stage_of line → (before < rules_stage → length s.declared.rules ≡ 0) → IsGood (record { spec = after; stage = stage_of line })
 early s after line before e h le none =
-    let here : before < 7 = omega arith in
+    let here : before < rules_stage = omega arith in
     let still = keeps_no_rules s after line e h (none here) in
     (no_rules_kept after still, λ k. still)
 

@@ -6,4 +6,5 @@ pub mod PieceCuts
 pub mod ReadLines
 pub mod SoundLines
 pub mod SpelledLines
+pub mod Tested
 pub mod Stages

@@ -2,10 +2,11 @@
 use Rattle.std.proofs.Common.{◌≡◌, ℕ, ◌<◌, subst, true, false, cond, [], ◌∷◌, ◌++◌, length, arith, Option, None, Some}
 use Rattle.aw_grammar.specs.declared.fault.DeclKind.{DeclKind}
 use Rattle.aw_grammar.specs.Declarations.{Declarations}
-use Rattle.aw_face.specs.Faces.{is_offered, is_used}
-use Rattle.aw_spec.specs.declared.fault.SpecKind.TheVariants.{Double}
+use Rattle.aw_index.specs.Places.{first_told}
+use Rattle.aw_spec.specs.declared.fault.SpecKind.{SpecKind}
+use Rattle.aw_spec.specs.Stages.{sorts_stage, rules_stage}
 use Rattle.aw_spec.specs.Lines.{Line, RoleLine, ConLine, SortLine, StartLine, OfferLine, UseLine, RuleLine, ScheduleLine}
-use Rattle.aw_spec.specs.Reading.{Spec, Step, On, Wrong, Stop, declaring, offering, using_by, using_sort, says, stage_of}
+use Rattle.aw_spec.specs.Reading.{Spec, Step, On, Wrong, Stop, declaring, told_or, offer_tests, with_offer, use_tests, with_use, says, stage_of}
 
 -- what a property of declarations has to be for a step to keep it
 abbrev Holds : (Declarations → Type 0) → Step → Type 0
@@ -17,19 +18,11 @@ declares : (P : Declarations → Type 0) (s : Spec) (kind : Option DeclKind) (af
 declares P s None after h = h
 declares P s (Some kind) after h = tt
 
-offers : (P : Declarations → Type 0) (s : Spec) (sort : Option ℕ) → P s.declared → Holds P (offering s sort)
-offers P s None h = tt
-offers P s (Some sort) h = elim (is_offered sort s.offers) as (λ b. Holds P (cond b (Wrong Double) (On (record s { offers = s.offers ++ sort ∷ [] })))) [ true ↦ tt | false ↦ h ]
+told : (P : Declarations → Type 0) (kind : Option SpecKind) (after : Spec) → P after.declared → Holds P (told_or after kind)
+told P None after h = h
+told P (Some kind) after h = tt
 
-uses : (P : Declarations → Type 0) (s : Spec) (role : ℕ) (sort : Option ℕ) → P s.declared → Holds P (using_sort s role sort)
-uses P s role None h = tt
-uses P s role (Some sort) h = elim (is_used role sort s.uses) as (λ b. Holds P (cond b (Wrong Double) (On (record s { uses = s.uses ++ record { role = role; sort = sort } ∷ [] })))) [ true ↦ tt | false ↦ h ]
-
-uses_by : (P : Declarations → Type 0) (s : Spec) (role sort : Option ℕ) → P s.declared → Holds P (using_by s role sort)
-uses_by P s None sort h = tt
-uses_by P s (Some role) sort h = uses P s role sort h
-
-no_sorts : (s : Spec) (line : Line) → stage_of line < 3 → length s.declared.sorts ≡ 0 → Holds (λ d. length d.sorts ≡ 0) (says s line)
+no_sorts : (s : Spec) (line : Line) → stage_of line < sorts_stage → length s.declared.sorts ≡ 0 → Holds (λ d. length d.sorts ≡ 0) (says s line)
 no_sorts s (RoleLine name) h e = declares (λ d. length d.sorts ≡ 0) s _ _ e
 no_sorts s (ConLine name arity) h e = declares (λ d. length d.sorts ≡ 0) s _ _ e
 no_sorts s (SortLine name role takes gives) h e = absurd (omega arith)
@@ -39,13 +32,13 @@ no_sorts s (UseLine role sort) h e = absurd (omega arith)
 no_sorts s (RuleLine rule) h e = absurd (omega arith)
 no_sorts s ScheduleLine h e = tt
 
-no_rules : (s : Spec) (line : Line) → stage_of line < 7 → length s.declared.rules ≡ 0 → Holds (λ d. length d.rules ≡ 0) (says s line)
+no_rules : (s : Spec) (line : Line) → stage_of line < rules_stage → length s.declared.rules ≡ 0 → Holds (λ d. length d.rules ≡ 0) (says s line)
 no_rules s (RoleLine name) h e = declares (λ d. length d.rules ≡ 0) s _ _ e
 no_rules s (ConLine name arity) h e = declares (λ d. length d.rules ≡ 0) s _ _ e
 no_rules s (SortLine name role takes gives) h e = declares (λ d. length d.rules ≡ 0) s _ _ e
 no_rules s (StartLine sort) h e = declares (λ d. length d.rules ≡ 0) s _ _ e
-no_rules s (OfferLine sort) h e = offers (λ d. length d.rules ≡ 0) s _ e
-no_rules s (UseLine role sort) h e = uses_by (λ d. length d.rules ≡ 0) s _ _ e
+no_rules s (OfferLine sort) h e = told (λ d. length d.rules ≡ 0) (first_told (offer_tests s sort)) (with_offer s sort) e
+no_rules s (UseLine role sort) h e = told (λ d. length d.rules ≡ 0) (first_told (use_tests s role sort)) (with_use s role sort) e
 no_rules s (RuleLine rule) h e = absurd (omega arith)
 no_rules s ScheduleLine h e = tt
 
@@ -54,8 +47,8 @@ held P (On t) s e h = let same : t ≡ s = cc in subst (λ (u : Spec). P u.decla
 held P (Wrong kind) s e h = cc
 held P Stop s e h = cc
 
-pub keeps_no_sorts : (s after : Spec) (line : Line) → says s line ≡ On after → stage_of line < 3 → length s.declared.sorts ≡ 0 → length after.declared.sorts ≡ 0
+pub keeps_no_sorts : (s after : Spec) (line : Line) → says s line ≡ On after → stage_of line < sorts_stage → length s.declared.sorts ≡ 0 → length after.declared.sorts ≡ 0
 keeps_no_sorts s after line e h z = held (λ d. length d.sorts ≡ 0) (says s line) after e (no_sorts s line h z)
 
-pub keeps_no_rules : (s after : Spec) (line : Line) → says s line ≡ On after → stage_of line < 7 → length s.declared.rules ≡ 0 → length after.declared.rules ≡ 0
+pub keeps_no_rules : (s after : Spec) (line : Line) → says s line ≡ On after → stage_of line < rules_stage → length s.declared.rules ≡ 0 → length after.declared.rules ≡ 0
 keeps_no_rules s after line e h z = held (λ d. length d.rules ≡ 0) (says s line) after e (no_rules s line h z)

@@ -7,5 +7,7 @@ pub mod Lines
 pub mod Pieces
 pub mod ReadLine
 pub mod ReaderAnswers
+pub mod Stages
 pub mod Reading
+pub mod Placed
 pub mod Views

@@ -1,5 +1,5 @@
 -- Which specification a text spells, line by line, or the first line at fault.
-use Rattle.std.specs.Prelude.{ℕ, suc, Bool, List, [], ◌∷◌, ◌++◌, Option, None, Some, Result, Ok, Err, nat_lt, if◌then◌else◌}
+use Rattle.std.specs.Prelude.{ℕ, suc, Bool, ◌&&◌, not, List, [], ◌∷◌, ◌++◌, Option, None, Some, Result, Ok, Err, nat_lt, if◌then◌else◌}
 use Rattle.aw_lex.specs.declared.token.Token.{Token}
 use Rattle.aw_lex.specs.Tokens.{tokens_of}
 use Rattle.aw_lex.specs.Lines.{passed_over}
@@ -9,7 +9,7 @@ use Rattle.aw_grammar.specs.declared.fault.DeclKind.{DeclKind}
 use Rattle.aw_grammar.specs.declared.fault.DeclKind.TheVariants as decl
 use Rattle.aw_grammar.specs.Written.{WrittenRule}
 use Rattle.aw_grammar.specs.GrammarView.{sorts_of}
-use Rattle.aw_grammar.specs.Named.{number_named}
+use Rattle.aw_index.specs.Places.{stands, number_of, first_told}
 use Rattle.aw_grammar.specs.Declarations.{Declarations, no_declarations, sort_names, entry_of, with_role, with_con, with_sort, with_start, with_rule}
 use Rattle.aw_grammar.specs.Kinds.{role_kind, con_kind, sort_kind, start_kind, rule_kind}
 use Rattle.aw_form.specs.Lexemes.{lexemes}
@@ -22,6 +22,7 @@ use Rattle.aw_spec.specs.declared.fault.SpecKind.TheVariants as kind
 use Rattle.aw_spec.specs.declared.fault.SpecKind.TheVariants.{Form, Order, Limit, Double, Clash, Unknown, Arity, Twice, Never, Inherits, NotUsed, NotOffered}
 use Rattle.aw_spec.specs.Lines.{Line, RoleLine, ConLine, SortLine, StartLine, OfferLine, UseLine, RuleLine, ScheduleLine}
 use Rattle.aw_spec.specs.ReadLine.{line_of}
+use Rattle.aw_spec.specs.Stages.{roles_stage, cons_stage, sorts_stage, starts_stage, offers_stage, uses_stage, rules_stage, end_stage}
 
 -- what a specification says: its declarations, the sorts that are offered, and which role uses which sort
 pub record Spec : Type 0 where
@@ -58,20 +59,35 @@ abbrev pub declaring : Spec → Option DeclKind → Declarations → Step
 declaring s None after = On (record s { declared = after })
 declaring s (Some kind) after = Wrong (decl_kind kind)
 
--- an offer of the sort at a place among the declared ones
-abbrev pub offering : Spec → Option ℕ → Step
-offering s None = Wrong Unknown
-offering s (Some sort) = if is_offered sort s.offers then Wrong Double else On (record s { offers = s.offers ++ sort ∷ [] })
+-- a line at which this is told leads on to the specification after it where nothing is told
+abbrev pub told_or : Spec → Option SpecKind → Step
+told_or after None = On after
+told_or after (Some kind) = Wrong kind
 
--- a use by the role at a place, of the sort at a place
-abbrev pub using_sort : Spec → ℕ → Option ℕ → Step
-using_sort s role None = Wrong Unknown
-using_sort s role (Some sort) =
-    if is_used role sort s.uses then Wrong Double else On (record s { uses = s.uses ++ record { role = role; sort = sort } ∷ [] })
+-- A line with these tests, the first of which that holds is told; where none holds it leads on to this.
+abbrev pub tested : List (Bool × SpecKind) → Spec → Step
+tested tests after = told_or after (first_told tests)
 
-abbrev pub using_by : Spec → Option ℕ → Option ℕ → Step
-using_by s None sort = Wrong Unknown
-using_by s (Some role) sort = using_sort s role sort
+-- the number of the sort of this name
+abbrev pub sort_number : Spec → List ℕ → ℕ
+sort_number s name = number_of name (sort_names s.declared)
+
+-- an offer: no sort of that name is declared, or it is offered already
+abbrev pub offer_tests : Spec → List ℕ → List (Bool × SpecKind)
+offer_tests s sort = (not (stands sort (sort_names s.declared)), Unknown) ∷ (is_offered (sort_number s sort) s.offers, Double) ∷ []
+
+abbrev pub with_offer : Spec → List ℕ → Spec
+with_offer s sort = record s { offers = s.offers ++ sort_number s sort ∷ [] }
+
+-- a use: no role of that name is declared or no sort, or it is used by that role already
+abbrev pub use_tests : Spec → List ℕ → List ℕ → List (Bool × SpecKind)
+use_tests s role sort =
+    (not (stands role s.declared.roles && stands sort (sort_names s.declared)), Unknown)
+    ∷ (is_used (number_of role s.declared.roles) (sort_number s sort) s.uses, Double)
+    ∷ []
+
+abbrev pub with_use : Spec → List ℕ → List ℕ → Spec
+with_use s role sort = record s { uses = s.uses ++ record { role = number_of role s.declared.roles; sort = sort_number s sort } ∷ [] }
 
 -- a rule that is declared, where no child is at fault
 abbrev pub if_kept : Spec → Option (ℕ × FaceKind) → Step
@@ -91,21 +107,21 @@ says s (ConLine name arity) =
 says s (SortLine name role takes gives) =
     let sort : RawSort = record { name = name; role = role; takes = takes; gives = gives } in declaring s (sort_kind s.declared sort) (with_sort s.declared sort)
 says s (StartLine sort) = declaring s (start_kind s.declared sort) (with_start s.declared sort)
-says s (OfferLine sort) = offering s (number_named (sort_names s.declared) sort)
-says s (UseLine role sort) = using_by s (number_named s.declared.roles role) (number_named (sort_names s.declared) sort)
+says s (OfferLine sort) = tested (offer_tests s sort) (with_offer s sort)
+says s (UseLine role sort) = tested (use_tests s role sort) (with_use s role sort)
 says s (RuleLine rule) = keeping s rule (declaring s (rule_kind s.declared rule) (with_rule s.declared rule))
 says s ScheduleLine = Stop
 
 -- the place of a line's kind in the order of kinds; the last line stands anywhere
 abbrev pub stage_of : Line → ℕ
-stage_of (RoleLine name) = 1
-stage_of (ConLine name arity) = 2
-stage_of (SortLine name role takes gives) = 3
-stage_of (StartLine sort) = 4
-stage_of (OfferLine sort) = 5
-stage_of (UseLine role sort) = 6
-stage_of (RuleLine rule) = 7
-stage_of ScheduleLine = 8
+stage_of (RoleLine name) = roles_stage
+stage_of (ConLine name arity) = cons_stage
+stage_of (SortLine name role takes gives) = sorts_stage
+stage_of (StartLine sort) = starts_stage
+stage_of (OfferLine sort) = offers_stage
+stage_of (UseLine role sort) = uses_stage
+stage_of (RuleLine rule) = rules_stage
+stage_of ScheduleLine = end_stage
 
 -- What has been read: the specification so far, and the stage of the last line, or 0.
 pub record Draft : Type 0 where

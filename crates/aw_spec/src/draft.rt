@@ -10,6 +10,10 @@ ghost use Rattle.aw_grammar.specs.Written.{rule_of_raw};
 ghost use Rattle.aw_face.specs.Faces as face;
 ghost use Rattle.aw_spec.specs.Lines as lines;
 ghost use Rattle.aw_spec.specs.Reading.{says, stage_of, decl_kind, face_kind};
+ghost use Rattle.aw_spec.specs.Stages.{sorts_stage, rules_stage};
+ghost use Rattle.aw_spec.specs.Placed.{offering, using_by};
+ghost use Rattle.aw_grammar.specs.Declarations.{sort_names};
+ghost use Rattle.aw_grammar.specs.Named.{number_named};
 ghost use Rattle.aw_spec.specs.Views.{line_seen};
 ghost use Rattle.aw_spec.specs.LineAnswers.{Adds, AddsTo, Says, spec_so_far};
 ghost use Rattle.aw_spec.specs.Declares.{IsDeclared};
@@ -181,7 +185,7 @@ impl Draft {
 
     /// Adds an offer; the draft is of no use after a fault.
     fn push_offer(&mut self, sort: &Text) -> Result<(), LineFault>
-        ensures { AddsTo self.new result (says (spec_so_far self.old) (lines.OfferLine sort.now)) }
+        ensures { AddsTo self.new result (offering (spec_so_far self.old) (number_named (sort_names (spec_so_far self.old).declared) sort.now)) }
     {
         let Some(sort) = self.grammar.sort_named(sort.as_slice()) else {
             return Err(LineFault::Bad(SpecKind::Unknown));
@@ -202,7 +206,8 @@ impl Draft {
 
     /// Adds a use; the draft is of no use after a fault.
     fn push_use(&mut self, role: &Text, sort: &Text) -> Result<(), LineFault>
-        ensures { AddsTo self.new result (says (spec_so_far self.old) (lines.UseLine role.now sort.now)) }
+        ensures { AddsTo self.new result (using_by (spec_so_far self.old)
+            (number_named (spec_so_far self.old).declared.roles role.now) (number_named (sort_names (spec_so_far self.old).declared) sort.now)) }
     {
         let Some(role) = self.grammar.role_named(role.as_slice()) else {
             return Err(LineFault::Bad(SpecKind::Unknown));
@@ -258,8 +263,8 @@ impl Draft {
     /// What a line says behind these.
     pub fn says(self, line: SpecLine) -> Result<Said, LineFault>
         requires declared { IsDeclared (line_seen line) }
-        requires no_sorts { stage_of (line_seen line) < 3 → self.grammar.sorts ≡ [] }
-        requires no_rules { stage_of (line_seen line) < 7 → self.grammar.rules ≡ [] }
+        requires no_sorts { stage_of (line_seen line) < sorts_stage → self.grammar.sorts ≡ [] }
+        requires no_rules { stage_of (line_seen line) < rules_stage → self.grammar.rules ≡ [] }
         ensures { Says (spec_so_far self) result (says (spec_so_far self) (line_seen line)) }
     {
         match line {

@@ -2,6 +2,23 @@
 use aw_base::{RawCon, RawRule, RawSort};
 use aw_list::Text;
 
+/// The order of the kinds of line. Between uses and rules there is room for five kinds more.
+const ROLES_STAGE: u8 = 1;
+
+const CONS_STAGE: u8 = 2;
+
+const SORTS_STAGE: u8 = 3;
+
+const STARTS_STAGE: u8 = 4;
+
+const OFFERS_STAGE: u8 = 5;
+
+const USES_STAGE: u8 = 6;
+
+const RULES_STAGE: u8 = 12;
+
+const END_STAGE: u8 = 13;
+
 /// A line that holds something, with names as they are written.
 #[derive(Debug, Drop)]
 pub enum SpecLine {
@@ -21,19 +38,19 @@ impl SpecLine {
     ghost use Rattle.aw_spec.specs.Reading.{stage_of};
     ghost use Rattle.aw_spec.specs.Views.{line_seen};
 
-    /// The place of its kind in the order of kinds, from 1 to 8.
+    /// The place of its kind in the order of kinds.
     pub fn stage(&self) -> u8
         ensures { result ≡ stage_of (line_seen self.now) }
     {
         match self {
-            SpecLine::Role(_) => 1,
-            SpecLine::Con(_) => 2,
-            SpecLine::Sort(_) => 3,
-            SpecLine::Start(_) => 4,
-            SpecLine::Offer(_) => 5,
-            SpecLine::Use { .. } => 6,
-            SpecLine::Rule(_) => 7,
-            SpecLine::Schedule => 8,
+            SpecLine::Role(_) => ROLES_STAGE,
+            SpecLine::Con(_) => CONS_STAGE,
+            SpecLine::Sort(_) => SORTS_STAGE,
+            SpecLine::Start(_) => STARTS_STAGE,
+            SpecLine::Offer(_) => OFFERS_STAGE,
+            SpecLine::Use { .. } => USES_STAGE,
+            SpecLine::Rule(_) => RULES_STAGE,
+            SpecLine::Schedule => END_STAGE,
         }
     }
 }

@@ -1,5 +1,6 @@
 //! Reading a specification line by line.
 ghost use Rattle.std.specs.Prelude.{◌≡◌, ◌<◌, length};
+ghost use Rattle.aw_spec.specs.Stages.{sorts_stage, rules_stage};
 
 use crate::draft::{Draft, LineFault, Said};
 use crate::fault::SpecKind;
@@ -15,8 +16,8 @@ use std::alloc::Global;
 pub struct Reader {
     pub draft: Draft,
     pub stage: u8,
-    ghost no_sorts: { stage < 3 → length draft.grammar.sorts ≡ 0 },
-    ghost no_rules: { stage < 7 → length draft.grammar.rules ≡ 0 },
+    ghost no_sorts: { stage < sorts_stage → length draft.grammar.sorts ≡ 0 },
+    ghost no_rules: { stage < rules_stage → length draft.grammar.rules ≡ 0 },
 }
 
 /// What comes of a line: reading goes on, or it ends at the line `schedule`.

@@ -1,5 +1,4 @@
 //! Equations: what a reference stands for.
-ghost use Rattle.std.specs.Prelude.{◌≡◌};
 
 use aw_list::{Items, Text};
 use aw_name::{Ref, Refs};

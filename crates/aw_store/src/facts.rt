@@ -1,8 +1,8 @@
 //! Stores of equations, by what a contract can see of them.
-ghost use Rattle.std.specs.Prelude.{◌≡◌, ◌≤◌, ◌<◌, ◌++◌, List, Some, true, false, IfOk, OnOk, OnErr, IsOk, IsSome, MatchOption, Contains, length, map as list_map, slice_get};
+ghost use Rattle.std.specs.Prelude.{◌≡◌, ◌<◌, List, Some, true, false, IfOk, OnOk, OnErr, IsOk, IsSome, MatchOption, Contains, length, map as list_map, slice_get};
 ghost use Rattle.aw_term.specs.Names.{Ref as RefName};
-ghost use Rattle.aw_store.specs.Equations.{Equation as PlainEquation, Map, find, mentions};
-ghost use Rattle.aw_store.specs.EquationView.{body_of, equation_of};
+ghost use Rattle.aw_store.specs.Equations.{Equation as PlainEquation, Map, find};
+ghost use Rattle.aw_store.specs.EquationView.{equation_of};
 ghost use Rattle.aw_store.specs.NamedRefs.{is_named, has_names, with_name, IsNamedOnce, Grows, body_at, parts_at, text_at};
 ghost use Rattle.aw_store.specs.StoreView.{IsKindOf, Adds, IsAddable, has_few, all_few};
 

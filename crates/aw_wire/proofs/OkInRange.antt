@@ -1,5 +1,9 @@
 -- What may be asked of a grammar has a spelling: a reference that is valid, and a choice that keeps its limits.
 use Rattle.std.proofs.Common.{◌≡◌, ℕ, zero, suc, ◌≤◌, Bool, true, false, ◌&&◌, cond, nat_le, nat_eq, List, [], ◌∷◌, length, Option, Some, None, is_some, slice_get, option_map, option_and_then, refl, arith}
+use Rattle.std.specs.Coded.{le_prop}
+use Rattle.std.proofs.Math.Logic.{∥∥₁_elim}
+use Rattle.std.proofs.Math.Bool.{Bool-set}
+use Rattle.std.proofs.Math.Nat.{ℕ_set}
 use Rattle.std.proofs.lemmas.Bool.{eqb-true, leb-true, and_parts}
 use Rattle.std.proofs.lemmas.Option.{slice_get_within}
 use Rattle.aw_term.specs.Trees.{Never, Head, Con, Num, Text, Leaf, Made, Trees, Nil, More, count}
@@ -9,6 +13,8 @@ use Rattle.aw_term.specs.Choices.{Choice, Start, Develop, gives_of}
 use Rattle.aw_term.specs.Artifacts.{Words}
 use Rattle.aw_term.specs.WellFormed.{Each, head_fits, heads_fit, all_heads_fit, nesting, symbols_of, SortFits, RuleFits, IsWellFormed}
 use Rattle.aw_term.proofs.LastSteps.{followed, mapped, where_true}
+use Rattle.aw_grammar.specs.declared.grammar.Grammar as program
+use Rattle.aw_grammar.specs.GrammarOf.{grammar_of, words_of}
 use Rattle.aw_grammar.proofs.Fits.{each_at}
 use Rattle.aw_base.specs.ChoiceFits.{slot_ok, ref_ok, ground_ok, grounds_ok, args_ok, choice_ok}
 use Rattle.aw_wire.specs.Ranges.{From1To, StepInRange, NodeInRange, SlotInRange, RefInRange, HeadInRange, HeadsInRange, PartsInRange, GroundInRange, GroundsInRange, ChoiceInRange}
@@ -115,3 +121,47 @@ ok_choice_in_range w g (Develop n r args) formed few ok =
     let p = and_parts (is_some (sort_of g n)) (is_some (slice_get g.rules r) && args_ok g args) ok in
     let q = and_parts (is_some (slice_get g.rules r)) (args_ok g args) p.1 in
     (node_in_range w g n formed few p.0, args_in_range g args formed.arities q.1)
+
+-- ---- a grammar of the program
+
+each_prop : {A : Type 0} (P : A → Type 0) → ((x : A) → IsProp (P x)) → (xs : List A) → IsProp (Each P xs)
+each_prop P h [] = λ a b. refl
+each_prop P h (x ∷ xs) = λ a b i. (h x a.0 b.0 i, each_prop P h xs a.1 b.1 i)
+
+node_prop : (n : Node) → IsProp (NodeInRange n)
+node_prop n = λ a b i. (le_prop a.0 b.0 i, each_prop StepInRange (λ s. hlevel le_prop) n.steps a.1 b.1 i)
+
+slot_prop : (slot : Slot) → IsProp (SlotInRange slot)
+slot_prop (Result j) = hlevel le_prop
+slot_prop (Part k) = hlevel le_prop
+
+ref_prop : (r : Ref) → IsProp (RefInRange r)
+ref_prop r = λ a b i. (node_prop r.node a.0 b.0 i, slot_prop r.slot a.1 b.1 i)
+
+head_prop : (h : Head) (n : ℕ) → IsProp (HeadInRange h n)
+head_prop (Con c) n = le_prop
+head_prop (Num m) n = ℕ_set _ _
+head_prop (Text t) n = λ a b i. (ℕ_set _ _ a.0 b.0 i, Bool-set _ _ a.1 b.1 i)
+
+mutual
+  heads_prop : (t : Ground) → IsProp (HeadsInRange t)
+  heads_prop (Leaf x) = elim x [ ]
+  heads_prop (Made h ts) = λ a b i. (head_prop h (count ts) a.0 b.0 i, parts_prop ts a.1 b.1 i)
+
+  parts_prop : (ts : Trees Never) → IsProp (PartsInRange ts)
+  parts_prop Nil = λ a b. refl
+  parts_prop (More t ts) = λ a b i. (heads_prop t a.0 b.0 i, parts_prop ts a.1 b.1 i)
+
+ground_prop : (t : Ground) → IsProp (GroundInRange 32 t)
+ground_prop t = λ a b i. (heads_prop t a.0 b.0 i, le_prop a.1 b.1 i)
+
+choice_prop : (x : Choice) → IsProp (ChoiceInRange x)
+choice_prop (Start s k) = λ a b. refl
+choice_prop (Develop n r args) = λ a b i. (node_prop n a.0 b.0 i, (le_prop a.1.0 b.1.0 i, le_prop a.1.1 b.1.1 i, each_prop (GroundInRange 32) ground_prop args a.1.2 b.1.2 i))
+
+-- the name of a reference of the program has at most 250 steps
+pub ref_in_range : (g : program.Grammar) (r : Ref) → length r.node.steps ≤ 250 → ref_ok (grammar_of g) r ≡ true → RefInRange r
+ref_in_range g r few ok = ∥∥₁_elim g.well_formed (ref_prop r) (λ formed. valid_ref_in_range (words_of g) (grammar_of g) r formed few ok)
+
+pub choice_in_range : (g : program.Grammar) (x : Choice) → IsShort x → choice_ok (grammar_of g) x ≡ true → ChoiceInRange x
+choice_in_range g x few ok = ∥∥₁_elim g.well_formed (choice_prop x) (λ formed. ok_choice_in_range (words_of g) (grammar_of g) x formed few ok)

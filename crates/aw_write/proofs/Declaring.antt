@@ -22,7 +22,10 @@ use Rattle.aw_face.specs.declared.faces.FaceKind.{FaceKind}
 use Rattle.aw_face.specs.Faces.{is_offered, is_used, rule_fault, at_rule, rules_fault, face_fault}
 use Rattle.aw_spec.specs.declared.fault.SpecKind.TheVariants as kind
 use Rattle.aw_spec.specs.Lines.{RoleLine, StartLine, RuleLine}
-use Rattle.aw_spec.specs.Reading.{Spec, no_spec, On, Wrong, declaring, offering, using_sort, using_by, if_kept, keeping, says}
+use Rattle.aw_spec.proofs.Tested.{offer_by, use_by}
+use Rattle.aw_spec.specs.Placed.{offering, using_sort, using_by}
+use Rattle.aw_spec.specs.Stages.{roles_stage, cons_stage, sorts_stage, starts_stage, offers_stage, uses_stage, rules_stage}
+use Rattle.aw_spec.specs.Reading.{Spec, no_spec, On, Wrong, declaring, if_kept, keeping, says}
 use Rattle.aw_write.specs.SpecLines.{named_rule, con_line, sort_line, start_line, start_lines, offer_line, use_line}
 use Rattle.aw_grammar.specs.Variables.{VariablesFit}
 use Rattle.aw_write.specs.Writable.{VariablesNamed, AreApart}
@@ -64,8 +67,8 @@ role_said all pre x post few differ e =
     ap (λ k. declaring s k (with_role s.declared x))
     (none_told (role_tests s.declared x) (lt-leb 64 (length pre) (below_all all pre x post 64 e few), (new_name pre x post (subst Differ e differ), tt)))
 
-pub roles_lead : (roles : List (List ℕ)) → length roles ≤ 64 → Differ roles → Through 1 no_spec (map (λ name. RoleLine name) roles) (with_roles roles)
-roles_lead roles few differ = all_through 1 (λ name. RoleLine name) with_roles roles (λ x. refl) (λ pre x post e. role_said roles pre x post few differ e)
+pub roles_lead : (roles : List (List ℕ)) → length roles ≤ 64 → Differ roles → Through roles_stage no_spec (map (λ name. RoleLine name) roles) (with_roles roles)
+roles_lead roles few differ = all_through roles_stage (λ name. RoleLine name) with_roles roles (λ x. refl) (λ pre x post e. role_said roles pre x post few differ e)
 
 -- constructors
 
@@ -83,8 +86,8 @@ con_said roles all pre c post few differ small e =
       (split_names (λ (k : decl.Con). k.name) all pre c post e differ, tt),
     ))
 
-pub cons_lead : (roles : List (List ℕ)) (cons : List decl.Con) → length cons ≤ 1024 → Differ (map (λ (k : decl.Con). k.name) cons) → Each (λ (k : decl.Con). k.arity ≤ 8) cons → Through 2 (with_roles roles) (map con_line cons) (with_cons roles cons)
-cons_lead roles cons few differ small = all_through 2 con_line (with_cons roles) cons (λ c. refl) (λ pre c post e. con_said roles cons pre c post few differ small e)
+pub cons_lead : (roles : List (List ℕ)) (cons : List decl.Con) → length cons ≤ 1024 → Differ (map (λ (k : decl.Con). k.name) cons) → Each (λ (k : decl.Con). k.arity ≤ 8) cons → Through cons_stage (with_roles roles) (map con_line cons) (with_cons roles cons)
+cons_lead roles cons few differ small = all_through cons_stage con_line (with_cons roles) cons (λ c. refl) (λ pre c post e. con_said roles cons pre c post few differ small e)
 
 -- sorts, which are no start sorts at first
 
@@ -117,9 +120,9 @@ sort_said roles cons all pre s post roles_differ few differ fit e =
     ∙ ap (λ ss. On (with_sorts roles cons ss)) (sym (map-append unstarted pre (s ∷ [])))
 
 pub sorts_lead : (roles : List (List ℕ)) (cons : List decl.Con) (sorts : List Sort) → Differ roles → length sorts ≤ 256 → Differ (map (λ (t : Sort). t.name) sorts) → Each (λ (t : Sort). SortFits (length roles) (sort_of t)) sorts →
-    Through 3 (with_cons roles cons) (map (sort_line roles) sorts) (with_sorts roles cons (map unstarted sorts))
+    Through sorts_stage (with_cons roles cons) (map (sort_line roles) sorts) (with_sorts roles cons (map unstarted sorts))
 sorts_lead roles cons sorts roles_differ few differ fit =
-    all_through 3 (sort_line roles) (λ pre. with_sorts roles cons (map unstarted pre)) sorts (λ s. refl) (λ pre s post e. sort_said roles cons sorts pre s post roles_differ few differ fit e)
+    all_through sorts_stage (sort_line roles) (λ pre. with_sorts roles cons (map unstarted pre)) sorts (λ s. refl) (λ pre s post e. sort_said roles cons sorts pre s post roles_differ few differ fit e)
 
 -- starts
 
@@ -152,11 +155,11 @@ start_said roles cons done s left new none started =
     ∙ ap (λ ss. On (with_sorts roles cons ss)) (sym (append_assoc done (s ∷ []) rest))
 
 start_leads : (roles : List (List ℕ)) (cons : List decl.Con) (done : List Sort) (s : Sort) (left : List Sort) → stands s.name (map (λ (t : Sort). t.name) done) ≡ false → SortFits (length roles) (sort_of s) → (b : Bool) → s.start ≡ b →
-    Through 4 (partly roles cons done (s ∷ left)) (cond b (StartLine s.name ∷ []) []) (partly roles cons (done ++ s ∷ []) left)
+    Through starts_stage (partly roles cons done (s ∷ left)) (cond b (StartLine s.name ∷ []) []) (partly roles cons (done ++ s ∷ []) left)
 start_leads roles cons done s left new fits true e =
-    through_line 4 (partly roles cons done (s ∷ left)) (partly roles cons (done ++ s ∷ []) left) (StartLine s.name) refl (start_said roles cons done s left new (fits.start e) e)
+    through_line starts_stage (partly roles cons done (s ∷ left)) (partly roles cons (done ++ s ∷ []) left) (StartLine s.name) refl (start_said roles cons done s left new (fits.start e) e)
 start_leads roles cons done s left new fits false e =
-    subst (λ t. Through 4 (partly roles cons done (s ∷ left)) [] t) same (through_none 4 (partly roles cons done (s ∷ left)))
+    subst (λ t. Through starts_stage (partly roles cons done (s ∷ left)) [] t) same (through_none starts_stage (partly roles cons done (s ∷ left)))
   where
     same : partly roles cons done (s ∷ left) ≡ partly roles cons (done ++ s ∷ []) left
     same =
@@ -164,11 +167,11 @@ start_leads roles cons done s left new fits false e =
         ∙ ap (λ ss. with_sorts roles cons ss) (sym (append_assoc done (s ∷ []) (map unstarted left)))
 
 pub starts_lead : (roles : List (List ℕ)) (cons : List decl.Con) (sorts : List Sort) → Differ (map (λ (t : Sort). t.name) sorts) → Each (λ (t : Sort). SortFits (length roles) (sort_of t)) sorts →
-    Through 4 (with_sorts roles cons (map unstarted sorts)) (start_lines sorts) (with_sorts roles cons sorts)
+    Through starts_stage (with_sorts roles cons (map unstarted sorts)) (start_lines sorts) (with_sorts roles cons sorts)
 starts_lead roles cons sorts differ fit = go [] sorts refl
   where
-    go : (done left : List Sort) → sorts ≡ done ++ left → Through 4 (partly roles cons done left) (start_lines left) (with_sorts roles cons sorts)
-    go done [] e = subst (λ ss. Through 4 (partly roles cons done []) [] (with_sorts roles cons ss)) (sym e) (through_none 4 (partly roles cons done []))
+    go : (done left : List Sort) → sorts ≡ done ++ left → Through starts_stage (partly roles cons done left) (start_lines left) (with_sorts roles cons sorts)
+    go done [] e = subst (λ ss. Through starts_stage (partly roles cons done []) [] (with_sorts roles cons ss)) (sym e) (through_none starts_stage (partly roles cons done []))
     go done (s ∷ left) e =
         through_same 4 (partly roles cons done (s ∷ left)) (partly roles cons (done ++ s ∷ []) left) (with_sorts roles cons sorts) (start_line s) (start_lines left)
         (start_leads roles cons done s left (split_names (λ (t : Sort). t.name) sorts done s left e differ) (each_mid (λ (t : Sort). SortFits (length roles) (sort_of t)) done s left (subst (Each (λ (t : Sort). SortFits (length roles) (sort_of t))) e fit)) s.start refl)
@@ -198,12 +201,13 @@ offer_said d all pre o post differ declared once e =
     let s = with_offers d pre in
     let less = each_mid (λ sort. sort < length d.sorts) pre o post (subst (Each (λ sort. sort < length d.sorts)) e declared) in
     let new : is_offered o pre ≡ false = none_any (λ a. nat_eq a o) pre (each_map (λ a. a ≡ o → ⊥) (λ a. nat_eq a o ≡ false) pre (λ a h. ne_eqb a o h) (before_mid (λ a b. a ≡ b → ⊥) pre o post (subst (Later (λ a b. a ≡ b → ⊥)) e once))) in
-    ap (offering s) (place_again (sort_names d) o differ (named_below d.sorts o less))
+    offer_by s (get [] (sort_names d) o)
+    ∙ ap (offering s) (place_again (sort_names d) o differ (named_below d.sorts o less))
     ∙ ap (λ b. cond b (Wrong kind.Double) (On (with_offers d (pre ++ o ∷ [])))) new
 
 pub offers_lead : (d : Declarations) (offers : List ℕ) → Differ (sort_names d) → Each (λ sort. sort < length d.sorts) offers → Later (λ a b. a ≡ b → ⊥) offers →
-    Through 5 (with_sorts d.roles d.cons d.sorts) (map (offer_line (sort_names d)) offers) (with_offers d offers)
-offers_lead d offers differ declared once = all_through 5 (offer_line (sort_names d)) (with_offers d) offers (λ o. refl) (λ pre o post e. offer_said d offers pre o post differ declared once e)
+    Through offers_stage (with_sorts d.roles d.cons d.sorts) (map (offer_line (sort_names d)) offers) (with_offers d offers)
+offers_lead d offers differ declared once = all_through offers_stage (offer_line (sort_names d)) (with_offers d) offers (λ o. refl) (λ pre o post e. offer_said d offers pre o post differ declared once e)
 
 -- uses
 
@@ -228,13 +232,14 @@ use_said d offers all pre u post roles_differ differ declared once e =
     let new : is_used u.role u.sort pre ≡ false =
     none_any (λ (v : Using). nat_eq v.role u.role && nat_eq v.sort u.sort) pre
     (each_map (λ v. AreApart v u) (λ v. (nat_eq v.role u.role && nat_eq v.sort u.sort) ≡ false) pre (λ v h. other_use v u h) (before_mid AreApart pre u post (subst (Later AreApart) e once))) in
-    ap (λ o. using_by s o (place_of (get [] (sort_names d) u.sort) (sort_names d))) (place_again d.roles u.role roles_differ less.0)
+    use_by s (get [] d.roles u.role) (get [] (sort_names d) u.sort)
+    ∙ ap (λ o. using_by s o (place_of (get [] (sort_names d) u.sort) (sort_names d))) (place_again d.roles u.role roles_differ less.0)
     ∙ ap (using_sort s u.role) (place_again (sort_names d) u.sort differ (named_below d.sorts u.sort less.1))
     ∙ ap (λ b. cond b (Wrong kind.Double) (On (with_uses d offers (pre ++ u ∷ [])))) new
 
 pub uses_lead : (d : Declarations) (offers : List ℕ) (uses : List Using) → Differ d.roles → Differ (sort_names d) → Each (IsDeclaredUse d) uses → Later AreApart uses →
-    Through 6 (with_offers d offers) (map (use_line d.roles (sort_names d)) uses) (with_uses d offers uses)
-uses_lead d offers uses roles_differ differ declared once = all_through 6 (use_line d.roles (sort_names d)) (with_uses d offers) uses (λ u. refl) (λ pre u post e. use_said d offers uses pre u post roles_differ differ declared once e)
+    Through uses_stage (with_offers d offers) (map (use_line d.roles (sort_names d)) uses) (with_uses d offers uses)
+uses_lead d offers uses roles_differ differ declared once = all_through uses_stage (use_line d.roles (sort_names d)) (with_uses d offers) uses (λ u. refl) (λ pre u post e. use_said d offers uses pre u post roles_differ differ declared once e)
 
 -- rules
 
@@ -289,5 +294,5 @@ rule_said s fine kept pre e post all =
     }
 
 pub rules_lead : (s : Spec) → Fine s.declared → face_fault (grammar_in s.declared) s.offers s.uses ≡ None →
-    Through 7 (with_rules s []) (map (λ (e : Entry). RuleLine (named_rule (con_names s.declared) (sort_names s.declared) e)) s.declared.rules) (with_rules s s.declared.rules)
-rules_lead s fine kept = all_through 7 (λ (e : Entry). RuleLine (named_rule (con_names s.declared) (sort_names s.declared) e)) (with_rules s) s.declared.rules (λ e. refl) (λ pre e post all. rule_said s fine kept pre e post all)
+    Through rules_stage (with_rules s []) (map (λ (e : Entry). RuleLine (named_rule (con_names s.declared) (sort_names s.declared) e)) s.declared.rules) (with_rules s s.declared.rules)
+rules_lead s fine kept = all_through rules_stage (λ (e : Entry). RuleLine (named_rule (con_names s.declared) (sort_names s.declared) e)) (with_rules s) s.declared.rules (λ e. refl) (λ pre e post all. rule_said s fine kept pre e post all)

@@ -1,5 +1,5 @@
 -- The faces of a specification that was read name what is declared, and each offer and each use once.
-use Rattle.std.proofs.Common.{◌≡◌, ℕ, zero, suc, ◌<◌, ◌≤◌, nat_eq, refl, ap, subst, Bool, true, false, cond, ◌&&◌, List, [], ◌∷◌, ◌++◌, length, Option, Some, None, arith, length-append}
+use Rattle.std.proofs.Common.{◌≡◌, ℕ, zero, suc, ◌<◌, ◌≤◌, nat_eq, refl, sym, ap, ◌∙◌, subst, Bool, true, false, cond, ◌&&◌, List, [], ◌∷◌, ◌++◌, length, Option, Some, None, arith, length-append}
 use Rattle.std.proofs.lemmas.List.{length-map}
 use Rattle.std.proofs.lemmas.Bool.{or_parts, and_from, both_ways, eq-eqb, eqb-false}
 use Rattle.std.specs.List.{list_any}
@@ -17,7 +17,9 @@ use Rattle.aw_face.specs.declared.faces.FaceKind.{FaceKind}
 use Rattle.aw_face.specs.Faces.{is_offered, is_used, face_fault}
 use Rattle.aw_spec.specs.declared.fault.SpecKind.TheVariants as kind
 use Rattle.aw_spec.specs.Lines.{Line, RoleLine, ConLine, SortLine, StartLine, OfferLine, UseLine, RuleLine, ScheduleLine}
-use Rattle.aw_spec.specs.Reading.{Spec, Draft, On, Wrong, declaring, offering, using_by, if_kept, keeping, says, Good, no_draft, specification}
+use Rattle.aw_spec.proofs.Tested.{offer_by, use_by}
+use Rattle.aw_spec.specs.Placed.{offering, using_by}
+use Rattle.aw_spec.specs.Reading.{Spec, Draft, On, Wrong, declaring, if_kept, keeping, says, Good, no_draft, specification}
 use Rattle.aw_spec.proofs.KeptLines.{reading_keeps}
 use Rattle.aw_write.specs.Writable.{AreApart, FacesFit}
 
@@ -117,8 +119,8 @@ said_sound s after (RoleLine name) e sound = declared_sound s after _ _ e (longe
 said_sound s after (ConLine name arity) e sound = declared_sound s after _ _ e (omega arith) (omega arith) sound
 said_sound s after (SortLine name role takes gives) e sound = declared_sound s after _ _ e (omega arith) (longer s.declared.sorts _) sound
 said_sound s after (StartLine sort) e sound = declared_sound s after _ _ e (omega arith) (omega (arith, length_start s.declared.sorts (number_of sort (sort_names s.declared)))) sound
-said_sound s after (OfferLine sort) e sound = offer_sound s after sort (number_named (sort_names s.declared) sort) refl e sound
-said_sound s after (UseLine role sort) e sound = use_sound s after role sort (number_named s.declared.roles role) (number_named (sort_names s.declared) sort) refl refl e sound
+said_sound s after (OfferLine sort) e sound = offer_sound s after sort (number_named (sort_names s.declared) sort) refl (sym (offer_by s sort) ∙ e) sound
+said_sound s after (UseLine role sort) e sound = use_sound s after role sort (number_named s.declared.roles role) (number_named (sort_names s.declared) sort) refl refl (sym (use_by s role sort) ∙ e) sound
 said_sound s after (RuleLine rule) e sound = rule_sound s after rule _ e sound
 said_sound s after ScheduleLine e sound = cc
 

@@ -3,6 +3,7 @@ use Rattle.std.proofs.Common.{◌≡◌, ◌+◌, ap, ◌∙◌, [], ◌++◌, l
 use Rattle.aw_lex.specs.Lines.{lines_of}
 use Rattle.aw_grammar.specs.Declarations.{Declarations, sort_names}
 use Rattle.aw_spec.specs.Lines.{RoleLine}
+use Rattle.aw_spec.specs.Stages.{roles_stage, cons_stage, sorts_stage, starts_stage, offers_stage, uses_stage, rules_stage}
 use Rattle.aw_spec.specs.Reading.{Spec, no_spec, no_draft, Good, specification}
 use Rattle.aw_write.specs.SpecLines.{con_line, sort_line, start_lines, offer_line, use_line, declaration_lines, face_lines, rule_lines, spec_lines, written}
 use Rattle.aw_write.specs.Writable.{FacesFit}
@@ -10,28 +11,28 @@ use Rattle.aw_write.proofs.Leading.{Between, between_both, leads_read, lines_aga
 use Rattle.aw_write.proofs.Declaring.{Fine, with_roles, with_cons, with_sorts, with_offers, with_uses, with_rules, unstarted, roles_lead, cons_lead, sorts_lead, starts_lead, offers_lead, uses_lead, rules_lead}
 use Rattle.aw_write.proofs.SpelledSpecs.{Spelled, spec_spelled}
 
-declared_lead : (d : Declarations) → Fine d → Between 1 4 no_spec (declaration_lines d) (with_sorts d.roles d.cons d.sorts)
+declared_lead : (d : Declarations) → Fine d → Between roles_stage starts_stage no_spec (declaration_lines d) (with_sorts d.roles d.cons d.sorts)
 declared_lead d fine =
-    between_both 1 1 2 4 no_spec (with_roles d.roles) (with_sorts d.roles d.cons d.sorts) (map (λ name. RoleLine name) d.roles) (map con_line d.cons ++ (map (sort_line d.roles) d.sorts ++ start_lines d.sorts)) (omega arith)
+    between_both roles_stage roles_stage cons_stage starts_stage no_spec (with_roles d.roles) (with_sorts d.roles d.cons d.sorts) (map (λ name. RoleLine name) d.roles) (map con_line d.cons ++ (map (sort_line d.roles) d.sorts ++ start_lines d.sorts)) (omega arith)
     (roles_lead d.roles fine.few_roles fine.roles_differ)
-    (between_both 2 2 3 4 (with_roles d.roles) (with_cons d.roles d.cons) (with_sorts d.roles d.cons d.sorts) (map con_line d.cons) (map (sort_line d.roles) d.sorts ++ start_lines d.sorts) (omega arith)
+    (between_both cons_stage cons_stage sorts_stage starts_stage (with_roles d.roles) (with_cons d.roles d.cons) (with_sorts d.roles d.cons d.sorts) (map con_line d.cons) (map (sort_line d.roles) d.sorts ++ start_lines d.sorts) (omega arith)
     (cons_lead d.roles d.cons fine.few_cons fine.cons_differ fine.arities)
-    (between_both 3 3 4 4 (with_cons d.roles d.cons) (with_sorts d.roles d.cons (map unstarted d.sorts)) (with_sorts d.roles d.cons d.sorts) (map (sort_line d.roles) d.sorts) (start_lines d.sorts) (omega arith)
+    (between_both sorts_stage sorts_stage starts_stage starts_stage (with_cons d.roles d.cons) (with_sorts d.roles d.cons (map unstarted d.sorts)) (with_sorts d.roles d.cons d.sorts) (map (sort_line d.roles) d.sorts) (start_lines d.sorts) (omega arith)
     (sorts_lead d.roles d.cons d.sorts fine.roles_differ fine.few_sorts fine.sorts_differ fine.sorts)
     (starts_lead d.roles d.cons d.sorts fine.sorts_differ fine.sorts)))
 
-faces_lead : (s : Spec) → Fine s.declared → FacesFit s → Between 5 6 (with_sorts s.declared.roles s.declared.cons s.declared.sorts) (face_lines s) (with_rules s [])
+faces_lead : (s : Spec) → Fine s.declared → FacesFit s → Between offers_stage uses_stage (with_sorts s.declared.roles s.declared.cons s.declared.sorts) (face_lines s) (with_rules s [])
 faces_lead s fine faces =
     let d = s.declared in
-    between_both 5 5 6 6 (with_sorts d.roles d.cons d.sorts) (with_offers d s.offers) (with_uses d s.offers s.uses) (map (offer_line (sort_names d)) s.offers) (map (use_line d.roles (sort_names d)) s.uses) (omega arith)
+    between_both offers_stage offers_stage uses_stage uses_stage (with_sorts d.roles d.cons d.sorts) (with_offers d s.offers) (with_uses d s.offers s.uses) (map (offer_line (sort_names d)) s.offers) (map (use_line d.roles (sort_names d)) s.uses) (omega arith)
     (offers_lead d s.offers fine.sorts_differ faces.offers faces.offered_once)
     (uses_lead d s.offers s.uses fine.roles_differ fine.sorts_differ faces.uses faces.used_once)
 
-spec_leads : (s : Spec) → Fine s.declared → FacesFit s → Between 1 7 no_spec (spec_lines s) s
+spec_leads : (s : Spec) → Fine s.declared → FacesFit s → Between roles_stage rules_stage no_spec (spec_lines s) s
 spec_leads s fine faces =
     let d = s.declared in
-    between_both 1 4 5 7 no_spec (with_sorts d.roles d.cons d.sorts) s (declaration_lines d) (face_lines s ++ rule_lines d) (omega arith) (declared_lead d fine)
-    (between_both 5 6 7 7 (with_sorts d.roles d.cons d.sorts) (with_rules s []) s (face_lines s) (rule_lines d) (omega arith) (faces_lead s fine faces) (rules_lead s fine faces.kept))
+    between_both roles_stage starts_stage offers_stage rules_stage no_spec (with_sorts d.roles d.cons d.sorts) s (declaration_lines d) (face_lines s ++ rule_lines d) (omega arith) (declared_lead d fine)
+    (between_both offers_stage uses_stage rules_stage rules_stage (with_sorts d.roles d.cons d.sorts) (with_rules s []) s (face_lines s) (rule_lines d) (omega arith) (faces_lead s fine faces) (rules_lead s fine faces.kept))
 
 pub written_again : (s : Spec) → Fine s.declared → Spelled s.declared → FacesFit s → specification (lines_of (written s)) ≡ Good s (length (spec_lines s))
 written_again s fine spelled faces =

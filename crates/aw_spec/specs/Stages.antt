@@ -1,0 +1,29 @@
+-- The order of the kinds of line. Between uses and rules there is room for five kinds more; no text shows these numbers.
+use Rattle.std.specs.Prelude.{ℕ}
+
+abbrev pub roles_stage : ℕ
+roles_stage = 1
+
+abbrev pub cons_stage : ℕ
+cons_stage = 2
+
+-- sorts are declared at this stage or never
+abbrev pub sorts_stage : ℕ
+sorts_stage = 3
+
+abbrev pub starts_stage : ℕ
+starts_stage = 4
+
+abbrev pub offers_stage : ℕ
+offers_stage = 5
+
+abbrev pub uses_stage : ℕ
+uses_stage = 6
+
+-- rules are declared at this stage or never
+abbrev pub rules_stage : ℕ
+rules_stage = 12
+
+-- the line behind which the schedule stands
+abbrev pub end_stage : ℕ
+end_stage = 13
