@@ -2,6 +2,7 @@
 use Rattle.std.specs.Prelude.{is_some, nat_eq, option_and_then, option_map, slice_get}
 use Rattle.std.proofs.Common.{Bool, List, None, Option, Some, [], ap, arith, cond, false, inl, length, refl, subst, sym, true, ℕ, ◌∙◌, ◌∷◌, ◌≡◌}
 use Rattle.aw_iograph.proofs.Relations.{io_closed}
+use Rattle.std.specs.Option.{unwrap_or}
 use Rattle.aw_term.specs.Artifacts.{Words}
 use Rattle.aw_term.specs.Choices.{Answer, Arguments, Choice, Develop, NotItsRule, Outcome, Refused, Start, Starts, Takes, TooDeep, after_guard, answer, answer_of, deep, undivided}
 use Rattle.aw_term.specs.Configs.{Config, Done, Pending, Row, State, row_of}
@@ -27,7 +28,7 @@ use Rattle.aw_space.proofs.OutcomesAlike.{OutLike, held_like, node_same, start_l
 use Rattle.aw_space.proofs.SameConfigs.{held_for, row_for}
 use Rattle.aw_space.proofs.SideBySide.{LikeOption}
 use Rattle.aw_react.specs.Choosing.{answer_to, choose, choose_on, outcome}
-use Rattle.aw_react.specs.Homes.{home, or_zero}
+use Rattle.aw_react.specs.Homes.{home}
 use Rattle.aw_react.specs.Sites.{Site}
 use Rattle.aw_react.specs.Worlds.{IsQuiet, World, first_false, node_of, site_at}
 use Rattle.aw_merge.specs.Invariant.{watch}
@@ -141,7 +142,7 @@ home_zero : (words : Words) (g : Grammar) (accepted : IsAccepted words g) → g.
 home_zero words g accepted one_role n = go (sort_of g n) refl
   where
     go : (o : Option ℕ) → sort_of g n ≡ o → home g n ≡ 0
-    go None f = ap (λ o. or_zero (option_and_then (λ s. option_map (λ (t : Sort). t.role) (slice_get g.sorts s)) o)) f
+    go None f = ap (λ o. unwrap_or (option_and_then (λ s. option_map (λ (t : Sort). t.role) (slice_get g.sorts s)) o) 0) f
     go (Some s) f = let l = home_within words g accepted.0 n (ap is_some f) in omega (arith, l, one_role)
 
 no_members : {B : Type 0} (xs : List B) → ((y : B) → Member y xs → Never) → xs ≡ []
