@@ -11,6 +11,7 @@ use Rattle.aw_cells.specs.StoredBodies.{body_from, fits, is_written}
 abbrev pub body_in : List Ref → List Stored → ℕ → Option Body
 body_in ns cs s = option_and_then (body_from ns) (slice_get cs s)
 
+-- one equation more, where there are a reference and a body for it
 abbrev pub equation_with : Option Ref → Option Body → Map → Map
 equation_with (Some r) (Some b) k = record { left = r; body = b } ∷ k
 equation_with _ _ k = k
@@ -20,6 +21,7 @@ abbrev pub map_in : List Ref → List Stored → List ℕ → Map
 map_in ns cs [] = []
 map_in ns cs (s ∷ ss) = equation_with (slice_get ns s) (body_in ns cs s) (map_in ns cs ss)
 
+-- each slot in these bodies is one of so many, and none has more than 8
 abbrev pub all_fit : ℕ → List Stored → Bool
 all_fit n [] = true
 all_fit n (c ∷ cs) = fits n c && all_fit n cs
@@ -29,6 +31,7 @@ abbrev pub is_full : Option Stored → Bool
 is_full None = false
 is_full (Some c) = is_written c
 
+-- whether a slot is one of these
 abbrev pub stands : ℕ → List ℕ → Bool
 stands s [] = false
 stands s (x ∷ xs) = nat_eq s x || stands s xs

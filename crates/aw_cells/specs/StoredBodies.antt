@@ -12,6 +12,7 @@ use Rattle.aw_store.specs.declared.facts.Kind.TheVariants as kind
 use Rattle.aw_cells.specs.declared.stored.Stored.{Stored}
 use Rattle.aw_cells.specs.declared.stored.Stored.TheVariants.{Missing, Same, Con, Num, Text}
 
+-- one reference more, where there is one
 abbrev pub with_ref : Option Ref → List Ref → List Ref
 with_ref None rs = rs
 with_ref (Some r) rs = r ∷ rs
@@ -21,7 +22,7 @@ abbrev pub refs_of : List Ref → List ℕ → List Ref
 refs_of ns [] = []
 refs_of ns (s ∷ ss) = with_ref (slice_get ns s) (refs_of ns ss)
 
--- the body, where there is one
+-- the body, with each slot in it read as the reference that it names; none where none was written
 abbrev pub body_from : List Ref → Stored → Option P.Body
 body_from ns Missing = None
 body_from ns (Same s) = option_map P.Same (slice_get ns s)
@@ -29,6 +30,7 @@ body_from ns (Con c parts) = Some (P.Is (T.Con c) (refs_of ns parts.items))
 body_from ns (Num n) = Some (P.Is (T.Num n) [])
 body_from ns (Text t) = Some (P.Is (T.Text t) [])
 
+-- each of these slots is one of so many
 abbrev pub all_below : ℕ → List ℕ → Bool
 all_below n [] = true
 all_below n (s ∷ ss) = nat_lt s n && all_below n ss
@@ -54,10 +56,12 @@ abbrev pub slots_of : Stored → List ℕ
 slots_of (Con c parts) = parts.items
 slots_of _ = []
 
+-- the text, where the body is one
 abbrev pub text_from : Stored → Option (List ℕ)
 text_from (Text t) = Some t
 text_from _ = None
 
+-- the kind of a body
 abbrev pub kind_from : Stored → Kind
 kind_from Missing = kind.Missing
 kind_from (Same s) = kind.Same s
@@ -76,6 +80,7 @@ are_at ns [] [] = true
 are_at ns (s ∷ ss) (r ∷ rs) = is_at (slice_get ns s) r && are_at ns ss rs
 are_at ns _ _ = false
 
+-- whether a body by slots is this one
 abbrev pub is_body : List Ref → Stored → Body → Bool
 is_body ns (Same s) (body.Same r) = is_at (slice_get ns s) r
 is_body ns (Con c parts) (body.Con d rs) = nat_eq c d && are_at ns parts.items rs

@@ -15,7 +15,8 @@ use indexmap::IndexSet;
 use slab::Slab;
 use std::alloc::{AllocError, Global};
 
-/// Equations by slots: each reference has the next slot, and each slot a body, which is written once.
+/// Equations by slots: each reference has the next slot, and each slot a body, which is written once. A name is found by its
+/// hash, and what stands at a slot by its place: no call walks the store.
 #[derive(Drop)]
 pub struct CellFacts {
     table: Table,
@@ -44,6 +45,7 @@ impl Facts for CellFacts {
 
     ghost names = { λ f. names_of f.table };
 
+    // Room for a body is made when its reference is named, so adding takes no memory where each reference is named.
     ghost is_ready = { λ f e. has_names_of (names_of f.table) e ≡ true };
 
     ghost once = { λ f. f.sound.sound.once };

@@ -20,8 +20,8 @@ pub fn slot_in(names: &IndexSet<Ref>, r: &Ref) -> Option<usize>
     names.get_index_of(r)
 }
 
-/// Makes room for one more body, and for the slot of each. An error changes nothing else. It is also one where the slab
-/// would not give out this slot next, which never comes.
+/// Makes room for one more body, and for the slot of each. An error changes nothing else. It is also an error where the slab
+/// would not give out this slot next: that does not come while nothing is taken out of it, but its contract does not say so.
 fn make_room(
     cells: &mut Slab<Stored>,
     order: &mut Vec<usize>,
