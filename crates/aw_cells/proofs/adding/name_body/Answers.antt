@@ -1,0 +1,19 @@
+use Rattle.std.proofs.Common.{ap, sym, ◌∙◌, refl}
+use Rattle.std.proofs.lemmas.Bool.{and_from}
+use Rattle.aw_store.specs.Equations.{mentions}
+use Rattle.aw_store.specs.EquationView.{body_of}
+use Rattle.aw_store.specs.NamedRefs.{all_named}
+use Rattle.aw_store.proofs.NameLemmas.{is_named-at}
+use Rattle.aw_cells.specs.TableView.{names_of}
+use Rattle.aw_cells.proofs.BodyLemmas.{refs_of-named}
+use Rattle.aw_cells.proofs.adding.name_body.Goals as goal
+
+pub returns-in_ok-name_one-in-Same-clause-ok : goal.returns-in_ok-name_one-in-Same-clause-ok
+returns-in_ok-name_one-in-Same-clause-ok c =
+    let new = names_of c.name_one.new.t in
+    ap (λ b. all_named new (mentions (body_of b))) c.in-Same.is ∙ and_from _ _ (is_named-at new _ _ c.in_ok-name_one-in-Same.ensures.slot) refl
+
+pub returns-in_ok-name_parts-in-Con-clause-ok : goal.returns-in_ok-name_parts-in-Con-clause-ok
+returns-in_ok-name_parts-in-Con-clause-ok c =
+    let new = names_of c.name_parts.new.t in
+    ap (λ b. all_named new (mentions (body_of b))) c.in-Con.is ∙ ap (all_named new) (sym (c.in_ok-name_parts-in-Con.ensures.slots ∙ c.as_slice.ensures)) ∙ refs_of-named new c.in_ok-name_parts-in-Con.field-0.items
