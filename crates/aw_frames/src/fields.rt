@@ -3,7 +3,7 @@ use aw_choice::Choice;
 use aw_list::Text;
 use aw_msg::{Frame, Message, MsgKind};
 use aw_name::{Node, Ref, Slot};
-use aw_store::Body;
+use aw_store::{Body, Equation};
 use aw_term::Ground;
 use aw_text::{push_number, push_quoted};
 use std::alloc::AllocError;
@@ -67,16 +67,37 @@ fn push_body(told: &mut Text, body: &Body) -> Result<(), AllocError> {
     }
 }
 
-/// Adds `to 1 call 0#1/0.1 (0#1:p2)`, `to 0 ask 0#1:p2 from 1` or `to 1 tell 0#1:p1 = 7`.
+/// Adds `0#1:p1 = 7`.
+fn push_equation(told: &mut Text, equation: &Equation) -> Result<(), AllocError> {
+    push_ref(told, &equation.left)?;
+    told.push_bytes(b" = ")?;
+    push_body(told, &equation.body)
+}
+
+/// Adds the equations of a load, as ` with 0#1:p1 = 7; 0#1:p2 = 0#1:p1`, where there are any.
+fn push_load(told: &mut Text, load: &[Equation]) -> Result<(), AllocError> {
+    for (place, equation) in load.iter().enumerate() {
+        told.push_bytes(if place > 0 { b"; " } else { b" with " })?;
+        push_equation(told, equation)?;
+    }
+    Ok(())
+}
+
+/// Adds `to 1 call 0#1/0.1 (0#1:p2)`, `to 0 ask 0#1:p2 from 1` or `to 1 tell 0#1:p1 = 7`, and the load.
 pub fn push_message(told: &mut Text, message: &Message) -> Result<(), AllocError> {
     told.push_bytes(b"to ")?;
     push_number(told, u64::from(message.to))?;
     match &message.kind {
-        MsgKind::Call { node, inherited } => {
+        MsgKind::Call {
+            node,
+            inherited,
+            load,
+        } => {
             told.push_bytes(b" call ")?;
             push_node(told, node)?;
             told.push_bytes(b" ")?;
-            push_refs(told, inherited.as_slice())
+            push_refs(told, inherited.as_slice())?;
+            push_load(told, load.as_slice())
         }
         MsgKind::Ask { reference, from } => {
             told.push_bytes(b" ask ")?;
@@ -84,11 +105,10 @@ pub fn push_message(told: &mut Text, message: &Message) -> Result<(), AllocError
             told.push_bytes(b" from ")?;
             push_number(told, u64::from(*from))
         }
-        MsgKind::Tell { equation } => {
+        MsgKind::Tell { equation, load } => {
             told.push_bytes(b" tell ")?;
-            push_ref(told, &equation.left)?;
-            told.push_bytes(b" = ")?;
-            push_body(told, &equation.body)
+            push_equation(told, equation)?;
+            push_load(told, load.as_slice())
         }
     }
 }

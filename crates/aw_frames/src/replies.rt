@@ -7,7 +7,7 @@ use crate::table::bytes_of;
 use aw_base::{Answer, Grammar, Item};
 use aw_choice::Standing;
 use aw_list::Text;
-use aw_msg::reading::body_at;
+use aw_msg::equations::body_at;
 use aw_msg::{Answered, decode, reply_bytes};
 use aw_name::Ref;
 use aw_store::Content;

@@ -11,17 +11,16 @@ use Rattle.aw_term.specs.Names.{Step, Node, Slot, Result, Part, Ref}
 use Rattle.aw_term.specs.Rules.{Ground}
 use Rattle.aw_term.specs.Choices as Q
 use Rattle.aw_term.specs.WellFormed.{Each, symbols, all_symbols, symbols_of}
-use Rattle.aw_store.specs.declared.equation.Body.{Body}
-use Rattle.aw_store.specs.declared.equation.Body.TheVariants as body
+use Rattle.aw_store.specs.Equations.{Body, Same, Is, Equation}
+use Rattle.aw_apply.specs.Messages.{Kind, Calls, Asks, Tells, Message}
 use Rattle.aw_wire.specs.Names.{spelled_step, spelled_node, spelled_slot, spelled_ref, spelled_refs}
 use Rattle.aw_wire.specs.Texts.{spelled_text}
 use Rattle.aw_wire.specs.Grounds.{spelled_head, spelled_ground, spelled_parts, spelled_grounds}
 use Rattle.aw_wire.specs.Choices.{spelled_choice}
 use Rattle.aw_wire.specs.Ranges.{TextInRange, NodeInRange, RefInRange, RefsInRange, HeadInRange, HeadsInRange, PartsInRange, GroundInRange, GroundsInRange, ChoiceInRange}
-use Rattle.aw_msg.specs.declared.message.MsgKind.{MsgKind}
-use Rattle.aw_msg.specs.declared.message.MsgKind.TheVariants.{Call, Ask, Tell}
-use Rattle.aw_msg.specs.declared.message.Message.{Message}
-use Rattle.aw_msg.specs.Messages.{spelled_body, spelled_kind, spelled_message, BodyInRange, KindInRange, MessageInRange}
+use Rattle.aw_msg.specs.Spelling.{spelled_body, spelled_equation, spelled_load, spelled_kind, spelled_message}
+use Rattle.aw_msg.specs.MessageRanges.{BodyInRange, EquationInRange, LoadInRange, KindInRange, MessageInRange}
+use Rattle.aw_msg.specs.MessageView.{plain_message}
 use Rattle.aw_msg.specs.Frames.{Frame, Push, Choose, Pull, Listed, spelled_payload, FrameInRange}
 
 adds : (a b : List ℕ) (n m : ℕ) → length a ≤ n → length b ≤ m → length (a ++ b) ≤ n + m
@@ -81,23 +80,36 @@ behind_tag : (n m k : ℕ) → n ≤ m → suc m ≤ k → suc n ≤ k
 behind_tag n m k e f = omega arith
 
 body_short : (b : Body) → BodyInRange b → length (spelled_body b) ≤ 6116
-body_short (body.Same r) h = behind_tag _ _ _ (ref_short r h) (omega arith)
-body_short (body.Con c parts) h = whole (length (spelled_refs parts)) (refs_short parts h)
+body_short (Same r) h = behind_tag _ _ _ (ref_short r h) (omega arith)
+body_short (Is (Con c) parts) h = whole (length (spelled_refs parts)) (refs_short parts h.1)
   where
     whole : (n : ℕ) → n ≤ 6113 → suc (suc (suc n)) ≤ 6116
     whole n e = omega arith
-body_short (body.Num n) h = omega arith
-body_short (body.Text t) h = behind_tag _ _ _ (text_short t h) (omega arith)
+body_short (Is (Num n) parts) h = omega arith
+body_short (Is (Text t) parts) h = behind_tag _ _ _ (text_short t h.0.1) (omega arith)
 
-kind_short : (k : MsgKind) → KindInRange k → length (spelled_kind k) ≤ 6881
-kind_short (Call n inherited) h = behind_tag _ _ _ (adds (spelled_node n) (spelled_refs inherited) 761 6113 (node_short n h.0) (refs_short inherited h.1)) (omega arith)
-kind_short (Ask r from) h = behind_tag _ _ _ (adds (spelled_ref r) (to_be_bytes w16 from) 764 2 (ref_short r h) (omega arith)) (omega arith)
-kind_short (Tell equation) h = behind_tag _ _ _ (adds (spelled_ref equation.left) (spelled_body equation.body) 764 6116 (ref_short equation.left h.0) (body_short equation.body h.1)) (omega arith)
+equation_short : (e : Equation) → EquationInRange e → length (spelled_equation e) ≤ 6880
+equation_short e h = adds (spelled_ref e.left) (spelled_body e.body) 764 6116 (ref_short e.left h.0) (body_short e.body h.1)
 
-message_short : (m : Message) → MessageInRange m → length (spelled_message m) ≤ 6884
+load_short : (es : List Equation) → LoadInRange es → length (spelled_load es) ≤ 440321
+load_short [] h = omega arith
+load_short (e ∷ es) h = whole (length (flat_map spelled_equation (e ∷ es))) (length (e ∷ es)) (each_adds spelled_equation EquationInRange 6880 (e ∷ es) equation_short h.1) h.0
+  where
+    whole : (n m : ℕ) → n ≤ m * 6880 → m ≤ 64 → suc n ≤ 440321
+    whole n m e f = omega arith
+
+kind_short : (k : Kind) → KindInRange k → length (spelled_kind k) ≤ 447202
+kind_short (Calls c load) h =
+    behind_tag _ _ _
+    (adds (spelled_node c.node) (spelled_refs c.inherited ++ spelled_load load) 761 446434 (node_short c.node h.0)
+    (adds (spelled_refs c.inherited) (spelled_load load) 6113 440321 (refs_short c.inherited h.1.0) (load_short load h.1.1))) (omega arith)
+kind_short (Asks r from) h = behind_tag _ _ _ (adds (spelled_ref r) (to_be_bytes w16 from) 764 2 (ref_short r h) (omega arith)) (omega arith)
+kind_short (Tells e load) h = behind_tag _ _ _ (adds (spelled_equation e) (spelled_load load) 6880 440321 (equation_short e h.0) (load_short load h.1)) (omega arith)
+
+message_short : (m : Message) → MessageInRange m → length (spelled_message m) ≤ 447205
 message_short m h = whole (length (spelled_kind m.kind)) (kind_short m.kind h)
   where
-    whole : (n : ℕ) → n ≤ 6881 → suc (suc (suc n)) ≤ 6884
+    whole : (n : ℕ) → n ≤ 447202 → suc (suc (suc n)) ≤ 447205
     whole n e = omega arith
 
 -- an argument has at most 1027 bytes for each symbol
@@ -150,7 +162,7 @@ choice_short (Q.Develop n rule args) h =
     more_two n e = omega arith
 
 pub payload_short : (f : Frame) → FrameInRange f → length (spelled_payload f) ≤ 1048576
-payload_short (Push m) h = more (length (spelled_message m)) 6884 1048576 (omega arith) (message_short m h)
+payload_short (Push m) h = more (length (spelled_message (plain_message m))) 447205 1048576 (omega arith) (message_short (plain_message m) h)
 payload_short (Choose c) h = choice_short c h
 payload_short (Pull place) h = omega arith
 payload_short (Listed place) h = omega arith

@@ -5,3 +5,4 @@ pub mod StreamLemmas
 pub mod Extensions
 pub mod PieceLemmas
 pub mod MessageExtends
+pub mod MessageWriting

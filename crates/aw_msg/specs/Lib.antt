@@ -1,8 +1,13 @@
 pub mod FrameView
 pub mod Frames
+pub mod MessageRanges
+pub mod MessageView
 pub mod Messages
 pub mod NextView
 pub mod Pieces
 pub mod Replies
 pub mod ReplyRanges
+pub mod ResponseView
+pub mod Responses
+pub mod Spelling
 pub mod Streams

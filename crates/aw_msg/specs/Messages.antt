@@ -1,64 +1,29 @@
--- How messages are spelled in bytes, version 1, and how they are read.
-use Rattle.std.specs.Prelude.{ℕ, zero, suc, ◌<◌, ◌^◌, Bool, ◌==◌, List, [], ◌∷◌, ◌++◌, length, Err}
-use Rattle.std.specs.Int.{w16, w64, to_be_bytes}
-use Rattle.aw_wire.specs.Reading.{Short, Bad, Reader, ◌>>=◌, byte, number, such_that, both, seen}
-use Rattle.aw_wire.specs.Names.{spelled_node, spelled_ref, spelled_refs, node, reference, references}
-use Rattle.aw_wire.specs.Texts.{spelled_text, text}
-use Rattle.aw_wire.specs.Ranges.{NodeSized, NodeInRange, RefSized, RefInRange, RefsSized, RefsInRange, TextSized, TextInRange}
+-- How messages of the program are spelled in bytes, and how they are read.
+use Rattle.std.specs.Prelude.{ℕ, zero, suc, Bool, true, false, ◌||◌, ◌==◌, List, [], ◌∷◌, length, map, Ok, Err}
+use Rattle.std.specs.Int.{w16, w64}
+use Rattle.aw_wire.specs.Reading.{Short, Bad, Reader, ◌>>=◌, byte, number, such_that, both, seen, counted}
+use Rattle.aw_wire.specs.Names.{is_from_1_to, node, reference, references}
+use Rattle.aw_wire.specs.Texts.{text}
 use Rattle.aw_store.specs.declared.equation.Body.{Body}
 use Rattle.aw_store.specs.declared.equation.Body.TheVariants.{Same, Con, Num, Text}
+use Rattle.aw_store.specs.declared.equation.Equation.{Equation}
 use Rattle.aw_msg.specs.declared.message.MsgKind.{MsgKind}
 use Rattle.aw_msg.specs.declared.message.MsgKind.TheVariants.{Call, Ask, Tell}
 use Rattle.aw_msg.specs.declared.message.Message.{Message}
+use Rattle.aw_msg.specs.Spelling as spelling
+use Rattle.aw_msg.specs.MessageRanges as ranges
+use Rattle.aw_msg.specs.MessageView.{plain_message}
 
--- ---- the spelling
+-- ---- the spelling, and what has one
 
--- 0 and a reference; 1, a constructor in two bytes and its references; 2 and a number in eight bytes; or 3 and a text
-abbrev pub spelled_body : Body → List ℕ
-spelled_body (Same r) = 0 ∷ spelled_ref r
-spelled_body (Con c parts) = 1 ∷ (to_be_bytes w16 c ++ spelled_refs parts)
-spelled_body (Num n) = 2 ∷ to_be_bytes w64 n
-spelled_body (Text t) = 3 ∷ spelled_text t
-
--- 0, a node and its inherited references; 1, a reference and the role that asks; or 2, a reference and its body
-abbrev pub spelled_kind : MsgKind → List ℕ
-spelled_kind (Call n inherited) = 0 ∷ (spelled_node n ++ spelled_refs inherited)
-spelled_kind (Ask r from) = 1 ∷ (spelled_ref r ++ to_be_bytes w16 from)
-spelled_kind (Tell equation) = 2 ∷ (spelled_ref equation.left ++ spelled_body equation.body)
-
--- version 1, the role that the message is for, and the kind
 abbrev pub spelled_message : Message → List ℕ
-spelled_message m = 1 ∷ (to_be_bytes w16 m.to ++ spelled_kind m.kind)
-
--- ---- what has a spelling
-
-abbrev pub BodySized : Body → Type 0
-BodySized (Same r) = RefSized r
-BodySized (Con c parts) = (c < 2 ^ 16) × RefsSized parts
-BodySized (Num n) = n < 2 ^ 64
-BodySized (Text t) = TextSized t
-
-abbrev pub BodyInRange : Body → Type 0
-BodyInRange (Same r) = RefInRange r
-BodyInRange (Con c parts) = RefsInRange parts
-BodyInRange (Num n) = Unit {0}
-BodyInRange (Text t) = TextInRange t
-
-abbrev pub KindSized : MsgKind → Type 0
-KindSized (Call n inherited) = NodeSized n × RefsSized inherited
-KindSized (Ask r from) = RefSized r × (from < 2 ^ 16)
-KindSized (Tell equation) = RefSized equation.left × BodySized equation.body
-
-abbrev pub KindInRange : MsgKind → Type 0
-KindInRange (Call n inherited) = NodeInRange n × RefsInRange inherited
-KindInRange (Ask r from) = RefInRange r
-KindInRange (Tell equation) = RefInRange equation.left × BodyInRange equation.body
+spelled_message m = spelling.spelled_message (plain_message m)
 
 abbrev pub MessageSized : Message → Type 0
-MessageSized m = (m.to < 2 ^ 16) × KindSized m.kind
+MessageSized m = ranges.MessageSized (plain_message m)
 
 abbrev pub MessageInRange : Message → Type 0
-MessageInRange m = KindInRange m.kind
+MessageInRange m = ranges.MessageInRange (plain_message m)
 
 -- ---- reading
 
@@ -70,15 +35,34 @@ body (suc (suc zero) ∷ rest) = seen Num (number w64) rest
 body (suc (suc (suc zero)) ∷ rest) = seen Text text rest
 body (suc (suc (suc (suc b))) ∷ rest) = Err (Bad (suc (length rest)))
 
-unfoldable pub kind : Reader MsgKind
-kind [] = Err Short
-kind (zero ∷ rest) = seen (λ x. Call x.0 x.1) (both node references) rest
-kind (suc zero ∷ rest) = seen (λ x. Ask x.0 x.1) (both reference (number w16)) rest
-kind (suc (suc zero) ∷ rest) = seen (λ x. Tell (record { left = x.0; body = x.1 })) (both reference body) rest
-kind (suc (suc (suc b)) ∷ rest) = Err (Bad (suc (length rest)))
+unfoldable pub equation : Reader Equation
+equation = seen (λ x. record { left = x.0; body = x.1 }) (both reference body)
+
+-- from 1 to 64 equations
+unfoldable pub equations : Reader (List Equation)
+equations = counted (such_that (is_from_1_to 64) byte) equation
+
+-- the load, where the message has one
+unfoldable pub load : Bool → Reader (List Equation)
+load false bytes = Ok ([], bytes)
+load true bytes = equations bytes
+
+-- a message with a load is no question
+unfoldable pub ask : Bool → Reader MsgKind
+ask false rest = seen (λ x. Ask x.0 x.1) (both reference (number w16)) rest
+ask true rest = Err (Bad (suc (length rest)))
+
+-- what behind the role is read of a message with a load, or of one without
+unfoldable pub kind : Bool → Reader MsgKind
+kind loaded [] = Err Short
+kind loaded (zero ∷ rest) = seen (λ x. Call x.0 x.1.0 x.1.1) (both node (both references (load loaded))) rest
+kind loaded (suc zero ∷ rest) = ask loaded rest
+kind loaded (suc (suc zero) ∷ rest) = seen (λ x. Tell x.0 x.1) (both equation (load loaded)) rest
+kind loaded (suc (suc (suc b)) ∷ rest) = Err (Bad (suc (length rest)))
 
 abbrev pub is_version : ℕ → Bool
-is_version v = v == 1
+is_version v = v == 1 || v == 2
 
+-- version 2 has a load, version 1 has none
 unfoldable pub message : Reader Message
-message bytes = such_that is_version byte bytes >>= λ version. seen (λ m. record { to = m.0; kind = m.1 }) (both (number w16) kind) version.1
+message bytes = such_that is_version byte bytes >>= λ version. seen (λ m. record { to = m.0; kind = m.1 }) (both (number w16) (kind (version.0 == 2))) version.1

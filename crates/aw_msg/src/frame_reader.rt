@@ -1,10 +1,10 @@
 //! Requests from a stream that comes in any pieces.
 ghost use Rattle.std.specs.Prelude.{◌≡◌, ◌≤◌, ◌++◌, [], false, length, drop, IfOk, OnOk, OnErr};
 ghost use Rattle.aw_wire.specs.Gives.{Gives};
-ghost use Rattle.aw_msg.specs.Frames.{frame};
+ghost use Rattle.aw_msg.specs.Frames.{frame, FrameInRange};
 ghost use Rattle.aw_msg.specs.FrameView.{frame_of};
 ghost use Rattle.aw_msg.specs.Streams.{next_of, left_of};
-ghost use Rattle.aw_msg.specs.NextView.{answer_of};
+ghost use Rattle.aw_msg.specs.NextView.{answer_of, NextInRange};
 
 use crate::frame::Frame;
 use crate::frame_reading::frame_at;
@@ -43,6 +43,7 @@ impl Model for FrameReader {
 fn first_frame(alloc: Global, bytes: &[u8]) -> Result<(Frame, usize), Unread>
     ensures frame { Gives (λ x. (frame_of x.0, drop x.1 bytes.now)) result (frame bytes.now) }
     ensures within { IfOk result (λ x. x.1 ≤ length bytes.now) }
+    ensures range { IfOk result (λ x. FrameInRange (frame_of x.0)) }
 {
     let (found, rest) = frame_at(alloc, bytes)?;
     Ok((found, bytes.len().saturating_sub(rest.len())))
@@ -70,6 +71,7 @@ impl FrameReader {
     /// What stands next. A frame is taken away; `Need` changes nothing; after `Bad` every later answer is `Bad`. An error changes nothing.
     pub fn next(&mut self) -> Result<Next, AllocError>
         ensures answer { IfOk result (λ next. answer_of next ≡ next_of self.old) }
+        ensures range { IfOk result NextInRange }
         ensures left { OnOk result (self.new ≡ left_of self.old) }
         ensures err { OnErr result (self.new ≡ self.old) }
     {

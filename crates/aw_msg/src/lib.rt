@@ -2,6 +2,7 @@
 #![tactic(auto)]
 
 pub mod decoding;
+pub mod equations;
 pub mod frame;
 pub mod frame_reader;
 pub mod frame_reading;
@@ -18,11 +19,8 @@ pub use decoding::{decode, messages_have_one_spelling};
 pub use frame::Frame;
 pub use frame_reader::{FrameReader, Next};
 pub use law::frames_have_one_spelling;
-pub use message::{Message, MsgKind};
+pub use message::{Message, Messages, MsgKind, copy_message};
 pub use pieces::{Frames, FramesRead, frames_are_those_of_the_bytes, frames_of};
 pub use reply::Answered;
 pub use reply_writing::reply_bytes;
 pub use writing::encode;
-
-#[cfg(test)]
-mod tests;

@@ -4,72 +4,63 @@ ghost use Rattle.aw_wire.specs.Gives.{Gives};
 ghost use Rattle.aw_wire.specs.Reading.{byte, such_that};
 ghost use Rattle.aw_msg.specs.Messages as spec;
 
+use crate::equations::{equation_at, load_at};
 use crate::message::{Message, MsgKind};
-use aw_store::{Body, Equation};
-use aw_wire::items::{byte_at, u16_at, u64_at};
-use aw_wire::{Unread, node_at, ref_at, refs_at, text_at};
+use aw_wire::items::{byte_at, u16_at};
+use aw_wire::{Unread, node_at, ref_at, refs_at};
 use std::alloc::Global;
 
-/// What a reference stands for.
-#[tactic(auto, unfolding(crate::specs::Messages::body))]
-pub fn body_at(alloc: Global, bytes: &[u8]) -> Result<(Body, &[u8]), Unread>
-    ensures { Gives (λ x. (x.0, x.1.now)) result (spec.body bytes.now) }
+/// A question, which has no load; `loaded` tells whether the message has one.
+#[tactic(auto, unfolding(crate::specs::Messages::ask))]
+fn ask_at(alloc: Global, loaded: bool, bytes: &[u8]) -> Result<(MsgKind, &[u8]), Unread>
+    ensures { Gives (λ x. (x.0, x.1.now)) result (spec.ask loaded bytes.now) }
 {
-    match bytes {
-        [] => Err(Unread::Short),
-        [0, rest @ ..] => {
-            let (reference, rest) = ref_at(alloc, rest)?;
-            Ok((Body::Same(reference), rest))
-        }
-        [1, rest @ ..] => {
-            let (con, rest) = u16_at(rest)?;
-            let (parts, rest) = refs_at(alloc, rest)?;
-            Ok((Body::Con(con, parts), rest))
-        }
-        [2, rest @ ..] => {
-            let (number, rest) = u64_at(rest)?;
-            Ok((Body::Num(number), rest))
-        }
-        [3, rest @ ..] => {
-            let (text, rest) = text_at(alloc, rest)?;
-            Ok((Body::Text(text), rest))
-        }
-        [_, ..] => Err(Unread::Bad { left: bytes.len() }),
+    if loaded {
+        return Err(Unread::Bad {
+            left: bytes.len() + 1,
+        });
     }
+    let (reference, rest) = ref_at(alloc, bytes)?;
+    let (from, rest) = u16_at(rest)?;
+    Ok((MsgKind::Ask { reference, from }, rest))
 }
 
+/// What stands behind the role.
 #[tactic(auto, unfolding(crate::specs::Messages::kind))]
-fn kind_at(alloc: Global, bytes: &[u8]) -> Result<(MsgKind, &[u8]), Unread>
-    ensures { Gives (λ x. (x.0, x.1.now)) result (spec.kind bytes.now) }
+fn kind_at(alloc: Global, loaded: bool, bytes: &[u8]) -> Result<(MsgKind, &[u8]), Unread>
+    ensures { Gives (λ x. (x.0, x.1.now)) result (spec.kind loaded bytes.now) }
 {
     match bytes {
         [] => Err(Unread::Short),
         [0, rest @ ..] => {
             let (node, rest) = node_at(alloc, rest)?;
             let (inherited, rest) = refs_at(alloc, rest)?;
-            Ok((MsgKind::Call { node, inherited }, rest))
+            let (load, rest) = load_at(alloc, loaded, rest)?;
+            Ok((
+                MsgKind::Call {
+                    node,
+                    inherited,
+                    load,
+                },
+                rest,
+            ))
         }
-        [1, rest @ ..] => {
-            let (reference, rest) = ref_at(alloc, rest)?;
-            let (from, rest) = u16_at(rest)?;
-            Ok((MsgKind::Ask { reference, from }, rest))
-        }
+        [1, rest @ ..] => ask_at(alloc, loaded, rest),
         [2, rest @ ..] => {
-            let (left, rest) = ref_at(alloc, rest)?;
-            let (body, rest) = body_at(alloc, rest)?;
-            let equation = Equation { left, body };
-            Ok((MsgKind::Tell { equation }, rest))
+            let (equation, rest) = equation_at(alloc, rest)?;
+            let (load, rest) = load_at(alloc, loaded, rest)?;
+            Ok((MsgKind::Tell { equation, load }, rest))
         }
         [_, ..] => Err(Unread::Bad { left: bytes.len() }),
     }
 }
 
-/// The bytes behind the version.
-fn behind_version(bytes: &[u8]) -> Result<(u8, &[u8]), Unread>
+/// The version, 1 or 2, and the bytes behind it.
+fn version_at(bytes: &[u8]) -> Result<(u8, &[u8]), Unread>
     ensures { Gives (λ x. (x.0, x.1.now)) result (such_that spec.is_version byte bytes.now) }
 {
     let (version, rest) = byte_at(bytes)?;
-    if version == 1 {
+    if version == 1 || version == 2 {
         Ok((version, rest))
     } else {
         Err(Unread::Bad { left: bytes.len() })
@@ -81,8 +72,8 @@ fn behind_version(bytes: &[u8]) -> Result<(u8, &[u8]), Unread>
 pub fn message_at(alloc: Global, bytes: &[u8]) -> Result<(Message, &[u8]), Unread>
     ensures { Gives (λ x. (x.0, x.1.now)) result (spec.message bytes.now) }
 {
-    let (_, rest) = behind_version(bytes)?;
+    let (version, rest) = version_at(bytes)?;
     let (to, rest) = u16_at(rest)?;
-    let (kind, rest) = kind_at(alloc, rest)?;
+    let (kind, rest) = kind_at(alloc, version == 2, rest)?;
     Ok((Message { to, kind }, rest))
 }

@@ -1,8 +1,11 @@
 //! The bytes of replies.
 ghost use Rattle.std.specs.Prelude.{◌≡◌, ◌++◌, length, IfOk, OnOk};
-ghost use Rattle.aw_grammar.specs.GrammarOf.{words_of};
+ghost use Rattle.aw_term.specs.Rules.{Grammar as PlainGrammar};
+ghost use Rattle.aw_grammar.specs.GrammarOf.{grammar_of, words_of};
 ghost use Rattle.aw_msg.specs.Replies as spec;
 ghost use Rattle.aw_msg.specs.ReplyRanges.{ReplyInRange};
+ghost use Rattle.aw_msg.specs.MessageView.{content_of};
+ghost use Rattle.aw_msg.specs.ResponseView.{response_of};
 
 use crate::reply::Answered;
 use crate::writing::add_message;
@@ -14,7 +17,7 @@ use aw_wire::writing::{add_byte, add_u64};
 use std::alloc::{AllocError, Global};
 
 fn add_content(text: &mut Text, g: &Grammar, content: &Content) -> Result<(), AllocError>
-    ensures { OnOk result (text.new ≡ text.old ++ spec.content_text (words_of g.now) content.now) }
+    ensures { OnOk result (text.new ≡ text.old ++ spec.content_text (words_of g.now) (content_of content.now)) }
 {
     match content {
         Content::Inherited(refs) => {
@@ -32,7 +35,7 @@ fn add_conflict(
     kept: &Content,
     came: &Content,
 ) -> Result<(), AllocError>
-    ensures { OnOk result (text.new ≡ text.old ++ spec.conflict_text (words_of g.now) kept.now came.now) }
+    ensures { OnOk result (text.new ≡ text.old ++ spec.conflict_text (words_of g.now) (content_of kept.now) (content_of came.now)) }
 {
     text.push_bytes(b"kept ")?;
     add_content(text, g, kept)?;
@@ -41,7 +44,7 @@ fn add_conflict(
 }
 
 fn kind_of(r: &Answered) -> u8
-    ensures { result ≡ spec.reply_kind r.now }
+    ensures { (plain : PlainGrammar) → result ≡ spec.reply_kind (response_of plain r.now) }
 {
     match r {
         Answered::New => 1,
@@ -60,7 +63,7 @@ fn kind_of(r: &Answered) -> u8
 
 fn add_payload(text: &mut Text, g: &Grammar, r: &Answered) -> Result<(), AllocError>
     requires { ReplyInRange r.now }
-    ensures { OnOk result (text.new ≡ text.old ++ spec.reply_payload (words_of g.now) r.now) }
+    ensures { OnOk result (text.new ≡ text.old ++ spec.reply_payload (words_of g.now) (response_of (grammar_of g.now) r.now)) }
 {
     match r {
         Answered::Conflict { kept, came } => add_conflict(text, g, kept, came),
@@ -86,7 +89,7 @@ fn length_of(payload: &Text) -> Result<u32, AllocError>
 /// The bytes of a reply: its kind, the length of its payload, and the payload.
 pub fn reply_bytes(alloc: Global, g: &Grammar, r: &Answered) -> Result<Text, AllocError>
     requires { ReplyInRange r.now }
-    ensures { IfOk result (λ text. text ≡ spec.spelled_reply (words_of g.now) r.now) }
+    ensures { IfOk result (λ text. text ≡ spec.spelled_reply (words_of g.now) (response_of (grammar_of g.now) r.now)) }
 {
     let mut payload = Text::new(alloc);
     add_payload(&mut payload, g, r)?;

@@ -1,0 +1,44 @@
+-- Which messages have a spelling in bytes. The sizes are those of the program's types; the ranges say the rest.
+use Rattle.std.specs.Prelude.{ℕ, ◌<◌, ◌≤◌, ◌^◌, List, length}
+use Rattle.aw_term.specs.WellFormed.{Each}
+use Rattle.aw_store.specs.Equations.{Body, Same, Is, Equation}
+use Rattle.aw_apply.specs.Messages.{Kind, Calls, Asks, Tells, Message}
+use Rattle.aw_wire.specs.Ranges.{NodeSized, NodeInRange, RefSized, RefInRange, RefsSized, RefsInRange, HeadSized, HeadInRange}
+
+abbrev pub BodySized : Body → Type 0
+BodySized (Same r) = RefSized r
+BodySized (Is h parts) = HeadSized h × RefsSized parts
+
+-- a number and a text have no references, a constructor has at most 8
+abbrev pub BodyInRange : Body → Type 0
+BodyInRange (Same r) = RefInRange r
+BodyInRange (Is h parts) = HeadInRange h (length parts) × RefsInRange parts
+
+abbrev pub EquationSized : Equation → Type 0
+EquationSized e = RefSized e.left × BodySized e.body
+
+abbrev pub EquationInRange : Equation → Type 0
+EquationInRange e = RefInRange e.left × BodyInRange e.body
+
+abbrev pub LoadSized : List Equation → Type 0
+LoadSized es = Each EquationSized es
+
+-- at most 64 equations
+abbrev pub LoadInRange : List Equation → Type 0
+LoadInRange es = (length es ≤ 64) × Each EquationInRange es
+
+abbrev pub KindSized : Kind → Type 0
+KindSized (Calls c load) = NodeSized c.node × (RefsSized c.inherited × LoadSized load)
+KindSized (Asks r from) = RefSized r × (from < 2 ^ 16)
+KindSized (Tells e load) = EquationSized e × LoadSized load
+
+abbrev pub KindInRange : Kind → Type 0
+KindInRange (Calls c load) = NodeInRange c.node × (RefsInRange c.inherited × LoadInRange load)
+KindInRange (Asks r from) = RefInRange r
+KindInRange (Tells e load) = EquationInRange e × LoadInRange load
+
+abbrev pub MessageSized : Message → Type 0
+MessageSized m = (m.to < 2 ^ 16) × KindSized m.kind
+
+abbrev pub MessageInRange : Message → Type 0
+MessageInRange m = KindInRange m.kind

@@ -1,0 +1,90 @@
+//! Readers of equations and of loads.
+ghost use Rattle.std.specs.Prelude.{◌≡◌};
+ghost use Rattle.aw_wire.specs.Gives.{Gives};
+ghost use Rattle.aw_wire.specs.Reading.{times};
+ghost use Rattle.aw_msg.specs.Messages as spec;
+
+use aw_store::{Body, Equation, Equations};
+use aw_wire::items::{position_at, u16_at, u64_at};
+use aw_wire::{Unread, ref_at, refs_at, text_at};
+use std::alloc::Global;
+
+/// The most equations of a load.
+pub const MOST_OF_LOAD: u8 = 64;
+
+/// What a reference stands for.
+#[tactic(auto, unfolding(crate::specs::Messages::body))]
+pub fn body_at(alloc: Global, bytes: &[u8]) -> Result<(Body, &[u8]), Unread>
+    ensures { Gives (λ x. (x.0, x.1.now)) result (spec.body bytes.now) }
+{
+    match bytes {
+        [] => Err(Unread::Short),
+        [0, rest @ ..] => {
+            let (reference, rest) = ref_at(alloc, rest)?;
+            Ok((Body::Same(reference), rest))
+        }
+        [1, rest @ ..] => {
+            let (con, rest) = u16_at(rest)?;
+            let (parts, rest) = refs_at(alloc, rest)?;
+            Ok((Body::Con(con, parts), rest))
+        }
+        [2, rest @ ..] => {
+            let (number, rest) = u64_at(rest)?;
+            Ok((Body::Num(number), rest))
+        }
+        [3, rest @ ..] => {
+            let (text, rest) = text_at(alloc, rest)?;
+            Ok((Body::Text(text), rest))
+        }
+        [_, ..] => Err(Unread::Bad { left: bytes.len() }),
+    }
+}
+
+/// An equation.
+#[tactic(auto, unfolding(crate::specs::Messages::equation))]
+pub fn equation_at(alloc: Global, bytes: &[u8]) -> Result<(Equation, &[u8]), Unread>
+    ensures { Gives (λ x. (x.0, x.1.now)) result (spec.equation bytes.now) }
+{
+    let (left, rest) = ref_at(alloc, bytes)?;
+    let (body, rest) = body_at(alloc, rest)?;
+    Ok((Equation { left, body }, rest))
+}
+
+fn some_equations_at(
+    alloc: Global,
+    count: u8,
+    bytes: &[u8],
+) -> Result<(Vec<Equation>, &[u8]), Unread>
+    ensures { Gives (λ x. (x.0.items, x.1.now)) result (times spec.equation count bytes.now) }
+{
+    let mut equations = Vec::new(alloc);
+    let mut rest = bytes;
+    for _ in 0..count {
+        let (equation, behind) = equation_at(alloc, rest)?;
+        equations.push(equation)?;
+        rest = behind;
+    }
+    Ok((equations, rest))
+}
+
+/// From 1 to 64 equations, behind their number.
+#[tactic(auto, unfolding(crate::specs::Messages::equations))]
+fn equations_at(alloc: Global, bytes: &[u8]) -> Result<(Equations, &[u8]), Unread>
+    ensures { Gives (λ x. (x.0, x.1.now)) result (spec.equations bytes.now) }
+{
+    let (count, rest) = position_at(MOST_OF_LOAD, bytes)?;
+    let (equations, rest) = some_equations_at(alloc, count, rest)?;
+    Ok((Equations::from_vec(equations), rest))
+}
+
+/// The load, where the message has one.
+#[tactic(auto, unfolding(crate::specs::Messages::load))]
+pub fn load_at(alloc: Global, loaded: bool, bytes: &[u8]) -> Result<(Equations, &[u8]), Unread>
+    ensures { Gives (λ x. (x.0, x.1.now)) result (spec.load loaded bytes.now) }
+{
+    if loaded {
+        equations_at(alloc, bytes)
+    } else {
+        Ok((Equations::new(alloc), bytes))
+    }
+}
