@@ -5,7 +5,7 @@ use Rattle.aw_term.specs.Names.{Ref}
 use Rattle.aw_term.specs.Rules.{Rule, Grammar, Value}
 use Rattle.aw_term.specs.Matching.{match_all}
 use Rattle.aw_term.specs.Configs.{State, Pending, Done, Row, Config}
-use Rattle.aw_term.specs.Choices.{Outcome, Refused, Starts, Takes, after_guard, undivided}
+use Rattle.aw_term.specs.Choices.{Outcome, Refused, Starts, Takes, after_guard}
 use Rattle.aw_term.specs.Artifacts.{Words}
 use Rattle.aw_term.specs.Runs.{refusal_of, item_at, rule_items, row_items, worklist}
 use Rattle.aw_term.specs.Held.{Held}
