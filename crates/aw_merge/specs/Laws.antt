@@ -1,12 +1,13 @@
 -- What holds of every world of an accepted grammar, over all choices and deliveries, late, repeated and out of order.
-use Rattle.std.specs.Prelude.{◌≡◌, ℕ, ◌<◌, ◌≤◌, Bool, true, false, List, [], map, length, Some, None, ◌⊎◌}
+use Rattle.std.specs.Prelude.{◌≡◌, ℕ, ◌<◌, ◌≤◌, Bool, true, false, List, [], map, length, Some, None, ◌⊎◌, ◌∷◌, ◌++◌}
 use Rattle.aw_term.specs.Trees.{Never}
 use Rattle.aw_term.specs.Names.{Node, Ref, root}
 use Rattle.aw_term.specs.Rules.{Term, Ground, Rule, Grammar}
 use Rattle.aw_term.specs.Matching.{Yes, Waits, Differs, Circle}
 use Rattle.aw_term.specs.Configs.{Pending, Done, Config}
 use Rattle.aw_term.specs.Choices.{Choice, Start, Develop, Answer, Taken, Developed, CircleAt, Refused, Starts, Takes, undivided, answer}
-use Rattle.aw_term.specs.Artifacts.{Words, artifact_text}
+use Rattle.aw_term.specs.Artifacts.{Words, Item, artifact_text}
+use Rattle.aw_term.specs.Runs.{worklist}
 use Rattle.aw_term.specs.WellFormed.{Each}
 use Rattle.aw_term.specs.Held.{Held}
 use Rattle.aw_base.specs.ChoiceFits.{choice_ok}
@@ -22,6 +23,7 @@ use Rattle.aw_react.specs.Homes.{home}
 use Rattle.aw_react.specs.Sites.{Site, empty_site, Reaction}
 use Rattle.aw_react.specs.Choosing.{No, outcome, answer_to, choose}
 use Rattle.aw_react.specs.Reacting.{receive}
+use Rattle.aw_react.specs.Worklists.{open_items}
 pub use Rattle.aw_react.specs.Worlds.{MayCome, world_after}
 use Rattle.aw_react.specs.Worlds.{World, empty_world, site_at, gather, node_of, Move, Chooses, Delivers, run, IsQuiet, settle}
 use Rattle.aw_react.specs.Bounds.{bound_of, settled}
@@ -102,6 +104,16 @@ QuietHolds g = InEachWorld g (λ loads w. (c : Config) × (undivided g [] w.take
 abbrev pub QuietAnswers : Grammar → Type 0
 QuietAnswers g = InEachWorld g (λ loads w. (c : Config) × (undivided g [] w.taken ≡ Some c)
     × (IsQuiet w → (x : Choice) → answer_to (choose g (site_at w (home g (node_of x))) x) ≡ answer g c x))
+
+-- the items of these nodes, each over the equations of its own site
+abbrev pub own_items : Grammar → World → List Held → List Item
+own_items g w [] = []
+own_items g w (h ∷ hs) = open_items g h.state (site_at w (home g h.node)).equations h ++ own_items g w hs
+
+-- at quiet the worklists of all sites, put together in the order of nodes, are that of the configuration
+abbrev pub QuietWorklists : Grammar → Type 0
+QuietWorklists g = InEachWorld g (λ loads w. (c : Config) × (undivided g [] w.taken ≡ Some c)
+    × (IsQuiet w → own_items g w (gather w.sites) ≡ worklist g c))
 
 -- one role alone sends no message
 abbrev pub OneRole : Grammar → Type 0

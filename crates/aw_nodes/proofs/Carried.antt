@@ -21,31 +21,18 @@ use Rattle.aw_react.specs.Sites.{Site, empty_site, Reaction}
 use Rattle.aw_react.specs.Worlds.{node_of, World, empty_world, site_at, received_at, deliver_on, first_false, Move, Delivers, step, run, IsQuiet}
 use Rattle.aw_merge.specs.Invariant.{sender, IsSent, IsDelivered}
 use Rattle.aw_merge.specs.Laws.{MayCome, world_after}
-use Rattle.aw_merge.proofs.Lists.{Member-filter, Member-filtered}
+use Rattle.aw_merge.proofs.Lists.{Member-filter, Member-filtered, length-mapped}
 use Rattle.aw_merge.proofs.Places.{get-set, get-set_other, length-set, member-get, same_or_not, set-here}
 use Rattle.aw_merge.proofs.Settling.{run_both}
 use Rattle.aw_merge.proofs.Counting.{none_past}
-use Rattle.aw_nodes.specs.Couriers.{Heard, Pushed, Gave, Had, hear, Session, Courier, new_courier, for_role, without, turn_room, turn_messages, asks, after_reply, behind, pulls, pushes, requests, note, noted, after_session, AreReplies, AreTurns, moves, round_moves, after_all, IsSpelling, flat, IsRound, IsQuietCall, Visit, choice_frame, asked_at, choice_frames, session_frames, visit_frames, IsPrefix, IsHonestWire, session_of, NoChoice, NoneLater, ChoicesOk}
-use Rattle.aw_nodes.specs.Nodes.{Frame, Push, Choose, Pull, Response, NotForMe, NotValid, Answers, Sends, chosen, at_place, Asked, ask, sites_after, all_replies, happening_of, happenings, ReadAs}
+use Rattle.aw_nodes.specs.Couriers.{Heard, Pushed, Gave, Had, hear, Session, Courier, new_courier, for_role, without, turn_room, turn_messages, asks, after_reply, behind, pulls, pushes, requests, note, noted, after_session, AreReplies, AreTurns, moves, round_moves, after_all, flat, IsRound, IsQuietCall, Visit, choice_frame, asked_at, choice_frames, session_frames, visit_frames, IsPrefix, IsHonestWire, session_of, NoChoice, NoneLater, ChoicesOk}
+use Rattle.aw_nodes.specs.Nodes.{Frame, Push, Choose, Pull, NotForMe, NotValid, Answers, Sends, chosen, at_place, Asked, ask, sites_after, all_replies, happening_of, happenings, ReadAs}
 use Rattle.aw_nodes.proofs.Mail.{Given}
-use Rattle.aw_nodes.proofs.Served.{set-same, read-append, get-short, Follows, run-follows, IsReached, reached-run, reached-mail, Went, pushed, chose}
-
-some-inj : {A : Type 0} {a b : A} → Some a ≡ Some b → a ≡ b
-some-inj e = cc
-
-length-more : {A : Type 0} (xs ys : List A) → length xs ≤ length (xs ++ ys)
-length-more [] ys = omega arith
-length-more (x ∷ xs) ys = let i = length-more xs ys in omega (arith, i)
-
-get-within : {A : Type 0} (xs : List A) (k : ℕ) → k < length xs → (x : A) × (slice_get xs k ≡ Some x)
-get-within [] k l = absurd (omega arith)
-get-within (x ∷ xs) zero l = (x, refl)
-get-within (x ∷ xs) (suc k) l = get-within xs k (omega arith)
+use Rattle.aw_nodes.proofs.Served.{read-append, IsReached, reached-run, reached-mail, Went, pushed, chose}
+use Rattle.aw_nodes.proofs.ListParts.{cons-inj, set-same, get-short, some-inj, length-more, get-within}
+use Rattle.aw_nodes.proofs.Following.{Follows, run-follows}
 
 -- the waiting messages of a role
-cons-inj : {A : Type 0} {x y : A} {xs ys : List A} → x ∷ xs ≡ y ∷ ys → (x ≡ y) × (xs ≡ ys)
-cons-inj e = (cc, cc)
-
 first-waits : (r : ℕ) (ws ms : List Message) (m : Message) → for_role r ws ≡ m ∷ ms → Member m ws × (m.to ≡ r)
 first-waits r [] ms m e = absurd cc
 first-waits r (w ∷ ws) ms m e = go (nat_eq w.to r) refl e (first-waits r ws ms m)
@@ -95,10 +82,6 @@ length-replies : (g : Grammar) (ss : List Site) (xs : List Asked) → length (al
 length-replies g ss [] = refl
 length-replies g ss (x ∷ xs) = ap suc (length-replies g (ask g ss x) xs)
 
-length-mapped : {A B : Type 0} (f : A → B) (xs : List A) → length (map f xs) ≡ length xs
-length-mapped f [] = refl
-length-mapped f (x ∷ xs) = ap suc (length-mapped f xs)
-
 -- a prefix of the same length is the whole
 whole-prefix : {A : Type 0} (xs ys zs : List A) → ys ≡ xs ++ zs → length xs ≡ length ys → xs ≡ ys
 whole-prefix xs ys [] e l = sym (e ∙ append-nil xs)
@@ -107,29 +90,6 @@ whole-prefix xs ys (z ∷ zs) e l = absurd (let p = ap length e in let q = longe
     longer : {A : Type 0} (xs : List A) (z : A) (zs : List A) → length xs < length (xs ++ z ∷ zs)
     longer [] z zs = omega arith
     longer (x ∷ xs) z zs = let i = longer xs z zs in omega (arith, i)
-
--- what is heard in bytes
-cancel : {A : Type 0} (xs ys zs : List A) → xs ++ ys ≡ xs ++ zs → ys ≡ zs
-cancel [] ys zs e = e
-cancel (x ∷ xs) ys zs e = cancel xs ys zs (cons-inj e).1
-
-pub bytes_are_heard : (spelled : Response → List ℕ) (read : List ℕ → Option Heard) → IsSpelling spelled read →
-    (bs : List (List ℕ)) (hs : List Heard) (xs : List Response) → map read bs ≡ map Some hs → IsPrefix (flat bs) (flat (map spelled xs)) → IsPrefix hs (map hear xs)
-bytes_are_heard spelled read S bs [] xs e p = (map hear xs, refl)
-bytes_are_heard spelled read S [] (h ∷ hs) xs e p = absurd cc
-bytes_are_heard spelled read S (b ∷ bs) (h ∷ hs) [] e (zs, q) = never (no-bytes b refl q)
-  where
-    some-not : {A : Type 0} {a : A} → None ≡ Some a → Never
-    some-not e = absurd cc
-
-    no-bytes : (c : List ℕ) → b ≡ c → [] ≡ (c ++ flat bs) ++ zs → Never
-    no-bytes [] d q = some-not (sym S.some_ ∙ (ap read (sym d) ∙ (cons-inj e).0))
-    no-bytes (x ∷ c) d q = absurd cc
-bytes_are_heard spelled read S (b ∷ bs) (h ∷ hs) (x ∷ xs) e (zs, q) =
-    let z = S.one b (flat bs ++ zs) (flat (map spelled xs)) h x (cons-inj e).0 (sym (append_assoc b (flat bs) zs) ∙ sym q) in
-    let r : flat (map spelled xs) ≡ flat bs ++ zs = cancel (spelled x) (flat (map spelled xs)) (flat bs ++ zs) (q ∙ (sym (sym (append_assoc b (flat bs) zs)) ∙ ap (λ c. c ++ (flat bs ++ zs)) z.0)) in
-    let t = bytes_are_heard spelled read S bs hs xs (cons-inj e).1 (zs, r) in
-    (t.0, ap (λ y. y ∷ map hear xs) (sym z.1) ∙ ap (λ ys. h ∷ ys) t.1)
 
 module _ (g : Grammar) (G : Given g) (loads : Bool) where
   -- frames that were asked, as events of a world

@@ -1,7 +1,6 @@
 -- A world with crashes is a world without them, of the events that remain.
 use Rattle.std.specs.Prelude.{slice_get, slice_set, ◌⊎◌, ◌&&◌, not, nat_eq, nat_le, filter}
-use Rattle.std.proofs.lemmas.Option.{slice_get_within}
-use Rattle.std.proofs.Common.{◌≡◌, ℕ, zero, suc, ◌+◌, ◌<◌, ◌≤◌, Bool, true, false, cond, List, [], ◌∷◌, ◌++◌, map, length, Option, Some, None, refl, sym, ap, ◌∙◌, subst, inl, inr, arith, length-append, append_assoc}
+use Rattle.std.proofs.Common.{◌≡◌, ℕ, zero, suc, ◌+◌, ◌<◌, ◌≤◌, Bool, true, false, cond, List, [], ◌∷◌, ◌++◌, map, length, Option, Some, None, refl, sym, ap, ◌∙◌, subst, inl, inr, arith, length-append}
 use Rattle.std.proofs.lemmas.Bool.{eqb-true, eq-eqb, cases_lt, leb-true, le-leb}
 use Rattle.std.proofs.lemmas.List.{take_all, take-append-le, append-nil, map-append}
 use Rattle.aw_term.specs.Choices.{Choice}
@@ -9,74 +8,19 @@ use Rattle.aw_term.specs.Rules.{Grammar, get, upto}
 use Rattle.aw_term.specs.Trees.{Never}
 use Rattle.aw_term.specs.WellFormed.{Each}
 use Rattle.aw_term.proofs.Eaches.{each_append}
-use Rattle.aw_base.specs.ChoiceFits.{choice_ok}
 use Rattle.aw_iograph.specs.Graphs.{Member}
 use Rattle.aw_iograph.proofs.Members.{never, member_left}
 use Rattle.aw_apply.specs.Messages.{Message, Received, New, Repeat, Conflict, NotMine, BadName}
-use Rattle.aw_space.specs.Joint.{Joint}
 use Rattle.aw_react.specs.Choosing.{Chosen, No, Did, choose}
 use Rattle.aw_react.specs.Homes.{home}
 use Rattle.aw_react.specs.Reacting.{receive}
 use Rattle.aw_react.specs.SiteEvents.{SiteEvent, Chose, Got, after_choice, after_message, site_step, site_run}
 use Rattle.aw_react.specs.Sites.{Site, Reaction, empty_site}
-use Rattle.aw_react.specs.Worlds.{node_of, empty_world, site_at, with_site, chosen_at, mark_delivered, received_at, deliver_on, Move, Chooses, Delivers, run}
-use Rattle.aw_merge.specs.Invariant.{IsInvariant}
-use Rattle.aw_merge.specs.Laws.{MayCome, world_after, InvariantHolds}
+use Rattle.aw_react.specs.Worlds.{node_of, Move, Chooses, Delivers}
+use Rattle.aw_merge.specs.Laws.{MayCome}
 use Rattle.aw_merge.proofs.Places.{get-set, get-set_other, length-set, same_or_not}
-use Rattle.aw_merge.proofs.Settling.{run_both}
-use Rattle.aw_nodes.specs.Crashes.{Kept, Posted, Past, Frail, new_kept, kept_at, start_at, kept_after, posting, posts_of, happen, chosen_frail, reaction_of, with_delivery, delivered_frail, frail_step, is_dropped, back_kept, back_post, back_posted, back_past, go_back, MayGoBack, FrailEvent, Happens, GoesBack, frail_run, AreAllowed, is_delivered, choices_in, remaining, world_of, kept_choice, kept_message, kept_frame, kept_frames}
-use Rattle.aw_nodes.specs.Nodes.{Frame, Push, Choose, Pull, Listed, NotValid, NotForMe, received, chosen, handle, site_after, ReadAs}
-use Rattle.aw_nodes.proofs.Served.{set-same, read-append, filter-append}
-
--- lists
-set-set : {A : Type 0} (xs : List A) (i : ℕ) (u v : A) → slice_set (slice_set xs i u) i v ≡ slice_set xs i v
-set-set [] i u v = refl
-set-set (x ∷ xs) zero u v = refl
-set-set (x ∷ xs) (suc i) u v = ap (◌∷◌ x) (set-set xs i u v)
-
-set-swap : {A : Type 0} (xs : List A) (i j : ℕ) (u v : A) → (i ≡ j → Never) → slice_set (slice_set xs i u) j v ≡ slice_set (slice_set xs j v) i u
-set-swap [] i j u v n = refl
-set-swap (x ∷ xs) zero zero u v n = never (n refl)
-set-swap (x ∷ xs) zero (suc j) u v n = refl
-set-swap (x ∷ xs) (suc i) zero u v n = refl
-set-swap (x ∷ xs) (suc i) (suc j) u v n = ap (◌∷◌ x) (set-swap xs i j u v (λ e. n (ap suc e)))
-
-set-get : {A : Type 0} (xs : List A) (i : ℕ) (v : A) → slice_get xs i ≡ Some v → slice_set xs i v ≡ xs
-set-get [] i v e = refl
-set-get (x ∷ xs) zero v e = let p : v ≡ x = cc in ap (λ v. v ∷ xs) p
-set-get (x ∷ xs) (suc i) v e = ap (◌∷◌ x) (set-get xs i v e)
-
-set-append : {A : Type 0} (xs ys : List A) (i : ℕ) (v : A) → i < length xs → slice_set (xs ++ ys) i v ≡ slice_set xs i v ++ ys
-set-append [] ys i v l = absurd (omega arith)
-set-append (x ∷ xs) ys zero v l = refl
-set-append (x ∷ xs) ys (suc i) v l = ap (◌∷◌ x) (set-append xs ys i v (omega arith))
-
-map-set : {A B : Type 0} (f : A → B) (xs : List A) (i : ℕ) (v : A) → map f (slice_set xs i v) ≡ slice_set (map f xs) i (f v)
-map-set f [] i v = refl
-map-set f (x ∷ xs) zero v = refl
-map-set f (x ∷ xs) (suc i) v = ap (◌∷◌ (f x)) (map-set f xs i v)
-
-map-get : {A B : Type 0} (f : A → B) (d : A) (xs : List A) (i : ℕ) → get (f d) (map f xs) i ≡ f (get d xs i)
-map-get f d [] i = refl
-map-get f d (x ∷ xs) zero = refl
-map-get f d (x ∷ xs) (suc i) = map-get f d xs i
-
-map-map : {A B C : Type 0} (f : B → C) (h : A → B) (xs : List A) → map f (map h xs) ≡ map (λ x. f (h x)) xs
-map-map f h [] = refl
-map-map f h (x ∷ xs) = ap (◌∷◌ (f (h x))) (map-map f h xs)
-
-map-self : {A : Type 0} (f : A → A) (xs : List A) → ((x : A) → f x ≡ x) → map f xs ≡ xs
-map-self f [] h = refl
-map-self f (x ∷ xs) h = λ i. h x i ∷ map-self f xs h i
-
-slice-map : {A B : Type 0} (f : A → B) (xs : List A) (i : ℕ) (v : A) → slice_get xs i ≡ Some v → slice_get (map f xs) i ≡ Some (f v)
-slice-map f [] i v e = absurd cc
-slice-map f (x ∷ xs) zero v e = let p : x ≡ v = cc in ap (λ x. Some (f x)) p
-slice-map f (x ∷ xs) (suc i) v e = slice-map f xs i v e
-
-nil-left : {A : Type 0} (xs : List A) (y : A) → xs ++ y ∷ [] ≡ [] → Never
-nil-left [] y e = absurd cc
-nil-left (x ∷ xs) y e = absurd cc
+use Rattle.aw_nodes.specs.Crashes.{Kept, Posted, Past, Frail, new_kept, kept_at, start_at, kept_after, posting, posts_of, happen, chosen_frail, reaction_of, with_delivery, delivered_frail, frail_step, is_dropped, back_kept, back_post, back_posted, back_past, go_back, MayGoBack, FrailEvent, Happens, GoesBack, frail_run, AreAllowed}
+use Rattle.aw_nodes.proofs.ListParts.{set-set, set-swap, set-get, nil-left, set-same, filter-append}
 
 -- sites are those of their own events
 events-more : (g : Grammar) (s : Site) (hs : List SiteEvent) (h : SiteEvent) → site_run g s (hs ++ h ∷ []) ≡ site_step g (site_run g s hs) h
@@ -440,7 +384,7 @@ module _ (g : Grammar) (loads : Bool) where
   step-own w (Chooses c) p = chosen-own w (home g (node_of c)) c (choose g (kept_at w (home g (node_of c))).site c) refl p
   step-own w (Delivers k) p = delivered-own w k (slice_get w.posted k) p
 
-  run-own : (w : Frail) (es : List Move) → Own w → Own (plain_run w es)
+  pub run-own : (w : Frail) (es : List Move) → Own w → Own (plain_run w es)
   run-own w [] p = p
   run-own w (e ∷ es) p = run-own (frail_step g w e) es (step-own w e p)
 
@@ -456,7 +400,7 @@ module _ (g : Grammar) (loads : Bool) where
   step-size w (Chooses c) = chosen-size w (home g (node_of c)) c (choose g (kept_at w (home g (node_of c))).site c)
   step-size w (Delivers k) = delivered-size w k (slice_get w.posted k)
 
-  run-size : (w : Frail) (es : List Move) → length (plain_run w es).kept ≡ length w.kept
+  pub run-size : (w : Frail) (es : List Move) → length (plain_run w es).kept ≡ length w.kept
   run-size w [] = refl
   run-size w (e ∷ es) = run-size (frail_step g w e) es ∙ step-size w e
 
@@ -484,14 +428,14 @@ module _ (g : Grammar) (loads : Bool) where
   empty-kept i (suc n) zero r l = let z : i ≡ i + 0 = omega arith in ap (new_kept loads) z
   empty-kept i (suc n) (suc j) r l = let z : suc i + j ≡ i + suc j = omega arith in empty-kept (suc i) n j r (omega arith) ∙ ap (new_kept loads) z
 
-  empty-size : (i n : ℕ) → length {A = Kept} (map (new_kept loads) (upto i n)) ≡ n
+  pub empty-size : (i n : ℕ) → length {A = Kept} (map (new_kept loads) (upto i n)) ≡ n
   empty-size i zero = refl
   empty-size i (suc n) = ap suc (empty-size (suc i) n)
 
   start-kept : (r : ℕ) → r < g.roles → kept_at (start_at g loads) r ≡ new_kept loads r
   start-kept r l = let z : 0 + r ≡ r = omega arith in empty-kept 0 g.roles r r l ∙ ap (new_kept loads) z
 
-  start-own : Own (start_at g loads)
+  pub start-own : Own (start_at g loads)
   start-own r l =
       let z = empty-size 0 g.roles in
       subst (IsOwn r) (sym (start-kept r (omega (arith, z, l)))) refl
@@ -504,7 +448,7 @@ module _ (g : Grammar) (loads : Bool) where
       λ i. record (start_at g loads) { kept = (ap (λ (k : Kept). slice_set (start_at g loads).kept r k) e ∙ set-same (new_kept false r) (start_at g loads).kept r) i }
 
   -- each world with crashes is one without
-  without : (fs : List Move) → Each (MayCome g) fs → (es : List FrailEvent) → AreAllowed g loads (plain_run (start_at g loads) fs) es → Replays (start_at g loads) (frail_run g loads (plain_run (start_at g loads) fs) es)
+  pub without : (fs : List Move) → Each (MayCome g) fs → (es : List FrailEvent) → AreAllowed g loads (plain_run (start_at g loads) fs) es → Replays (start_at g loads) (frail_run g loads (plain_run (start_at g loads) fs) es)
   without fs k [] h = (fs, k, refl)
   without fs k (Happens e ∷ es) h =
       let q = plain-append (start_at g loads) fs (e ∷ []) in
@@ -515,214 +459,3 @@ module _ (g : Grammar) (loads : Bool) where
       let q = ap (λ u. plain_run u hs) (sym (start-back r n (run-before (start_at g loads) r n fs h.0).0)) ∙ s in
       let (is, b, t) = without hs a es (subst (λ u. AreAllowed g loads u es) (sym q) h.1) in
       (is, b, t ∙ ap (λ u. frail_run g loads u es) q)
-
--- seen as a world
-choices-append : (hs is : List SiteEvent) → choices_in (hs ++ is) ≡ choices_in hs ++ choices_in is
-choices-append [] is = refl
-choices-append (Chose c ∷ hs) is = ap (◌∷◌ c) (choices-append hs is)
-choices-append (Got m ∷ hs) is = choices-append hs is
-
-delivered-more : (ds : List ℕ) (c : ℕ) → is_delivered (ds ++ c ∷ []) ≡ true
-delivered-more [] c = refl
-delivered-more (d ∷ ds) c = refl
-
-no-slice : {A B : Type 0} (f : A → B) (xs : List A) (k : ℕ) → slice_get xs k ≡ None → slice_get (map f xs) k ≡ None
-no-slice f [] k e = refl
-no-slice f (x ∷ xs) zero e = absurd cc
-no-slice f (x ∷ xs) (suc k) e = no-slice f xs k e
-
-length-mapped : {A B : Type 0} (f : A → B) (xs : List A) → length (map f xs) ≡ length xs
-length-mapped f [] = refl
-length-mapped f (x ∷ xs) = ap suc (length-mapped f xs)
-
-abbrev site : Kept → Site
-site k = k.site
-
-abbrev message : Posted → Message
-message p = p.message
-
-abbrev is_sent : Posted → Bool
-is_sent p = is_delivered p.deliveries
-
-abbrev happening : Past → SiteEvent
-happening e = e.happening
-
-module _ (g : Grammar) (loads : Bool) where
-  site-seen : (w : Frail) (r : ℕ) → site_at (world_of w) r ≡ (kept_at w r).site
-  site-seen w r = map-get site (new_kept false r) w.kept r
-
-  messages-seen : (ps : List Posted) (a n : ℕ) (ms : List Message) → map message (ps ++ map (posting a n) ms) ≡ map message ps ++ ms
-  messages-seen ps a n ms = map-append message ps (map (posting a n) ms) ∙ ap (λ qs. map message ps ++ qs) (map-map message (posting a n) ms ∙ map-self (λ m. m) ms (λ m. refl))
-
-  marks-seen : (ps : List Posted) (a n : ℕ) (ms : List Message) → map is_sent (ps ++ map (posting a n) ms) ≡ map is_sent ps ++ map (λ m. false) ms
-  marks-seen ps a n ms = map-append is_sent ps (map (posting a n) ms) ∙ ap (λ qs. map is_sent ps ++ qs) (map-map is_sent (posting a n) ms)
-
-  taken-seen : (es : List Past) (e : Past) → choices_in (map happening (es ++ e ∷ [])) ≡ choices_in (map happening es) ++ choices_in (e.happening ∷ [])
-  taken-seen es e = ap choices_in (map-append happening es (e ∷ [])) ∙ choices-append (map happening es) (e.happening ∷ [])
-
-  took-seen : (w : Frail) (a : ℕ) (c : Choice) (x : Reaction) → (chosen_at (world_of w) a c (Did x)).world ≡ world_of (happen w a (Chose c) (Some x) w.posted)
-  took-seen w a c x = λ i. record {
-    sites = sym (map-set site w.kept a (kept_after (kept_at w a) (Chose c) (Some x))) i;
-    messages = sym (messages-seen w.posted a (length (kept_at w a).events) x.sent) i;
-    delivered = sym (marks-seen w.posted a (length (kept_at w a).events) x.sent) i;
-    taken = sym (taken-seen w.past (record { role = a; before = length (kept_at w a).events; happening = Chose c })) i;
-  }
-
-  module _ (w : Frail) (k : ℕ) (p : Posted) (e : slice_get w.posted k ≡ Some p) (c : ℕ) where
-    noted-messages : map message (slice_set w.posted k (with_delivery c p)) ≡ map message w.posted
-    noted-messages = map-set message w.posted k (with_delivery c p) ∙ set-get (map message w.posted) k p.message (slice-map message w.posted k p e)
-
-    noted-marks : map is_sent (slice_set w.posted k (with_delivery c p)) ≡ slice_set (map is_sent w.posted) k true
-    noted-marks = map-set is_sent w.posted k (with_delivery c p) ∙ ap (slice_set (map is_sent w.posted) k) (delivered-more p.deliveries c)
-
-    got-taken : (a b : ℕ) → choices_in (map happening (w.past ++ record { role = a; before = b; happening = Got p.message } ∷ [])) ≡ choices_in (map happening w.past)
-    got-taken a b = taken-seen w.past (record { role = a; before = b; happening = Got p.message }) ∙ append-nil (choices_in (map happening w.past))
-
-    new-seen : (a : ℕ) (x : Reaction) → mark_delivered k (with_site (world_of w) a x) ≡ world_of (happen w a (Got p.message) (Some x) (slice_set w.posted k (with_delivery c p)))
-    new-seen a x =
-        let l : k < length (map is_sent w.posted) = (let y = slice_get_within w.posted k p e in let z = length-mapped is_sent w.posted in omega (arith, y, z)) in
-        λ i. record {
-          sites = sym (map-set site w.kept a (kept_after (kept_at w a) (Got p.message) (Some x))) i;
-          messages = sym (messages-seen (slice_set w.posted k (with_delivery c p)) a (length (kept_at w a).events) x.sent ∙ ap (λ ms. ms ++ x.sent) noted-messages) i;
-          delivered = sym (marks-seen (slice_set w.posted k (with_delivery c p)) a (length (kept_at w a).events) x.sent
-              ∙ (ap (λ ms. ms ++ map (λ m. false) x.sent) noted-marks ∙ sym (set-append (map is_sent w.posted) (map (λ m. false) x.sent) k true l))) i;
-          taken = sym (got-taken a (length (kept_at w a).events)) i;
-        }
-
-    old-seen : (a : ℕ) → mark_delivered k (world_of w) ≡ world_of (happen w a (Got p.message) None (slice_set w.posted k (with_delivery c p)))
-    old-seen a =
-        λ i. record {
-          sites = sym (ap (map site) (set-same (new_kept false a) w.kept a)) i;
-          messages = sym (ap (map message) (append-nil (slice_set w.posted k (with_delivery c p))) ∙ noted-messages) i;
-          delivered = sym (ap (map is_sent) (append-nil (slice_set w.posted k (with_delivery c p))) ∙ noted-marks) i;
-          taken = sym (got-taken a (length (kept_at w a).events)) i;
-        }
-
-    got-seen : (a : ℕ) (z : Received Reaction) → (received_at (world_of w) k a z).world ≡ world_of (happen w a (Got p.message) (reaction_of z) (slice_set w.posted k (with_delivery c p)))
-    got-seen a (New x) = new-seen a x
-    got-seen a Repeat = old-seen a
-    got-seen a (Conflict b d) = old-seen a
-    got-seen a NotMine = old-seen a
-    got-seen a BadName = old-seen a
-
-  -- events that lead from one world with crashes to another, and what they add to the past
-  record Tells (u v : Frail) : Type 0 where
-    events : List Move
-    past : List Past
-    more : v.past ≡ u.past ++ past
-    read : ReadAs g (world_of u) (map happening past) events
-    is : run g (world_of u) events ≡ world_of v
-    ok : Each (MayCome g) events
-
-  tells-none : (w : Frail) → Tells w w
-  tells-none w = record { events = []; past = []; more = sym (append-nil w.past); read = tt; is = refl; ok = tt }
-
-  tells-on : (u v w : Frail) → Tells u v → Tells v w → Tells u w
-  tells-on u v w p q = record {
-    events = p.events ++ q.events;
-    past = p.past ++ q.past;
-    more = q.more ∙ (ap (λ es. es ++ q.past) p.more ∙ append_assoc u.past p.past q.past);
-    read = subst (λ hs. ReadAs g (world_of u) hs (p.events ++ q.events)) (sym (map-append happening p.past q.past))
-        (read-append g (world_of u) (map happening p.past) (map happening q.past) p.events q.events p.read (subst (λ x. ReadAs g x (map happening q.past) q.events) (sym p.is) q.read));
-    is = run_both g (world_of u) p.events q.events ∙ (ap (λ x. run g x q.events) p.is ∙ q.is);
-    ok = each_append (MayCome g) p.events q.events p.ok q.ok;
-  }
-
-  chose-tells : (w : Frail) (c : Choice) → MayCome g (Chooses c) → (z : Chosen) → choose g (kept_at w (home g (node_of c))).site c ≡ z → Tells w (chosen_frail w (home g (node_of c)) c z)
-  chose-tells w c ok (No b) e = tells-none w
-  chose-tells w c ok (Did x) e = record {
-    events = Chooses c ∷ [];
-    past = record { role = home g (node_of c); before = length (kept_at w (home g (node_of c))).events; happening = Chose c } ∷ [];
-    more = refl;
-    read = (refl, tt);
-    is = ap (λ z. (chosen_at (world_of w) (home g (node_of c)) c z).world) (ap (λ s. choose g s c) (site-seen w (home g (node_of c))) ∙ e) ∙ took-seen w (home g (node_of c)) c x;
-    ok = (ok, tt);
-  }
-
-  got-tells : (w : Frail) (k : ℕ) (o : Option Posted) → slice_get w.posted k ≡ o → Tells w (delivered_frail g w k o)
-  got-tells w k None e = tells-none w
-  got-tells w k (Some p) e = record {
-    events = Delivers k ∷ [];
-    past = record { role = p.message.to; before = length (kept_at w p.message.to).events; happening = Got p.message } ∷ [];
-    more = refl;
-    read = (slice-map message w.posted k p e, tt);
-    is = ap (λ o. (deliver_on g (world_of w) k o).world) (slice-map message w.posted k p e)
-        ∙ (ap (λ s. (received_at (world_of w) k p.message.to (receive g s p.message)).world) (site-seen w p.message.to)
-        ∙ got-seen w k p e (length (kept_at w p.message.to).events) p.message.to (receive g (kept_at w p.message.to).site p.message));
-    ok = (tt, tt);
-  }
-
-  step-tells : (w : Frail) (e : Move) → MayCome g e → Tells w (frail_step g w e)
-  step-tells w (Chooses c) ok = chose-tells w c ok (choose g (kept_at w (home g (node_of c))).site c) refl
-  step-tells w (Delivers k) ok = got-tells w k (slice_get w.posted k) refl
-
-  run-tells : (w : Frail) (es : List Move) → Each (MayCome g) es → Tells w (plain_run g loads w es)
-  run-tells w [] k = tells-none w
-  run-tells w (e ∷ es) k = tells-on w (frail_step g w e) (plain_run g loads (frail_step g w e) es) (step-tells w e k.0) (run-tells (frail_step g w e) es k.1)
-
-  start-seen : world_of (start_at g loads) ≡ empty_world g loads
-  start-seen = λ i. record { sites = map-map site (new_kept loads) (upto 0 g.roles) i; messages = []; delivered = []; taken = [] }
-
-  -- the laws as they are stated
-  pub crashes_leave_a_world : (es : List FrailEvent) → AreAllowed g loads (start_at g loads) es →
-      (fs : List Move) × ReadAs g (empty_world g loads) (remaining (frail_run g loads (start_at g loads) es)) fs × Each (MayCome g) fs
-      × (world_after g loads fs ≡ world_of (frail_run g loads (start_at g loads) es))
-  crashes_leave_a_world es h =
-      let (fs, k, q) = without g loads [] tt es h in
-      let T : Tells (start_at g loads) (frail_run g loads (start_at g loads) es) = subst (Tells (start_at g loads)) q (run-tells (start_at g loads) fs k) in (
-        T.events,
-        subst (λ x. ReadAs g x (remaining (frail_run g loads (start_at g loads) es)) T.events) start-seen
-            (subst (λ es. ReadAs g (world_of (start_at g loads)) (map happening es) T.events) (sym T.more) T.read),
-        T.ok,
-        ap (λ x. run g x T.events) (sym start-seen) ∙ T.is,
-      )
-
-  pub sites_are_their_events : (es : List FrailEvent) → AreAllowed g loads (start_at g loads) es → (r : ℕ) → r < g.roles →
-      (kept_at (frail_run g loads (start_at g loads) es) r).site ≡ site_run g (empty_site loads r) (kept_at (frail_run g loads (start_at g loads) es) r).events
-  sites_are_their_events es h r l =
-      let (fs, k, q) = without g loads [] tt es h in
-      let size : length (frail_run g loads (start_at g loads) es).kept ≡ length (start_at g loads).kept = subst (λ (u : Frail). length u.kept ≡ length (start_at g loads).kept) q (run-size g loads (start_at g loads) fs) in
-      let n = empty-size g loads 0 g.roles in
-      let own : Own g loads (frail_run g loads (start_at g loads) es) = subst (Own g loads) q (run-own g loads (start_at g loads) fs (start-own g loads)) in
-      own r (omega (arith, size, n, l))
-
-pub invariant_after_crashes : (g : Grammar) → InvariantHolds g → (loads : Bool) (es : List FrailEvent) → AreAllowed g loads (start_at g loads) es →
-    (x : Joint) × IsInvariant g loads (world_of (frail_run g loads (start_at g loads) es)) x
-invariant_after_crashes g I loads es h =
-    let (fs, r, k, q) = crashes_leave_a_world g loads es h in
-    subst (λ w. (x : Joint) × IsInvariant g loads w x) q (I loads fs k)
-
--- a kept node
-events-append : (g : Grammar) (s : Site) (hs is : List SiteEvent) → site_run g s (hs ++ is) ≡ site_run g (site_run g s hs) is
-events-append g s [] is = refl
-events-append g s (h ∷ hs) is = events-append g (site_step g s h) hs is
-
-kept-chosen : (g : Grammar) (s : Site) (c : Choice) (z : Chosen) → choose g s c ≡ z → (chosen s z).site ≡ site_run g s (kept_choice c z)
-kept-chosen g s c (No a) e = refl
-kept-chosen g s c (Did x) e = sym (ap (after_choice s) e)
-
-kept-got : (g : Grammar) (s : Site) (m : Message) (z : Received Reaction) → receive g s m ≡ z → (received s z).site ≡ site_run g s (kept_message m z)
-kept-got g s m (New x) e = sym (ap (after_message s) e)
-kept-got g s m Repeat e = refl
-kept-got g s m (Conflict a b) e = refl
-kept-got g s m NotMine e = refl
-kept-got g s m BadName e = refl
-
-kept-choose : (g : Grammar) (s : Site) (c : Choice) (a b : Bool)
-    → (cond (not a) (record { site = s; response = NotValid }) (cond (not b) (record { site = s; response = NotForMe }) (chosen s (choose g s c)))).site
-    ≡ site_run g s (cond (not a) [] (cond (not b) [] (kept_choice c (choose g s c))))
-kept-choose g s c true true = kept-chosen g s c (choose g s c) refl
-kept-choose g s c true false = refl
-kept-choose g s c false b = refl
-
-kept-frame : (g : Grammar) (s : Site) (f : Frame) → (handle g s f).site ≡ site_run g s (kept_frame g s f)
-kept-frame g s (Push m) = kept-got g s m (receive g s m) refl
-kept-frame g s (Choose c) = kept-choose g s c (choice_ok g c) (nat_eq (home g (node_of c)) s.role)
-kept-frame g s (Pull k) = refl
-kept-frame g s (Listed k) = refl
-
-pub kept_events : (g : Grammar) (s : Site) (fs : List Frame) → site_after g s fs ≡ site_run g s (kept_frames g s fs)
-kept_events g s [] = refl
-kept_events g s (f ∷ fs) =
-    kept_events g (handle g s f).site fs
-    ∙ (ap (λ t. site_run g t (kept_frames g (handle g s f).site fs)) (kept-frame g s f) ∙ sym (events-append g s (kept_frame g s f) (kept_frames g (handle g s f).site fs)))

@@ -1,9 +1,9 @@
 -- Nodes that are served honest frames have the sites of a world.
-use Rattle.std.specs.Prelude.{slice_get, slice_set, ◌⊎◌, not, nat_eq, filter}
+use Rattle.std.specs.Prelude.{slice_get, slice_set, ◌⊎◌, not, nat_eq}
 use Rattle.std.proofs.lemmas.List.{append-nil}
-use Rattle.std.proofs.Common.{◌≡◌, ℕ, zero, suc, ◌<◌, ◌≤◌, Bool, true, false, cond, List, [], ◌∷◌, ◌++◌, map, length, Option, Some, None, refl, sym, ap, ◌∙◌, subst, inl, inr, arith}
-use Rattle.std.proofs.lemmas.Bool.{eqb-true, eq-eqb, cases_lt}
-use Rattle.aw_term.specs.Choices.{Choice, Start, Develop, Answer, Outcome, Refused, Starts, Takes}
+use Rattle.std.proofs.Common.{◌≡◌, ℕ, zero, suc, ◌<◌, Bool, true, false, cond, List, [], ◌∷◌, ◌++◌, map, length, Option, Some, None, refl, sym, ap, ◌∙◌, subst, inl, inr, arith}
+use Rattle.std.proofs.lemmas.Bool.{eqb-true, eq-eqb}
+use Rattle.aw_term.specs.Choices.{Choice, Answer}
 use Rattle.aw_term.specs.Names.{Ref}
 use Rattle.aw_term.specs.Rules.{Grammar, get, upto}
 use Rattle.aw_term.specs.Trees.{Never}
@@ -12,26 +12,21 @@ use Rattle.aw_term.proofs.Eaches.{each_append}
 use Rattle.aw_base.specs.ChoiceFits.{choice_ok}
 use Rattle.aw_iograph.specs.Graphs.{Member}
 use Rattle.aw_iograph.proofs.Members.{never, member_right, member_got}
-use Rattle.aw_apply.specs.Messages.{Kind, Calls, Asks, Tells, Message, Received, New, Repeat, Conflict, NotMine, BadName, Clash}
-use Rattle.aw_react.specs.Choosing.{Chosen, No, Did, choose, choose_on, outcome}
+use Rattle.aw_apply.specs.Messages.{Message, Received, New, Repeat, Conflict, NotMine, BadName}
+use Rattle.aw_react.specs.Choosing.{Chosen, No, Did, choose}
 use Rattle.aw_react.specs.Homes.{home}
-use Rattle.aw_react.specs.Reacting.{receive, react, received_on}
-use Rattle.aw_react.specs.Receiving.{clash, is_repeat, is_mine}
+use Rattle.aw_react.specs.Reacting.{receive}
 use Rattle.aw_react.specs.SiteEvents.{SiteEvent, Chose, Got}
 use Rattle.aw_react.specs.Sites.{Site, Reaction, empty_site}
-use Rattle.aw_react.specs.ValidNames.{message_ok}
-use Rattle.aw_react.specs.Worlds.{node_of, World, empty_world, site_at, with_site, chosen_at, mark_delivered, received_at, deliver_on, Move, Chooses, Delivers, step, run}
-use Rattle.aw_merge.specs.Invariant.{sender, IsSent, IsDelivered}
+use Rattle.aw_react.specs.Worlds.{node_of, World, empty_world, site_at, with_site, chosen_at, received_at, deliver_on, Move, Chooses, Delivers, step, run}
+use Rattle.aw_merge.specs.Invariant.{sender, IsSent}
 use Rattle.aw_merge.specs.Laws.{MayCome, world_after}
-use Rattle.aw_merge.proofs.Places.{get-left, get-set, get-set_other, length-set, member-get, same_or_not, set-kept}
+use Rattle.aw_merge.proofs.Places.{get-set, get-set_other, length-set, member-get, same_or_not}
 use Rattle.aw_merge.proofs.Settling.{run_both}
 use Rattle.aw_nodes.specs.Nodes.{Frame, Push, Choose, Pull, Listed, Answers, NotValid, NotForMe, received, chosen, handle, Asked, site_of, ask, sites_after, IsHonestFrame, AreHonest, site_after, replies, all_replies, asked_of, replies_of, happening_of, happenings, ReadAs, SaysSame, world_replies, reply_of, event_replies, AllSaySame, sent_by}
 use Rattle.aw_nodes.proofs.Mail.{Mail, Given}
-
-pub set-same : {A : Type 0} (d : A) (xs : List A) (i : ℕ) → slice_set xs i (get d xs i) ≡ xs
-set-same d [] i = refl
-set-same d (x ∷ xs) zero = refl
-set-same d (x ∷ xs) (suc i) = ap (◌∷◌ x) (set-same d xs i)
+use Rattle.aw_nodes.proofs.ListParts.{set-same, filter-append, filter-all, filter-none}
+use Rattle.aw_nodes.proofs.Following.{took-sites, delivered-sites, choose-boxes, receive-boxes}
 
 pub read-append : (g : Grammar) (w : World) (hs is : List SiteEvent) (es fs : List Move) → ReadAs g w hs es → ReadAs g (run g w es) is fs → ReadAs g w (hs ++ is) (es ++ fs)
 read-append g w [] is [] fs p q = q
@@ -43,24 +38,6 @@ read-append g w (Chose c ∷ hs) is (Delivers k ∷ es) fs p q = never p
 read-append g w (Got m ∷ hs) is (Chooses d ∷ es) fs p q = never p
 read-append g w (Got m ∷ hs) is (Delivers k ∷ es) fs p q = (p.0, read-append g (step g w (Delivers k)).world hs is es fs p.1 q)
 
--- the sites after one event are those of its frame
-took-sites : (w : World) (r : ℕ) (c : Choice) (z : Chosen) → (chosen_at w r c z).world.sites ≡ slice_set w.sites r (chosen (site_at w r) z).site
-took-sites w r c (No a) = sym (set-same (empty_site false r) w.sites r)
-took-sites w r c (Did x) = refl
-
-got-sites : (w : World) (k to : ℕ) (z : Received Reaction) → (received_at w k to z).world.sites ≡ slice_set w.sites to (received (site_at w to) z).site
-got-sites w k to (New x) = refl
-got-sites w k to Repeat = sym (set-same (empty_site false to) w.sites to)
-got-sites w k to (Conflict a b) = sym (set-same (empty_site false to) w.sites to)
-got-sites w k to NotMine = sym (set-same (empty_site false to) w.sites to)
-got-sites w k to BadName = sym (set-same (empty_site false to) w.sites to)
-
-pub delivered-sites : (g : Grammar) (w : World) (k : ℕ) (m : Message) (o : Option Message) → o ≡ Some m → (deliver_on g w k o).world.sites ≡ slice_set w.sites m.to (received (site_at w m.to) (receive g (site_at w m.to) m)).site
-delivered-sites g w k m None e = absurd cc
-delivered-sites g w k m (Some n) e =
-    let p : n ≡ m = cc in
-    subst (λ (m : Message). (deliver_on g w k (Some n)).world.sites ≡ slice_set w.sites m.to (received (site_at w m.to) (receive g (site_at w m.to) m)).site) p (got-sites w k n.to (receive g (site_at w n.to) n))
-
 -- a choice that is answered is a choice of this role
 answered : (a b : Bool) (s : Site) (z : Chosen) (x : Answer Ref) → (cond (not a) (record { site = s; response = NotValid }) (cond (not b) (record { site = s; response = NotForMe }) (chosen s z))).response ≡ Answers x → (a ≡ true) × (b ≡ true)
 answered true true s z x e = (refl, refl)
@@ -71,116 +48,6 @@ pub answered-site : (a b : Bool) (s : Site) (z : Chosen) → a ≡ true → b �
 answered-site true true s z p q = refl
 answered-site true false s z p q = absurd cc
 answered-site false b s z p q = absurd cc
-
--- a later world: what was sent, delivered or put into an outbox is still there
-pub record Follows (w v : World) : Type 0 where
-  pub sent : (k : ℕ) (m : Message) → IsSent w m k → IsSent v m k
-  pub delivered : (k : ℕ) → IsDelivered w k → IsDelivered v k
-  pub boxes : (a p : ℕ) (m : Message) → slice_get (site_at w a).outbox p ≡ Some m → slice_get (site_at v a).outbox p ≡ Some m
-
-pub follows-self : (w : World) → Follows w w
-follows-self w = record { sent = λ k m e. e; delivered = λ k e. e; boxes = λ a p m e. e }
-
-pub follows-on : (u v w : World) → Follows u v → Follows v w → Follows u w
-follows-on u v w p q = record {
-  sent = λ k m e. q.sent k m (p.sent k m e);
-  delivered = λ k e. q.delivered k (p.delivered k e);
-  boxes = λ a i m e. q.boxes a i m (p.boxes a i m e);
-}
-
--- what a site sends is put behind what it sent before
-did-inj : {x y : Reaction} → Did x ≡ Did y → x ≡ y
-did-inj e = cc
-
-new-inj : {x y : Reaction} → New x ≡ New y → x ≡ y
-new-inj e = cc
-
-choose_on-boxes : (g : Grammar) (s : Site) (c : Choice) (o : Outcome Ref Ref) (x : Reaction) → choose_on g s c o ≡ Did x → x.site.outbox ≡ s.outbox ++ x.sent
-choose_on-boxes g s c (Refused a) x e = absurd cc
-choose_on-boxes g s (Start st k) Starts x e = subst (λ (x : Reaction). x.site.outbox ≡ s.outbox ++ x.sent) (did-inj e) (sym (append-nil s.outbox))
-choose_on-boxes g s (Develop n r args) Starts x e = absurd cc
-choose_on-boxes g s (Start st k) (Takes rule xs) x e = absurd cc
-choose_on-boxes g s (Develop n r args) (Takes rule xs) x e = subst (λ (x : Reaction). x.site.outbox ≡ s.outbox ++ x.sent) (did-inj e) refl
-
-pub choose-boxes : (g : Grammar) (s : Site) (c : Choice) (x : Reaction) → choose g s c ≡ Did x → x.site.outbox ≡ s.outbox ++ x.sent
-choose-boxes g s c x e = choose_on-boxes g s c (outcome g s c) x e
-
-react-boxes : (g : Grammar) (s : Site) (k : Kind) → (react g s k).site.outbox ≡ s.outbox ++ (react g s k).sent
-react-boxes g s (Calls c load) = refl
-react-boxes g s (Asks r from) = refl
-react-boxes g s (Tells e load) = refl
-
-new-of : (o : Option Clash) (b : Bool) (x y : Reaction) → received_on o b x ≡ New y → x ≡ y
-new-of (Some c) b x y e = absurd cc
-new-of None true x y e = absurd cc
-new-of None false x y e = cc
-
-cond-new : (b : Bool) (z o : Received Reaction) (y : Reaction) → (z ≡ New y → Never) → cond b z o ≡ New y → o ≡ New y
-cond-new true z o y f e = never (f e)
-cond-new false z o y f e = e
-
-pub receive-boxes : (g : Grammar) (s : Site) (m : Message) (y : Reaction) → receive g s m ≡ New y → y.site.outbox ≡ s.outbox ++ y.sent
-receive-boxes g s m y e =
-    let a = cond-new (not (message_ok g s.role m)) BadName _ y (λ z. absurd cc) e in
-    let b = cond-new (not (is_mine g s.role m)) NotMine _ y (λ z. absurd cc) a in
-    subst (λ (y : Reaction). y.site.outbox ≡ s.outbox ++ y.sent) (new-of (clash s m.kind) (is_repeat s m.kind) (react g s m.kind) y b) (react-boxes g s m.kind)
-
-pub get-short : {A : Type 0} (d : A) (xs : List A) (i : ℕ) → length xs ≤ i → get d xs i ≡ d
-get-short d [] i l = refl
-get-short d (x ∷ xs) zero l = absurd (omega arith)
-get-short d (x ∷ xs) (suc i) l = get-short d xs i (omega arith)
-
-set-short : {A : Type 0} (xs : List A) (i : ℕ) (v : A) → length xs ≤ i → slice_set xs i v ≡ xs
-set-short [] i v l = refl
-set-short (x ∷ xs) zero v l = absurd (omega arith)
-set-short (x ∷ xs) (suc i) v l = ap (◌∷◌ x) (set-short xs i v (omega arith))
-
--- the site of a role after one site changed
-with-boxes : (w : World) (r : ℕ) (x : Reaction) → x.site.outbox ≡ (site_at w r).outbox ++ x.sent → (a p : ℕ) (m : Message) → slice_get (site_at w a).outbox p ≡ Some m → slice_get (site_at (with_site w r x) a).outbox p ≡ Some m
-with-boxes w r x q a p m e =
-    elim (same_or_not r a) [
-      | inr n ↦ subst (λ (s : Site). slice_get s.outbox p ≡ Some m) (sym (get-set_other (empty_site false a) w.sites r a x.site n)) e
-      | inl h ↦ elim (cases_lt r (length w.sites)) [
-        | inl l ↦ (let u : slice_get (site_at w r).outbox p ≡ Some m = subst (λ a. slice_get (site_at w a).outbox p ≡ Some m) (sym h) e in
-            let z : slice_get x.site.outbox p ≡ Some m = subst (λ ms. slice_get ms p ≡ Some m) (sym q) (get-left (site_at w r).outbox x.sent p m u) in
-            subst (λ a. slice_get (site_at (with_site w r x) a).outbox p ≡ Some m) h (subst (λ (s : Site). slice_get s.outbox p ≡ Some m) (sym (get-set (empty_site false r) w.sites r x.site l)) z))
-        | inr l ↦ subst (λ (ss : List Site). slice_get (get (empty_site false a) ss a).outbox p ≡ Some m) (sym (set-short w.sites r x.site l)) e
-      ]
-    ]
-
-took-follows : (g : Grammar) (w : World) (r : ℕ) (c : Choice) (z : Chosen) → choose g (site_at w r) c ≡ z → Follows w (chosen_at w r c z).world
-took-follows g w r c (No a) e = follows-self w
-took-follows g w r c (Did x) e = record {
-  sent = λ k m i. get-left w.messages x.sent k m i;
-  delivered = λ k i. get-left w.delivered (map (λ m. false) x.sent) k true i;
-  boxes = with-boxes w r x (choose-boxes g (site_at w r) c x e);
-}
-
-repeat-follows : (w : World) (k : ℕ) → Follows w (mark_delivered k w)
-repeat-follows w k = record { sent = λ j m i. i; delivered = λ j i. set-kept w.delivered k j i; boxes = λ a p m i. i }
-
-got-follows : (g : Grammar) (w : World) (k : ℕ) (m : Message) (z : Received Reaction) → receive g (site_at w m.to) m ≡ z → Follows w (received_at w k m.to z).world
-got-follows g w k m (New x) e = record {
-  sent = λ j n i. get-left w.messages x.sent j n i;
-  delivered = λ j i. set-kept (w.delivered ++ map (λ m. false) x.sent) k j (get-left w.delivered (map (λ m. false) x.sent) j true i);
-  boxes = with-boxes w m.to x (receive-boxes g (site_at w m.to) m x e);
-}
-got-follows g w k m Repeat e = repeat-follows w k
-got-follows g w k m (Conflict a b) e = repeat-follows w k
-got-follows g w k m NotMine e = repeat-follows w k
-got-follows g w k m BadName e = repeat-follows w k
-
-deliver-follows : (g : Grammar) (w : World) (k : ℕ) (o : Option Message) → Follows w (deliver_on g w k o).world
-deliver-follows g w k None = follows-self w
-deliver-follows g w k (Some m) = got-follows g w k m (receive g (site_at w m.to) m) refl
-
-pub step-follows : (g : Grammar) (w : World) (e : Move) → Follows w (step g w e).world
-step-follows g w (Chooses c) = took-follows g w (home g (node_of c)) c (choose g (site_at w (home g (node_of c))) c) refl
-step-follows g w (Delivers k) = deliver-follows g w k (slice_get w.messages k)
-
-pub run-follows : (g : Grammar) (w : World) (es : List Move) → Follows w (run g w es)
-run-follows g w [] = follows-self w
-run-follows g w (e ∷ es) = follows-on w (step g w e).world (run g w (e ∷ es)) (step-follows g w e) (run-follows g (step g w e).world es)
 
 module _ (g : Grammar) (G : Given g) (loads : Bool) where
   -- a world that some events lead to
@@ -357,23 +224,6 @@ own_sessions g ss (a ∷ as_) r l = go (let n = length-set ss a.role (handle g (
     go rest false e =
         let q = own_site g ss a r l false e in
         (rest.0 ∙ ap (λ s. site_after g s (asked_of r as_)) q, rest.1 ∙ ap (λ s. replies g s (asked_of r as_)) q)
-
--- the messages by sender
-pub filter-append : {A : Type 0} (p : A → Bool) (xs ys : List A) → filter p (xs ++ ys) ≡ filter p xs ++ filter p ys
-filter-append p [] ys = refl
-filter-append p (x ∷ xs) ys = go (p x) (filter-append p xs ys)
-  where
-    go : (b : Bool) → filter p (xs ++ ys) ≡ filter p xs ++ filter p ys → cond b (x ∷ filter p (xs ++ ys)) (filter p (xs ++ ys)) ≡ cond b (x ∷ filter p xs) (filter p xs) ++ filter p ys
-    go true e = ap (◌∷◌ x) e
-    go false e = e
-
-pub filter-all : {A : Type 0} (p : A → Bool) (xs : List A) → ((x : A) → Member x xs → p x ≡ true) → filter p xs ≡ xs
-filter-all p [] f = refl
-filter-all p (x ∷ xs) f = ap (λ b. cond b (x ∷ filter p xs) (filter p xs)) (f x (inl refl)) ∙ ap (◌∷◌ x) (filter-all p xs (λ y m. f y (inr m)))
-
-filter-none : {A : Type 0} (p : A → Bool) (xs : List A) → ((x : A) → Member x xs → p x ≡ false) → filter p xs ≡ []
-filter-none p [] f = refl
-filter-none p (x ∷ xs) f = ap (λ b. cond b (x ∷ filter p xs) (filter p xs)) (f x (inl refl)) ∙ filter-none p xs (λ y m. f y (inr m))
 
 module _ (g : Grammar) (G : Given g) (loads : Bool) where
   abbrev Boxed : World → Type 0

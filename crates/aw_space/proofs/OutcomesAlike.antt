@@ -22,7 +22,7 @@ OutLike k Starts Starts = Unit {0}
 OutLike k (Takes r xs) (Takes r' ts) = (r ≡ r') × AllUnfold k xs ts
 OutLike k _ _ = Never
 
-guard_like : (k : Map) (n : Node) (ru : Rule) (m : Matched Ref Ref) (m' : Matched Value Ref) → Like k m m' → OutLike k (after_guard n ru m) (after_guard n ru m')
+pub guard_like : (k : Map) (n : Node) (ru : Rule) (m : Matched Ref Ref) (m' : Matched Value Ref) → Like k m m' → OutLike k (after_guard n ru m) (after_guard n ru m')
 guard_like k n ru (Yes rs) (Yes ts) l = cond_pair (OutLike k) (deep n ru) (deep n ru) (Refused TooDeep) (Takes ru rs) (Refused TooDeep) (Takes ru ts) refl refl (refl, l)
 guard_like k n ru (Waits r) (Waits s) l = λ i. WaitsFor (l i)
 guard_like k n ru (Differs p) (Differs q) l = λ i. Mismatch (l i)

@@ -1,5 +1,6 @@
 use Rattle.aw_nodes.proofs.Mail.{given}
-use Rattle.aw_nodes.proofs.Carried.{quiet_means_quiet, bytes_are_heard}
+use Rattle.aw_nodes.proofs.Carried.{quiet_means_quiet}
+use Rattle.aw_nodes.proofs.HeardBytes.{bytes_are_heard}
 use Rattle.aw_nodes.proofs.laws.courier_laws.Goals as goal
 
 pub returns-clause-quiet : goal.returns-clause-quiet
