@@ -1,5 +1,5 @@
 -- A message whose names are valid for a grammar is in range.
-use Rattle.std.proofs.Common.{◌≡◌, ℕ, ◌≤◌, true, List, [], ◌∷◌, length, Option, Some, is_some, slice_get, ap, subst, sym, arith}
+use Rattle.std.proofs.Common.{◌≡◌, ℕ, ◌≤◌, true, List, length, Some, is_some, slice_get, ap, subst, sym, arith}
 use Rattle.aw_term.specs.Trees.{Head, Con, Num, Text}
 use Rattle.aw_term.specs.Names.{Ref}
 use Rattle.aw_term.specs.Rules.{Grammar, sort_of}
