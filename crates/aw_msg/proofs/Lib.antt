@@ -6,3 +6,5 @@ pub mod Extensions
 pub mod PieceLemmas
 pub mod MessageExtends
 pub mod MessageWriting
+pub mod MessageViews
+pub mod ValidMessages

@@ -1,5 +1,5 @@
 -- Which messages have a spelling in bytes. The sizes are those of the program's types; the ranges say the rest.
-use Rattle.std.specs.Prelude.{ℕ, ◌<◌, ◌≤◌, ◌^◌, List, length}
+use Rattle.std.specs.Prelude.{◌<◌, ◌≤◌, ◌^◌, List, length}
 use Rattle.aw_term.specs.WellFormed.{Each}
 use Rattle.aw_store.specs.Equations.{Body, Same, Is, Equation}
 use Rattle.aw_apply.specs.Messages.{Kind, Calls, Asks, Tells, Message}

@@ -1,5 +1,5 @@
 //! Writers of messages: each adds the one spelling of a value at the end of a text, and what was written has the sizes of the program's types.
-ghost use Rattle.std.specs.Prelude.{◌≡◌, ◌++◌, OnOk, OnErr, IfOk, flat_map, map, length, ◌≤◌};
+ghost use Rattle.std.specs.Prelude.{◌≡◌, ◌++◌, OnOk, OnErr, IfOk, flat_map, map};
 ghost use Rattle.std.specs.Io.{StartsWith};
 ghost use Rattle.aw_term.specs.WellFormed.{Each};
 ghost use Rattle.aw_store.specs.EquationView.{body_of, equation_of};

@@ -11,7 +11,7 @@ use Rattle.aw_term.specs.Names.{Step, Node, Slot, Result, Part, Ref}
 use Rattle.aw_term.specs.Rules.{Child, Rule, Sort, Grammar, Ground, child_at, sort_of_step, sort_after, sort_of}
 use Rattle.aw_term.specs.Choices.{Choice, Start, Develop, gives_of}
 use Rattle.aw_term.specs.Artifacts.{Words}
-use Rattle.aw_term.specs.WellFormed.{Each, head_fits, heads_fit, all_heads_fit, nesting, symbols_of, SortFits, RuleFits, IsWellFormed}
+use Rattle.aw_term.specs.WellFormed.{Each, head_fits, heads_fit, all_heads_fit, nesting, symbols_of, takes_of, SortFits, RuleFits, IsWellFormed}
 use Rattle.aw_term.proofs.LastSteps.{followed, mapped, where_true}
 use Rattle.aw_grammar.specs.declared.grammar.Grammar as program
 use Rattle.aw_grammar.specs.GrammarOf.{grammar_of, words_of}
@@ -162,6 +162,23 @@ choice_prop (Develop n r args) = λ a b i. (node_prop n a.0 b.0 i, (le_prop a.1.
 -- the name of a reference of the program has at most 250 steps
 pub ref_in_range : (g : program.Grammar) (r : Ref) → length r.node.steps ≤ 250 → ref_ok (grammar_of g) r ≡ true → RefInRange r
 ref_in_range g r few ok = ∥∥₁_elim g.well_formed (ref_prop r) (λ formed. valid_ref_in_range (words_of g) (grammar_of g) r formed few ok)
+
+-- the same of the name of a node
+pub node_is_in_range : (g : program.Grammar) (n : Node) → length n.steps ≤ 250 → is_some (sort_of (grammar_of g) n) ≡ true → NodeInRange n
+node_is_in_range g n few valid = ∥∥₁_elim g.well_formed (node_prop n) (λ formed. node_in_range (words_of g) (grammar_of g) n formed few valid)
+
+-- a head that has as many parts as are declared
+pub head_is_in_range : (g : program.Grammar) (h : Head) (n : ℕ) → head_fits (grammar_of g).arities h n ≡ true → HeadInRange h n
+head_is_in_range g h n fits = ∥∥₁_elim g.well_formed (head_prop h n) (λ formed. head_in_range (grammar_of g).arities h n formed.arities fits)
+
+few_taken : (roles : ℕ) (sorts : List Sort) (s : ℕ) → Each (SortFits roles) sorts → takes_of (slice_get sorts s) ≤ 8
+few_taken roles [] s fits = omega arith
+few_taken roles (x ∷ xs) zero fits = fits.0.few_takes
+few_taken roles (x ∷ xs) (suc s) fits = few_taken roles xs s fits.1
+
+-- a node of any sort inherits at most 8 references
+pub few_are_inherited : (g : program.Grammar) (s : ℕ) → takes_of (slice_get (grammar_of g).sorts s) ≤ 8
+few_are_inherited g s = ∥∥₁_elim g.well_formed le_prop (λ formed. few_taken (grammar_of g).roles (grammar_of g).sorts s formed.sorts)
 
 pub choice_in_range : (g : program.Grammar) (x : Choice) → IsShort x → choice_ok (grammar_of g) x ≡ true → ChoiceInRange x
 choice_in_range g x few ok = ∥∥₁_elim g.well_formed (choice_prop x) (λ formed. ok_choice_in_range (words_of g) (grammar_of g) x formed few ok)
