@@ -1,6 +1,6 @@
 -- The invariant that is proved gives the one in words.
 use Rattle.std.specs.Prelude.{slice_get, ◌⊎◌}
-use Rattle.std.proofs.Common.{sym, Bool, None, Option, Some, false, inl, inr, refl, subst, true, ℕ, ◌∙◌, ◌∷◌, ◌≡◌}
+use Rattle.std.proofs.Common.{ap, sym, Bool, None, Option, Some, false, inl, inr, refl, subst, true, ℕ, ◌∙◌, ◌∷◌, ◌≡◌}
 use Rattle.aw_term.specs.Artifacts.{Words}
 use Rattle.aw_term.specs.Rules.{Grammar}
 use Rattle.aw_term.specs.Trees.{Never}
@@ -20,7 +20,7 @@ use Rattle.aw_react.specs.Asking.{ask_message}
 use Rattle.aw_react.specs.Homes.{home}
 use Rattle.aw_react.specs.Sites.{Site}
 use Rattle.aw_react.specs.Worlds.{World, site_at}
-use Rattle.aw_merge.specs.Invariant.{IsInvariant, call_message, IsSent, IsSentOnce, equation, sender, tell_message, watch}
+use Rattle.aw_merge.specs.Invariant.{IsInvariant, calls_at, IsSent, IsSentOnce, equation, sender, tell_message, watch}
 use Rattle.aw_merge.proofs.Answering.{brought_told, one-place}
 use Rattle.aw_merge.proofs.Learning.{find-member}
 use Rattle.aw_merge.proofs.Parts.{Effect, Kin, KindKin, Sound}
@@ -120,5 +120,9 @@ module _ (words : Words) (g : Grammar) (accepted : IsAccepted words g) (loads : 
     boxed = W.inv.boxed;
     addressed = λ m i. to-within words g accepted loads w x W m m.kind i refl;
     once = λ k m e. only w x W m k e;
-    one_call = λ j k h l other e f. one-place w.messages W.inv.apart j k (call_message g h l) (call_message g h other) e f (refl, refl) (refl, refl);
+    one_call = λ j k a b c d l other e f p.
+        let s = W.inv.sound (calls_at a c l) (member_got w.messages j (calls_at a c l) e) in
+        let t = W.inv.sound (calls_at b d other) (member_got w.messages k (calls_at b d other) f) in
+        let q : a ≡ b = s.0 ∙ (ap (home g) p ∙ sym t.0) in
+        one-place w.messages W.inv.apart j k (calls_at a c l) (calls_at b d other) e f (q, p) (sym q, sym p);
   }

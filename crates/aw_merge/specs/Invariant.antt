@@ -40,9 +40,13 @@ equation r b = record { left = r; body = b }
 abbrev pub as_call : Held → Call
 as_call h = record { node = h.node; sort = h.sort; inherited = h.inherited }
 
+-- a call for a role, with a load
+abbrev pub calls_at : ℕ → Call → List Equation → Message
+calls_at to c load = record { to = to; kind = Calls c load }
+
 -- the call of a held node, with a load
 abbrev pub call_message : Grammar → Held → List Equation → Message
-call_message g h load = record { to = home g h.node; kind = Calls (as_call h) load }
+call_message g h load = calls_at (home g h.node) (as_call h) load
 
 -- an equation for a role, with a load
 abbrev pub tell_message : ℕ → Equation → List Equation → Message
@@ -110,4 +114,5 @@ pub record IsInvariant (g : Grammar) (loads : Bool) (w : World) (x : Joint) : Ty
   -- each message is for a role that is declared, and was sent with one number; and no node is called twice, whatever the loads
   pub addressed : (m : Message) → Member m w.messages → m.to < g.roles
   pub once : (k : ℕ) (m : Message) → IsSent w m k → IsSentOnce w m k
-  pub one_call : (j k : ℕ) (h : Held) (load other : List Equation) → IsSent w (call_message g h load) j → IsSent w (call_message g h other) k → j ≡ k
+  pub one_call : (j k a b : ℕ) (c d : Call) (load other : List Equation) → IsSent w (calls_at a c load) j → IsSent w (calls_at b d other) k →
+      c.node ≡ d.node → j ≡ k
