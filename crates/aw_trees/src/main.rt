@@ -35,12 +35,7 @@ fn open_row(alloc: Global) -> Result<Row, AllocError> {
 }
 
 /// Adds the lines of rows, or that they pass the limit.
-fn push_rows(
-    alloc: Global,
-    told: &mut Text,
-    rows: &[Row],
-    limit: usize,
-) -> Result<(), AllocError> {
+fn push_rows(alloc: Global, told: &mut Text, rows: &[Row], limit: usize) -> Result<(), AllocError> {
     let grammar = Grammar::new(alloc);
     let mut report = Report::new(alloc, limit);
     match print_rows(alloc, &grammar, rows, &mut report) {
