@@ -2,7 +2,7 @@
 use Rattle.std.proofs.Common.{◌≡◌, ℕ, zero, suc, ◌+◌, ◌-◌, ◌<◌, ◌≤◌, List, [], ◌∷◌, ◌++◌, map, drop, take, get_or, length, codes, refl, sym, ap, ◌∙◌, subst, arith, append_assoc}
 use Rattle.std.specs.Prelude.{Result, Ok, Err}
 use Rattle.std.proofs.lemmas.List.{at_drop_more, take_more}
-use Rattle.std.proofs.lemmas.List.{length-map}
+use Rattle.std.proofs.lemmas.List.{length-map, length-take-le}
 use Rattle.aw_term.specs.Trees.{Never, join}
 use Rattle.aw_term.specs.Views.{ground_of}
 use Rattle.aw_term.specs.declared.ground.Ground as grounds
@@ -115,16 +115,11 @@ pub one_argument : (w : Words) (ps : List grounds.Ground) (i : ℕ) (p : grounds
 one_argument w ps i p old t mid new between l ep eb et em en =
     let f = λ (x : grounds.Ground). A.ground_text w (ground_of x) in
     let texts = map (A.ground_text w) (map ground_of (take i ps)) in
-    let many : length texts ≡ i = length-map (map ground_of (take i ps)) (A.ground_text w) ∙ length-map (take i ps) ground_of ∙ length_taken i ps l in
+    let many : length texts ≡ i = length-map (map ground_of (take i ps)) (A.ground_text w) ∙ length-map (take i ps) ground_of ∙ length-take-le i ps (omega (arith, l)) in
     en ∙ ap (λ x. x ++ f p) (em ∙ (λ j. et j ++ eb j)) ∙ ap (λ x. x ++ f p) (append_assoc old (A.listed texts) (before i)) ∙ append_assoc old (A.listed texts ++ before i) (f p)
     ∙ ap (λ x. old ++ x) (append_assoc (A.listed texts) (before i) (f p) ∙ ap (λ n. A.listed texts ++ (before n ++ f p)) (sym many) ∙ sym (listed-push texts (f p))
     ∙ ap A.listed (sym (pushed w (take i ps) p)) ∙ ap (λ xs. A.listed (map (A.ground_text w) (map ground_of xs))) (sym (take_more ps i p l ∙ ap (λ x. take i ps ++ x ∷ []) (sym ep))))
   where
-    length_taken : (i : ℕ) (xs : List grounds.Ground) → i < length xs → length (take i xs) ≡ i
-    length_taken zero xs l = refl
-    length_taken (suc i) [] l = absurd (omega (arith, l))
-    length_taken (suc i) (x ∷ xs) l = ap suc (length_taken i xs (omega (arith, l)))
-
     pushed : (w : Words) (xs : List grounds.Ground) (p : grounds.Ground) → map (A.ground_text w) (map ground_of (xs ++ p ∷ [])) ≡ map (A.ground_text w) (map ground_of xs) ++ A.ground_text w (ground_of p) ∷ []
     pushed w [] p = refl
     pushed w (x ∷ xs) p = ap (λ ys. A.ground_text w (ground_of x) ∷ ys) (pushed w xs p)

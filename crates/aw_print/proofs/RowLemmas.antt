@@ -2,7 +2,7 @@
 use Rattle.std.proofs.Common.{◌≡◌, ℕ, zero, suc, ◌+◌, ◌<◌, ◌≤◌, List, [], ◌∷◌, ◌++◌, map, take, length, codes, refl, sym, ap, ◌∙◌, subst, inl, inr, arith, append-nil, length-append}
 use Rattle.std.specs.Prelude.{Result, Ok, Err, ◌⊎◌}
 use Rattle.std.proofs.lemmas.Bool.{cases_lt}
-use Rattle.std.proofs.lemmas.List.{take-append-le}
+use Rattle.std.proofs.lemmas.List.{take-append-le, length-take-le}
 use Rattle.aw_term.specs.Names.{Ref}
 use Rattle.aw_term.specs.Artifacts.{Words, head_text}
 use Rattle.aw_store.specs.Equations.{Map}
@@ -74,11 +74,6 @@ values-long n w k ins outs =
     then-long n (listed (map (draft n w k) ins)) (after_inherited w k outs n) (listed-long n (draft n w k) (draft-long n w k) ins)
     (then-long n (Whole (codes ") <")) (results_on w k outs n) tt (then-long n (listed (map (draft n w k) outs)) (Whole (codes ">\n")) (listed-long n (draft n w k) (draft-long n w k) outs) tt))
 
-length_taken : (i : ℕ) (xs : List ℕ) → i ≤ length xs → length (take i xs) ≡ i
-length_taken zero xs l = refl
-length_taken (suc i) [] l = absurd (omega (arith, l))
-length_taken (suc i) (x ∷ xs) l = ap suc (length_taken i xs (omega (arith, l)))
-
 -- Every draft past the limit tells what was printed.
 begins_front : (d e : Draft) → Begins d e → (rest : List ℕ) × (so_far e ≡ so_far d ++ rest)
 begins_front (Whole a) (Whole b) p = ([], p ∙ sym (append-nil a))
@@ -124,7 +119,7 @@ ended all grows long old new (Err fault) within s n past = record {
     cut : (m : ℕ) (d : Draft) → Begins d (all m) → IsLong n d → PrintsFront (so_far (all m)) old new → PrintsFront (so_far d) old new
     cut m (Whole u) b l p = subst (λ t. PrintsFront t old new) (ap so_far (whole_is u (all m) b)) p
     cut m (Front u) b l p =
-        let taken : length (take p.0 (so_far (all m))) ≡ p.0 = length_taken p.0 (so_far (all m)) p.1 in
+        let taken : length (take p.0 (so_far (all m))) ≡ p.0 = length-take-le p.0 (so_far (all m)) p.1 in
         let le : p.0 ≤ length u = omega (arith, within, l, past, taken, ap (λ (r : Bounded). length r.text) p.2, ap (λ (r : Bounded). r.limit) p.2, length-append old.text (take p.0 (so_far (all m)))) in
         (p.0, le, p.2 ∙ ap (printed old) (ap (take p.0) b.1 ∙ take-append-le p.0 u b.0 le))
 

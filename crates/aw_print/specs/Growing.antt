@@ -36,6 +36,7 @@ abbrev pub PutsTo : (ℕ → Draft) → Printing → Printing → (ℕ → Draft
 PutsTo all old new left (Ok done) = Underway all old new left
 PutsTo all old new left (Err fault) = Stopped all old new.report fault
 
+-- this text gathered, and this report
 abbrev pub printing : List ℕ → Bounded → Printing
 printing gathered report = record { gathered = gathered; report = report }
 
@@ -43,7 +44,8 @@ printing gathered report = record { gathered = gathered; report = report }
 abbrev pub Puts : (ℕ → Draft) → Printing → Printing → Result Unit PrintFault → Type 0
 Puts all old new result = PutsTo all old new (λ n. Whole []) result
 
--- All drafts end alike and this was printed; or printing stopped: too large only where a draft passes the limit, and the report has got the front of one.
+-- All drafts end alike and this was printed; or printing stopped: too large only where a draft passes the limit, and
+-- the report has got the front of one.
 abbrev pub Ended : (ℕ → Draft) → Bounded → Bounded → Result Unit PrintFault → Type 0
 Ended all old new (Ok done) = (m : ℕ) × (t : List ℕ) × (all m ≡ Whole t) × (new ≡ printed old t)
 Ended all old new (Err fault) = Stopped all (printing [] old) new fault

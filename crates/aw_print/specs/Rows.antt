@@ -2,15 +2,18 @@
 use Rattle.std.specs.Prelude.{◌≡◌, ℕ, Bool, true, false, List, [], ◌∷◌, ◌++◌, map, codes, Option, None, Some, ◌⊎◌, slice_get, option_and_then}
 use Rattle.aw_term.specs.Trees.{Never, Head}
 use Rattle.aw_term.specs.Names.{Node, Ref, result}
-use Rattle.aw_term.specs.Rules.{Value, Grammar, Sort, upto, sort_of}
+use Rattle.aw_term.specs.Rules.{Value, Grammar, upto, sort_of}
+use Rattle.aw_term.specs.Choices.{gives_of}
 use Rattle.aw_term.specs.Configs.{State, Pending, Done}
 use Rattle.aw_term.specs.Artifacts.{Words, node_text, state_text, row_text}
 use Rattle.aw_term.specs.Views.{ground_of}
+use Rattle.aw_grammar.specs.declared.grammar.Grammar as made
+use Rattle.aw_grammar.specs.GrammarOf.{grammar_of, words_of}
 use Rattle.aw_choice.specs.declared.choice.Choice.{Choice}
 use Rattle.aw_choice.specs.declared.choice.Choice.TheVariants.{Start, Develop}
 use Rattle.aw_store.specs.Equations.{Same, Is, Map, find}
 use Rattle.aw_store.specs.Unfold.{Unfolds}
-use Rattle.aw_print.specs.Drafts.{Draft, Whole, then, listed, draft}
+use Rattle.aw_print.specs.Drafts.{Draft, Whole, then, drafts}
 
 -- a node is open, or done by the development that was chosen
 abbrev pub state_of : Option Choice → State
@@ -18,11 +21,7 @@ state_of None = Pending
 state_of (Some (Start sort case)) = Pending
 state_of (Some (Develop node rule args)) = Done rule (map ground_of args)
 
--- how many results a sort gives
-abbrev pub gives_of : Option Sort → ℕ
-gives_of None = 0
-gives_of (Some s) = s.gives
-
+-- how many results a node has; none where its name is not valid
 abbrev pub results_of : Grammar → Node → ℕ
 results_of g n = gives_of (option_and_then (slice_get g.sorts) (sort_of g n))
 
@@ -36,11 +35,16 @@ opening_of_row w n s = node_text w n ++ (codes " " ++ (state_text w s ++ codes "
 
 -- the values of a node, so many constructors deep, and what stands behind them
 abbrev pub values_draft : ℕ → Words → Map → List Ref → List Ref → Draft
-values_draft n w k inherited results = then (listed (map (draft n w k) inherited)) (then (Whole (codes ") <")) (then (listed (map (draft n w k) results)) (Whole (codes ">\n"))))
+values_draft n w k inherited results =
+    then (drafts n w k inherited) (then (Whole (codes ") <")) (then (drafts n w k results) (Whole (codes ">\n"))))
 
 -- the line of a node, its values so many constructors deep
 abbrev pub row_draft : ℕ → Words → Map → Node → State → List Ref → List Ref → Draft
 row_draft n w k node state inherited results = then (Whole (opening_of_row w node state)) (values_draft n w k inherited results)
+
+-- the line of a node of a grammar, its values so many constructors deep
+abbrev pub line_draft : ℕ → made.Grammar → Map → Node → Option Choice → List Ref → Draft
+line_draft n g k node done inherited = row_draft n (words_of g) k node (state_of done) inherited (result_refs (grammar_of g) node)
 
 -- the line of a node with these values
 abbrev pub line_text : Words → Node → State → List Value → List Value → List ℕ

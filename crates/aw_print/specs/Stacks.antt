@@ -14,6 +14,7 @@ abbrev pub named_draft : ℕ → Words → Map → Option Ref → Draft
 named_draft n w k None = Whole []
 named_draft n w k (Some r) = draft n w k r
 
+-- what a piece stands for, so many constructors deep
 abbrev pub piece_draft : ℕ → Words → Map → List Ref → Piece → Draft
 piece_draft n w k names (First s) = named_draft n w k (slice_get names s)
 piece_draft n w k names (Next s) = then (Whole (codes ", ")) (named_draft n w k (slice_get names s))
@@ -24,6 +25,7 @@ abbrev pub pending : ℕ → Words → Map → List Ref → List Piece → Draft
 pending n w k names [] = Whole []
 pending n w k names (p ∷ ps) = then (pending n w k names ps) (piece_draft n w k names p)
 
+-- the slot of a piece is one of the store
 abbrev pub IsLive : List Ref → Piece → Type 0
 IsLive names (First s) = s < length names
 IsLive names (Next s) = s < length names
@@ -34,21 +36,23 @@ abbrev pub AreLive : List Ref → List Piece → Type 0
 AreLive names [] = Unit {0}
 AreLive names (p ∷ ps) = IsLive names p × AreLive names ps
 
--- the text up to the first part
+-- the text of a head up to the first part
 abbrev pub opening_with : List ℕ → List Ref → List ℕ
 opening_with head [] = head
 opening_with head (r ∷ rs) = head ++ codes "("
 
+-- the text of a reference up to the first part, by where its chase ends
 abbrev pub opening : Words → Ref → Chased → List ℕ
 opening w r (Found h rs) = opening_with (head_text w h) rs
 opening w r (Missing s) = codes "?" ++ ref_text w s
 opening w r Round = codes "!" ++ ref_text w r
 
--- what stands behind the opening
+-- the parts behind the opening, with the parenthesis at their end
 abbrev pub inside_of : (Ref → Draft) → List Ref → Draft
 inside_of part [] = Whole []
 inside_of part (r ∷ rs) = then (listed (map part (r ∷ rs))) (Whole (codes ")"))
 
+-- what stands behind the opening, by where the chase ends
 abbrev pub inside : (Ref → Draft) → Chased → Draft
 inside part (Found h rs) = inside_of part rs
 inside part (Missing s) = Whole []
