@@ -1,0 +1,55 @@
+use Rattle.std.proofs.Common.{map, Ok, refl, ap, rules}
+use Rattle.aw_term.specs.Names.{result}
+use Rattle.aw_term.specs.Rules.{upto}
+use Rattle.aw_grammar.specs.GrammarOf.{words_of, grammar_of}
+use Rattle.aw_print.specs.Drafts.{listed, draft}
+use Rattle.aw_print.specs.Rows.{result_refs}
+use Rattle.aw_print.proofs.GrowingLemmas.{first_stops, hands_on, out_of_memory, stops_later}
+use Rattle.aw_print.proofs.RowLemmas.{after_inherited, after_results, values_1, values_2, values_3, values_4, same_values}
+use Rattle.aw_print.proofs.row.print_values.Goals as goal
+
+pub returns-in_err-print_refs : goal.returns-in_err-print_refs
+returns-in_err-print_refs g c =
+    let w = words_of c.args.g.now in
+    let k = g.F.Facts.map c.args.f.now in
+    let outs = result_refs (grammar_of c.args.g.now) c.args.node.now in
+    same_values w k _ _ outs outs _ _ c.from_residual.result c.as_slice.ensures refl
+    (hands_on _ _ _ _ _ c.from_residual.result (search rules) (first_stops (λ n. listed (map (draft n w k) c.as_slice.result.now)) (after_inherited w k outs) _ _ _ c.in_err-print_refs.ensures.prints))
+
+pub returns-in_err-push_bytes : goal.returns-in_err-push_bytes
+returns-in_err-push_bytes g c =
+    let w = words_of c.args.g.now in
+    let k = g.F.Facts.map c.args.f.now in
+    let outs = result_refs (grammar_of c.args.g.now) c.args.node.now in
+    same_values w k _ _ outs outs _ _ c.from_residual-in_err-push_bytes.result c.as_slice.ensures refl
+    (hands_on _ _ _ _ _ c.from_residual-in_err-push_bytes.result (search rules) (out_of_memory _ _ _ _ _ refl (values_1 w k c.as_slice.result.now outs _ _ c.in_ok-print_refs.ensures.prints)))
+
+pub returns-in_err-print_results : goal.returns-in_err-print_results
+returns-in_err-print_results g c =
+    let w = words_of c.args.g.now in
+    let k = g.F.Facts.map c.args.f.now in
+    let node = c.args.node.now in
+    let outs = map (result node) (upto 1 c.gives_of.result) in
+    let before = values_2 w k c.as_slice.result.now outs _ _ _ _ (values_1 w k c.as_slice.result.now outs _ _ c.in_ok-print_refs.ensures.prints) c.in_ok-push_bytes.ensures.ok in
+    same_values w k _ _ outs _ _ _ c.from_residual-in_err-print_results.result c.as_slice.ensures (ap (λ m. map (result node) (upto 1 m)) c.gives_of.ensures)
+    (hands_on _ _ _ _ _ c.from_residual-in_err-print_results.result (search rules) (stops_later _ _ _ _ _ _ before (first_stops (λ n. listed (map (draft n w k) outs)) after_results _ _ _ c.in_err-print_results.ensures.prints)))
+
+pub returns-in_err-push_bytes-2 : goal.returns-in_err-push_bytes-2
+returns-in_err-push_bytes-2 g c =
+    let w = words_of c.args.g.now in
+    let k = g.F.Facts.map c.args.f.now in
+    let node = c.args.node.now in
+    let outs = map (result node) (upto 1 c.gives_of.result) in
+    let before = values_2 w k c.as_slice.result.now outs _ _ _ _ (values_1 w k c.as_slice.result.now outs _ _ c.in_ok-print_refs.ensures.prints) c.in_ok-push_bytes.ensures.ok in
+    same_values w k _ _ outs _ _ _ c.from_residual-in_err-push_bytes-2.result c.as_slice.ensures (ap (λ m. map (result node) (upto 1 m)) c.gives_of.ensures)
+    (hands_on _ _ _ _ _ c.from_residual-in_err-push_bytes-2.result (search rules) (out_of_memory _ _ _ _ _ refl (values_3 w k c.as_slice.result.now outs _ _ _ before c.in_ok-print_results.ensures.prints)))
+
+pub returns : goal.returns
+returns g c =
+    let w = words_of c.args.g.now in
+    let k = g.F.Facts.map c.args.f.now in
+    let node = c.args.node.now in
+    let outs = map (result node) (upto 1 c.gives_of.result) in
+    let before = values_2 w k c.as_slice.result.now outs _ _ _ _ (values_1 w k c.as_slice.result.now outs _ _ c.in_ok-print_refs.ensures.prints) c.in_ok-push_bytes.ensures.ok in
+    same_values w k _ _ outs _ _ _ (Ok tt) c.as_slice.ensures (ap (λ m. map (result node) (upto 1 m)) c.gives_of.ensures)
+    (values_4 w k c.as_slice.result.now outs _ _ _ _ (values_3 w k c.as_slice.result.now outs _ _ _ before c.in_ok-print_results.ensures.prints) c.in_ok-push_bytes-2.ensures.ok)
