@@ -11,7 +11,7 @@ pub enum Asked {
     Take(usize),
     /// So many pairs of one slot.
     TakeTimes(usize, u64),
-    Drop(usize),
+    DropNode(usize),
     /// So many pairs, each for a slot of its own.
     WaitMany(u64),
     /// One pair of each of so many slots.
@@ -48,7 +48,7 @@ pub fn read_line(line: &[u8]) -> Option<Asked> {
         b"reserve" => Some(Asked::Reserve(size_of(rest)?)),
         b"wait" => wait_of(rest),
         b"take" => take_of(rest),
-        b"drop" => Some(Asked::Drop(size_of(rest)?)),
+        b"drop" => Some(Asked::DropNode(size_of(rest)?)),
         b"waits" => Some(Asked::WaitMany(number_value(rest)?)),
         b"takes" => Some(Asked::TakeMany(number_value(rest)?)),
         _ => None,

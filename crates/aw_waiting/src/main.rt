@@ -116,7 +116,7 @@ fn answer(told: &mut Text, work: &mut Work, asked: Asked) -> Result<(), AllocErr
         }
         Asked::Take(slot) => push_pair(told, work.take(slot)),
         Asked::TakeTimes(slot, times) => push_taken(told, take_some(work, slot, times)),
-        Asked::Drop(node) => {
+        Asked::DropNode(node) => {
             work.drop_node(node);
             told.push_bytes(b"dropped")
         }
