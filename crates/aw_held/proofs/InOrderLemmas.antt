@@ -7,6 +7,7 @@ use Rattle.std.proofs.lemmas.List.{map-id}
 use Rattle.aw_term.specs.Names.{Node, node_lt, node_eq}
 use Rattle.aw_term.specs.ByNode.{IsOrderedBy}
 use Rattle.aw_term.specs.WellFormed.{Each, Later}
+use Rattle.aw_term.proofs.Eaches.{each_map}
 use Rattle.aw_term.proofs.NodeTests.{node_self}
 use Rattle.aw_term.proofs.NodeOrder.{node_order, node_tied, node-trans}
 use Rattle.aw_term.proofs.ByNodeLemmas.{other_before, other_after}
@@ -76,9 +77,9 @@ none_after [] n high = refl
 none_after (x ∷ xs) n high =
     ap (λ b. cond b (Some 0) (option_map suc (place_in n xs))) (other_after n x.node high.0) ∙ ap (option_map suc) (none_after xs n high.1)
 
-each_further : (n m : Node) (hs : List Held) → node_lt n m ≡ true → Each (λ h. node_lt m h.node ≡ true) hs → Each (λ h. node_lt n h.node ≡ true) hs
-each_further n m [] l each = tt
-each_further n m (h ∷ hs) l each = (node-trans n m h.node l each.0, each_further n m hs l each.1)
+-- what is before a node is before all that are after it
+before_all : (n m : Node) (hs : List Held) → node_lt n m ≡ true → Each (λ h. node_lt m h.node ≡ true) hs → Each (λ h. node_lt n h.node ≡ true) hs
+before_all n m hs l each = each_map _ _ hs (λ h e. node-trans n m h.node l e) each
 
 -- where neither comes before the other, the test says that they are one
 tied : (n m : Node) → node_lt n m ≡ false → node_lt m n ≡ false → node_eq n m ≡ true
@@ -98,7 +99,7 @@ place_gone [] n i up low high here = refl
 place_gone (x ∷ xs) n zero up low high here =
     let differ = here x refl in
     let first = is_before n x.node _ refl (high 0 x (omega arith) (omega arith)) differ in
-    ap (λ b. cond b (Some 0) (option_map suc (place_in n xs))) differ ∙ ap (option_map suc) (none_after xs n (each_further n x.node xs first up.0))
+    ap (λ b. cond b (Some 0) (option_map suc (place_in n xs))) differ ∙ ap (option_map suc) (none_after xs n (before_all n x.node xs first up.0))
 place_gone (x ∷ xs) n (suc i) up low high here =
     ap (λ b. cond b (Some 0) (option_map suc (place_in n xs))) (other_before n x.node (low 0 x (omega arith) (omega arith)))
     ∙ ap (option_map suc) (place_gone xs n i up.1 (λ k d a b. low (suc k) d (omega arith) (omega (arith, b))) (λ k d a b. high (suc k) d (omega (arith, a)) (omega (arith, b))) here)
@@ -121,7 +122,7 @@ comes_after h k ks lacks e =
     is_after h.node k.node _ refl e (lacks_cases h.node (node_eq h.node k.node) (place_in h.node ks) lacks).0
 
 ordered_cases : (b : Bool) (h k : Held) (ks : List Held) → node_lt h.node k.node ≡ b → Lacks h.node (k ∷ ks) → Up (k ∷ ks) → Up (insert_in h ks) → Up (cond b (h ∷ k ∷ ks) (k ∷ insert_in h ks))
-ordered_cases true h k ks e lacks up later = ((e, each_further h.node k.node ks e up.0), up)
+ordered_cases true h k ks e lacks up later = ((e, before_all h.node k.node ks e up.0), up)
 ordered_cases false h k ks e lacks up later = (each_inserted (λ x. node_lt k.node x.node ≡ true) h ks (comes_after h k ks lacks e) up.0, later)
 
 -- a node that is not held keeps the order
