@@ -1,5 +1,5 @@
 -- A line that is spelled is read again.
-use Rattle.std.proofs.Common.{◌≡◌, ℕ, false, cond, List, [], ◌∷◌, ◌++◌, Option, Some, option_map, refl, sym, ap, ◌∙◌, append_assoc, append-nil, arith}
+use Rattle.std.proofs.Common.{◌≡◌, true, ℕ, false, cond, List, [], ◌∷◌, ◌++◌, Option, Some, option_map, refl, sym, ap, ◌∙◌, append_assoc, append-nil, arith}
 use Rattle.aw_term.specs.Trees as P
 use Rattle.aw_term.specs.WellFormed.{Each}
 use Rattle.aw_term.proofs.Eaches.{each_append}
@@ -126,4 +126,5 @@ line_reads (StartLine sort) w = refl
 line_reads (OfferLine sort) w = refl
 line_reads (UseLine role sort) w = refl
 line_reads (RuleLine rule) w = rule_reads rule w
-line_reads ScheduleLine w = refl
+line_reads (ScheduleLine false) w = refl
+line_reads (ScheduleLine true) w = refl

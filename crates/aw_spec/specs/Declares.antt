@@ -12,4 +12,4 @@ IsDeclared (StartLine sort) = Unit {0}
 IsDeclared (OfferLine sort) = Unit {0}
 IsDeclared (UseLine role sort) = Unit {0}
 IsDeclared (RuleLine rule) = (is_name rule.name ≡ true) × ((all_have_contents (terms_of rule) ≡ true) × (are_names (rule.params ++ results_of rule.children) ≡ true))
-IsDeclared ScheduleLine = Unit {0}
+IsDeclared (ScheduleLine loads) = Unit {0}

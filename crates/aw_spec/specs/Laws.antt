@@ -19,7 +19,7 @@ IsWrittenLine (StartLine sort) = Unit {0}
 IsWrittenLine (OfferLine sort) = Unit {0}
 IsWrittenLine (UseLine role sort) = Unit {0}
 IsWrittenLine (RuleLine rule) = AreWritten (side_by_side rule.patterns) × AreWritten (side_by_side rule.results) × Each IsWrittenChild rule.children
-IsWrittenLine ScheduleLine = Unit {0}
+IsWrittenLine (ScheduleLine loads) = Unit {0}
 
 -- a line that is spelled is read again
 abbrev pub ReadsSpelledLines : Type 0

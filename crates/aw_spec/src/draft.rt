@@ -122,7 +122,7 @@ pub struct Draft {
 #[derive(Debug, Drop)]
 pub enum Said {
     On(Draft),
-    Stop(Draft),
+    Stop { draft: Draft, loads: bool },
 }
 
 /// The rule that was declared last.
@@ -275,7 +275,7 @@ impl Draft {
             SpecLine::Offer(sort) => Ok(Said::On(self.add_offer(sort)?)),
             SpecLine::Use { role, sort } => Ok(Said::On(self.add_use(role, sort)?)),
             SpecLine::Rule(rule) => Ok(Said::On(self.add_rule(rule)?)),
-            SpecLine::Schedule => Ok(Said::Stop(self)),
+            SpecLine::Schedule { loads } => Ok(Said::Stop { draft: self, loads }),
         }
     }
 }

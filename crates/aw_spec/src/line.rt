@@ -29,8 +29,8 @@ pub enum SpecLine {
     Offer(Text),
     Use { role: Text, sort: Text },
     Rule(RawRule),
-    /// The line behind which the schedule stands.
-    Schedule,
+    /// The line behind which the schedule stands, and whether it asks for loads.
+    Schedule { loads: bool },
 }
 
 impl SpecLine {
@@ -50,7 +50,7 @@ impl SpecLine {
             SpecLine::Offer(_) => OFFERS_STAGE,
             SpecLine::Use { .. } => USES_STAGE,
             SpecLine::Rule(_) => RULES_STAGE,
-            SpecLine::Schedule => END_STAGE,
+            SpecLine::Schedule { .. } => END_STAGE,
         }
     }
 }

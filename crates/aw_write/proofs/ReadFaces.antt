@@ -122,9 +122,9 @@ said_sound s after (StartLine sort) e sound = declared_sound s after _ _ e (omeg
 said_sound s after (OfferLine sort) e sound = offer_sound s after sort (number_named (sort_names s.declared) sort) refl (sym (offer_by s sort) ∙ e) sound
 said_sound s after (UseLine role sort) e sound = use_sound s after role sort (number_named s.declared.roles role) (number_named (sort_names s.declared) sort) refl refl (sym (use_by s role sort) ∙ e) sound
 said_sound s after (RuleLine rule) e sound = rule_sound s after rule _ e sound
-said_sound s after ScheduleLine e sound = cc
+said_sound s after (ScheduleLine loads) e sound = cc
 
-pub read_fits : (lines : List (List ℕ)) (s : Spec) (n : ℕ) → specification lines ≡ Good s n → face_fault (grammar_in s.declared) s.offers s.uses ≡ None → FacesFit s
-read_fits lines s n e kept =
-    let sound = reading_keeps (λ (d : Draft). IsSound d.spec) IsSound (λ d after line h le sound. said_sound d.spec after line h sound) (λ d sound. sound) no_draft 0 n s lines (record { offers = tt; offered_once = tt; uses = tt; used_once = tt }) e in
+pub read_fits : (lines : List (List ℕ)) (s : Spec) (n : ℕ) (loads : Bool) → specification lines ≡ Good s n loads → face_fault (grammar_in s.declared) s.offers s.uses ≡ None → FacesFit s
+read_fits lines s n loads e kept =
+    let sound = reading_keeps (λ (d : Draft). IsSound d.spec) IsSound (λ d after line h le sound. said_sound d.spec after line h sound) (λ d sound. sound) no_draft 0 n s loads lines (record { offers = tt; offered_once = tt; uses = tt; used_once = tt }) e in
     record { kept = kept; offers = sound.offers; offered_once = sound.offered_once; uses = sound.uses; used_once = sound.used_once }

@@ -1,5 +1,5 @@
 -- Written terms and lines say the lexemes that spell them.
-use Rattle.std.proofs.Common.{◌≡◌, ℕ, ◌<◌, ◌^◌, refl, ◌∙◌, ap, true, codes, List, [], ◌∷◌, ◌++◌, append_assoc}
+use Rattle.std.proofs.Common.{◌≡◌, ℕ, ◌<◌, ◌^◌, refl, ◌∙◌, ap, true, false, codes, List, [], ◌∷◌, ◌++◌, append_assoc, arith}
 use Rattle.std.specs.Fmt.{decimal}
 use Rattle.aw_text.specs.Spelling.{is_name, is_content}
 use Rattle.aw_term.specs.Trees.{Never, Head, Con, Num, Text}
@@ -171,7 +171,7 @@ IsSpelledLine (StartLine sort) = IsName sort
 IsSpelledLine (OfferLine sort) = IsName sort
 IsSpelledLine (UseLine role sort) = IsName role × IsName sort
 IsSpelledLine (RuleLine rule) = IsSpelledRule rule
-IsSpelledLine ScheduleLine = Unit {0}
+IsSpelledLine (ScheduleLine loads) = Unit {0}
 
 -- a word and a name
 two_words : (word name : List ℕ) → IsName word → IsName name → Says (word ++ 32 ∷ name) (Name word ∷ Name name ∷ [])
@@ -198,4 +198,6 @@ line_says (UseLine role sort) h =
     says_name (codes "use") (32 ∷ (role ++ 32 ∷ sort)) (Name role ∷ Name sort ∷ []) refl refl
     (says_blank (role ++ 32 ∷ sort) (Name role ∷ Name sort ∷ []) (two_words role sort h.0 h.1))
 line_says (RuleLine rule) h = rule_says rule h
-line_says ScheduleLine h = says_last_name (codes "schedule") refl
+line_says (ScheduleLine false) h = says_last_name (codes "schedule") refl
+line_says (ScheduleLine true) h =
+    says_name (codes "schedule") (32 ∷ decimal 2) (Number 2 ∷ []) refl refl (says_blank (decimal 2) (Number 2 ∷ []) (says_last_number 2 (omega arith)))

@@ -1,5 +1,5 @@
 -- What is written of a specification is read as the specification.
-use Rattle.std.proofs.Common.{◌≡◌, ◌+◌, ap, ◌∙◌, [], ◌++◌, length, map, arith}
+use Rattle.std.proofs.Common.{◌≡◌, ◌+◌, false, ap, ◌∙◌, [], ◌++◌, length, map, arith}
 use Rattle.aw_lex.specs.Lines.{lines_of}
 use Rattle.aw_grammar.specs.Declarations.{Declarations, sort_names}
 use Rattle.aw_spec.specs.Lines.{RoleLine}
@@ -34,10 +34,10 @@ spec_leads s fine faces =
     between_both roles_stage starts_stage offers_stage rules_stage no_spec (with_sorts d.roles d.cons d.sorts) s (declaration_lines d) (face_lines s ++ rule_lines d) (omega arith) (declared_lead d fine)
     (between_both offers_stage uses_stage rules_stage rules_stage (with_sorts d.roles d.cons d.sorts) (with_rules s []) s (face_lines s) (rule_lines d) (omega arith) (faces_lead s fine faces) (rules_lead s fine faces.kept))
 
-pub written_again : (s : Spec) → Fine s.declared → Spelled s.declared → FacesFit s → specification (lines_of (written s)) ≡ Good s (length (spec_lines s))
+pub written_again : (s : Spec) → Fine s.declared → Spelled s.declared → FacesFit s → specification (lines_of (written s)) ≡ Good s (length (spec_lines s)) false
 written_again s fine spelled faces =
     let ls = spec_lines s in
     let all = spec_spelled s fine spelled faces in
     let leads = spec_leads s fine faces 0 (omega arith) in
     let count : 0 + length ls ≡ length ls = omega arith in
-    ap specification (lines_again ls all) ∙ leads_read no_draft (record { spec = s; stage = leads.0 }) 0 ls all leads.2 ∙ ap (Good s) count
+    ap specification (lines_again ls all) ∙ leads_read no_draft (record { spec = s; stage = leads.0 }) 0 ls all leads.2 ∙ ap (λ k. Good s k false) count

@@ -1,5 +1,5 @@
 -- How the lines of a specification are laid out in bytes: one space between words, behind each comma, before `{`, and on both sides of `:`, `=` and `;`.
-use Rattle.std.specs.Prelude.{ℕ, List, [], ◌∷◌, ◌++◌, codes}
+use Rattle.std.specs.Prelude.{ℕ, true, false, List, [], ◌∷◌, ◌++◌, codes}
 use Rattle.std.specs.Fmt.{decimal}
 use Rattle.aw_text.specs.Spelling.{quoted}
 use Rattle.aw_term.specs.Trees.{Head, Con, Num, Text}
@@ -67,7 +67,8 @@ line_text (StartLine sort) = codes "start " ++ sort
 line_text (OfferLine sort) = codes "offer " ++ sort
 line_text (UseLine role sort) = codes "use " ++ (role ++ (codes " " ++ sort))
 line_text (RuleLine rule) = rule_text rule
-line_text ScheduleLine = codes "schedule"
+line_text (ScheduleLine false) = codes "schedule"
+line_text (ScheduleLine true) = codes "schedule " ++ decimal 2
 
 -- lines, each with its line feed
 abbrev pub text_of_lines : List Line → List ℕ
