@@ -15,7 +15,7 @@ use Rattle.aw_face.specs.Faces.{rule_fault, at_rule, rules_fault, face_fault}
 use Rattle.aw_spec.specs.declared.fault.SpecFault.{SpecFault}
 use Rattle.aw_spec.specs.declared.spec_text.SpecText.{SpecText}
 use Rattle.aw_spec.specs.Answers.{Spells}
-use Rattle.aw_spec.specs.Lines.{Line, RoleLine, ConLine, SortLine, StartLine, OfferLine, UseLine, RuleLine, ScheduleLine}
+use Rattle.aw_spec.specs.Lines.{Line, RoleLine, ConLine, SortLine, StartLine, OfferLine, UseLine, FreeLine, RuleLine, ScheduleLine}
 use Rattle.aw_spec.specs.Reading.{Spec, Draft, On, declaring, if_kept, keeping, says, stage_of, no_draft, specification}
 use Rattle.aw_spec.specs.Stages.{rules_stage}
 use Rattle.aw_spec.proofs.KeptLines.{reading_keeps}
@@ -67,6 +67,7 @@ said_good s after (SortLine name role takes gives) before e le good = early s af
 said_good s after (StartLine sort) before e le good = early s after (StartLine sort) before e (omega arith) le good.1
 said_good s after (OfferLine sort) before e le good = early s after (OfferLine sort) before e (omega arith) le good.1
 said_good s after (UseLine role sort) before e le good = early s after (UseLine role sort) before e (omega arith) le good.1
+said_good s after FreeLine before e le good = early s after FreeLine before e (omega arith) le good.1
 said_good s after (RuleLine rule) before e le good = (rule_kept s after rule (rule_kind s.declared rule) _ good.0 refl e, λ k. absurd (omega arith))
 said_good s after (ScheduleLine loads) before e le good = cc
 

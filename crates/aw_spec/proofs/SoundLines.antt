@@ -13,7 +13,7 @@ use Rattle.aw_form.specs.Forms.{◌>>=◌, name, number, mark, end, only, terms_
 use Rattle.aw_form.specs.Sound.{IsSound}
 use Rattle.aw_form.proofs.SoundForms.{AreSound, name_sound, mark_sound, TermsSound, between_sound, braces_sound}
 use Rattle.aw_form.proofs.Steps.{bound, chosen}
-use Rattle.aw_spec.specs.Lines.{Line, RoleLine, ConLine, SortLine, StartLine, OfferLine, UseLine, RuleLine, ScheduleLine}
+use Rattle.aw_spec.specs.Lines.{Line, RoleLine, ConLine, SortLine, StartLine, OfferLine, UseLine, FreeLine, RuleLine, ScheduleLine}
 use Rattle.aw_spec.specs.Declares.{IsDeclared}
 use Rattle.aw_spec.specs.ReadLine.{child_of, is_semicolon, in_front, pieces, children_of, rest_of_rule, role_line, con_line, sort_line, start_line, offer_line, use_line, rule_line, versioned, schedule_line, by_word, line_of}
 
@@ -153,8 +153,9 @@ word_declared w ls l s =
     (chosen _ (start_line ls) _ l (start_declared ls l)
     (chosen _ (offer_line ls) _ l (offer_declared ls l)
     (chosen _ (use_line ls) _ l (use_declared ls l)
+    (chosen _ (only FreeLine ls) _ l (at_end FreeLine l ls tt)
     (chosen _ (rule_line ls) _ l (rule_declared ls l s)
-    (chosen _ (schedule_line ls) None l (schedule_declared ls l) (λ e. cc))))))))
+    (chosen _ (schedule_line ls) None l (schedule_declared ls l) (λ e. cc)))))))))
 
 pub line_declared : (ls : List Lexeme) (l : Line) → Each IsSound ls → line_of ls ≡ Some l → IsDeclared l
 line_declared ls l s e = bound (name ls) _ l e (λ w found e1. word_declared w.0 w.1 l (name_sound ls w s found).1 e1)

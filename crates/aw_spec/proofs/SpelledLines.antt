@@ -10,7 +10,7 @@ use Rattle.aw_form.specs.Forms.{◌>>=◌, name, number, mark, end, only, terms_
 use Rattle.aw_form.proofs.SpelledIfRead.{spelled_if_read, some_spelled_if_read}
 use Rattle.aw_form.proofs.SomeTerms.{IsNonempty, some_terms}
 use Rattle.aw_form.proofs.Steps.{bound}
-use Rattle.aw_spec.specs.Lines.{Line, RoleLine, ConLine, SortLine, StartLine, OfferLine, UseLine, RuleLine, ScheduleLine, as_words, in_parentheses, in_angles, params_spelling, child_spelling, behind_child, children_spelling, line_spelling}
+use Rattle.aw_spec.specs.Lines.{Line, RoleLine, ConLine, SortLine, StartLine, OfferLine, UseLine, FreeLine, RuleLine, ScheduleLine, as_words, in_parentheses, in_angles, params_spelling, child_spelling, behind_child, children_spelling, line_spelling}
 use Rattle.aw_spec.specs.ReadLine.{child_of, is_semicolon, in_front, pieces, children_of, rest_of_rule, role_line, con_line, sort_line, start_line, offer_line, use_line, rule_line, versioned, schedule_line, by_word, line_of}
 
 name_is : (ls : List Lexeme) (x : List ℕ × List Lexeme) → name ls ≡ Some x → ls ≡ Name x.0 ∷ x.1
@@ -248,8 +248,9 @@ word_is w ls l =
     (chosen w (codes "start") ls (start_line ls) _ l (start_is ls l)
     (chosen w (codes "offer") ls (offer_line ls) _ l (offer_is ls l)
     (chosen w (codes "use") ls (use_line ls) _ l (use_is ls l)
+    (chosen w (codes "free") ls (only FreeLine ls) _ l (at_end FreeLine l (Name (codes "free") ∷ []) ls refl)
     (chosen w (codes "rule") ls (rule_line ls) _ l (rule_is ls l)
-    (chosen w (codes "schedule") ls (schedule_line ls) None l (schedule_is ls l) (λ e. cc))))))))
+    (chosen w (codes "schedule") ls (schedule_line ls) None l (schedule_is ls l) (λ e. cc)))))))))
 
 pub line_spelled : (ls : List Lexeme) (l : Line) → line_of ls ≡ Some l → ls ≡ line_spelling l
 line_spelled ls l e = bound (name ls) _ l e (λ w found e1. name_is ls w found ∙ word_is w.0 w.1 l e1)

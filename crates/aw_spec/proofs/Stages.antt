@@ -5,8 +5,8 @@ use Rattle.aw_grammar.specs.Declarations.{Declarations}
 use Rattle.aw_index.specs.Places.{first_told}
 use Rattle.aw_spec.specs.declared.fault.SpecKind.{SpecKind}
 use Rattle.aw_spec.specs.Stages.{sorts_stage, rules_stage}
-use Rattle.aw_spec.specs.Lines.{Line, RoleLine, ConLine, SortLine, StartLine, OfferLine, UseLine, RuleLine, ScheduleLine}
-use Rattle.aw_spec.specs.Reading.{Spec, Step, On, Wrong, Stop, declaring, told_or, offer_tests, with_offer, use_tests, with_use, says, stage_of}
+use Rattle.aw_spec.specs.Lines.{Line, RoleLine, ConLine, SortLine, StartLine, OfferLine, UseLine, FreeLine, RuleLine, ScheduleLine}
+use Rattle.aw_spec.specs.Reading.{Spec, Step, On, Wrong, Stop, declaring, told_or, offer_tests, with_offer, use_tests, with_use, free_tests, with_free, says, stage_of}
 
 -- what a property of declarations has to be for a step to keep it
 abbrev Holds : (Declarations → Type 0) → Step → Type 0
@@ -29,6 +29,7 @@ no_sorts s (SortLine name role takes gives) h e = absurd (omega arith)
 no_sorts s (StartLine sort) h e = absurd (omega arith)
 no_sorts s (OfferLine sort) h e = absurd (omega arith)
 no_sorts s (UseLine role sort) h e = absurd (omega arith)
+no_sorts s FreeLine h e = absurd (omega arith)
 no_sorts s (RuleLine rule) h e = absurd (omega arith)
 no_sorts s (ScheduleLine loads) h e = tt
 
@@ -39,6 +40,7 @@ no_rules s (SortLine name role takes gives) h e = declares (λ d. length d.rules
 no_rules s (StartLine sort) h e = declares (λ d. length d.rules ≡ 0) s _ _ e
 no_rules s (OfferLine sort) h e = told (λ d. length d.rules ≡ 0) (first_told (offer_tests s sort)) (with_offer s sort) e
 no_rules s (UseLine role sort) h e = told (λ d. length d.rules ≡ 0) (first_told (use_tests s role sort)) (with_use s role sort) e
+no_rules s FreeLine h e = told (λ d. length d.rules ≡ 0) (first_told (free_tests s)) (with_free s) e
 no_rules s (RuleLine rule) h e = absurd (omega arith)
 no_rules s (ScheduleLine loads) h e = tt
 

@@ -11,6 +11,7 @@ pub data Line : Type 0 where
   StartLine : (sort : List ℕ) → Line
   OfferLine : (sort : List ℕ) → Line
   UseLine : (role sort : List ℕ) → Line
+  FreeLine : Line
   RuleLine : (rule : WrittenRule) → Line
   ScheduleLine : (loads : Bool) → Line
 
@@ -57,6 +58,7 @@ line_spelling (SortLine name role takes gives) = Name (codes "sort") ∷ Name na
 line_spelling (StartLine sort) = Name (codes "start") ∷ Name sort ∷ []
 line_spelling (OfferLine sort) = Name (codes "offer") ∷ Name sort ∷ []
 line_spelling (UseLine role sort) = Name (codes "use") ∷ Name role ∷ Name sort ∷ []
+line_spelling FreeLine = Name (codes "free") ∷ []
 line_spelling (RuleLine rule) = rule_spelling rule
 line_spelling (ScheduleLine false) = Name (codes "schedule") ∷ []
 line_spelling (ScheduleLine true) = Name (codes "schedule") ∷ Number 2 ∷ []

@@ -4,7 +4,7 @@ use Rattle.aw_term.specs.Trees.{nats_eq}
 use Rattle.aw_grammar.specs.Written.{Written, WrittenChild, WrittenRule}
 use Rattle.aw_form.specs.Lexemes.{Lexeme, Name, Number, Node, Quoted, Mark}
 use Rattle.aw_form.specs.Forms.{◌>>=◌, name, number, mark, only, terms_between, names_between, names_in_braces}
-use Rattle.aw_spec.specs.Lines.{Line, RoleLine, ConLine, SortLine, StartLine, OfferLine, UseLine, RuleLine, ScheduleLine}
+use Rattle.aw_spec.specs.Lines.{Line, RoleLine, ConLine, SortLine, StartLine, OfferLine, UseLine, FreeLine, RuleLine, ScheduleLine}
 
 -- a subtask, and nothing behind it
 abbrev pub child_of : List Lexeme → Option WrittenChild
@@ -109,6 +109,7 @@ by_word w ls =
     if nats_eq w (codes "start") then start_line ls else
     if nats_eq w (codes "offer") then offer_line ls else
     if nats_eq w (codes "use") then use_line ls else
+    if nats_eq w (codes "free") then only FreeLine ls else
     if nats_eq w (codes "rule") then rule_line ls else
     if nats_eq w (codes "schedule") then schedule_line ls else None
 

@@ -1,5 +1,5 @@
 -- Which specification a text spells, line by line, or the first line at fault.
-use Rattle.std.specs.Prelude.{ℕ, suc, Bool, false, ◌&&◌, not, List, [], ◌∷◌, ◌++◌, Option, None, Some, Result, Ok, Err, nat_lt, if◌then◌else◌}
+use Rattle.std.specs.Prelude.{ℕ, suc, Bool, true, false, ◌&&◌, not, List, [], ◌∷◌, ◌++◌, Option, None, Some, Result, Ok, Err, nat_lt, if◌then◌else◌}
 use Rattle.aw_lex.specs.declared.token.Token.{Token}
 use Rattle.aw_lex.specs.Tokens.{tokens_of}
 use Rattle.aw_lex.specs.Lines.{passed_over}
@@ -20,18 +20,19 @@ use Rattle.aw_face.specs.Faces.{is_offered, is_used, rule_fault}
 use Rattle.aw_spec.specs.declared.fault.SpecKind.{SpecKind}
 use Rattle.aw_spec.specs.declared.fault.SpecKind.TheVariants as kind
 use Rattle.aw_spec.specs.declared.fault.SpecKind.TheVariants.{Form, Order, Limit, Double, Clash, Unknown, Arity, Twice, Never, Inherits, NotUsed, NotOffered}
-use Rattle.aw_spec.specs.Lines.{Line, RoleLine, ConLine, SortLine, StartLine, OfferLine, UseLine, RuleLine, ScheduleLine}
+use Rattle.aw_spec.specs.Lines.{Line, RoleLine, ConLine, SortLine, StartLine, OfferLine, UseLine, FreeLine, RuleLine, ScheduleLine}
 use Rattle.aw_spec.specs.ReadLine.{line_of}
-use Rattle.aw_spec.specs.Stages.{roles_stage, cons_stage, sorts_stage, starts_stage, offers_stage, uses_stage, rules_stage, end_stage}
+use Rattle.aw_spec.specs.Stages.{roles_stage, cons_stage, sorts_stage, starts_stage, offers_stage, uses_stage, free_stage, rules_stage, end_stage}
 
--- what a specification says: its declarations, the sorts that are offered, and which role uses which sort
+-- what a specification says: its declarations, the sorts that are offered, which role uses which sort, and whether no tasks may wait for each other
 pub record Spec : Type 0 where
   pub declared : Declarations
   pub offers : List ℕ
   pub uses : List Using
+  pub free : Bool
 
 abbrev pub no_spec : Spec
-no_spec = record { declared = no_declarations; offers = []; uses = [] }
+no_spec = record { declared = no_declarations; offers = []; uses = []; free = false }
 
 -- the fault of a declaration, and of a child, as the kind of its line
 abbrev pub decl_kind : DeclKind → SpecKind
@@ -89,6 +90,13 @@ use_tests s role sort =
 abbrev pub with_use : Spec → List ℕ → List ℕ → Spec
 with_use s role sort = record s { uses = s.uses ++ record { role = number_of role s.declared.roles; sort = sort_number s sort } ∷ [] }
 
+-- a line `free`: it stands already
+abbrev pub free_tests : Spec → List (Bool × SpecKind)
+free_tests s = (s.free, Double) ∷ []
+
+abbrev pub with_free : Spec → Spec
+with_free s = record s { free = true }
+
 -- a rule that is declared, where no child is at fault
 abbrev pub if_kept : Spec → Option (ℕ × FaceKind) → Step
 if_kept s None = On s
@@ -109,6 +117,7 @@ says s (SortLine name role takes gives) =
 says s (StartLine sort) = declaring s (start_kind s.declared sort) (with_start s.declared sort)
 says s (OfferLine sort) = tested (offer_tests s sort) (with_offer s sort)
 says s (UseLine role sort) = tested (use_tests s role sort) (with_use s role sort)
+says s FreeLine = tested (free_tests s) (with_free s)
 says s (RuleLine rule) = keeping s rule (declaring s (rule_kind s.declared rule) (with_rule s.declared rule))
 says s (ScheduleLine loads) = Stop loads
 
@@ -120,6 +129,7 @@ stage_of (SortLine name role takes gives) = sorts_stage
 stage_of (StartLine sort) = starts_stage
 stage_of (OfferLine sort) = offers_stage
 stage_of (UseLine role sort) = uses_stage
+stage_of FreeLine = free_stage
 stage_of (RuleLine rule) = rules_stage
 stage_of (ScheduleLine loads) = end_stage
 

@@ -14,9 +14,10 @@ line_seen (line.Sort sort) = L.SortLine sort.name sort.role sort.takes sort.give
 line_seen (line.Start sort) = L.StartLine sort
 line_seen (line.Offer sort) = L.OfferLine sort
 line_seen (line.Use role sort) = L.UseLine role sort
+line_seen line.Free = L.FreeLine
 line_seen (line.Rule rule) = L.RuleLine (rule_of_raw rule)
 line_seen (line.Schedule loads) = L.ScheduleLine loads
 
 -- what a specification that was read says
 abbrev pub spec_seen : SpecText → Spec
-spec_seen s = record { declared = declarations_of s.grammar; offers = s.faces.offers; uses = s.faces.uses }
+spec_seen s = record { declared = declarations_of s.grammar; offers = s.faces.offers; uses = s.faces.uses; free = s.free }

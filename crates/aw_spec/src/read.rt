@@ -24,14 +24,19 @@ fn at_line(fault: LineFault, line: u64) -> SpecFault
 }
 
 fn text_of(draft: Draft, loads: bool, lines: u64, rest: usize) -> SpecText
-    ensures value { result ≡ record { grammar = draft.grammar; faces = draft.faces; loads = loads; lines = lines; rest = rest } }
+    ensures value { result ≡ record { grammar = draft.grammar; faces = draft.faces; free = draft.free; loads = loads; lines = lines; rest = rest } }
     ensures grammar { grammar_of result.grammar ≡ grammar_in (declarations_of result.grammar) }
     ensures words { words_of result.grammar ≡ words_in (declarations_of result.grammar) }
 {
-    let Draft { grammar, faces } = draft;
+    let Draft {
+        grammar,
+        faces,
+        free,
+    } = draft;
     SpecText {
         grammar,
         faces,
+        free,
         loads,
         lines,
         rest,

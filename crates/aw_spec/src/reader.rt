@@ -46,6 +46,7 @@ impl Reader {
             draft: Draft {
                 grammar: Grammar::new(alloc),
                 faces,
+                free: false,
             },
             stage: 0,
         }

@@ -34,13 +34,14 @@ fn push_place(told: &mut Text, what: &[u8], line: u64, kind: &[u8]) -> Result<()
     told.push_bytes(kind)
 }
 
-/// Whether two specifications have the same declarations and the same offers and uses.
+/// Whether two specifications have the same declarations and the same offers, uses and wish.
 fn is_same(a: &SpecText, b: &SpecText) -> bool {
     a.grammar.roles == b.grammar.roles
         && a.grammar.cons == b.grammar.cons
         && a.grammar.sorts == b.grammar.sorts
         && a.grammar.rules == b.grammar.rules
         && a.faces == b.faces
+        && a.free == b.free
 }
 
 /// Whether a specification is read as the same from the text that is written of it.

@@ -46,12 +46,16 @@ pub again : (s : SpecText) → Each (λ (e : Entry). SmallNumbers e.rule) (decla
     specification (lines_of (written (spec_seen s))) ≡ Good (spec_seen s) (length (spec_lines (spec_seen s))) false
 again s numbers faces = law (spec_seen s) (record { formed = formed_of s.grammar; numbers = numbers; variables = variables_of s.grammar; faces = faces })
 
-pub whole_text : (declared faces rules : List Line) (t0 t1 t2 t3 : List ℕ) → t0 ≡ [] → t1 ≡ t0 ++ text_of_lines declared → t2 ≡ t1 ++ text_of_lines faces → t3 ≡ t2 ++ text_of_lines rules → t3 ≡ text_of_lines (declared ++ (faces ++ rules))
-whole_text declared faces rules t0 t1 t2 t3 e0 e1 e2 e3 =
-    e3 ∙ ap (λ u. u ++ text_of_lines rules) (e2 ∙ ap (λ u. u ++ text_of_lines faces) (e1 ∙ ap (λ u. u ++ text_of_lines declared) e0))
-    ∙ append_assoc (text_of_lines declared) (text_of_lines faces) (text_of_lines rules)
-    ∙ ap (λ u. text_of_lines declared ++ u) (sym (lines_both faces rules))
-    ∙ sym (lines_both declared (faces ++ rules))
+-- what is added last joins what was added before it
+joined : (xs ys : List Line) (t u v : List ℕ) → u ≡ t ++ text_of_lines xs → v ≡ u ++ text_of_lines ys → v ≡ t ++ text_of_lines (xs ++ ys)
+joined xs ys t u v e f =
+    f ∙ ap (λ w. w ++ text_of_lines ys) e ∙ append_assoc t (text_of_lines xs) (text_of_lines ys) ∙ ap (λ w. t ++ w) (sym (lines_both xs ys))
+
+pub whole_text : (declared faces wish rules : List Line) (t0 t1 t2 t3 t4 : List ℕ) → t0 ≡ [] → t1 ≡ t0 ++ text_of_lines declared → t2 ≡ t1 ++ text_of_lines faces → t3 ≡ t2 ++ text_of_lines wish → t4 ≡ t3 ++ text_of_lines rules →
+    t4 ≡ text_of_lines (declared ++ (faces ++ (wish ++ rules)))
+whole_text declared faces wish rules t0 t1 t2 t3 t4 e0 e1 e2 e3 e4 =
+    joined declared (faces ++ (wish ++ rules)) t0 t1 t4 e1 (joined faces (wish ++ rules) t1 t2 t4 e2 (joined wish rules t2 t3 t4 e3 e4))
+    ∙ ap (λ u. u ++ text_of_lines (declared ++ (faces ++ (wish ++ rules)))) e0
 
 -- what reading answers where the text spells a specification
 pub ok_read : (r : Result SpecText SpecFault) (reading : Reading) (s : Spec) (n : ℕ) → reading ≡ Good s n false → Spells r reading → IfOk r (λ t. spec_seen t ≡ s)

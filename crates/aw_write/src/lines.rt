@@ -1,4 +1,4 @@
-//! The lines of roles, constructors, sorts, starts, offers and uses.
+//! The lines of roles, constructors, sorts, starts, offers and uses, and the line `free`.
 ghost use Rattle.std.specs.Prelude.{◌≡◌, ◌++◌, ◌∷◌, [], OnOk, map, codes, decimal};
 ghost use Rattle.aw_term.specs.Rules.{get};
 ghost use Rattle.aw_grammar.specs.Declarations.{sort_names};
@@ -135,6 +135,16 @@ pub(crate) fn push_declarations(text: &mut Text, g: &Grammar) -> Result<(), Allo
     push_cons(text, g)?;
     push_sorts(text, g)?;
     push_starts(text, g)
+}
+
+/// Adds the line `free` where it is asked for.
+pub(crate) fn push_free(text: &mut Text, s: &SpecText) -> Result<(), AllocError>
+    ensures { OnOk result (text.new ≡ text.old ++ text_of_lines (lines.free_lines (spec_seen s.now))) }
+{
+    if !s.free {
+        return Ok(());
+    }
+    text.push_bytes(b"free\n")
 }
 
 /// Adds the lines of offers and uses.

@@ -6,7 +6,7 @@ ghost use Rattle.aw_spec.specs.Views.{spec_seen};
 ghost use Rattle.aw_write.specs.SpecLines.{spec_lines, written};
 ghost use Rattle.aw_write.specs.Writable.{FacesFit};
 
-use crate::lines::{push_declarations, push_faces};
+use crate::lines::{push_declarations, push_faces, push_free};
 use crate::rules::push_rules;
 use aw_list::Text;
 use aw_spec::SpecText;
@@ -21,6 +21,7 @@ pub fn write_spec(alloc: Global, s: &SpecText) -> Result<Text, AllocError>
     let mut text = Text::new(alloc);
     push_declarations(&mut text, &s.grammar)?;
     push_faces(&mut text, s)?;
+    push_free(&mut text, s)?;
     push_rules(&mut text, &s.grammar)?;
     Ok(text)
 }
