@@ -24,18 +24,18 @@ without-fewer (line ∷ next ∷ more) = omega (arith, without-fewer (next ∷ m
 pub few-lines : (text : List ℕ) → length (lines_of text) ≤ length text + 1
 few-lines text = omega (arith, without-fewer (slice_split (λ b. b == 10) text), length-slice_split (λ b. b == 10) text, count_by-le-length (λ b. b == 10) text)
 
-spec-step : (d : Draft) (read n : ℕ) (lines : List (List ℕ)) (s : Spec) (r : LineRead) (more : Draft → Reading) → ((next : Draft) → more next ≡ Good s n → n ≤ suc read + length lines) → after_line d (suc read) r more ≡ Good s n → n ≤ read + suc (length lines)
-spec-step d read n lines s (Next next) more rest e = omega (arith, rest next e)
-spec-step d read n lines s (Fault kind) more rest e = absurd (cc (e))
-spec-step d read n lines s End more rest e = let h : suc read ≡ n = cc (e) in omega (arith, h)
+spec-step : (d : Draft) (read n : ℕ) (lines : List (List ℕ)) (s : Spec) (loads : Bool) (r : LineRead) (more : Draft → Reading) → ((next : Draft) → more next ≡ Good s n loads → n ≤ suc read + length lines) → after_line d (suc read) r more ≡ Good s n loads → n ≤ read + suc (length lines)
+spec-step d read n lines s loads (Next next) more rest e = omega (arith, rest next e)
+spec-step d read n lines s loads (Fault kind) more rest e = absurd (cc (e))
+spec-step d read n lines s loads (End asked) more rest e = let h : suc read ≡ n = cc (e) in omega (arith, h)
 
-spec-within : (d : Draft) (read n : ℕ) (lines : List (List ℕ)) (s : Spec) → S.read_lines d read lines ≡ Good s n → n ≤ read + length lines
-spec-within d read n [] s e = let h : read ≡ n = cc (e) in omega (arith, h)
-spec-within d read n (line ∷ lines) s e = spec-step d read n lines s _ (λ next. S.read_lines next (suc read) lines) (λ next. spec-within next (suc read) n lines s) e
+spec-within : (d : Draft) (read n : ℕ) (lines : List (List ℕ)) (s : Spec) (loads : Bool) → S.read_lines d read lines ≡ Good s n loads → n ≤ read + length lines
+spec-within d read n [] s loads e = let h : read ≡ n = cc (e) in omega (arith, h)
+spec-within d read n (line ∷ lines) s loads e = spec-step d read n lines s loads _ (λ next. S.read_lines next (suc read) lines) (λ next. spec-within next (suc read) n lines s loads) e
 
 -- a specification takes at most all lines
-pub specification-within : (lines : List (List ℕ)) (s : Spec) (n : ℕ) → S.specification lines ≡ Good s n → n ≤ length lines
-specification-within lines s n e = omega (arith, spec-within _ 0 n lines s e)
+pub specification-within : (lines : List (List ℕ)) (s : Spec) (n : ℕ) (loads : Bool) → S.specification lines ≡ Good s n loads → n ≤ length lines
+specification-within lines s n loads e = omega (arith, spec-within _ 0 n lines s loads e)
 
 event-step : (line : ℕ) (kind : SchedKind) (event : _) (later : Read) → with_event event later ≡ FaultAt line kind → later ≡ FaultAt line kind
 event-step line kind event (Events events) e = absurd (cc (e))
@@ -52,7 +52,7 @@ schedule-within d n line kind [] e = absurd (cc (e))
 schedule-within d n line kind (l ∷ lines) e = sched-step n line kind lines _ (T.read_lines d (suc n) lines) (schedule-within d (suc n) line kind lines) e
 
 -- what a specification takes and what stands behind it are all lines
-pub lines-behind : (input schedule : List ℕ) (s : Spec) (n : ℕ) → S.specification (lines_of input) ≡ Good s n → lines_of schedule ≡ drop n (lines_of input) → n + length (lines_of schedule) ≤ length input + 1
-lines-behind input schedule s n good behind =
+pub lines-behind : (input schedule : List ℕ) (s : Spec) (n : ℕ) (loads : Bool) → S.specification (lines_of input) ≡ Good s n loads → lines_of schedule ≡ drop n (lines_of input) → n + length (lines_of schedule) ≤ length input + 1
+lines-behind input schedule s n loads good behind =
     let rest : length (lines_of schedule) ≡ length (lines_of input) - n = ap length behind ∙ length-drop n (lines_of input) in
-    omega (arith, rest, specification-within (lines_of input) s n good, few-lines input)
+    omega (arith, rest, specification-within (lines_of input) s n loads good, few-lines input)

@@ -38,7 +38,7 @@ one-made Check s before schedule = one-accepted s (TellsDependences s) (one-depe
 one-made (Tells telling) s before schedule = one-accepted s (TellsSchedule telling s before schedule) (λ a b x y. x ∙ sym y)
 
 one-read : (job : Job) (lines : List (List ℕ)) (reading : Reading) → One (BySpecification job lines reading)
-one-read job lines (Good spec taken) = one-made job spec taken (drop taken lines)
+one-read job lines (Good spec taken loads) = one-made job spec taken (drop taken lines)
 one-read job lines (Faulty line kind) = λ a b x y. x ∙ sym y
 
 pub one-output : HasOneOutput

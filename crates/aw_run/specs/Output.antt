@@ -78,7 +78,7 @@ Makes (Tells telling) s before schedule = IfAccepted s (TellsSchedule telling s 
 
 -- a good specification is taken on to its job, and of another its first faulty line is told
 abbrev pub BySpecification : Job → List (List ℕ) → Reading → Output → Type 0
-BySpecification job lines (Good spec taken) output = Makes job spec taken (drop taken lines) output
+BySpecification job lines (Good spec taken loads) output = Makes job spec taken (drop taken lines) output
 BySpecification job lines (Faulty line kind) output = output ≡ BadSpecification (at_line line (kind_name kind))
 
 -- The output of a job for an input: its lines are a specification, and then perhaps the line `schedule` and a schedule.

@@ -2,7 +2,7 @@
 ghost use Rattle.std.specs.Prelude.{◌≡◌, IfOk};
 ghost use Rattle.aw_grammar.specs.GrammarOf.{declarations_of};
 ghost use Rattle.aw_spec.specs.Reading.{Spec};
-ghost use Rattle.aw_spec.specs.Views.{spec_of};
+ghost use Rattle.aw_spec.specs.Views.{spec_seen};
 ghost use Rattle.aw_accept.specs.Circular.{IsRelation};
 ghost use Rattle.aw_run.specs.Output.{IfAccepted, TellsDependences};
 ghost use Rattle.aw_run.specs.Replies.{Replies};
@@ -27,7 +27,7 @@ fn tell_dependences(alloc: Global, accepted: &Accepted) -> Result<Reply, AllocEr
 
 /// The reply to a good specification.
 pub fn check(alloc: Global, spec: SpecText) -> Result<Reply, AllocError>
-    ensures { IfOk result (λ reply. Replies (IfAccepted (spec_of spec.grammar spec.faces) (TellsDependences (spec_of spec.grammar spec.faces))) reply) }
+    ensures { IfOk result (λ reply. Replies (IfAccepted (spec_seen spec) (TellsDependences (spec_seen spec))) reply) }
 {
     let SpecText { grammar, .. } = spec;
     match accept(alloc, grammar) {

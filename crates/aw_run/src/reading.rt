@@ -1,7 +1,7 @@
 //! The commands that read the source to its end, and reply to what was read.
 ghost use Rattle.std.specs.Prelude.{◌≡◌, ◌≢◌, ◌≤◌, ◌+◌, ◌<◌, ◌^◌, [], IfOk, length};
 ghost use Rattle.aw_lex.specs.Lines.{lines_of};
-ghost use Rattle.aw_spec.specs.Views.{spec_of};
+ghost use Rattle.aw_spec.specs.Views.{spec_seen};
 ghost use Rattle.aw_out.specs.Causes.{Rose};
 ghost use Rattle.aw_out.specs.Edge.{IsUsedUp, GivesSome};
 ghost use Rattle.aw_run.specs.Output.{IsOutputOf, Makes};
@@ -26,7 +26,7 @@ fn reply_to_specification(
     schedule: &[u8],
 ) -> Result<Reply, AllocError>
     requires { spec.lines + length (lines_of schedule.now) < 2 ^ 64 }
-    ensures { IfOk result (λ reply. Replies (Makes job (spec_of spec.grammar spec.faces) spec.lines (lines_of schedule.now)) reply) }
+    ensures { IfOk result (λ reply. Replies (Makes job (spec_seen spec) spec.lines (lines_of schedule.now)) reply) }
 {
     match job {
         Job::Check => check(alloc, spec),

@@ -4,7 +4,7 @@ ghost use Rattle.aw_lex.specs.Lines.{lines_of};
 ghost use Rattle.aw_term.specs.WellFormed.{Each};
 ghost use Rattle.aw_grammar.specs.GrammarOf.{grammar_of, words_of, declarations_of};
 ghost use Rattle.aw_spec.specs.Reading.{Spec};
-ghost use Rattle.aw_spec.specs.Views.{spec_of};
+ghost use Rattle.aw_spec.specs.Views.{spec_seen};
 ghost use Rattle.aw_out.specs.Report.{Prints};
 ghost use Rattle.aw_sched.specs.Answers.{event_seen, MayCome};
 ghost use Rattle.aw_sched.specs.Schedules.{read_lines};
@@ -116,7 +116,7 @@ pub fn tell_schedule(
     schedule: &[u8],
 ) -> Result<Reply, AllocError>
     requires { spec.lines + length (lines_of schedule.now) < 2 ^ 64 }
-    ensures { IfOk result (λ reply. Replies (IfAccepted (spec_of spec.grammar spec.faces) (TellsSchedule telling (spec_of spec.grammar spec.faces) spec.lines (lines_of schedule.now))) reply) }
+    ensures { IfOk result (λ reply. Replies (IfAccepted (spec_seen spec) (TellsSchedule telling (spec_seen spec) spec.lines (lines_of schedule.now))) reply) }
 {
     let SpecText { grammar, lines, .. } = spec;
     match accept(alloc, grammar) {

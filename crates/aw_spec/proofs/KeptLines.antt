@@ -19,7 +19,7 @@ at_stage_keeps P keeps d next line (On after) h le here e =
     let same : ◌≡◌ {A = Draft} (record { spec = after; stage = stage_of line }) next = cc in
     subst P same (keeps d after line h le here)
 at_stage_keeps P keeps d next line (Wrong kind) h le here e = cc
-at_stage_keeps P keeps d next line Stop h le here e = cc
+at_stage_keeps P keeps d next line (Stop loads) h le here e = cc
 
 ordered_keeps : (P : Draft → Type 0) → Keeps P → (d next : Draft) (line : Line) (t : Bool) → nat_lt (stage_of line) d.stage ≡ t → P d → cond t (Fault Order) (at_stage (stage_of line) (says d.spec line)) ≡ Next next → P next
 ordered_keeps P keeps d next line true h here e = cc
@@ -37,14 +37,14 @@ line_keeps : (P : Draft → Type 0) → Keeps P → (d next : Draft) (bytes : Li
 line_keeps P keeps d next bytes true here e = let same : d ≡ next = cc in subst P same here
 line_keeps P keeps d next bytes false here e = lexed_keeps P keeps d next bytes (tokens_of bytes) here e
 
-from_line : (P : Draft → Type 0) (Q : Spec → Type 0) → ((d : Draft) → P d → Q d.spec) → (d : Draft) (n m : ℕ) (s : Spec) (x : LineRead) (more : Draft → Reading) → P d → ((next : Draft) → x ≡ Next next → more next ≡ Good s m → Q s) →
-    after_line d n x more ≡ Good s m → Q s
-from_line P Q last d n m s (Next next) more here later e = later next refl e
-from_line P Q last d n m s (Fault kind) more here later e = cc
-from_line P Q last d n m s End more here later e = let same : d.spec ≡ s = cc in subst Q same (last d here)
+from_line : (P : Draft → Type 0) (Q : Spec → Type 0) → ((d : Draft) → P d → Q d.spec) → (d : Draft) (n m : ℕ) (s : Spec) (loads : Bool) (x : LineRead) (more : Draft → Reading) → P d → ((next : Draft) → x ≡ Next next → more next ≡ Good s m loads → Q s) →
+    after_line d n x more ≡ Good s m loads → Q s
+from_line P Q last d n m s loads (Next next) more here later e = later next refl e
+from_line P Q last d n m s loads (Fault kind) more here later e = cc
+from_line P Q last d n m s loads (End asked) more here later e = let same : d.spec ≡ s = cc in subst Q same (last d here)
 
-pub reading_keeps : (P : Draft → Type 0) (Q : Spec → Type 0) → Keeps P → ((d : Draft) → P d → Q d.spec) → (d : Draft) (n m : ℕ) (s : Spec) (lines : List (List ℕ)) → P d → read_lines d n lines ≡ Good s m → Q s
-reading_keeps P Q keeps last d n m s [] here e = let same : d.spec ≡ s = cc in subst Q same (last d here)
-reading_keeps P Q keeps last d n m s (line ∷ lines) here e =
-    from_line P Q last d (suc n) m s (read_line d line) (λ next. read_lines next (suc n) lines) here
-    (λ next h k. reading_keeps P Q keeps last next (suc n) m s lines (line_keeps P keeps d next line (passed_over line) here h) k) e
+pub reading_keeps : (P : Draft → Type 0) (Q : Spec → Type 0) → Keeps P → ((d : Draft) → P d → Q d.spec) → (d : Draft) (n m : ℕ) (s : Spec) (loads : Bool) (lines : List (List ℕ)) → P d → read_lines d n lines ≡ Good s m loads → Q s
+reading_keeps P Q keeps last d n m s loads [] here e = let same : d.spec ≡ s = cc in subst Q same (last d here)
+reading_keeps P Q keeps last d n m s loads (line ∷ lines) here e =
+    from_line P Q last d (suc n) m s loads (read_line d line) (λ next. read_lines next (suc n) lines) here
+    (λ next h k. reading_keeps P Q keeps last next (suc n) m s loads lines (line_keeps P keeps d next line (passed_over line) here h) k) e

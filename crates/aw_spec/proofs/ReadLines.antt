@@ -1,5 +1,5 @@
 -- A line that is spelled is read again.
-use Rattle.std.proofs.Common.{◌≡◌, ℕ, false, cond, List, [], ◌∷◌, ◌++◌, Option, Some, option_map, refl, sym, ap, ◌∙◌, append_assoc, append-nil, arith}
+use Rattle.std.proofs.Common.{◌≡◌, true, ℕ, false, cond, List, [], ◌∷◌, ◌++◌, Option, Some, option_map, refl, sym, ap, ◌∙◌, append_assoc, append-nil, arith}
 use Rattle.aw_term.specs.Trees as P
 use Rattle.aw_term.specs.WellFormed.{Each}
 use Rattle.aw_term.proofs.Eaches.{each_append}
@@ -10,7 +10,7 @@ use Rattle.aw_form.specs.Terms.{spelling, spellings, spellings_behind, names_of}
 use Rattle.aw_form.specs.Forms.{◌>>=◌, name, terms_between, names_between, terms_in_braces, names_in_braces}
 use Rattle.aw_form.proofs.ReadsSpelled.{reads_spelled}
 use Rattle.aw_spec.specs.Laws.{IsWrittenChild, IsWrittenLine}
-use Rattle.aw_spec.specs.Lines.{Line, RoleLine, ConLine, SortLine, StartLine, OfferLine, UseLine, RuleLine, ScheduleLine, as_words, in_parentheses, in_angles, params_spelling, child_spelling, behind_child, children_spelling, rule_spelling, line_spelling}
+use Rattle.aw_spec.specs.Lines.{Line, RoleLine, ConLine, SortLine, StartLine, OfferLine, UseLine, FreeLine, RuleLine, ScheduleLine, as_words, in_parentheses, in_angles, params_spelling, child_spelling, behind_child, children_spelling, rule_spelling, line_spelling}
 use Rattle.aw_spec.specs.ReadLine.{child_of, is_semicolon, in_front, pieces, children_of, rest_of_rule, line_of}
 use Rattle.aw_spec.proofs.SpelledLines.{parenthesised, angled}
 
@@ -125,5 +125,7 @@ line_reads (SortLine name role takes gives) w = refl
 line_reads (StartLine sort) w = refl
 line_reads (OfferLine sort) w = refl
 line_reads (UseLine role sort) w = refl
+line_reads FreeLine w = refl
 line_reads (RuleLine rule) w = rule_reads rule w
-line_reads ScheduleLine w = refl
+line_reads (ScheduleLine false) w = refl
+line_reads (ScheduleLine true) w = refl

@@ -13,9 +13,9 @@ use Rattle.aw_form.specs.Forms.{◌>>=◌, name, number, mark, end, only, terms_
 use Rattle.aw_form.specs.Sound.{IsSound}
 use Rattle.aw_form.proofs.SoundForms.{AreSound, name_sound, mark_sound, TermsSound, between_sound, braces_sound}
 use Rattle.aw_form.proofs.Steps.{bound, chosen}
-use Rattle.aw_spec.specs.Lines.{Line, RoleLine, ConLine, SortLine, StartLine, OfferLine, UseLine, RuleLine, ScheduleLine}
+use Rattle.aw_spec.specs.Lines.{Line, RoleLine, ConLine, SortLine, StartLine, OfferLine, UseLine, FreeLine, RuleLine, ScheduleLine}
 use Rattle.aw_spec.specs.Declares.{IsDeclared}
-use Rattle.aw_spec.specs.ReadLine.{child_of, is_semicolon, in_front, pieces, children_of, rest_of_rule, role_line, con_line, sort_line, start_line, offer_line, use_line, rule_line, by_word, line_of}
+use Rattle.aw_spec.specs.ReadLine.{child_of, is_semicolon, in_front, pieces, children_of, rest_of_rule, role_line, con_line, sort_line, start_line, offer_line, use_line, rule_line, versioned, schedule_line, by_word, line_of}
 
 with_name : (n : List ℕ) (ts : List Written) (o : Option (List (List ℕ))) (xs : List (List ℕ)) → names_of ts ≡ o → is_name n ≡ true
     → ((ns : List (List ℕ)) → names_of ts ≡ Some ns → are_names ns ≡ true) → option_map (λ ns. n ∷ ns) o ≡ Some xs → are_names xs ≡ true
@@ -140,6 +140,11 @@ rule_declared ls l s e =
     let subtasks = rest_fine results.1 children result.1 f7 in
     subst IsDeclared same (first.0, (contents_append patterns.0 (uses_of rule) pattern.0 (contents_append (args_of children) results.0 subtasks.0 result.0), both_named params.0 (results_of children) behind_params.0 subtasks.1)))))))))
 
+schedule_declared : (ls : List Lexeme) (l : Line) → schedule_line ls ≡ Some l → IsDeclared l
+schedule_declared [] l e = subst IsDeclared (same_Some (ScheduleLine false) l e) tt
+schedule_declared (k ∷ ls) l e =
+    bound (number (k ∷ ls)) versioned l e (λ v found e1. chosen (nat_eq v.0 2) (only (ScheduleLine true) v.1) None l (at_end (ScheduleLine true) l v.1 tt) (λ e. cc) e1)
+
 word_declared : (w : List ℕ) (ls : List Lexeme) (l : Line) → AreSound ls → by_word w ls ≡ Some l → IsDeclared l
 word_declared w ls l s =
     chosen _ (role_line ls) _ l (role_declared ls l s)
@@ -148,8 +153,9 @@ word_declared w ls l s =
     (chosen _ (start_line ls) _ l (start_declared ls l)
     (chosen _ (offer_line ls) _ l (offer_declared ls l)
     (chosen _ (use_line ls) _ l (use_declared ls l)
+    (chosen _ (only FreeLine ls) _ l (at_end FreeLine l ls tt)
     (chosen _ (rule_line ls) _ l (rule_declared ls l s)
-    (chosen _ (only ScheduleLine ls) None l (at_end ScheduleLine l ls tt) (λ e. cc))))))))
+    (chosen _ (schedule_line ls) None l (schedule_declared ls l) (λ e. cc)))))))))
 
 pub line_declared : (ls : List Lexeme) (l : Line) → Each IsSound ls → line_of ls ≡ Some l → IsDeclared l
 line_declared ls l s e = bound (name ls) _ l e (λ w found e1. word_declared w.0 w.1 l (name_sound ls w s found).1 e1)

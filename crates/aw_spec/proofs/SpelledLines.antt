@@ -10,8 +10,8 @@ use Rattle.aw_form.specs.Forms.{◌>>=◌, name, number, mark, end, only, terms_
 use Rattle.aw_form.proofs.SpelledIfRead.{spelled_if_read, some_spelled_if_read}
 use Rattle.aw_form.proofs.SomeTerms.{IsNonempty, some_terms}
 use Rattle.aw_form.proofs.Steps.{bound}
-use Rattle.aw_spec.specs.Lines.{Line, RoleLine, ConLine, SortLine, StartLine, OfferLine, UseLine, RuleLine, ScheduleLine, as_words, in_parentheses, in_angles, params_spelling, child_spelling, behind_child, children_spelling, line_spelling}
-use Rattle.aw_spec.specs.ReadLine.{child_of, is_semicolon, in_front, pieces, children_of, rest_of_rule, role_line, con_line, sort_line, start_line, offer_line, use_line, rule_line, by_word, line_of}
+use Rattle.aw_spec.specs.Lines.{Line, RoleLine, ConLine, SortLine, StartLine, OfferLine, UseLine, FreeLine, RuleLine, ScheduleLine, as_words, in_parentheses, in_angles, params_spelling, child_spelling, behind_child, children_spelling, line_spelling}
+use Rattle.aw_spec.specs.ReadLine.{child_of, is_semicolon, in_front, pieces, children_of, rest_of_rule, role_line, con_line, sort_line, start_line, offer_line, use_line, rule_line, versioned, schedule_line, by_word, line_of}
 
 name_is : (ls : List Lexeme) (x : List ℕ × List Lexeme) → name ls ≡ Some x → ls ≡ Name x.0 ∷ x.1
 name_is [] x e = cc
@@ -217,6 +217,16 @@ rule_is ls l e =
     let behind_params = ap (λ k. params_spelling params.0 ++ k) (mark_is 58 params.1 colon f3 ∙ behind_colon) in
     ap (λ k. Name (codes "rule") ∷ k) (name_is ls n f1 ∙ ap (λ k. Name n.0 ∷ k) (braces_are n.1 params f2 ∙ behind_params)) ∙ ap line_spelling same)))))))
 
+versioned_is : (v : ℕ) (ls : List Lexeme) (l : Line) (t : Bool) → nat_eq v 2 ≡ t → cond t (only (ScheduleLine true) ls) None ≡ Some l → Name (codes "schedule") ∷ Number v ∷ ls ≡ line_spelling l
+versioned_is v ls l true h e =
+    ap (λ n. Name (codes "schedule") ∷ Number n ∷ ls) (eqb-true v 2 h) ∙ at_end (ScheduleLine true) l (Name (codes "schedule") ∷ Number 2 ∷ []) ls refl e
+versioned_is v ls l false h e = cc
+
+schedule_is : (ls : List Lexeme) (l : Line) → schedule_line ls ≡ Some l → Name (codes "schedule") ∷ ls ≡ line_spelling l
+schedule_is [] l e = ap line_spelling (same_Some (ScheduleLine false) l e)
+schedule_is (k ∷ ls) l e =
+    bound (number (k ∷ ls)) versioned l e (λ v found e1. ap (λ ks. Name (codes "schedule") ∷ ks) (number_is (k ∷ ls) v found) ∙ versioned_is v.0 v.1 l (nat_eq v.0 2) refl e1)
+
 same_word : (v w : List ℕ) → nats_eq v w ≡ true → v ≡ w
 same_word [] [] h = refl
 same_word [] (y ∷ ys) h = cc
@@ -238,8 +248,9 @@ word_is w ls l =
     (chosen w (codes "start") ls (start_line ls) _ l (start_is ls l)
     (chosen w (codes "offer") ls (offer_line ls) _ l (offer_is ls l)
     (chosen w (codes "use") ls (use_line ls) _ l (use_is ls l)
+    (chosen w (codes "free") ls (only FreeLine ls) _ l (at_end FreeLine l (Name (codes "free") ∷ []) ls refl)
     (chosen w (codes "rule") ls (rule_line ls) _ l (rule_is ls l)
-    (chosen w (codes "schedule") ls (only ScheduleLine ls) None l (at_end ScheduleLine l (Name (codes "schedule") ∷ []) ls refl) (λ e. cc))))))))
+    (chosen w (codes "schedule") ls (schedule_line ls) None l (schedule_is ls l) (λ e. cc)))))))))
 
 pub line_spelled : (ls : List Lexeme) (l : Line) → line_of ls ≡ Some l → ls ≡ line_spelling l
 line_spelled ls l e = bound (name ls) _ l e (λ w found e1. name_is ls w found ∙ word_is w.0 w.1 l e1)

@@ -6,11 +6,11 @@ use Rattle.aw_spec.specs.declared.fault.SpecFault.{SpecFault}
 use Rattle.aw_spec.specs.declared.fault.SpecFault.TheVariants.{Bad, NoMemory}
 use Rattle.aw_spec.specs.declared.spec_text.SpecText.{SpecText}
 use Rattle.aw_spec.specs.Reading.{Reading, Good, Faulty}
-use Rattle.aw_spec.specs.Views.{spec_of}
+use Rattle.aw_spec.specs.Views.{spec_seen}
 
 -- The answer is what the lines spell, unless memory ran out.
 abbrev pub Spells : Result SpecText SpecFault → Reading → Type 0
-Spells (Ok s) reading = reading ≡ Good (spec_of s.grammar s.faces) s.lines
+Spells (Ok s) reading = reading ≡ Good (spec_seen s) s.lines s.loads
 Spells (Err (Bad line kind)) reading = reading ≡ Faulty line kind
 Spells (Err NoMemory) reading = Unit {0}
 

@@ -1,5 +1,6 @@
 -- What reading one line answers.
 use Rattle.std.specs.Prelude.{◌≡◌, Result, Ok, Err}
+use Rattle.aw_grammar.specs.GrammarOf.{declarations_of}
 use Rattle.aw_grammar.specs.declared.fault.AddFault.{AddFault}
 use Rattle.aw_grammar.specs.declared.fault.AddFault.TheVariants as add
 use Rattle.aw_lex.specs.declared.token.LexFault.{LexFault}
@@ -13,7 +14,6 @@ use Rattle.aw_spec.specs.declared.draft.Draft.{Draft}
 use Rattle.aw_spec.specs.declared.draft.Said.{Said}
 use Rattle.aw_spec.specs.declared.draft.Said.TheVariants as said
 use Rattle.aw_spec.specs.Reading.{Spec, Step, On, Wrong, Stop, decl_kind}
-use Rattle.aw_spec.specs.Views.{spec_of}
 
 -- a fault of a declaration, of tokens, or of a form, as one of the line
 abbrev pub of_add : AddFault → LineFault
@@ -28,8 +28,9 @@ abbrev pub of_unread : Unread → LineFault
 of_unread unread.Form = Bad kind.Form
 of_unread unread.NoMemory = NoMemory
 
+-- what the lines so far say
 abbrev pub spec_so_far : Draft → Spec
-spec_so_far d = spec_of d.grammar d.faces
+spec_so_far d = record { declared = declarations_of d.grammar; offers = d.faces.offers; uses = d.faces.uses; free = d.free }
 
 -- The answer is what the line adds, unless memory ran out.
 abbrev pub Adds : Result Draft LineFault → Step → Type 0
@@ -46,6 +47,6 @@ AddsTo draft (Err NoMemory) comes = Unit {0}
 -- The answer is what the line says behind a specification, unless memory ran out.
 abbrev pub Says : Spec → Result Said LineFault → Step → Type 0
 Says s (Ok (said.On draft)) comes = comes ≡ On (spec_so_far draft)
-Says s (Ok (said.Stop draft)) comes = (comes ≡ Stop) × (spec_so_far draft ≡ s)
+Says s (Ok (said.Stop draft loads)) comes = (comes ≡ Stop loads) × (spec_so_far draft ≡ s)
 Says s (Err (Bad kind)) comes = comes ≡ Wrong kind
 Says s (Err NoMemory) comes = Unit {0}

@@ -1,5 +1,5 @@
 -- The lines of a specification, and how each is spelled in lexemes.
-use Rattle.std.specs.Prelude.{ℕ, List, [], ◌∷◌, ◌++◌, codes}
+use Rattle.std.specs.Prelude.{ℕ, Bool, true, false, List, [], ◌∷◌, ◌++◌, codes}
 use Rattle.aw_grammar.specs.Written.{Written, WrittenChild, WrittenRule, side_by_side, Word}
 use Rattle.aw_form.specs.Lexemes.{Lexeme, Name, Number, Mark}
 use Rattle.aw_form.specs.Terms.{spellings}
@@ -11,8 +11,9 @@ pub data Line : Type 0 where
   StartLine : (sort : List ℕ) → Line
   OfferLine : (sort : List ℕ) → Line
   UseLine : (role sort : List ℕ) → Line
+  FreeLine : Line
   RuleLine : (rule : WrittenRule) → Line
-  ScheduleLine : Line
+  ScheduleLine : (loads : Bool) → Line
 
 abbrev pub as_words : List (List ℕ) → List Written
 as_words [] = []
@@ -57,5 +58,7 @@ line_spelling (SortLine name role takes gives) = Name (codes "sort") ∷ Name na
 line_spelling (StartLine sort) = Name (codes "start") ∷ Name sort ∷ []
 line_spelling (OfferLine sort) = Name (codes "offer") ∷ Name sort ∷ []
 line_spelling (UseLine role sort) = Name (codes "use") ∷ Name role ∷ Name sort ∷ []
+line_spelling FreeLine = Name (codes "free") ∷ []
 line_spelling (RuleLine rule) = rule_spelling rule
-line_spelling ScheduleLine = Name (codes "schedule") ∷ []
+line_spelling (ScheduleLine false) = Name (codes "schedule") ∷ []
+line_spelling (ScheduleLine true) = Name (codes "schedule") ∷ Number 2 ∷ []

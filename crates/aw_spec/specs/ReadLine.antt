@@ -1,10 +1,10 @@
 -- Which line the lexemes spell.
-use Rattle.std.specs.Prelude.{ℕ, Bool, false, List, [], ◌∷◌, ◌++◌, Option, None, Some, nat_eq, if◌then◌else◌, codes}
+use Rattle.std.specs.Prelude.{ℕ, Bool, true, false, List, [], ◌∷◌, ◌++◌, Option, None, Some, nat_eq, if◌then◌else◌, codes}
 use Rattle.aw_term.specs.Trees.{nats_eq}
 use Rattle.aw_grammar.specs.Written.{Written, WrittenChild, WrittenRule}
 use Rattle.aw_form.specs.Lexemes.{Lexeme, Name, Number, Node, Quoted, Mark}
 use Rattle.aw_form.specs.Forms.{◌>>=◌, name, number, mark, only, terms_between, names_between, names_in_braces}
-use Rattle.aw_spec.specs.Lines.{Line, RoleLine, ConLine, SortLine, StartLine, OfferLine, UseLine, RuleLine, ScheduleLine}
+use Rattle.aw_spec.specs.Lines.{Line, RoleLine, ConLine, SortLine, StartLine, OfferLine, UseLine, FreeLine, RuleLine, ScheduleLine}
 
 -- a subtask, and nothing behind it
 abbrev pub child_of : List Lexeme → Option WrittenChild
@@ -87,6 +87,19 @@ rule_line ls = do
   children ← rest_of_rule results.1
   Some (RuleLine (record { name = n.0; params = params.0; sort = sort.0; patterns = patterns.0; results = results.0; children = children }))
 
+-- the line of the word `schedule` with this number: 2 alone is a version, that in which messages carry loads
+abbrev pub versioned : ℕ × List Lexeme → Option Line
+versioned v = if nat_eq v.0 2 then only (ScheduleLine true) v.1 else None
+
+-- the number of a version
+abbrev pub version_line : List Lexeme → Option Line
+version_line ls = number ls >>= versioned
+
+-- nothing behind the word, or the number of a version
+abbrev pub schedule_line : List Lexeme → Option Line
+schedule_line [] = Some (ScheduleLine false)
+schedule_line (l ∷ ls) = version_line (l ∷ ls)
+
 -- by the first word; the words are not reserved elsewhere
 abbrev pub by_word : List ℕ → List Lexeme → Option Line
 by_word w ls =
@@ -96,8 +109,9 @@ by_word w ls =
     if nats_eq w (codes "start") then start_line ls else
     if nats_eq w (codes "offer") then offer_line ls else
     if nats_eq w (codes "use") then use_line ls else
+    if nats_eq w (codes "free") then only FreeLine ls else
     if nats_eq w (codes "rule") then rule_line ls else
-    if nats_eq w (codes "schedule") then only ScheduleLine ls else None
+    if nats_eq w (codes "schedule") then schedule_line ls else None
 
 abbrev pub line_of : List Lexeme → Option Line
 line_of ls = do

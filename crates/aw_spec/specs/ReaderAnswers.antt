@@ -22,6 +22,6 @@ draft_of r = record { spec = spec_so_far r.draft; stage = r.stage }
 -- The answer is what comes of the line behind a draft, unless memory ran out.
 abbrev pub Reads : R.Draft → Result AfterLine LineFault → R.LineRead → Type 0
 Reads d (Ok (after.Next reader)) read = read ≡ R.Next (draft_of reader)
-Reads d (Ok (after.End draft)) read = (read ≡ R.End) × (spec_so_far draft ≡ d.spec)
+Reads d (Ok (after.End draft loads)) read = (read ≡ R.End loads) × (spec_so_far draft ≡ d.spec)
 Reads d (Err (Bad kind)) read = read ≡ R.Fault kind
 Reads d (Err NoMemory) read = Unit {0}

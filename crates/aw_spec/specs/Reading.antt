@@ -1,5 +1,5 @@
 -- Which specification a text spells, line by line, or the first line at fault.
-use Rattle.std.specs.Prelude.{ℕ, suc, Bool, ◌&&◌, not, List, [], ◌∷◌, ◌++◌, Option, None, Some, Result, Ok, Err, nat_lt, if◌then◌else◌}
+use Rattle.std.specs.Prelude.{ℕ, suc, Bool, true, false, ◌&&◌, not, List, [], ◌∷◌, ◌++◌, Option, None, Some, Result, Ok, Err, nat_lt, if◌then◌else◌}
 use Rattle.aw_lex.specs.declared.token.Token.{Token}
 use Rattle.aw_lex.specs.Tokens.{tokens_of}
 use Rattle.aw_lex.specs.Lines.{passed_over}
@@ -20,18 +20,19 @@ use Rattle.aw_face.specs.Faces.{is_offered, is_used, rule_fault}
 use Rattle.aw_spec.specs.declared.fault.SpecKind.{SpecKind}
 use Rattle.aw_spec.specs.declared.fault.SpecKind.TheVariants as kind
 use Rattle.aw_spec.specs.declared.fault.SpecKind.TheVariants.{Form, Order, Limit, Double, Clash, Unknown, Arity, Twice, Never, Inherits, NotUsed, NotOffered}
-use Rattle.aw_spec.specs.Lines.{Line, RoleLine, ConLine, SortLine, StartLine, OfferLine, UseLine, RuleLine, ScheduleLine}
+use Rattle.aw_spec.specs.Lines.{Line, RoleLine, ConLine, SortLine, StartLine, OfferLine, UseLine, FreeLine, RuleLine, ScheduleLine}
 use Rattle.aw_spec.specs.ReadLine.{line_of}
-use Rattle.aw_spec.specs.Stages.{roles_stage, cons_stage, sorts_stage, starts_stage, offers_stage, uses_stage, rules_stage, end_stage}
+use Rattle.aw_spec.specs.Stages.{roles_stage, cons_stage, sorts_stage, starts_stage, offers_stage, uses_stage, free_stage, rules_stage, end_stage}
 
--- what a specification says: its declarations, the sorts that are offered, and which role uses which sort
+-- what a specification says: its declarations, the sorts that are offered, which role uses which sort, and whether no tasks may wait for each other
 pub record Spec : Type 0 where
   pub declared : Declarations
   pub offers : List ℕ
   pub uses : List Using
+  pub free : Bool
 
 abbrev pub no_spec : Spec
-no_spec = record { declared = no_declarations; offers = []; uses = [] }
+no_spec = record { declared = no_declarations; offers = []; uses = []; free = false }
 
 -- the fault of a declaration, and of a child, as the kind of its line
 abbrev pub decl_kind : DeclKind → SpecKind
@@ -52,7 +53,7 @@ face_kind face.NotOffered = NotOffered
 pub data Step : Type 0 where
   On : (spec : Spec) → Step
   Wrong : (kind : SpecKind) → Step
-  Stop : Step
+  Stop : (loads : Bool) → Step
 
 -- a declaration, where nothing is wrong with it
 abbrev pub declaring : Spec → Option DeclKind → Declarations → Step
@@ -89,6 +90,13 @@ use_tests s role sort =
 abbrev pub with_use : Spec → List ℕ → List ℕ → Spec
 with_use s role sort = record s { uses = s.uses ++ record { role = number_of role s.declared.roles; sort = sort_number s sort } ∷ [] }
 
+-- a line `free`: it stands already
+abbrev pub free_tests : Spec → List (Bool × SpecKind)
+free_tests s = (s.free, Double) ∷ []
+
+abbrev pub with_free : Spec → Spec
+with_free s = record s { free = true }
+
 -- a rule that is declared, where no child is at fault
 abbrev pub if_kept : Spec → Option (ℕ × FaceKind) → Step
 if_kept s None = On s
@@ -97,7 +105,7 @@ if_kept s (Some fault) = Wrong (face_kind fault.1)
 abbrev pub keeping : Spec → WrittenRule → Step → Step
 keeping s r (On after) = if_kept after (rule_fault (sorts_of s.declared.sorts) s.offers s.uses (entry_of s.declared r).rule)
 keeping s r (Wrong kind) = Wrong kind
-keeping s r Stop = Stop
+keeping s r (Stop loads) = Stop loads
 
 -- what a line says behind those before it
 abbrev pub says : Spec → Line → Step
@@ -109,8 +117,9 @@ says s (SortLine name role takes gives) =
 says s (StartLine sort) = declaring s (start_kind s.declared sort) (with_start s.declared sort)
 says s (OfferLine sort) = tested (offer_tests s sort) (with_offer s sort)
 says s (UseLine role sort) = tested (use_tests s role sort) (with_use s role sort)
+says s FreeLine = tested (free_tests s) (with_free s)
 says s (RuleLine rule) = keeping s rule (declaring s (rule_kind s.declared rule) (with_rule s.declared rule))
-says s ScheduleLine = Stop
+says s (ScheduleLine loads) = Stop loads
 
 -- the place of a line's kind in the order of kinds; the last line stands anywhere
 abbrev pub stage_of : Line → ℕ
@@ -120,8 +129,9 @@ stage_of (SortLine name role takes gives) = sorts_stage
 stage_of (StartLine sort) = starts_stage
 stage_of (OfferLine sort) = offers_stage
 stage_of (UseLine role sort) = uses_stage
+stage_of FreeLine = free_stage
 stage_of (RuleLine rule) = rules_stage
-stage_of ScheduleLine = end_stage
+stage_of (ScheduleLine loads) = end_stage
 
 -- What has been read: the specification so far, and the stage of the last line, or 0.
 pub record Draft : Type 0 where
@@ -132,12 +142,12 @@ pub record Draft : Type 0 where
 pub data LineRead : Type 0 where
   Next : (draft : Draft) → LineRead
   Fault : (kind : SpecKind) → LineRead
-  End : LineRead
+  End : (loads : Bool) → LineRead
 
 abbrev pub at_stage : ℕ → Step → LineRead
 at_stage stage (On spec) = Next (record { spec = spec; stage = stage })
 at_stage stage (Wrong kind) = Fault kind
-at_stage stage Stop = End
+at_stage stage (Stop loads) = End loads
 
 -- a line of an earlier kind than the last has no place here
 abbrev pub in_order : Draft → Line → LineRead
@@ -155,20 +165,20 @@ if_tokens d bytes (Ok tokens) = if_line d (line_of (lexemes bytes tokens))
 abbrev pub read_line : Draft → List ℕ → LineRead
 read_line d bytes = if passed_over bytes then Next d else if_tokens d bytes (tokens_of bytes)
 
--- A specification and how many lines it takes, with that of the word `schedule` where it stands; or the first line at fault, counted from 1, and its first kind.
+-- A specification, how many lines it takes with that of the word `schedule` where it stands, and whether that line asks for loads; or the first line at fault, counted from 1, and its first kind.
 pub data Reading : Type 0 where
-  Good : (spec : Spec) → (lines : ℕ) → Reading
+  Good : (spec : Spec) → (lines : ℕ) → (loads : Bool) → Reading
   Faulty : (line : ℕ) → (kind : SpecKind) → Reading
 
 -- what comes of a line, where `more` reads on
 abbrev pub after_line : Draft → ℕ → LineRead → (Draft → Reading) → Reading
 after_line d line (Next draft) more = more draft
 after_line d line (Fault kind) more = Faulty line kind
-after_line d line End more = Good d.spec line
+after_line d line (End loads) more = Good d.spec line loads
 
--- the lines behind those that were read
+-- the lines behind those that were read; where no line ends the specification, no loads are asked for
 abbrev pub read_lines : Draft → ℕ → List (List ℕ) → Reading
-read_lines d read [] = Good d.spec read
+read_lines d read [] = Good d.spec read false
 read_lines d read (line ∷ lines) = after_line d (suc read) (read_line d line) (λ next. read_lines next (suc read) lines)
 
 abbrev pub no_draft : Draft

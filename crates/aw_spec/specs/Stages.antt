@@ -1,4 +1,4 @@
--- The order of the kinds of line. Between uses and rules there is room for five kinds more; no text shows these numbers.
+-- The order of the kinds of line. Between uses and `free` there is room for four kinds more; no text shows these numbers.
 use Rattle.std.specs.Prelude.{ℕ}
 
 abbrev pub roles_stage : ℕ
@@ -19,6 +19,10 @@ offers_stage = 5
 
 abbrev pub uses_stage : ℕ
 uses_stage = 6
+
+-- the line that asks for a check of waiting
+abbrev pub free_stage : ℕ
+free_stage = 11
 
 -- rules are declared at this stage or never
 abbrev pub rules_stage : ℕ

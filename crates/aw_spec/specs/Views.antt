@@ -1,10 +1,8 @@
 -- Lines and specifications of the program as the definitions speak of them.
-use Rattle.std.specs.Prelude.{List}
-use Rattle.aw_grammar.specs.declared.grammar.Grammar.{Grammar}
 use Rattle.aw_grammar.specs.GrammarOf.{declarations_of}
 use Rattle.aw_grammar.specs.Written.{rule_of_raw}
-use Rattle.aw_face.specs.declared.faces.Faces.{Faces}
 use Rattle.aw_spec.specs.declared.line.SpecLine.{SpecLine}
+use Rattle.aw_spec.specs.declared.spec_text.SpecText.{SpecText}
 use Rattle.aw_spec.specs.declared.line.SpecLine.TheVariants as line
 use Rattle.aw_spec.specs.Lines as L
 use Rattle.aw_spec.specs.Reading.{Spec}
@@ -16,9 +14,10 @@ line_seen (line.Sort sort) = L.SortLine sort.name sort.role sort.takes sort.give
 line_seen (line.Start sort) = L.StartLine sort
 line_seen (line.Offer sort) = L.OfferLine sort
 line_seen (line.Use role sort) = L.UseLine role sort
+line_seen line.Free = L.FreeLine
 line_seen (line.Rule rule) = L.RuleLine (rule_of_raw rule)
-line_seen line.Schedule = L.ScheduleLine
+line_seen (line.Schedule loads) = L.ScheduleLine loads
 
--- what a grammar and the faces of its roles say
-abbrev pub spec_of : Grammar → Faces → Spec
-spec_of g f = record { declared = declarations_of g; offers = f.offers; uses = f.uses }
+-- what a specification that was read says
+abbrev pub spec_seen : SpecText → Spec
+spec_seen s = record { declared = declarations_of s.grammar; offers = s.faces.offers; uses = s.faces.uses; free = s.free }

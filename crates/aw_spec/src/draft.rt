@@ -116,13 +116,14 @@ fn face_kind(kind: FaceKind) -> SpecKind
 pub struct Draft {
     pub grammar: Grammar,
     pub faces: Faces,
+    pub free: bool,
 }
 
 /// What comes of a line: what is said so far, or the end at the line `schedule`.
 #[derive(Debug, Drop)]
 pub enum Said {
     On(Draft),
-    Stop(Draft),
+    Stop { draft: Draft, loads: bool },
 }
 
 /// The rule that was declared last.
@@ -149,9 +150,17 @@ impl Draft {
         requires no_rules { self.grammar.rules ≡ [] }
         ensures { Adds result (says (spec_so_far self) (lines.RoleLine name)) }
     {
-        let Draft { grammar, faces } = self;
+        let Draft {
+            grammar,
+            faces,
+            free,
+        } = self;
         let grammar = grammar.add_role(name)?;
-        Ok(Draft { grammar, faces })
+        Ok(Draft {
+            grammar,
+            faces,
+            free,
+        })
     }
 
     fn add_con(self, con: RawCon) -> Result<Draft, LineFault>
@@ -159,9 +168,17 @@ impl Draft {
         requires no_rules { self.grammar.rules ≡ [] }
         ensures { Adds result (says (spec_so_far self) (lines.ConLine con.name con.arity)) }
     {
-        let Draft { grammar, faces } = self;
+        let Draft {
+            grammar,
+            faces,
+            free,
+        } = self;
         let grammar = grammar.add_con(con)?;
-        Ok(Draft { grammar, faces })
+        Ok(Draft {
+            grammar,
+            faces,
+            free,
+        })
     }
 
     fn add_sort(self, sort: RawSort) -> Result<Draft, LineFault>
@@ -169,18 +186,34 @@ impl Draft {
         requires no_rules { self.grammar.rules ≡ [] }
         ensures { Adds result (says (spec_so_far self) (lines.SortLine sort.name sort.role sort.takes sort.gives)) }
     {
-        let Draft { grammar, faces } = self;
+        let Draft {
+            grammar,
+            faces,
+            free,
+        } = self;
         let grammar = grammar.add_sort(sort)?;
-        Ok(Draft { grammar, faces })
+        Ok(Draft {
+            grammar,
+            faces,
+            free,
+        })
     }
 
     fn add_start(self, sort: Text) -> Result<Draft, LineFault>
         requires no_rules { self.grammar.rules ≡ [] }
         ensures { Adds result (says (spec_so_far self) (lines.StartLine sort)) }
     {
-        let Draft { grammar, faces } = self;
+        let Draft {
+            grammar,
+            faces,
+            free,
+        } = self;
         let grammar = grammar.add_start(&sort)?;
-        Ok(Draft { grammar, faces })
+        Ok(Draft {
+            grammar,
+            faces,
+            free,
+        })
     }
 
     /// Adds an offer; the draft is of no use after a fault.
@@ -243,16 +276,39 @@ impl Draft {
         }
     }
 
+    fn add_free(self) -> Result<Draft, LineFault>
+        ensures { Adds result (says (spec_so_far self) lines.FreeLine) }
+    {
+        if self.free {
+            drop(self);
+            return Err(LineFault::Bad(SpecKind::Double));
+        }
+        let Draft { grammar, faces, .. } = self;
+        Ok(Draft {
+            grammar,
+            faces,
+            free: true,
+        })
+    }
+
     fn add_rule(self, rule: RawRule) -> Result<Draft, LineFault>
         requires named { is_name rule.name ≡ true }
         requires contents { all_have_contents (terms_of (rule_of_raw rule)) ≡ true }
         requires variables { are_names ((rule_of_raw rule).params ++ results_of (rule_of_raw rule).children) ≡ true }
         ensures { Adds result (says (spec_so_far self) (lines.RuleLine (rule_of_raw rule))) }
     {
-        let Draft { grammar, faces } = self;
+        let Draft {
+            grammar,
+            faces,
+            free,
+        } = self;
         let grammar = grammar.add_rule(rule)?;
         match last_fault(&grammar, &faces) {
-            None => Ok(Draft { grammar, faces }),
+            None => Ok(Draft {
+                grammar,
+                faces,
+                free,
+            }),
             Some((_, kind)) => {
                 drop(grammar);
                 Err(LineFault::Bad(face_kind(kind)))
@@ -274,8 +330,9 @@ impl Draft {
             SpecLine::Start(sort) => Ok(Said::On(self.add_start(sort)?)),
             SpecLine::Offer(sort) => Ok(Said::On(self.add_offer(sort)?)),
             SpecLine::Use { role, sort } => Ok(Said::On(self.add_use(role, sort)?)),
+            SpecLine::Free => Ok(Said::On(self.add_free()?)),
             SpecLine::Rule(rule) => Ok(Said::On(self.add_rule(rule)?)),
-            SpecLine::Schedule => Ok(Said::Stop(self)),
+            SpecLine::Schedule { loads } => Ok(Said::Stop { draft: self, loads }),
         }
     }
 }

@@ -2,7 +2,7 @@
 use aw_base::{RawCon, RawRule, RawSort};
 use aw_list::Text;
 
-/// The order of the kinds of line. Between uses and rules there is room for five kinds more.
+/// The order of the kinds of line. Between uses and `free` there is room for four kinds more.
 const ROLES_STAGE: u8 = 1;
 
 const CONS_STAGE: u8 = 2;
@@ -14,6 +14,8 @@ const STARTS_STAGE: u8 = 4;
 const OFFERS_STAGE: u8 = 5;
 
 const USES_STAGE: u8 = 6;
+
+const FREE_STAGE: u8 = 11;
 
 const RULES_STAGE: u8 = 12;
 
@@ -28,9 +30,11 @@ pub enum SpecLine {
     Start(Text),
     Offer(Text),
     Use { role: Text, sort: Text },
+    /// No tasks may wait for each other.
+    Free,
     Rule(RawRule),
-    /// The line behind which the schedule stands.
-    Schedule,
+    /// The line behind which the schedule stands, and whether it asks for loads.
+    Schedule { loads: bool },
 }
 
 impl SpecLine {
@@ -49,8 +53,9 @@ impl SpecLine {
             SpecLine::Start(_) => STARTS_STAGE,
             SpecLine::Offer(_) => OFFERS_STAGE,
             SpecLine::Use { .. } => USES_STAGE,
+            SpecLine::Free => FREE_STAGE,
             SpecLine::Rule(_) => RULES_STAGE,
-            SpecLine::Schedule => END_STAGE,
+            SpecLine::Schedule { .. } => END_STAGE,
         }
     }
 }

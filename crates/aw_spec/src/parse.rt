@@ -5,7 +5,7 @@ ghost use Rattle.aw_term.specs.Trees.{nats_eq};
 ghost use Rattle.aw_grammar.specs.Written.{child_of_raw};
 ghost use Rattle.aw_form.specs.Lexemes.{lexemes};
 ghost use Rattle.aw_form.specs.Gives.{Gives};
-ghost use Rattle.aw_form.specs.Forms as form;
+ghost use Rattle.aw_form.specs.Forms.{only};
 ghost use Rattle.aw_spec.specs.Lines as lines;
 ghost use Rattle.aw_spec.specs.ReadLine as read;
 ghost use Rattle.aw_spec.specs.Pieces.{parts_children, pieces_behind};
@@ -158,6 +158,13 @@ fn use_line(alloc: Global, line: &[u8], tokens: &[Token]) -> Result<SpecLine, Un
     })
 }
 
+fn free_line(line: &[u8], tokens: &[Token]) -> Result<SpecLine, Unread>
+    ensures { Gives line_seen result (only lines.FreeLine (lexemes line.now tokens.now)) }
+{
+    end(line, tokens)?;
+    Ok(SpecLine::Free)
+}
+
 fn rule_line(alloc: Global, line: &[u8], tokens: &[Token]) -> Result<SpecLine, Unread>
     ensures { Gives line_seen result (read.rule_line (lexemes line.now tokens.now)) }
 {
@@ -178,11 +185,26 @@ fn rule_line(alloc: Global, line: &[u8], tokens: &[Token]) -> Result<SpecLine, U
     }))
 }
 
-fn schedule_line(line: &[u8], tokens: &[Token]) -> Result<SpecLine, Unread>
-    ensures { Gives line_seen result (form.only lines.ScheduleLine (lexemes line.now tokens.now)) }
+/// The number of a version: 2 alone, in which messages carry loads.
+fn version_line(line: &[u8], tokens: &[Token]) -> Result<SpecLine, Unread>
+    ensures { Gives line_seen result (read.version_line (lexemes line.now tokens.now)) }
 {
-    end(line, tokens)?;
-    Ok(SpecLine::Schedule)
+    let (version, rest) = number(line, tokens)?;
+    if version != 2 {
+        return Err(Unread::Form);
+    }
+    end(line, rest)?;
+    Ok(SpecLine::Schedule { loads: true })
+}
+
+/// Nothing behind the word, or the number of a version.
+fn schedule_line(line: &[u8], tokens: &[Token]) -> Result<SpecLine, Unread>
+    ensures { Gives line_seen result (read.schedule_line (lexemes line.now tokens.now)) }
+{
+    match tokens {
+        [] => Ok(SpecLine::Schedule { loads: false }),
+        _ => version_line(line, tokens),
+    }
 }
 
 fn is_word(word: &[u8], wanted: &[u8]) -> bool
@@ -208,6 +230,8 @@ pub fn parse_line(alloc: Global, line: &[u8], tokens: &[Token]) -> Result<SpecLi
         offer_line(alloc, line, rest)
     } else if is_word(word, b"use") {
         use_line(alloc, line, rest)
+    } else if is_word(word, b"free") {
+        free_line(line, rest)
     } else if is_word(word, b"rule") {
         rule_line(alloc, line, rest)
     } else if is_word(word, b"schedule") {

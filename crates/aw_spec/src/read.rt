@@ -23,15 +23,21 @@ fn at_line(fault: LineFault, line: u64) -> SpecFault
     }
 }
 
-fn text_of(draft: Draft, lines: u64, rest: usize) -> SpecText
-    ensures value { result ≡ record { grammar = draft.grammar; faces = draft.faces; lines = lines; rest = rest } }
+fn text_of(draft: Draft, loads: bool, lines: u64, rest: usize) -> SpecText
+    ensures value { result ≡ record { grammar = draft.grammar; faces = draft.faces; free = draft.free; loads = loads; lines = lines; rest = rest } }
     ensures grammar { grammar_of result.grammar ≡ grammar_in (declarations_of result.grammar) }
     ensures words { words_of result.grammar ≡ words_in (declarations_of result.grammar) }
 {
-    let Draft { grammar, faces } = draft;
+    let Draft {
+        grammar,
+        faces,
+        free,
+    } = draft;
     SpecText {
         grammar,
         faces,
+        free,
+        loads,
         lines,
         rest,
     }
@@ -51,18 +57,18 @@ fn read_lines(alloc: Global, text: &[u8]) -> Result<SpecText, SpecFault>
         lines += 1;
         match reader.read_line(alloc, line) {
             Ok(AfterLine::Next(next)) => reader = next,
-            Ok(AfterLine::End(draft)) => {
-                return Ok(text_of(draft, lines, text.len() - behind.len()));
+            Ok(AfterLine::End { draft, loads }) => {
+                return Ok(text_of(draft, loads, lines, text.len() - behind.len()));
             }
             Err(fault) => return Err(at_line(fault, lines)),
         }
         rest = behind;
     }
     let Reader { draft, .. } = reader;
-    Ok(text_of(draft, lines, text.len()))
+    Ok(text_of(draft, false, lines, text.len()))
 }
 
-/// The specification that the lines of a text spell up to the line `schedule`, or to the end; or the first line at fault with its first kind.
+/// The specification that the lines of a text spell up to the line `schedule` or `schedule 2`, or to the end; or the first line at fault with its first kind.
 pub fn read_spec(alloc: Global, text: &[u8]) -> Result<SpecText, SpecFault>
     ensures exact { Spells result (specification (lines_of text.now)) }
     ensures within { IfOk result (λ s. s.rest ≤ length text.now) }

@@ -20,11 +20,11 @@ pub struct Reader {
     ghost no_rules: { stage < rules_stage → length draft.grammar.rules ≡ 0 },
 }
 
-/// What comes of a line: reading goes on, or it ends at the line `schedule`.
+/// What comes of a line: reading goes on, or it ends at the line `schedule`, which may ask for loads.
 #[derive(Debug, Drop)]
 pub enum AfterLine {
     Next(Reader),
-    End(Draft),
+    End { draft: Draft, loads: bool },
 }
 
 impl Reader {
@@ -46,6 +46,7 @@ impl Reader {
             draft: Draft {
                 grammar: Grammar::new(alloc),
                 faces,
+                free: false,
             },
             stage: 0,
         }
@@ -63,7 +64,7 @@ impl Reader {
         }
         match draft.says(line)? {
             Said::On(draft) => Ok(AfterLine::Next(Reader { draft, stage })),
-            Said::Stop(draft) => Ok(AfterLine::End(draft)),
+            Said::Stop { draft, loads } => Ok(AfterLine::End { draft, loads }),
         }
     }
 

@@ -4,7 +4,7 @@
 //! what has to be told; nothing in them comes from the program.
 #![tactic(auto)]
 
-ghost use Rattle.aw_spec.specs.Views.{spec_of};
+ghost use Rattle.aw_spec.specs.Views.{spec_seen};
 ghost use Rattle.aw_write.specs.Writable.{FacesFit};
 
 use aw_base::{Choice, Grammar, sort_of};
@@ -34,20 +34,21 @@ fn push_place(told: &mut Text, what: &[u8], line: u64, kind: &[u8]) -> Result<()
     told.push_bytes(kind)
 }
 
-/// Whether two specifications have the same declarations and the same offers and uses.
+/// Whether two specifications have the same declarations and the same offers, uses and wish.
 fn is_same(a: &SpecText, b: &SpecText) -> bool {
     a.grammar.roles == b.grammar.roles
         && a.grammar.cons == b.grammar.cons
         && a.grammar.sorts == b.grammar.sorts
         && a.grammar.rules == b.grammar.rules
         && a.faces == b.faces
+        && a.free == b.free
 }
 
 /// Whether a specification is read as the same from the text that is written of it.
 fn is_read_again(alloc: Global, spec: &SpecText) -> Result<bool, AllocError>
-    requires { FacesFit (spec_of spec.now.grammar spec.now.faces) }
+    requires { FacesFit (spec_seen spec.now) }
 {
-    match aw_write::read_again(alloc, &spec.grammar, &spec.faces) {
+    match aw_write::read_again(alloc, spec) {
         Ok(again) => Ok(is_same(spec, &again)),
         Err(_) => Err(AllocError),
     }
@@ -107,7 +108,7 @@ fn push_spec_verdict(
     spec: &SpecText,
     schedule: &[u8],
 ) -> Result<(), AllocError>
-    requires { FacesFit (spec_of spec.now.grammar spec.now.faces) }
+    requires { FacesFit (spec_seen spec.now) }
 {
     if is_read_again(alloc, spec)? {
         return push_schedule_verdict(alloc, told, spec, schedule);
@@ -135,7 +136,7 @@ fn push_verdict(alloc: Global, told: &mut Text, input: &[u8]) -> Result<(), Allo
 fn push_written(alloc: Global, told: &mut Text, input: &[u8]) -> Result<(), AllocError> {
     match read_spec(alloc, input) {
         Ok(spec) => {
-            let written = write_spec(alloc, &spec.grammar, &spec.faces)?;
+            let written = write_spec(alloc, &spec)?;
             told.push_bytes(written.as_slice())
         }
         Err(SpecFault::Bad { .. }) => told.push_bytes(b"nothing\n"),

@@ -21,10 +21,10 @@ use Rattle.aw_face.specs.declared.faces.Using.{Using}
 use Rattle.aw_face.specs.declared.faces.FaceKind.{FaceKind}
 use Rattle.aw_face.specs.Faces.{is_offered, is_used, rule_fault, at_rule, rules_fault, face_fault}
 use Rattle.aw_spec.specs.declared.fault.SpecKind.TheVariants as kind
-use Rattle.aw_spec.specs.Lines.{RoleLine, StartLine, RuleLine}
+use Rattle.aw_spec.specs.Lines.{RoleLine, StartLine, FreeLine, RuleLine}
 use Rattle.aw_spec.proofs.Tested.{offer_by, use_by}
 use Rattle.aw_spec.specs.Placed.{offering, using_sort, using_by}
-use Rattle.aw_spec.specs.Stages.{roles_stage, cons_stage, sorts_stage, starts_stage, offers_stage, uses_stage, rules_stage}
+use Rattle.aw_spec.specs.Stages.{roles_stage, cons_stage, sorts_stage, starts_stage, offers_stage, uses_stage, free_stage, rules_stage}
 use Rattle.aw_spec.specs.Reading.{Spec, no_spec, On, Wrong, declaring, if_kept, keeping, says}
 use Rattle.aw_write.specs.SpecLines.{named_rule, con_line, sort_line, start_line, start_lines, offer_line, use_line}
 use Rattle.aw_grammar.specs.Variables.{VariablesFit}
@@ -59,7 +59,7 @@ split_names name all pre x post e differ = new_name (map name pre) (name x) (map
 -- roles
 
 abbrev pub with_roles : List (List ℕ) → Spec
-with_roles roles = record { declared = record { roles = roles; cons = []; sorts = []; rules = [] }; offers = []; uses = [] }
+with_roles roles = record { declared = record { roles = roles; cons = []; sorts = []; rules = [] }; offers = []; uses = []; free = false }
 
 role_said : (all pre : List (List ℕ)) (x : List ℕ) (post : List (List ℕ)) → length all ≤ 64 → Differ all → all ≡ pre ++ x ∷ post → says (with_roles pre) (RoleLine x) ≡ On (with_roles (pre ++ x ∷ []))
 role_said all pre x post few differ e =
@@ -73,7 +73,7 @@ roles_lead roles few differ = all_through roles_stage (λ name. RoleLine name) w
 -- constructors
 
 abbrev pub with_cons : List (List ℕ) → List decl.Con → Spec
-with_cons roles cons = record { declared = record { roles = roles; cons = cons; sorts = []; rules = [] }; offers = []; uses = [] }
+with_cons roles cons = record { declared = record { roles = roles; cons = cons; sorts = []; rules = [] }; offers = []; uses = []; free = false }
 
 con_said : (roles : List (List ℕ)) (all pre : List decl.Con) (c : decl.Con) (post : List decl.Con) → length all ≤ 1024 → Differ (map (λ (k : decl.Con). k.name) all) → Each (λ (k : decl.Con). k.arity ≤ 8) all → all ≡ pre ++ c ∷ post →
     says (with_cons roles pre) (con_line c) ≡ On (with_cons roles (pre ++ c ∷ []))
@@ -95,7 +95,7 @@ abbrev pub unstarted : Sort → Sort
 unstarted s = record s { start = false }
 
 abbrev pub with_sorts : List (List ℕ) → List decl.Con → List Sort → Spec
-with_sorts roles cons sorts = record { declared = record { roles = roles; cons = cons; sorts = sorts; rules = [] }; offers = []; uses = [] }
+with_sorts roles cons sorts = record { declared = record { roles = roles; cons = cons; sorts = sorts; rules = [] }; offers = []; uses = []; free = false }
 
 names_unstarted : (sorts : List Sort) → map (λ (s : Sort). s.name) (map unstarted sorts) ≡ map (λ (s : Sort). s.name) sorts
 names_unstarted [] = refl
@@ -180,7 +180,7 @@ starts_lead roles cons sorts differ fit = go [] sorts refl
 -- offers
 
 abbrev pub with_offers : Declarations → List ℕ → Spec
-with_offers d offers = record { declared = record d { rules = [] }; offers = offers; uses = [] }
+with_offers d offers = record { declared = record d { rules = [] }; offers = offers; uses = []; free = false }
 
 -- a test that fails for each
 none_any : {A : Type 0} (p : A → Bool) (xs : List A) → Each (λ x. p x ≡ false) xs → list_any p xs ≡ false
@@ -212,7 +212,7 @@ offers_lead d offers differ declared once = all_through offers_stage (offer_line
 -- uses
 
 abbrev pub with_uses : Declarations → List ℕ → List Using → Spec
-with_uses d offers uses = record { declared = record d { rules = [] }; offers = offers; uses = uses }
+with_uses d offers uses = record { declared = record d { rules = [] }; offers = offers; uses = uses; free = false }
 
 abbrev IsDeclaredUse : Declarations → Using → Type 0
 IsDeclaredUse d u = (u.role < length d.roles) × (u.sort < length d.sorts)
@@ -240,6 +240,15 @@ use_said d offers all pre u post roles_differ differ declared once e =
 pub uses_lead : (d : Declarations) (offers : List ℕ) (uses : List Using) → Differ d.roles → Differ (sort_names d) → Each (IsDeclaredUse d) uses → Later AreApart uses →
     Through uses_stage (with_offers d offers) (map (use_line d.roles (sort_names d)) uses) (with_uses d offers uses)
 uses_lead d offers uses roles_differ differ declared once = all_through uses_stage (use_line d.roles (sort_names d)) (with_uses d offers) uses (λ u. refl) (λ pre u post e. use_said d offers uses pre u post roles_differ differ declared once e)
+
+-- the line `free`
+
+abbrev pub with_wish : Declarations → List ℕ → List Using → Bool → Spec
+with_wish d offers uses free = record { declared = record d { rules = [] }; offers = offers; uses = uses; free = free }
+
+pub free_leads : (d : Declarations) (offers : List ℕ) (uses : List Using) (free : Bool) → Through free_stage (with_uses d offers uses) (cond free (FreeLine ∷ []) []) (with_wish d offers uses free)
+free_leads d offers uses true = through_line free_stage (with_uses d offers uses) (with_wish d offers uses true) FreeLine refl refl
+free_leads d offers uses false = through_none free_stage (with_uses d offers uses)
 
 -- rules
 

@@ -1,5 +1,5 @@
 -- What a well-formed grammar says of its declarations, and that this is a mere fact.
-use Rattle.std.proofs.Common.{◌≡◌, ◌≤◌, List, [], ◌∷◌, length, map, subst}
+use Rattle.std.proofs.Common.{◌≡◌, ◌≤◌, false, List, [], ◌∷◌, length, map, subst}
 use Rattle.std.proofs.lemmas.List.{length-map}
 use Rattle.aw_lex.specs.Lines.{lines_of}
 use Rattle.aw_term.specs.WellFormed.{Each, RuleFits, SortFits, IsWellFormed}
@@ -41,5 +41,5 @@ spelled_if_formed d w numbers =
     let names = four_from IsName d.roles (con_names d) (sort_names d) (rule_names d) w.names in
     record { roles = names.roles_fit; cons = names.cons_fit; sorts = names.sorts_fit; rules = names.rules_fit; numbers = numbers }
 
-pub law : (s : Spec) → IsWritable s → specification (lines_of (written s)) ≡ Good s (length (spec_lines s))
+pub law : (s : Spec) → IsWritable s → specification (lines_of (written s)) ≡ Good s (length (spec_lines s)) false
 law s w = written_again s (fine_if_formed s.declared w.formed w.variables) (spelled_if_formed s.declared w.formed w.numbers) w.faces

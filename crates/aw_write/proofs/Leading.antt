@@ -11,7 +11,7 @@ use Rattle.aw_term.specs.WellFormed.{Each}
 use Rattle.aw_grammar.specs.Written.{Written, Word, Apply, Literal, Writtens, Empty, Then, WrittenChild, side_by_side}
 use Rattle.aw_form.specs.Laws.{IsWritten, AreWritten}
 use Rattle.aw_spec.specs.Laws.{IsWrittenChild, IsWrittenLine}
-use Rattle.aw_spec.specs.Lines.{Line, RoleLine, ConLine, SortLine, StartLine, OfferLine, UseLine, RuleLine, ScheduleLine}
+use Rattle.aw_spec.specs.Lines.{Line, RoleLine, ConLine, SortLine, StartLine, OfferLine, UseLine, FreeLine, RuleLine, ScheduleLine}
 use Rattle.aw_spec.specs.ReadLine.{line_of}
 use Rattle.aw_spec.specs.declared.fault.SpecKind.TheVariants.{Order}
 use Rattle.aw_spec.specs.Reading.{Spec, On, says, stage_of, Draft, Next, Fault, at_stage, in_order, if_line, if_tokens, read_line, Good, after_line, read_lines}
@@ -43,8 +43,10 @@ not_passed (SortLine name role takes gives) = refl
 not_passed (StartLine sort) = refl
 not_passed (OfferLine sort) = refl
 not_passed (UseLine role sort) = refl
+not_passed FreeLine = refl
 not_passed (RuleLine rule) = refl
-not_passed ScheduleLine = refl
+not_passed (ScheduleLine false) = refl
+not_passed (ScheduleLine true) = refl
 
 mutual
   term_written : (t : Written) → IsSpelledTerm t → IsWritten t
@@ -69,8 +71,9 @@ line_written (SortLine name role takes gives) h = tt
 line_written (StartLine sort) h = tt
 line_written (OfferLine sort) h = tt
 line_written (UseLine role sort) h = tt
+line_written FreeLine h = tt
 line_written (RuleLine rule) h = (parts_written (side_by_side rule.patterns) h.patterns, parts_written (side_by_side rule.results) h.results, children_written rule.children h.children)
-line_written ScheduleLine h = tt
+line_written (ScheduleLine loads) h = tt
 
 line_again : (d : Draft) (l : Line) → IsSpelledLine l → read_line d (line_text l) ≡ in_order d l
 line_again d l h =
@@ -87,15 +90,15 @@ abbrev pub Leads : Draft → List Line → Draft → Type 0
 Leads d [] e = d ≡ e
 Leads d (l ∷ ls) e = (mid : Draft) × (in_order d l ≡ Next mid) × Leads mid ls e
 
-pub leads_read : (d e : Draft) (n : ℕ) (ls : List Line) → Each IsSpelledLine ls → Leads d ls e → read_lines d n (map line_text ls) ≡ Good e.spec (n + length ls)
+pub leads_read : (d e : Draft) (n : ℕ) (ls : List Line) → Each IsSpelledLine ls → Leads d ls e → read_lines d n (map line_text ls) ≡ Good e.spec (n + length ls) false
 leads_read d e n [] h leads =
     let same : n ≡ n + 0 = omega arith in
-    ap (λ (x : Draft). Good x.spec n) leads ∙ ap (Good e.spec) same
+    ap (λ (x : Draft). Good x.spec n false) leads ∙ ap (λ k. Good e.spec k false) same
 leads_read d e n (l ∷ ls) h leads =
     let same : suc n + length ls ≡ n + suc (length ls) = omega arith in
     ap (λ r. after_line d (suc n) r (λ next. read_lines next (suc n) (map line_text ls))) (line_again d l h.0 ∙ leads.1)
     ∙ leads_read leads.0 e (suc n) ls h.1 leads.2
-    ∙ ap (Good e.spec) same
+    ∙ ap (λ k. Good e.spec k false) same
 
 leads_both : (d m e : Draft) (xs ys : List Line) → Leads d xs m → Leads m ys e → Leads d (xs ++ ys) e
 leads_both d m e [] ys first then = subst (λ x. Leads x ys e) (sym first) then

@@ -1,5 +1,5 @@
--- Grammars and faces of the program, written and read.
-use Rattle.std.proofs.Common.{◌≡◌, ℕ, List, [], ◌∷◌, ◌++◌, map, length, append_assoc, refl, sym, ap, ◌∙◌, subst}
+-- Specifications of the program, written and read.
+use Rattle.std.proofs.Common.{◌≡◌, ℕ, Bool, false, List, [], ◌∷◌, ◌++◌, map, length, append_assoc, refl, sym, ap, ◌∙◌, subst}
 use Rattle.std.specs.Prelude.{Result, Ok, Err, IfOk, IfErr}
 use Rattle.std.proofs.Math.Logic.{∥∥₁_elim}
 use Rattle.aw_lex.specs.Lines.{lines_of}
@@ -13,14 +13,13 @@ use Rattle.aw_grammar.specs.GrammarView.{rule_of}
 use Rattle.aw_grammar.specs.GrammarOf.{grammar_of, words_of, entry, declarations_of}
 use Rattle.aw_grammar.proofs.Entries.{declared_grammar, declared_words}
 use Rattle.aw_grammar.specs.Variables.{VariablesFit}
-use Rattle.aw_face.specs.declared.faces.Faces.{Faces}
 use Rattle.aw_spec.specs.declared.fault.SpecFault.{SpecFault}
 use Rattle.aw_spec.specs.declared.fault.SpecFault.TheVariants.{Bad, NoMemory}
 use Rattle.aw_spec.specs.declared.spec_text.SpecText.{SpecText}
 use Rattle.aw_spec.specs.Answers.{Spells}
 use Rattle.aw_spec.specs.Lines.{Line}
 use Rattle.aw_spec.specs.Reading.{Spec, Reading, Good, specification}
-use Rattle.aw_spec.specs.Views.{spec_of}
+use Rattle.aw_spec.specs.Views.{spec_seen}
 use Rattle.aw_write.specs.LineTexts.{text_of_lines}
 use Rattle.aw_write.specs.SpecLines.{spec_lines, written}
 use Rattle.aw_write.specs.Writable.{SmallNumbers, VariablesNamed, FacesFit}
@@ -43,34 +42,46 @@ variables_of : (g : Grammar) → VariablesNamed (declarations_of g)
 variables_of g =
     each_named (map (λ (c : Con). c.name) g.cons) g.sorts g.rules (∥∥₁_elim g.variables_fit (named_prop g.cons g.sorts g.rules) (λ x. x))
 
-pub again : (g : Grammar) (f : Faces) → Each (λ (e : Entry). SmallNumbers e.rule) (declarations_of g).rules → FacesFit (spec_of g f) →
-    specification (lines_of (written (spec_of g f))) ≡ Good (spec_of g f) (length (spec_lines (spec_of g f)))
-again g f numbers faces = law (spec_of g f) (record { formed = formed_of g; numbers = numbers; variables = variables_of g; faces = faces })
+pub again : (s : SpecText) → Each (λ (e : Entry). SmallNumbers e.rule) (declarations_of s.grammar).rules → FacesFit (spec_seen s) →
+    specification (lines_of (written (spec_seen s))) ≡ Good (spec_seen s) (length (spec_lines (spec_seen s))) false
+again s numbers faces = law (spec_seen s) (record { formed = formed_of s.grammar; numbers = numbers; variables = variables_of s.grammar; faces = faces })
 
-pub whole_text : (declared faces rules : List Line) (t0 t1 t2 t3 : List ℕ) → t0 ≡ [] → t1 ≡ t0 ++ text_of_lines declared → t2 ≡ t1 ++ text_of_lines faces → t3 ≡ t2 ++ text_of_lines rules → t3 ≡ text_of_lines (declared ++ (faces ++ rules))
-whole_text declared faces rules t0 t1 t2 t3 e0 e1 e2 e3 =
-    e3 ∙ ap (λ u. u ++ text_of_lines rules) (e2 ∙ ap (λ u. u ++ text_of_lines faces) (e1 ∙ ap (λ u. u ++ text_of_lines declared) e0))
-    ∙ append_assoc (text_of_lines declared) (text_of_lines faces) (text_of_lines rules)
-    ∙ ap (λ u. text_of_lines declared ++ u) (sym (lines_both faces rules))
-    ∙ sym (lines_both declared (faces ++ rules))
+-- what is added last joins what was added before it
+joined : (xs ys : List Line) (t u v : List ℕ) → u ≡ t ++ text_of_lines xs → v ≡ u ++ text_of_lines ys → v ≡ t ++ text_of_lines (xs ++ ys)
+joined xs ys t u v e f =
+    f ∙ ap (λ w. w ++ text_of_lines ys) e ∙ append_assoc t (text_of_lines xs) (text_of_lines ys) ∙ ap (λ w. t ++ w) (sym (lines_both xs ys))
+
+pub whole_text : (declared faces wish rules : List Line) (t0 t1 t2 t3 t4 : List ℕ) → t0 ≡ [] → t1 ≡ t0 ++ text_of_lines declared → t2 ≡ t1 ++ text_of_lines faces → t3 ≡ t2 ++ text_of_lines wish → t4 ≡ t3 ++ text_of_lines rules →
+    t4 ≡ text_of_lines (declared ++ (faces ++ (wish ++ rules)))
+whole_text declared faces wish rules t0 t1 t2 t3 t4 e0 e1 e2 e3 e4 =
+    joined declared (faces ++ (wish ++ rules)) t0 t1 t4 e1 (joined faces (wish ++ rules) t1 t2 t4 e2 (joined wish rules t2 t3 t4 e3 e4))
+    ∙ ap (λ u. u ++ text_of_lines (declared ++ (faces ++ (wish ++ rules)))) e0
 
 -- what reading answers where the text spells a specification
-pub ok_read : (r : Result SpecText SpecFault) (reading : Reading) (s : Spec) (n : ℕ) → reading ≡ Good s n → Spells r reading → IfOk r (λ t. spec_of t.grammar t.faces ≡ s)
-ok_read (Ok t) reading s n e h = same (spec_of t.grammar t.faces) s t.lines n (sym h ∙ e)
+pub ok_read : (r : Result SpecText SpecFault) (reading : Reading) (s : Spec) (n : ℕ) → reading ≡ Good s n false → Spells r reading → IfOk r (λ t. spec_seen t ≡ s)
+ok_read (Ok t) reading s n e h = same (spec_seen t) s t.lines n t.loads (sym h ∙ e)
   where
-    same : (x y : Spec) (m k : ℕ) → Good x m ≡ Good y k → x ≡ y
-    same x y m k p = cc
+    same : (x y : Spec) (m k : ℕ) (b : Bool) → Good x m b ≡ Good y k false → x ≡ y
+    same x y m k b p = cc
 ok_read (Err f) reading s n e h = tt
 
 -- and on how many lines
-pub lines_read : (r : Result SpecText SpecFault) (reading : Reading) (s : Spec) (n : ℕ) → reading ≡ Good s n → Spells r reading → IfOk r (λ t. t.lines ≡ n)
-lines_read (Ok t) reading s n e h = same (spec_of t.grammar t.faces) s t.lines n (sym h ∙ e)
+pub lines_read : (r : Result SpecText SpecFault) (reading : Reading) (s : Spec) (n : ℕ) → reading ≡ Good s n false → Spells r reading → IfOk r (λ t. t.lines ≡ n)
+lines_read (Ok t) reading s n e h = same (spec_seen t) s t.lines n t.loads (sym h ∙ e)
   where
-    same : (x y : Spec) (m k : ℕ) → Good x m ≡ Good y k → m ≡ k
-    same x y m k p = cc
+    same : (x y : Spec) (m k : ℕ) (b : Bool) → Good x m b ≡ Good y k false → m ≡ k
+    same x y m k b p = cc
 lines_read (Err f) reading s n e h = tt
 
-pub err_read : (r : Result SpecText SpecFault) (reading : Reading) (s : Spec) (n : ℕ) → reading ≡ Good s n → Spells r reading → IfErr r (λ f. f ≡ NoMemory)
+-- and that it asks for no loads
+pub loads_read : (r : Result SpecText SpecFault) (reading : Reading) (s : Spec) (n : ℕ) → reading ≡ Good s n false → Spells r reading → IfOk r (λ t. t.loads ≡ false)
+loads_read (Ok t) reading s n e h = same (spec_seen t) s t.lines n t.loads (sym h ∙ e)
+  where
+    same : (x y : Spec) (m k : ℕ) (b : Bool) → Good x m b ≡ Good y k false → b ≡ false
+    same x y m k b p = cc
+loads_read (Err f) reading s n e h = tt
+
+pub err_read : (r : Result SpecText SpecFault) (reading : Reading) (s : Spec) (n : ℕ) → reading ≡ Good s n false → Spells r reading → IfErr r (λ f. f ≡ NoMemory)
 err_read (Ok t) reading s n e h = tt
 err_read (Err (Bad line kind)) reading s n e h = absurd cc
 err_read (Err NoMemory) reading s n e h = refl

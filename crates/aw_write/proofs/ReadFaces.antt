@@ -16,10 +16,10 @@ use Rattle.aw_face.specs.declared.faces.Using.{Using}
 use Rattle.aw_face.specs.declared.faces.FaceKind.{FaceKind}
 use Rattle.aw_face.specs.Faces.{is_offered, is_used, face_fault}
 use Rattle.aw_spec.specs.declared.fault.SpecKind.TheVariants as kind
-use Rattle.aw_spec.specs.Lines.{Line, RoleLine, ConLine, SortLine, StartLine, OfferLine, UseLine, RuleLine, ScheduleLine}
+use Rattle.aw_spec.specs.Lines.{Line, RoleLine, ConLine, SortLine, StartLine, OfferLine, UseLine, FreeLine, RuleLine, ScheduleLine}
 use Rattle.aw_spec.proofs.Tested.{offer_by, use_by}
 use Rattle.aw_spec.specs.Placed.{offering, using_by}
-use Rattle.aw_spec.specs.Reading.{Spec, Draft, On, Wrong, declaring, if_kept, keeping, says, Good, no_draft, specification}
+use Rattle.aw_spec.specs.Reading.{Spec, Draft, On, Wrong, told_or, with_free, declaring, if_kept, keeping, says, Good, no_draft, specification}
 use Rattle.aw_spec.proofs.KeptLines.{reading_keeps}
 use Rattle.aw_write.specs.Writable.{AreApart, FacesFit}
 
@@ -114,6 +114,10 @@ rule_sound : (s after : Spec) (r : WrittenRule) (kind : Option DeclKind) → kee
 rule_sound s after r (Some x) e sound = cc
 rule_sound s after r None e sound = kept_sound (record s { declared = with_rule s.declared r }) after _ e sound
 
+free_sound : (s after : Spec) (free : Bool) → told_or (with_free s) (cond free (Some kind.Double) None) ≡ On after → IsSound s → IsSound after
+free_sound s after true e sound = cc
+free_sound s after false e sound = subst IsSound (on_is (with_free s) after e) sound
+
 said_sound : (s after : Spec) (line : Line) → says s line ≡ On after → IsSound s → IsSound after
 said_sound s after (RoleLine name) e sound = declared_sound s after _ _ e (longer s.declared.roles name) (omega arith) sound
 said_sound s after (ConLine name arity) e sound = declared_sound s after _ _ e (omega arith) (omega arith) sound
@@ -121,10 +125,11 @@ said_sound s after (SortLine name role takes gives) e sound = declared_sound s a
 said_sound s after (StartLine sort) e sound = declared_sound s after _ _ e (omega arith) (omega (arith, length_start s.declared.sorts (number_of sort (sort_names s.declared)))) sound
 said_sound s after (OfferLine sort) e sound = offer_sound s after sort (number_named (sort_names s.declared) sort) refl (sym (offer_by s sort) ∙ e) sound
 said_sound s after (UseLine role sort) e sound = use_sound s after role sort (number_named s.declared.roles role) (number_named (sort_names s.declared) sort) refl refl (sym (use_by s role sort) ∙ e) sound
+said_sound s after FreeLine e sound = free_sound s after s.free e sound
 said_sound s after (RuleLine rule) e sound = rule_sound s after rule _ e sound
-said_sound s after ScheduleLine e sound = cc
+said_sound s after (ScheduleLine loads) e sound = cc
 
-pub read_fits : (lines : List (List ℕ)) (s : Spec) (n : ℕ) → specification lines ≡ Good s n → face_fault (grammar_in s.declared) s.offers s.uses ≡ None → FacesFit s
-read_fits lines s n e kept =
-    let sound = reading_keeps (λ (d : Draft). IsSound d.spec) IsSound (λ d after line h le sound. said_sound d.spec after line h sound) (λ d sound. sound) no_draft 0 n s lines (record { offers = tt; offered_once = tt; uses = tt; used_once = tt }) e in
+pub read_fits : (lines : List (List ℕ)) (s : Spec) (n : ℕ) (loads : Bool) → specification lines ≡ Good s n loads → face_fault (grammar_in s.declared) s.offers s.uses ≡ None → FacesFit s
+read_fits lines s n loads e kept =
+    let sound = reading_keeps (λ (d : Draft). IsSound d.spec) IsSound (λ d after line h le sound. said_sound d.spec after line h sound) (λ d sound. sound) no_draft 0 n s loads lines (record { offers = tt; offered_once = tt; uses = tt; used_once = tt }) e in
     record { kept = kept; offers = sound.offers; offered_once = sound.offered_once; uses = sound.uses; used_once = sound.used_once }

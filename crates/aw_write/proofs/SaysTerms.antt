@@ -1,5 +1,5 @@
 -- Written terms and lines say the lexemes that spell them.
-use Rattle.std.proofs.Common.{◌≡◌, ℕ, ◌<◌, ◌^◌, refl, ◌∙◌, ap, true, codes, List, [], ◌∷◌, ◌++◌, append_assoc}
+use Rattle.std.proofs.Common.{◌≡◌, ℕ, ◌<◌, ◌^◌, refl, ◌∙◌, ap, true, false, codes, List, [], ◌∷◌, ◌++◌, append_assoc, arith}
 use Rattle.std.specs.Fmt.{decimal}
 use Rattle.aw_text.specs.Spelling.{is_name, is_content}
 use Rattle.aw_term.specs.Trees.{Never, Head, Con, Num, Text}
@@ -7,7 +7,7 @@ use Rattle.aw_term.specs.WellFormed.{Each}
 use Rattle.aw_grammar.specs.Written.{Written, Word, Apply, Literal, Writtens, Empty, Then, WrittenChild, WrittenRule, side_by_side}
 use Rattle.aw_form.specs.Lexemes.{Lexeme, Name, Number, Mark}
 use Rattle.aw_form.specs.Terms.{spelling, spellings, spellings_behind}
-use Rattle.aw_spec.specs.Lines.{Line, RoleLine, ConLine, SortLine, StartLine, OfferLine, UseLine, RuleLine, ScheduleLine, as_words, in_parentheses, in_angles, params_spelling, child_spelling, behind_child, children_spelling, rule_spelling, line_spelling}
+use Rattle.aw_spec.specs.Lines.{Line, RoleLine, ConLine, SortLine, StartLine, OfferLine, UseLine, FreeLine, RuleLine, ScheduleLine, as_words, in_parentheses, in_angles, params_spelling, child_spelling, behind_child, children_spelling, rule_spelling, line_spelling}
 use Rattle.aw_write.specs.LineTexts.{term_text, parts_text, parts_behind, terms_text, names_text, params_text, child_text, children_behind, children_text, rule_text, line_text}
 use Rattle.aw_write.proofs.Lexing.{Ends}
 use Rattle.aw_write.proofs.SaysTokens.{Says, moved, says_nothing, says_blank, says_name, says_number, says_text, says_mark, says_last_name, says_last_number}
@@ -170,8 +170,9 @@ IsSpelledLine (SortLine name role takes gives) = IsName name × IsName role × (
 IsSpelledLine (StartLine sort) = IsName sort
 IsSpelledLine (OfferLine sort) = IsName sort
 IsSpelledLine (UseLine role sort) = IsName role × IsName sort
+IsSpelledLine FreeLine = Unit {0}
 IsSpelledLine (RuleLine rule) = IsSpelledRule rule
-IsSpelledLine ScheduleLine = Unit {0}
+IsSpelledLine (ScheduleLine loads) = Unit {0}
 
 -- a word and a name
 two_words : (word name : List ℕ) → IsName word → IsName name → Says (word ++ 32 ∷ name) (Name word ∷ Name name ∷ [])
@@ -197,5 +198,8 @@ line_says (OfferLine sort) h = two_words (codes "offer") sort refl h
 line_says (UseLine role sort) h =
     says_name (codes "use") (32 ∷ (role ++ 32 ∷ sort)) (Name role ∷ Name sort ∷ []) refl refl
     (says_blank (role ++ 32 ∷ sort) (Name role ∷ Name sort ∷ []) (two_words role sort h.0 h.1))
+line_says FreeLine h = says_last_name (codes "free") refl
 line_says (RuleLine rule) h = rule_says rule h
-line_says ScheduleLine h = says_last_name (codes "schedule") refl
+line_says (ScheduleLine false) h = says_last_name (codes "schedule") refl
+line_says (ScheduleLine true) h =
+    says_name (codes "schedule") (32 ∷ decimal 2) (Number 2 ∷ []) refl refl (says_blank (decimal 2) (Number 2 ∷ []) (says_last_number 2 (omega arith)))

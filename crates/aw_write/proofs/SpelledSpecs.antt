@@ -13,9 +13,9 @@ use Rattle.aw_grammar.specs.declared.rule.Sort.{Sort}
 use Rattle.aw_grammar.specs.GrammarView.{sort_of}
 use Rattle.aw_grammar.specs.Declarations.{Entry, Declarations, con_names, sort_names, rule_names, grammar_in}
 use Rattle.aw_face.specs.declared.faces.Using.{Using}
-use Rattle.aw_spec.specs.Lines.{RoleLine, StartLine, RuleLine}
+use Rattle.aw_spec.specs.Lines.{RoleLine, StartLine, FreeLine, RuleLine}
 use Rattle.aw_spec.specs.Reading.{Spec}
-use Rattle.aw_write.specs.SpecLines.{named, named_parts, named_children, later_variables, named_rule, con_line, sort_line, start_line, start_lines, offer_line, use_line, declaration_lines, face_lines, rule_lines, spec_lines}
+use Rattle.aw_write.specs.SpecLines.{named, named_parts, named_children, later_variables, named_rule, con_line, sort_line, start_line, start_lines, offer_line, use_line, declaration_lines, face_lines, free_lines, rule_lines, spec_lines}
 use Rattle.aw_grammar.specs.Variables.{VariablesFit}
 use Rattle.aw_write.specs.Writable.{IsSmall, NumbersFit, PartsFit, SmallNumbers, FacesFit}
 use Rattle.aw_write.proofs.Placed.{each_take, each_drop, each_upto}
@@ -124,13 +124,17 @@ uses_spelled d [] roles sorts declared = tt
 uses_spelled d (u ∷ uses) roles sorts declared =
     ((each_get IsName [] d.roles u.role roles declared.0.0, each_get IsName [] (sort_names d) u.sort sorts (named_below d.sorts u.sort declared.0.1)), uses_spelled d uses roles sorts declared.1)
 
+free_spelled : (free : Bool) → Each IsSpelledLine (cond free (FreeLine ∷ []) [])
+free_spelled true = (tt, tt)
+free_spelled false = tt
+
 pub spec_spelled : (s : Spec) → Fine s.declared → Spelled s.declared → FacesFit s → Each IsSpelledLine (spec_lines s)
 spec_spelled s fine spelled faces =
     let d = s.declared in
-    each_append IsSpelledLine (declaration_lines d) (face_lines s ++ rule_lines d)
+    each_append IsSpelledLine (declaration_lines d) (face_lines s ++ (free_lines s ++ rule_lines d))
     (each_append IsSpelledLine (map (λ name. RoleLine name) d.roles) (map con_line d.cons ++ (map (sort_line d.roles) d.sorts ++ start_lines d.sorts)) (roles_spelled d.roles spelled.roles)
     (each_append IsSpelledLine (map con_line d.cons) (map (sort_line d.roles) d.sorts ++ start_lines d.sorts) (cons_spelled d.cons spelled.cons fine.arities)
     (each_append IsSpelledLine (map (sort_line d.roles) d.sorts) (start_lines d.sorts) (sorts_spelled d.roles d.sorts spelled.roles spelled.sorts fine.sorts) (starts_spelled d.sorts spelled.sorts))))
-    (each_append IsSpelledLine (face_lines s) (rule_lines d)
+    (each_append IsSpelledLine (face_lines s) (free_lines s ++ rule_lines d)
     (each_append IsSpelledLine (map (offer_line (sort_names d)) s.offers) (map (use_line d.roles (sort_names d)) s.uses) (offers_spelled d s.offers spelled.sorts faces.offers) (uses_spelled d s.uses spelled.roles spelled.sorts faces.uses))
-    (rules_spelled d d.rules spelled spelled.rules fine.rules fine.variables spelled.numbers))
+    (each_append IsSpelledLine (free_lines s) (rule_lines d) (free_spelled s.free) (rules_spelled d d.rules spelled spelled.rules fine.rules fine.variables spelled.numbers)))

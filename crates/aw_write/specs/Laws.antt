@@ -1,5 +1,5 @@
 -- What is written is read again.
-use Rattle.std.specs.Prelude.{◌≡◌, ℕ, List, length, None}
+use Rattle.std.specs.Prelude.{◌≡◌, ℕ, Bool, false, List, length, None}
 use Rattle.aw_lex.specs.Lines.{lines_of}
 use Rattle.aw_grammar.specs.Declarations.{grammar_in}
 use Rattle.aw_face.specs.Faces.{face_fault}
@@ -7,10 +7,10 @@ use Rattle.aw_spec.specs.Reading.{Spec, Good, specification}
 use Rattle.aw_write.specs.SpecLines.{spec_lines, written}
 use Rattle.aw_write.specs.Writable.{FacesFit, IsWritable}
 
--- the text of a specification that can be written is read as that specification, on as many lines as it has
+-- the text of a specification that can be written is read as that specification, on as many lines as it has; no line ends it, so that it asks for no loads
 abbrev pub WrittenIsRead : Type 0
-WrittenIsRead = (s : Spec) → IsWritable s → specification (lines_of (written s)) ≡ Good s (length (spec_lines s))
+WrittenIsRead = (s : Spec) → IsWritable s → specification (lines_of (written s)) ≡ Good s (length (spec_lines s)) false
 
 -- the faces of a specification that was read fit it, where its rules keep to them
 abbrev pub ReadFits : Type 0
-ReadFits = (lines : List (List ℕ)) (s : Spec) (n : ℕ) → specification lines ≡ Good s n → face_fault (grammar_in s.declared) s.offers s.uses ≡ None → FacesFit s
+ReadFits = (lines : List (List ℕ)) (s : Spec) (n : ℕ) (loads : Bool) → specification lines ≡ Good s n loads → face_fault (grammar_in s.declared) s.offers s.uses ≡ None → FacesFit s

@@ -1,10 +1,10 @@
 -- How the lines of a specification are laid out in bytes: one space between words, behind each comma, before `{`, and on both sides of `:`, `=` and `;`.
-use Rattle.std.specs.Prelude.{ℕ, List, [], ◌∷◌, ◌++◌, codes}
+use Rattle.std.specs.Prelude.{ℕ, true, false, List, [], ◌∷◌, ◌++◌, codes}
 use Rattle.std.specs.Fmt.{decimal}
 use Rattle.aw_text.specs.Spelling.{quoted}
 use Rattle.aw_term.specs.Trees.{Head, Con, Num, Text}
 use Rattle.aw_grammar.specs.Written.{Written, Word, Apply, Literal, Writtens, Empty, Then, WrittenChild, WrittenRule, side_by_side}
-use Rattle.aw_spec.specs.Lines.{Line, RoleLine, ConLine, SortLine, StartLine, OfferLine, UseLine, RuleLine, ScheduleLine, as_words}
+use Rattle.aw_spec.specs.Lines.{Line, RoleLine, ConLine, SortLine, StartLine, OfferLine, UseLine, FreeLine, RuleLine, ScheduleLine, as_words}
 
 -- a number or a text; a constructor is not written so
 abbrev pub literal_text : Head → List ℕ
@@ -66,8 +66,10 @@ line_text (SortLine name role takes gives) =
 line_text (StartLine sort) = codes "start " ++ sort
 line_text (OfferLine sort) = codes "offer " ++ sort
 line_text (UseLine role sort) = codes "use " ++ (role ++ (codes " " ++ sort))
+line_text FreeLine = codes "free"
 line_text (RuleLine rule) = rule_text rule
-line_text ScheduleLine = codes "schedule"
+line_text (ScheduleLine false) = codes "schedule"
+line_text (ScheduleLine true) = codes "schedule " ++ decimal 2
 
 -- lines, each with its line feed
 abbrev pub text_of_lines : List Line → List ℕ

@@ -1,4 +1,4 @@
--- The lines of a specification: its roles, its constructors, its sorts, the starts by order of sorts, its offers, its uses and its rules, each list in its order.
+-- The lines of a specification: its roles, its constructors, its sorts, the starts by order of sorts, its offers, its uses, the line `free` where it asks for it, and its rules, each list in its order.
 use Rattle.std.specs.Prelude.{ℕ, List, [], ◌∷◌, ◌++◌, ◌+◌, ◌-◌, map, length, take, drop, if◌then◌else◌}
 use Rattle.aw_term.specs.Trees.{Head, Con, Num, Text, Leaf, Made, Trees, Nil, More}
 use Rattle.aw_term.specs.Rules.{Term, get}
@@ -9,7 +9,7 @@ use Rattle.aw_grammar.specs.declared.rule.Sort.{Sort}
 use Rattle.aw_grammar.specs.Written.{Written, Word, Apply, Literal, Writtens, Empty, Then, WrittenChild, WrittenRule}
 use Rattle.aw_grammar.specs.Declarations.{Entry, Declarations, con_names, sort_names}
 use Rattle.aw_face.specs.declared.faces.Using.{Using}
-use Rattle.aw_spec.specs.Lines.{Line, RoleLine, ConLine, SortLine, StartLine, OfferLine, UseLine, RuleLine}
+use Rattle.aw_spec.specs.Lines.{Line, RoleLine, ConLine, SortLine, StartLine, OfferLine, UseLine, FreeLine, RuleLine}
 use Rattle.aw_spec.specs.Reading.{Spec}
 use Rattle.aw_write.specs.LineTexts.{text_of_lines}
 
@@ -80,11 +80,15 @@ declaration_lines d = map (λ name. RoleLine name) d.roles ++ (map con_line d.co
 abbrev pub face_lines : Spec → List Line
 face_lines s = map (offer_line (sort_names s.declared)) s.offers ++ map (use_line s.declared.roles (sort_names s.declared)) s.uses
 
+-- the line `free`, or none
+abbrev pub free_lines : Spec → List Line
+free_lines s = if s.free then FreeLine ∷ [] else []
+
 abbrev pub rule_lines : Declarations → List Line
 rule_lines d = map (λ (e : Entry). RuleLine (named_rule (con_names d) (sort_names d) e)) d.rules
 
 abbrev pub spec_lines : Spec → List Line
-spec_lines s = declaration_lines s.declared ++ (face_lines s ++ rule_lines s.declared)
+spec_lines s = declaration_lines s.declared ++ (face_lines s ++ (free_lines s ++ rule_lines s.declared))
 
 -- the text of a specification
 abbrev pub written : Spec → List ℕ

@@ -1,14 +1,12 @@
 //! What is written is read again.
-ghost use Rattle.std.specs.Prelude.{◌≡◌, IfOk, IfErr, length};
+ghost use Rattle.std.specs.Prelude.{◌≡◌, IfOk, IfErr, length, false};
 ghost use Rattle.aw_spec.specs.declared.fault.SpecFault.TheVariants.{NoMemory};
-ghost use Rattle.aw_spec.specs.Views.{spec_of};
+ghost use Rattle.aw_spec.specs.Views.{spec_seen};
 ghost use Rattle.aw_write.specs.Laws.{ReadFits, WrittenIsRead};
 ghost use Rattle.aw_write.specs.SpecLines.{spec_lines};
 ghost use Rattle.aw_write.specs.Writable.{FacesFit};
 
 use crate::write::write_spec;
-use aw_base::Grammar;
-use aw_face::Faces;
 use aw_spec::{SpecFault, SpecText, read_spec};
 use std::alloc::Global;
 
@@ -23,12 +21,13 @@ pub fn read_fits()
 {}
 
 /// The specification that its own text spells: the same declarations and the same faces, on as many lines as it has.
-pub fn read_again(alloc: Global, g: &Grammar, f: &Faces) -> Result<SpecText, SpecFault>
-    requires { FacesFit (spec_of g.now f.now) }
-    ensures ok { IfOk result (λ s. spec_of s.grammar s.faces ≡ spec_of g.now f.now) }
-    ensures lines { IfOk result (λ s. s.lines ≡ length (spec_lines (spec_of g.now f.now))) }
+pub fn read_again(alloc: Global, s: &SpecText) -> Result<SpecText, SpecFault>
+    requires { FacesFit (spec_seen s.now) }
+    ensures ok { IfOk result (λ again. spec_seen again ≡ spec_seen s.now) }
+    ensures lines { IfOk result (λ again. again.lines ≡ length (spec_lines (spec_seen s.now))) }
+    ensures loads { IfOk result (λ again. again.loads ≡ false) }
     ensures err { IfErr result (λ e. e ≡ NoMemory) }
 {
-    let text = write_spec(alloc, g, f)?;
+    let text = write_spec(alloc, s)?;
     read_spec(alloc, text.as_slice())
 }

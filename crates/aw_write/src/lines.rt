@@ -1,16 +1,17 @@
-//! The lines of roles, constructors, sorts, starts, offers and uses.
+//! The lines of roles, constructors, sorts, starts, offers and uses, and the line `free`.
 ghost use Rattle.std.specs.Prelude.{◌≡◌, ◌++◌, ◌∷◌, [], OnOk, map, codes, decimal};
 ghost use Rattle.aw_term.specs.Rules.{get};
 ghost use Rattle.aw_grammar.specs.Declarations.{sort_names};
 ghost use Rattle.aw_grammar.specs.GrammarOf.{words_of, declarations_of};
 ghost use Rattle.aw_spec.specs.Lines.{RoleLine, StartLine, OfferLine};
-ghost use Rattle.aw_spec.specs.Views.{spec_of};
+ghost use Rattle.aw_spec.specs.Views.{spec_seen};
 ghost use Rattle.aw_write.specs.LineTexts.{text_of_lines};
 ghost use Rattle.aw_write.specs.SpecLines as lines;
 
 use aw_base::{Con, Grammar, Sort, role_name, sort_name};
 use aw_face::{Faces, Using};
 use aw_list::Text;
+use aw_spec::SpecText;
 use aw_text::push_number;
 use std::alloc::AllocError;
 
@@ -136,10 +137,20 @@ pub(crate) fn push_declarations(text: &mut Text, g: &Grammar) -> Result<(), Allo
     push_starts(text, g)
 }
 
-/// Adds the lines of offers and uses.
-pub(crate) fn push_faces(text: &mut Text, g: &Grammar, f: &Faces) -> Result<(), AllocError>
-    ensures { OnOk result (text.new ≡ text.old ++ text_of_lines (lines.face_lines (spec_of g.now f.now))) }
+/// Adds the line `free` where it is asked for.
+pub(crate) fn push_free(text: &mut Text, s: &SpecText) -> Result<(), AllocError>
+    ensures { OnOk result (text.new ≡ text.old ++ text_of_lines (lines.free_lines (spec_seen s.now))) }
 {
-    push_offers(text, g, f)?;
-    push_uses(text, g, f)
+    if !s.free {
+        return Ok(());
+    }
+    text.push_bytes(b"free\n")
+}
+
+/// Adds the lines of offers and uses.
+pub(crate) fn push_faces(text: &mut Text, s: &SpecText) -> Result<(), AllocError>
+    ensures { OnOk result (text.new ≡ text.old ++ text_of_lines (lines.face_lines (spec_seen s.now))) }
+{
+    push_offers(text, &s.grammar, &s.faces)?;
+    push_uses(text, &s.grammar, &s.faces)
 }

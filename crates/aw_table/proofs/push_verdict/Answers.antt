@@ -1,11 +1,11 @@
 use Rattle.std.proofs.Common.{ap, sym, ◌∙◌}
 use Rattle.aw_lex.specs.Lines.{lines_of}
-use Rattle.aw_spec.specs.Views.{spec_of}
+use Rattle.aw_spec.specs.Views.{spec_seen}
 use Rattle.aw_face.specs.Faces.{face_fault}
 use Rattle.aw_table.proofs.push_verdict.Goals as goal
 
 pub push_spec_verdict-pushed-requires : goal.push_spec_verdict-pushed-requires
 push_spec_verdict-pushed-requires c =
     let spec = c.in-Ok.spec in
-    c.read_fits.ensures (lines_of c.args.input.now) (spec_of spec.grammar spec.faces) spec.lines c.in-Ok.ensures.exact
+    c.read_fits.ensures (lines_of c.args.input.now) (spec_seen spec) spec.lines spec.loads c.in-Ok.ensures.exact
     (ap (λ g. face_fault g spec.faces.offers spec.faces.uses) (sym c.in-Ok.ensures.grammar) ∙ c.in-Ok.ensures.faces)

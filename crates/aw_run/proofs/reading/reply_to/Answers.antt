@@ -1,6 +1,6 @@
 use Rattle.std.proofs.Common.{arith, ◌≡◌, ◌∙◌, ap, subst, refl, drop}
 use Rattle.aw_lex.specs.Lines.{lines_of}
-use Rattle.aw_spec.specs.Views.{spec_of}
+use Rattle.aw_spec.specs.Views.{spec_seen}
 use Rattle.aw_spec.specs.Reading.{Faulty, specification}
 use Rattle.aw_spec.specs.KindNames.{kind_name}
 use Rattle.aw_run.specs.Refusals.{at_line}
@@ -13,15 +13,15 @@ use Rattle.aw_run.proofs.reading.reply_to.Goals as goal
 pub reply_to_specification-requires : goal.reply_to_specification-requires
 reply_to_specification-requires c =
     let behind : lines_of c.split_at.result.1.now ≡ drop c.in-Ok.spec.lines (lines_of c.args.input.now) = ap lines_of c.split_at.ensures.back ∙ c.in-Ok.ensures.rest in
-    omega (arith, c.requires, lines-behind c.args.input.now c.split_at.result.1.now _ _ c.in-Ok.ensures.exact behind)
+    omega (arith, c.requires, lines-behind c.args.input.now c.split_at.result.1.now _ _ _ c.in-Ok.ensures.exact behind)
 
 pub returns-in-Ok : goal.returns-in-Ok
 returns-in-Ok c =
     let behind : lines_of c.split_at.result.1.now ≡ drop c.in-Ok.spec.lines (lines_of c.args.input.now) = ap lines_of c.split_at.ensures.back ∙ c.in-Ok.ensures.rest in
-    reply-map _ (Makes c.args.job (spec_of c.in-Ok.spec.grammar c.in-Ok.spec.faces) c.in-Ok.spec.lines (lines_of c.split_at.result.1.now)) (IsOutputOf c.args.job c.args.input.now)
+    reply-map _ (Makes c.args.job (spec_seen c.in-Ok.spec) c.in-Ok.spec.lines (lines_of c.split_at.result.1.now)) (IsOutputOf c.args.job c.args.input.now)
     (λ output holds.
     output-read c.args.job c.args.input.now _ output c.requires c.in-Ok.ensures.exact
-    (subst (λ behind_it. Makes c.args.job (spec_of c.in-Ok.spec.grammar c.in-Ok.spec.faces) c.in-Ok.spec.lines behind_it output) behind holds))
+    (subst (λ behind_it. Makes c.args.job (spec_seen c.in-Ok.spec) c.in-Ok.spec.lines behind_it output) behind holds))
     c.reply_to_specification.ensures
 
 pub returns-in-Err-Bad : goal.returns-in-Err-Bad

@@ -7,6 +7,6 @@ use Rattle.aw_write.proofs.lines.push_faces.Goals as goal
 
 pub returns : goal.returns
 returns c =
-    let w = words_of c.args.g.now in
-    let f = c.args.f.now in
+    let w = words_of c.args.s.now.grammar in
+    let f = c.args.s.now.faces in
     on_ok_weaker c.push_uses.result (two_added (map (offer_line w.sorts) f.offers) (map (use_line w.roles w.sorts) f.uses) _ _ _ c.in_ok-push_offers.ensures) c.push_uses.ensures

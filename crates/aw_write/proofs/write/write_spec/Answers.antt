@@ -2,22 +2,20 @@ use Rattle.std.proofs.Common.{ap, ◌∙◌}
 use Rattle.aw_lex.specs.Lines.{lines_of}
 use Rattle.aw_grammar.specs.GrammarOf.{declarations_of}
 use Rattle.aw_spec.specs.Reading.{specification}
-use Rattle.aw_spec.specs.Views.{spec_of}
-use Rattle.aw_write.specs.SpecLines.{declaration_lines, face_lines, rule_lines}
+use Rattle.aw_spec.specs.Views.{spec_seen}
+use Rattle.aw_write.specs.SpecLines.{declaration_lines, face_lines, free_lines, rule_lines}
 use Rattle.aw_write.proofs.Programs.{again, whole_text}
 use Rattle.aw_write.proofs.write.write_spec.Goals as goal
 
 pub returns-clause-exact : goal.returns-clause-exact
 returns-clause-exact c =
-    let g = c.args.g.now in
-    let f = c.args.f.now in
-    whole_text (declaration_lines (declarations_of g)) (face_lines (spec_of g f)) (rule_lines (declarations_of g)) _ _ _ _
-    c.new-text.ensures c.in_ok-push_declarations.ensures c.in_ok-push_faces.ensures c.in_ok-push_rules.ensures.text
+    let s = c.args.s.now in
+    whole_text (declaration_lines (declarations_of s.grammar)) (face_lines (spec_seen s)) (free_lines (spec_seen s)) (rule_lines (declarations_of s.grammar)) _ _ _ _ _
+    c.new-text.ensures c.in_ok-push_declarations.ensures c.in_ok-push_faces.ensures c.in_ok-push_free.ensures c.in_ok-push_rules.ensures.text
 
 pub returns-clause-again : goal.returns-clause-again
 returns-clause-again c = λ faces.
-    let g = c.args.g.now in
-    let f = c.args.f.now in
-    ap (λ text. specification (lines_of text)) (whole_text (declaration_lines (declarations_of g)) (face_lines (spec_of g f)) (rule_lines (declarations_of g)) _ _ _ _
-    c.new-text.ensures c.in_ok-push_declarations.ensures c.in_ok-push_faces.ensures c.in_ok-push_rules.ensures.text)
-    ∙ again g f c.in_ok-push_rules.ensures.numbers faces
+    let s = c.args.s.now in
+    ap (λ text. specification (lines_of text)) (whole_text (declaration_lines (declarations_of s.grammar)) (face_lines (spec_seen s)) (free_lines (spec_seen s)) (rule_lines (declarations_of s.grammar)) _ _ _ _ _
+    c.new-text.ensures c.in_ok-push_declarations.ensures c.in_ok-push_faces.ensures c.in_ok-push_free.ensures c.in_ok-push_rules.ensures.text)
+    ∙ again s c.in_ok-push_rules.ensures.numbers faces

@@ -1,0 +1,7 @@
+pub mod Clinic
+pub mod Fitting
+pub mod Types
+pub mod Typing
+pub mod TypeFaults
+pub mod WellTyped
+pub mod Worked
