@@ -19,17 +19,20 @@ map_cond : {A B : Type 0} (f : A → B) (b : Bool) (xs ys : List A) → map f (c
 map_cond f true xs ys = refl
 map_cond f false xs ys = refl
 
+-- to put a node in is to insert the plain one
 pub view_inserted : (g : Grammar) (h : Held) (hs : List Held) → all_of g (insert_in h hs) ≡ insert_held (held_of g h) (all_of g hs)
 view_inserted g h [] = refl
 view_inserted g h (k ∷ ks) =
     map_cond (held_of g) (node_lt h.node k.node) (h ∷ k ∷ ks) (k ∷ insert_in h ks)
     ∙ ap (λ z. cond (node_lt h.node k.node) (held_of g h ∷ held_of g k ∷ all_of g ks) (held_of g k ∷ z)) (view_inserted g h ks)
 
+-- to put nodes in is to insert the plain ones
 pub view_all_inserted : (g : Grammar) (hs ks : List Held) → all_of g (insert_all_in hs ks) ≡ insert_all (all_of g hs) (all_of g ks)
 view_all_inserted g [] ks = refl
 view_all_inserted g (h ∷ hs) ks = view_all_inserted g hs (insert_in h ks) ∙ ap (insert_all (all_of g hs)) (view_inserted g h ks)
 
-none_cases : (g : Grammar) (b : Bool) (h : Held) (o : Option ℕ) (p : Option P.Held) → cond b (Some 0) (option_map suc o) ≡ None → (o ≡ None → p ≡ None) → cond b (Some (held_of g h)) p ≡ None
+none_cases : (g : Grammar) (b : Bool) (h : Held) (o : Option ℕ) (p : Option P.Held) → cond b (Some 0) (option_map suc o) ≡ None →
+    (o ≡ None → p ≡ None) → cond b (Some (held_of g h)) p ≡ None
 none_cases g true h o p e f = absurd cc
 none_cases g false h None p e f = f refl
 none_cases g false h (Some i) p e f = absurd cc
@@ -43,14 +46,16 @@ held_nowhere g n (h ∷ hs) e = none_cases g (node_eq n h.node) h (place_in n hs
 abbrev pub StandsAt : Grammar → Node → List Held → ℕ → Type 0
 StandsAt g n hs i = (h : Held) × (slice_get hs i ≡ Some h) × (h.node ≡ n) × (P.held_of n (all_of g hs) ≡ Some (held_of g h))
 
-here_cases : (g : Grammar) (n : Node) (b : Bool) (h : Held) (hs : List Held) (o : Option ℕ) (i : ℕ) → node_eq n h.node ≡ b → cond b (Some 0) (option_map suc o) ≡ Some i →
-    ((j : ℕ) → o ≡ Some j → StandsAt g n hs j) → (k : Held) × (slice_get (h ∷ hs) i ≡ Some k) × (k.node ≡ n) × (cond b (Some (held_of g h)) (P.held_of n (all_of g hs)) ≡ Some (held_of g k))
+here_cases : (g : Grammar) (n : Node) (b : Bool) (h : Held) (hs : List Held) (o : Option ℕ) (i : ℕ) → node_eq n h.node ≡ b →
+    cond b (Some 0) (option_map suc o) ≡ Some i → ((j : ℕ) → o ≡ Some j → StandsAt g n hs j) →
+    (k : Held) × (slice_get (h ∷ hs) i ≡ Some k) × (k.node ≡ n) × (cond b (Some (held_of g h)) (P.held_of n (all_of g hs)) ≡ Some (held_of g k))
 here_cases g n true h hs o zero t e f = (h, refl, sym (node_is n h.node t), refl)
 here_cases g n true h hs o (suc i) t e f = absurd cc
 here_cases g n false h hs None i t e f = absurd cc
 here_cases g n false h hs (Some j) zero t e f = absurd cc
 here_cases g n false h hs (Some j) (suc i) t e f = let s : j ≡ i = cc in let w = f i (ap Some s) in (w.0, w.1, w.2, w.3)
 
+-- a node that has a place is held, with what stands there
 pub held_here : (g : Grammar) (n : Node) (hs : List Held) (i : ℕ) → place_in n hs ≡ Some i → StandsAt g n hs i
 held_here g n [] i e = absurd cc
 held_here g n (h ∷ hs) i e = here_cases g n (node_eq n h.node) h hs (place_in n hs) i refl e (held_here g n hs)
@@ -67,7 +72,8 @@ each_here P (k ∷ ks) zero h each e = let s : k ≡ h = cc in subst P s each.0
 each_here P (k ∷ ks) (suc i) h each e = each_here P ks i h each.1 e
 
 -- to develop the node at a place is to mark it
-pub view_marked : (g : Grammar) (c : Choice) (s : State) (hs : List Held) (i : ℕ) (h : Held) → Up hs → slice_get hs i ≡ Some h → state_of (Some c) ≡ s → all_of g (done_at c i hs) ≡ map (mark h.node s) (all_of g hs)
+pub view_marked : (g : Grammar) (c : Choice) (s : State) (hs : List Held) (i : ℕ) (h : Held) → Up hs → slice_get hs i ≡ Some h → state_of (Some c) ≡ s →
+    all_of g (done_at c i hs) ≡ map (mark h.node s) (all_of g hs)
 view_marked g c s [] i h up e v = absurd cc
 view_marked g c s (x ∷ xs) zero h up e v =
     let same : x ≡ h = cc in

@@ -28,6 +28,7 @@ each_from : (P : Held → Type 0) (hs : List Held) → ((k : ℕ) (d : Held) →
 each_from P [] f = tt
 each_from P (h ∷ hs) f = (f 0 h (omega arith), each_from P hs (λ k d l. f (suc k) d (omega (arith, l))))
 
+-- the same for the places of a list
 pub up_of : (hs : List Held) → IsInOrder hs → Up hs
 up_of [] f = tt
 up_of (h ∷ hs) f = (each_from _ hs (λ k d l. f 0 (suc k) d (omega arith) (omega (arith, l))), up_of hs (λ i j d le l. f (suc i) (suc j) d (omega (arith, le)) (omega (arith, l))))
@@ -58,12 +59,14 @@ pub after_last : (hs : List Held) (n : Node) → IsInOrder hs → IsPartitionedB
 after_last hs n up = by.after_last at self hs n (by_node hs up)
 
 -- a node goes between those that it is not before and those that it is before
-pub inserted_at : (hs : List Held) (n : Node) (i : ℕ) → i ≤ length hs → AllWithin (λ h. not (node_lt n h.node) ≡ true) hs 0 i → AllWithin (λ h. not (node_lt n h.node) ≡ false) hs i (length hs) → (h : Held) → h.node ≡ n → insert_in h hs ≡ insert hs i h
+pub inserted_at : (hs : List Held) (n : Node) (i : ℕ) → i ≤ length hs → AllWithin (λ h. not (node_lt n h.node) ≡ true) hs 0 i →
+    AllWithin (λ h. not (node_lt n h.node) ≡ false) hs i (length hs) → (h : Held) → h.node ≡ n → insert_in h hs ≡ insert hs i h
 inserted_at hs n i le low high h e =
     ap (insert_in h) (sym (map-id hs)) ∙ by.inserted_at at self hs n i le low high h e ∙ (λ j. map-id (take i hs) j ++ h ∷ map-id (drop i hs) j)
 
 -- the place behind those that are before the node, where it is the node's
-pub place_here : (hs : List Held) (n : Node) (i : ℕ) (h : Held) → AllWithin (λ h. node_lt h.node n ≡ true) hs 0 i → slice_get hs i ≡ Some h → node_eq n h.node ≡ true → place_in n hs ≡ Some i
+pub place_here : (hs : List Held) (n : Node) (i : ℕ) (h : Held) → AllWithin (λ h. node_lt h.node n ≡ true) hs 0 i → slice_get hs i ≡ Some h →
+    node_eq n h.node ≡ true → place_in n hs ≡ Some i
 place_here [] n i h low at e = absurd cc
 place_here (x ∷ xs) n zero h low at e =
     let same : x ≡ h = cc in
@@ -94,7 +97,8 @@ is_after n m true e f differ = refl
 is_after n m false e f differ = let t = tied n m f e in absurd cc
 
 -- no place of the node, where the one behind those that are before it is another's
-pub place_gone : (hs : List Held) (n : Node) (i : ℕ) → Up hs → AllWithin (λ h. node_lt h.node n ≡ true) hs 0 i → AllWithin (λ h. node_lt h.node n ≡ false) hs i (length hs) → ((h : Held) → slice_get hs i ≡ Some h → node_eq n h.node ≡ false) → place_in n hs ≡ None
+pub place_gone : (hs : List Held) (n : Node) (i : ℕ) → Up hs → AllWithin (λ h. node_lt h.node n ≡ true) hs 0 i →
+    AllWithin (λ h. node_lt h.node n ≡ false) hs i (length hs) → ((h : Held) → slice_get hs i ≡ Some h → node_eq n h.node ≡ false) → place_in n hs ≡ None
 place_gone [] n i up low high here = refl
 place_gone (x ∷ xs) n zero up low high here =
     let differ = here x refl in
@@ -109,7 +113,8 @@ lacks_cases n true o e = absurd cc
 lacks_cases n false None e = (refl, refl)
 lacks_cases n false (Some i) e = absurd cc
 
-insert_cases : (P : Held → Type 0) (b : Bool) (h k : Held) (ks zs : List Held) → P h → Each P (k ∷ ks) → Each P zs → Each P (cond b (h ∷ k ∷ ks) (k ∷ zs))
+insert_cases : (P : Held → Type 0) (b : Bool) (h k : Held) (ks zs : List Held) → P h → Each P (k ∷ ks) → Each P zs →
+    Each P (cond b (h ∷ k ∷ ks) (k ∷ zs))
 insert_cases P true h k ks zs here each later = (here, each)
 insert_cases P false h k ks zs here each later = (each.0, later)
 
@@ -121,7 +126,8 @@ comes_after : (h k : Held) (ks : List Held) → Lacks h.node (k ∷ ks) → node
 comes_after h k ks lacks e =
     is_after h.node k.node _ refl e (lacks_cases h.node (node_eq h.node k.node) (place_in h.node ks) lacks).0
 
-ordered_cases : (b : Bool) (h k : Held) (ks : List Held) → node_lt h.node k.node ≡ b → Lacks h.node (k ∷ ks) → Up (k ∷ ks) → Up (insert_in h ks) → Up (cond b (h ∷ k ∷ ks) (k ∷ insert_in h ks))
+ordered_cases : (b : Bool) (h k : Held) (ks : List Held) → node_lt h.node k.node ≡ b → Lacks h.node (k ∷ ks) → Up (k ∷ ks) → Up (insert_in h ks) →
+    Up (cond b (h ∷ k ∷ ks) (k ∷ insert_in h ks))
 ordered_cases true h k ks e lacks up later = ((e, before_all h.node k.node ks e up.0), up)
 ordered_cases false h k ks e lacks up later = (each_inserted (λ x. node_lt k.node x.node ≡ true) h ks (comes_after h k ks lacks e) up.0, later)
 

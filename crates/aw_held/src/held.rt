@@ -97,5 +97,6 @@ pub fn mark_done(held: &mut Vec<Held>, at: usize, done: Choice)
     ensures len { vec_len held.new ≡ vec_len held.old }
     ensures room { vec_capacity held.new ≡ vec_capacity held.old }
 {
-    held[at].done = Some(done);
+    let node = &mut held[at];
+    node.done = Some(done);
 }

@@ -11,7 +11,7 @@ use Rattle.aw_name.specs.contracts.node.RefPartialEq.TheImpl as reference
 use Rattle.aw_term.specs.Names.{Ref, ref_eq}
 use Rattle.aw_term.proofs.RefTests.{ref_eq-true, ref_eq-self, ref_derived}
 use Rattle.aw_subs.specs.declared.subs.Sub.{Sub}
-use Rattle.aw_subs.specs.Entries.{entry_of, asked_in, watchers_in, has_bit, Writes}
+use Rattle.aw_subs.specs.Entries.{entry_of, watchers_in, has_bit, Writes}
 
 -- an entry, found by the equality that is derived in the program
 pub entry_derived : {S : Type 0} (m : HashMap Ref Sub S) (r : Ref) → get (reference.ghosts).eq m r ≡ entry_of m r
@@ -25,72 +25,69 @@ pub writes_derived : {S : Type 0} (m n : HashMap Ref Sub S) (k : Ref) (w : Sub) 
 writes_derived m n k w writes q =
     sym (entry_derived n q) ∙ writes q ∙ (λ i. cond (ref_derived k q i) (Some w) (entry_derived m q i))
 
-asked_cases : (b : Bool) (w : Sub) (o p : Option Sub) → p ≡ cond b (Some w) o → w.asked ≡ true → asked_in p ≡ (b || asked_in o)
-asked_cases true w o p e a = ap asked_in e ∙ a
-asked_cases false w o p e a = ap asked_in e
+ready_cases : (b : Bool) (w : Sub) (o p : Option Sub) → p ≡ cond b (Some w) o → is_some o ≡ true → is_some p ≡ true
+ready_cases true w o p e h = ap is_some e
+ready_cases false w o p e h = ap is_some e ∙ h
 
-ready_cases : (b : Bool) (w : Sub) (o p : Option Sub) → p ≡ cond b (Some w) o → is_some p ≡ (b || is_some o)
-ready_cases true w o p e = ap is_some e
-ready_cases false w o p e = ap is_some e
-
-or_true : (b : Bool) → (b || true) ≡ true
-or_true true = refl
-or_true false = refl
-
-kept_cases : {A : Type 0} (f : Option Sub → A) (b : Bool) (w : Sub) (o p : Option Sub) → p ≡ cond b (Some w) o → (b ≡ true → f o ≡ f (Some w)) → f p ≡ f o
+kept_cases : {A : Type 0} (f : Option Sub → A) (b : Bool) (w : Sub) (o p : Option Sub) → p ≡ cond b (Some w) o →
+    (b ≡ true → f o ≡ f (Some w)) → f p ≡ f o
 kept_cases f true w o p e same = ap f e ∙ sym (same refl)
 kept_cases f false w o p e same = ap f e
 
+bits_cases : (b : Bool) (role i : ℕ) (w : Sub) (o p : Option Sub) → p ≡ cond b (Some w) o →
+    (b ≡ true → has_bit w.watchers i ≡ (nat_eq role i || has_bit (watchers_in o) i)) →
+    has_bit (watchers_in p) i ≡ ((b && nat_eq role i) || has_bit (watchers_in o) i)
+bits_cases true role i w o p e f = ap (λ x. has_bit (watchers_in x) i) e ∙ f refl
+bits_cases false role i w o p e f = ap (λ x. has_bit (watchers_in x) i) e
+
 module _ {S : Type 0} (m n : HashMap Ref Sub S) (k : Ref) (w : Sub) (writes : Writes m n k w) where
-  pub asked_written : w.asked ≡ true → (q : Ref) → asked_in (entry_of n q) ≡ (ref_eq k q || asked_in (entry_of m q))
-  asked_written a q = asked_cases (ref_eq k q) w (entry_of m q) (entry_of n q) (writes q) a
+  -- the written reference has an entry
+  pub ready_self : is_some (entry_of n k) ≡ true
+  ready_self = ap is_some (writes k ∙ ap (λ b. cond b (Some w) (entry_of m k)) (ref_eq-self k))
 
-  pub ready_written : (q : Ref) → is_some (entry_of n q) ≡ (ref_eq k q || is_some (entry_of m q))
-  ready_written q = ready_cases (ref_eq k q) w (entry_of m q) (entry_of n q) (writes q)
-
-  -- each entry stays, whatever is written
+  -- no entry goes away
   pub still_ready : (q : Ref) → is_some (entry_of m q) ≡ true → is_some (entry_of n q) ≡ true
-  still_ready q h = ready_written q ∙ ap (λ b. ref_eq k q || b) h ∙ or_true (ref_eq k q)
+  still_ready q h = ready_cases (ref_eq k q) w (entry_of m q) (entry_of n q) (writes q) h
 
   -- what the written entry does not change
   pub kept_written : {A : Type 0} (f : Option Sub → A) → f (entry_of m k) ≡ f (Some w) → (q : Ref) → f (entry_of n q) ≡ f (entry_of m q)
-  kept_written f same q = kept_cases f (ref_eq k q) w (entry_of m q) (entry_of n q) (writes q) (λ t. ap (λ r. f (entry_of m r)) (sym (ref_eq-true k q t)) ∙ same)
+  kept_written f same q =
+      kept_cases f (ref_eq k q) w (entry_of m q) (entry_of n q) (writes q) (λ t. ap (λ r. f (entry_of m r)) (sym (ref_eq-true k q t)) ∙ same)
 
--- what both outcomes say
-pub either_way : {A E : Type 0} {P Q R : Type 0} (r : Result A E) → OnOk r P → OnErr r Q → (P → R) → (Q → R) → R
-either_way (Ok a) p q f g = f p
-either_way (Err e) p q f g = g q
+  -- the written entry has one more bit
+  pub bits_written : (role : ℕ) (o : Option Sub) → entry_of m k ≡ o → ((j : ℕ) → has_bit w.watchers j ≡ (nat_eq role j || has_bit (watchers_in o) j)) →
+      (q : Ref) (i : ℕ) → has_bit (watchers_in (entry_of n q)) i ≡ ((ref_eq k q && nat_eq role i) || has_bit (watchers_in (entry_of m q)) i)
+  bits_written role o here bits q i =
+      bits_cases (ref_eq k q) role i w (entry_of m q) (entry_of n q) (writes q)
+      (λ t. bits i ∙ ap (λ x. nat_eq role i || has_bit (watchers_in x) i) (sym here ∙ ap (entry_of m) (ref_eq-true k q t)))
 
 -- a bit that is set, beside the others
 pub bit_beside : (bits k i : ℕ) → k < 64 → has_bit (bit_or bits (1 * 2 ^ k % 2 ^ 64)) i ≡ (nat_eq k i || has_bit bits i)
 bit_beside bits k i within = cases (nat_eq k i) refl
   where
     cases : (b : Bool) → nat_eq k i ≡ b → has_bit (bit_or bits (1 * 2 ^ k % 2 ^ 64)) i ≡ (b || has_bit bits i)
-    cases true e = let s : k ≡ i = eqb-true k i e in
-        ap (λ j. has_bit (bit_or bits (1 * 2 ^ k % 2 ^ 64)) j) (sym s) ∙ ap (λ x. nat_eq x 1) (bit_at_set_same w64 bits k within)
-    cases false e = let d : i ≢ k = λ s. both_ways (nat_eq k i) e (ap (nat_eq k) s ∙ eq-eqb k k refl) in ap (λ x. nat_eq x 1) (bit_at_set_other w64 bits k within i d)
+    cases true e =
+        ap (λ j. has_bit (bit_or bits (1 * 2 ^ k % 2 ^ 64)) j) (sym (eqb-true k i e)) ∙ ap (λ x. nat_eq x 1) (bit_at_set_same w64 bits k within)
+    cases false e =
+        let differ : i ≢ k = λ s. both_ways (nat_eq k i) e (ap (nat_eq k) s ∙ eq-eqb k k refl) in
+        ap (λ x. nat_eq x 1) (bit_at_set_other w64 bits k within i differ)
 
+-- a bit that is set alone
 pub bit_alone : (k i : ℕ) → k < 64 → has_bit (1 * 2 ^ k % 2 ^ 64) i ≡ (nat_eq k i || has_bit 0 i)
 bit_alone k i within = ap (λ x. has_bit x i) (sym (or_zero_l (1 * 2 ^ k % 2 ^ 64))) ∙ bit_beside 0 k i within
 
+-- what follows from success, and what follows either way
 pub on_ok : {A E : Type 0} {P R : Type 0} (r : Result A E) → OnOk r P → (P → R) → OnOk r R
 on_ok (Ok a) p f = f p
 on_ok (Err e) p f = p
 
-pub ready_self : {S : Type 0} (m n : HashMap Ref Sub S) (k : Ref) (w : Sub) → Writes m n k w → is_some (entry_of n k) ≡ true
-ready_self m n k w writes = ready_written m n k w writes k ∙ ap (λ b. b || is_some (entry_of m k)) (ref_eq-self k)
+pub either_way : {A E : Type 0} {P Q R : Type 0} (r : Result A E) → OnOk r P → OnErr r Q → (P → R) → (Q → R) → R
+either_way (Ok a) p q f g = f p
+either_way (Err e) p q f g = g q
 
-bits_cases : (b : Bool) (role i : ℕ) (w : Sub) (o p : Option Sub) → p ≡ cond b (Some w) o → (b ≡ true → has_bit w.watchers i ≡ (nat_eq role i || has_bit (watchers_in o) i)) → has_bit (watchers_in p) i ≡ ((b && nat_eq role i) || has_bit (watchers_in o) i)
-bits_cases true role i w o p e f = ap (λ x. has_bit (watchers_in x) i) e ∙ f refl
-bits_cases false role i w o p e f = ap (λ x. has_bit (watchers_in x) i) e
-
--- the written entry has one more bit
-pub bits_written : {S : Type 0} (m n : HashMap Ref Sub S) (k : Ref) (w : Sub) (role : ℕ) → Writes m n k w → (o : Option Sub) → entry_of m k ≡ o → ((j : ℕ) → has_bit w.watchers j ≡ (nat_eq role j || has_bit (watchers_in o) j)) → (q : Ref) (i : ℕ) → has_bit (watchers_in (entry_of n q)) i ≡ ((ref_eq k q && nat_eq role i) || has_bit (watchers_in (entry_of m q)) i)
-bits_written m n k w role writes o here bits q i =
-    bits_cases (ref_eq k q) role i w (entry_of m q) (entry_of n q) (writes q)
-    (λ t. bits i ∙ ap (λ x. nat_eq role i || has_bit (watchers_in x) i) (sym here ∙ ap (entry_of m) (ref_eq-true k q t)))
-
-pub all_taken : {A : Type 0} (P : A → Type 0) (xs : List A) (i : ℕ) (x : A) → i < length xs → x ≡ get_or xs i x → All P (take i xs) → P x → All P (take (i + 1) xs)
+-- one more item that is taken, and all of them
+pub all_taken : {A : Type 0} (P : A → Type 0) (xs : List A) (i : ℕ) (x : A) → i < length xs → x ≡ get_or xs i x →
+    All P (take i xs) → P x → All P (take (i + 1) xs)
 all_taken P xs i x l e all here = subst (All P) (sym (take_more xs i x l ∙ ap (λ y. take i xs ++ y ∷ []) (sym e))) (All-push P (take i xs) x all here)
 
 pub all_of_take : {A : Type 0} (P : A → Type 0) (xs : List A) (i : ℕ) → length xs ≤ i → All P (take i xs) → All P xs

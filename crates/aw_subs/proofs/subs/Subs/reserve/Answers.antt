@@ -10,7 +10,9 @@ loop-r-preserved c =
       asked = λ x. c.in_ok-ready_one.ensures.asked x ∙ c.loop-r.invariant.asked x;
       watched = λ x. c.in_ok-ready_one.ensures.watchers x ∙ c.loop-r.invariant.watched x;
       kept = λ x h. c.in_ok-ready_one.ensures.kept x (c.loop-r.invariant.kept x h);
-      ready = all_taken (λ x. is_ready m x ≡ true) c.args.refs.now c.loop-r.r-index c.r-item.result (subst (λ xs. c.loop-r.r-index < length xs) c.as_slice-r-items.ensures c.loop-r-test.true) (subst (λ xs. c.r-item.result ≡ get_or xs c.loop-r.r-index c.r-item.result) c.as_slice-r-items.ensures c.r-item.is)
+      ready = all_taken (λ x. is_ready m x ≡ true) c.args.refs.now c.loop-r.r-index c.r-item.result
+          (subst (λ xs. c.loop-r.r-index < length xs) c.as_slice-r-items.ensures c.loop-r-test.true)
+          (subst (λ xs. c.r-item.result ≡ get_or xs c.loop-r.r-index c.r-item.result) c.as_slice-r-items.ensures c.r-item.is)
           (λ k d l. c.in_ok-ready_one.ensures.kept _ (c.loop-r.invariant.ready k d l)) c.in_ok-ready_one.ensures.ready;
     }
 
