@@ -1,5 +1,5 @@
 -- Lines of early kinds declare neither sorts nor rules.
-use Rattle.std.proofs.Common.{◌≡◌, ℕ, ◌<◌, subst, true, false, cond, [], ◌∷◌, ◌++◌, length, arith, Option, None, Some}
+use Rattle.std.proofs.Common.{◌≡◌, ◌<◌, subst, length, arith, Option, None, Some}
 use Rattle.aw_grammar.specs.declared.fault.DeclKind.{DeclKind}
 use Rattle.aw_grammar.specs.Declarations.{Declarations}
 use Rattle.aw_index.specs.Places.{first_told}

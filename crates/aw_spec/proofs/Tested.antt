@@ -9,7 +9,7 @@ use Rattle.aw_spec.specs.declared.fault.SpecKind.{SpecKind}
 use Rattle.aw_spec.specs.declared.fault.SpecKind.TheVariants.{Double, Unknown}
 use Rattle.aw_spec.specs.Lines.{OfferLine, UseLine}
 use Rattle.aw_spec.specs.Reading.{Spec, Step, On, Wrong, told_or, tested, says, with_offer}
-use Rattle.aw_spec.specs.Placed.{offering, using_sort, using_by}
+use Rattle.aw_spec.specs.Placed.{offering, using_by}
 
 -- where a line leads on, none of its tests holds, and it leads to this
 led : (tests : List (Bool × SpecKind)) (s after : Spec) (told : Option SpecKind) → first_told tests ≡ told → told_or s told ≡ On after → NoneHolds tests × (s ≡ after)

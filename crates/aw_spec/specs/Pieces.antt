@@ -1,6 +1,5 @@
 -- What the code takes off the children of a rule.
-use Rattle.std.specs.Prelude.{ℕ, Bool, false, List, [], Option, Some, None, nat_eq}
-use Rattle.aw_lex.specs.declared.token.Token.{Token}
+use Rattle.std.specs.Prelude.{Bool, false, List, [], Option, Some, None, nat_eq}
 use Rattle.aw_lex.specs.declared.token.TokenKind.{TokenKind}
 use Rattle.aw_lex.specs.declared.token.TokenKind.TheVariants.{Mark}
 use Rattle.aw_form.specs.Lexemes.{Lexeme}

@@ -1,5 +1,5 @@
 -- What offers and uses say, by the places of their names.
-use Rattle.std.specs.Prelude.{ℕ, List, [], ◌∷◌, ◌++◌, Option, None, Some, if◌then◌else◌}
+use Rattle.std.specs.Prelude.{ℕ, [], ◌∷◌, ◌++◌, Option, None, Some, if◌then◌else◌}
 use Rattle.aw_face.specs.Faces.{is_offered, is_used}
 use Rattle.aw_spec.specs.declared.fault.SpecKind.TheVariants.{Double, Unknown}
 use Rattle.aw_spec.specs.Reading.{Spec, Step, On, Wrong}
