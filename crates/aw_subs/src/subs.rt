@@ -71,7 +71,7 @@ impl Subs {
         ensures answer { IfOk result (λ new. new ≡ not (is_asked self.old.subs r.now)) }
         ensures asked { OnOk result ((x : RefName) → is_asked self.new.subs x ≡ (ref_eq r.now x || is_asked self.old.subs x)) }
         ensures watchers { (x : RefName) → watchers self.new.subs x ≡ watchers self.old.subs x }
-        ensures err { OnErr result ((x : RefName) → is_asked self.new.subs x ≡ is_asked self.old.subs x) }
+        ensures err { OnErr result ((x : RefName) → entry_of self.new.subs x ≡ entry_of self.old.subs x) }
         ensures ready { (x : RefName) → is_ready self.old.subs x ≡ true → is_ready self.new.subs x ≡ true }
         ensures sure { is_ready self.old.subs r.now ≡ true → IsOk result }
     {
@@ -98,7 +98,7 @@ impl Subs {
         ensures answer { IfOk result (λ new. new ≡ not (watches self.old.subs r.now role)) }
         ensures watchers { OnOk result ((x : RefName) (by_role : ℕ) → watches self.new.subs x by_role ≡ ((ref_eq r.now x && nat_eq role by_role) || watches self.old.subs x by_role)) }
         ensures asked { (x : RefName) → is_asked self.new.subs x ≡ is_asked self.old.subs x }
-        ensures err { OnErr result ((x : RefName) → watchers self.new.subs x ≡ watchers self.old.subs x) }
+        ensures err { OnErr result ((x : RefName) → entry_of self.new.subs x ≡ entry_of self.old.subs x) }
         ensures ready { (x : RefName) → is_ready self.old.subs x ≡ true → is_ready self.new.subs x ≡ true }
         ensures sure { is_ready self.old.subs r.now ≡ true → IsOk result }
     {
