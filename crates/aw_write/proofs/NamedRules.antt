@@ -1,9 +1,9 @@
 -- A rule that fits, with its names, is without fault, and is declared as itself.
-use Rattle.std.proofs.Common.{◌≡◌, ℕ, zero, suc, ◌+◌, ◌-◌, ◌<◌, ◌≤◌, refl, sym, ap, ◌∙◌, subst, Bool, true, false, cond, List, [], ◌∷◌, ◌++◌, length, map, take, drop, Some, None, option_and_then, slice_get, arith, length-drop}
+use Rattle.std.proofs.Common.{◌≡◌, ℕ, zero, suc, ◌+◌, ◌-◌, ◌<◌, ◌≤◌, refl, sym, ap, ◌∙◌, subst, true, false, List, [], ◌∷◌, ◌++◌, length, map, take, drop, Some, None, option_and_then, slice_get, arith, length-drop}
 use Rattle.std.proofs.Math.Seq.{take-add}
 use Rattle.std.proofs.lemmas.List.{length-map, length-take-le, take_all, take-append-drop}
 use Rattle.std.proofs.lemmas.Bool.{and_from, or_from, not_from_true, eq-eqb, le-ltb, lt-leb}
-use Rattle.aw_index.specs.Places.{stands, all_stand, has_double, first_told}
+use Rattle.aw_index.specs.Places.{stands, all_stand, has_double}
 use Rattle.aw_term.specs.Rules as P
 use Rattle.aw_term.specs.Rules.{Term, get, upto}
 use Rattle.aw_term.specs.Choices.{gives_of}
@@ -16,7 +16,6 @@ use Rattle.aw_grammar.specs.Terms.{args_of, results_of, terms_of, depth_of_all, 
 use Rattle.aw_grammar.specs.Resolved.{all_resolved, entering, child_numbered, rule_numbered}
 use Rattle.aw_grammar.specs.Declarations.{Entry, Declarations, con_names, sort_names, rule_names, entry_of, grammar_in}
 use Rattle.aw_grammar.specs.Kinds.{sort_called, takes_and_gives, children_fit, child_sorts, all_known, all_have_arities, rule_kind, rule_tests, is_past_counts, is_past_terms}
-use Rattle.aw_grammar.specs.declared.fault.DeclKind.{DeclKind}
 use Rattle.aw_index.proofs.FirstTold.{none_told}
 use Rattle.aw_grammar.proofs.Appends.{known_append, arities_append, depth_append, symbols_append, variables_append, all_append}
 use Rattle.aw_grammar.proofs.PlacedNames.{place_again}
