@@ -1,12 +1,9 @@
-use Rattle.std.proofs.Common.{arith, ◌≡◌, ◌+◌, ◌∙◌, sym, map, ap}
+use Rattle.std.proofs.Common.{arith, ◌≡◌, ◌∙◌, sym, map, ap}
 use Rattle.std.proofs.lemmas.Result.{IfOk-weaker}
 use Rattle.aw_lex.specs.Lines.{lines_of}
 use Rattle.aw_grammar.specs.GrammarOf.{declarations_of}
 use Rattle.aw_sched.specs.Answers.{event_seen}
 use Rattle.aw_sched.specs.Schedules.{Events, FaultAt, read_lines}
-use Rattle.aw_sched.specs.KindNames.{kind_name as schedule_kind}
-use Rattle.aw_run.specs.Refusals.{at_line}
-use Rattle.aw_run.specs.Output.{BadSchedule, by_schedule}
 use Rattle.aw_run.specs.Replies.{reply_with}
 use Rattle.aw_run.specs.declared.reply.Reply.{Reply}
 use Rattle.aw_run.proofs.LineCounts.{schedule-within}
