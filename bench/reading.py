@@ -7,7 +7,7 @@ NAME = re.compile(rb"[a-z][a-z0-9_]{0,63}\Z")
 NUMBER = re.compile(rb"(0|[1-9][0-9]*)\Z")
 NODE = re.compile(rb"([a-z][a-z0-9_]*)#(0|[1-9][0-9]*)((?:/[a-z][a-z0-9_]*\.[1-8])*)\Z")
 BIGGEST = 2 ** 64 - 1
-ORDER = ["role", "con", "sort", "start", "offer", "use", "rule", "schedule"]
+ORDER = ["role", "con", "sort", "start", "offer", "use", "free", "rule", "schedule"]
 MOST = {"role": 64, "con": 1024, "sort": 256, "rule": 1024}
 
 
@@ -162,14 +162,25 @@ def read_rule(line):
     return name, params, sort, patterns, results, children
 
 
+def read_version(line):
+    """What stands behind `schedule`: nothing, or the number 2."""
+    if not line.left:
+        return ()
+    if line.take("number") != b"2":
+        raise Bad("form")
+    return (2,)
+
+
 def read_form(found):
     """The word that begins a line of a specification, and what follows."""
     line = Reader(found)
     word = line.take("name").decode()
     parts = {"role": ["name"], "con": ["name", "number"], "sort": ["name", "name", "number", "number"],
-             "start": ["name"], "offer": ["name"], "use": ["name", "name"], "schedule": []}
+             "start": ["name"], "offer": ["name"], "use": ["name", "name"], "free": []}
     if word == "rule":
         said = read_rule(line)
+    elif word == "schedule":
+        said = read_version(line)
     elif word in parts:
         said = tuple(line.take(kind) for kind in parts[word])
     else:
@@ -217,6 +228,7 @@ class Specification:
     def __init__(self):
         self.roles, self.cons, self.sorts, self.rules = {}, {}, {}, {}
         self.starts, self.offers, self.uses = set(), set(), set()
+        self.free = False
         self.last = 0
 
     def declare(self, word, said):
@@ -272,6 +284,11 @@ class Specification:
         if role not in self.roles or sort not in self.sorts:
             raise Bad("unknown")
         self.uses.add((role, sort))
+
+    def add_free(self):
+        if self.free:
+            raise Bad("double")
+        self.free = True
 
     def add_rule(self, name, params, sort, patterns, results, children):
         args = [term for child in children for term in child[1]]
