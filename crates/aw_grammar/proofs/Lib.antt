@@ -10,7 +10,9 @@ pub mod FitsRule
 pub mod GoodRule
 pub mod Growth
 pub mod InTurn
+pub mod KeptRules
 pub mod MadeLemmas
+pub mod NamedOnce
 pub mod Numbering
 pub mod Numbers
 pub mod PlacedNames

@@ -5,6 +5,7 @@ pub mod GrammarView
 pub mod Kinds
 pub mod Named
 pub mod Resolved
+pub mod SomeRules
 pub mod Terms
 pub mod Variables
 pub mod Written

@@ -4,6 +4,7 @@
 
 pub mod build;
 mod children;
+mod copies;
 pub mod fault;
 pub mod grammar;
 mod kinds;
@@ -13,6 +14,7 @@ pub mod raw;
 mod resolve;
 pub mod rule;
 mod rule_kinds;
+pub mod some_rules;
 mod terms;
 mod variables;
 mod whole;
@@ -26,4 +28,5 @@ pub use raw::{
     RawTerms,
 };
 pub use rule::{Child, Children, Con, Cons, Names, Numbers, Rule, Rules, Sort, Sorts};
+pub use some_rules::only_rules_of;
 pub use terms::room_after_all;
