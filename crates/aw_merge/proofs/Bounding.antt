@@ -16,10 +16,10 @@ use Rattle.aw_accept.proofs.Fitting.{given_of}
 use Rattle.aw_accept.proofs.Pigeonholes.{pigeon}
 use Rattle.aw_store.specs.Equations.{Equation, Map}
 use Rattle.aw_apply.specs.Messages.{Asks, Calls, Kind, Message, Tells}
-use Rattle.aw_space.specs.Joint.{Joint, called_held}
-use Rattle.aw_space.specs.Laws.{IsAccepted}
-use Rattle.aw_space.proofs.Entering.{VariablesEnter, variables_enter}
-use Rattle.aw_space.proofs.Lists.{each_of}
+use Rattle.aw_joint.specs.Joint.{Joint, called_held}
+use Rattle.aw_joint.specs.Laws.{IsAccepted}
+use Rattle.aw_joint.proofs.Entering.{VariablesEnter, variables_enter}
+use Rattle.aw_joint.proofs.Lists.{each_of}
 use Rattle.aw_react.specs.Bounds.{bound, child_results, created, is_called, part_lefts, part_on}
 use Rattle.aw_react.specs.Homes.{has_steps, home, parent}
 use Rattle.aw_react.specs.Worlds.{IsQuiet, World, deliver, settle, site_at, undelivered, count_set}

@@ -12,9 +12,9 @@ use Rattle.aw_choice.specs.Events.{Event, Chooses, Delivers, Settles, Lists}
 use Rattle.aw_iograph.specs.Graphs.{Member}
 use Rattle.aw_iograph.proofs.Members.{never}
 use Rattle.aw_accept.proofs.Fitting.{given_of}
-use Rattle.aw_space.specs.Laws.{IsAccepted}
-use Rattle.aw_space.proofs.Entering.{variables_enter}
-use Rattle.aw_space.proofs.SameConfigs.{same_configuration}
+use Rattle.aw_joint.specs.Laws.{IsAccepted}
+use Rattle.aw_joint.proofs.Entering.{variables_enter}
+use Rattle.aw_joint.proofs.SameConfigs.{same_configuration}
 use Rattle.aw_react.specs.Homes.{home}
 use Rattle.aw_react.specs.Choosing.{outcome}
 use Rattle.aw_react.specs.Worlds.{World, Move, MayCome, step, deliver, settle, undelivered, empty_world, run, site_at}

@@ -12,8 +12,8 @@ use Rattle.aw_iograph.specs.Graphs.{Member}
 use Rattle.aw_iograph.proofs.Members.{never}
 use Rattle.aw_store.specs.Equations.{Map}
 use Rattle.aw_apply.specs.Guard.{guard_all}
-use Rattle.aw_space.specs.Joint.{by_held, by_root, by_rule, by_state, joint_outcome}
-use Rattle.aw_space.proofs.AnyOrders.{held_of-found}
+use Rattle.aw_joint.specs.Joint.{by_held, by_root, by_rule, by_state, joint_outcome}
+use Rattle.aw_joint.proofs.AnyOrders.{held_of-found}
 use Rattle.aw_react.specs.Choosing.{answer_to, choose, choose_on, outcome}
 use Rattle.aw_react.specs.Sites.{Site}
 

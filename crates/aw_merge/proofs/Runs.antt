@@ -19,11 +19,11 @@ use Rattle.aw_accept.proofs.Fitting.{given_of}
 use Rattle.aw_store.specs.Equations.{Body, Equation, find}
 use Rattle.aw_apply.specs.Guard.{guard_all}
 use Rattle.aw_apply.specs.Messages.{Asks, Calls, Kind, Message, Tells}
-use Rattle.aw_space.specs.Joint.{Joint, by_root, called_held, empty_joint, joint_outcome, joint_run, joint_taken}
-use Rattle.aw_space.specs.Laws.{IsAccepted}
-use Rattle.aw_space.proofs.Entering.{VariablesEnter, variables_enter}
-use Rattle.aw_space.proofs.Guarding.{Final, guard_all-keeps}
-use Rattle.aw_space.proofs.SameConfigs.{Fit, fit_empty, fit_of, keep}
+use Rattle.aw_joint.specs.Joint.{Joint, by_root, called_held, empty_joint, joint_outcome, joint_run, joint_taken}
+use Rattle.aw_joint.specs.Laws.{IsAccepted}
+use Rattle.aw_joint.proofs.Entering.{VariablesEnter, variables_enter}
+use Rattle.aw_joint.proofs.Guarding.{Final, guard_all-keeps}
+use Rattle.aw_joint.proofs.SameConfigs.{Fit, fit_empty, fit_of, keep}
 use Rattle.aw_react.specs.Choosing.{choose_on, outcome}
 use Rattle.aw_react.specs.Homes.{home}
 use Rattle.aw_react.specs.Reacting.{react, receive}

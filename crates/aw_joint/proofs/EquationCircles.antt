@@ -9,8 +9,8 @@ use Rattle.aw_store.specs.Equations.{Body, Map, find, mentions}
 use Rattle.aw_store.specs.Unfold.{Unfolds, UnfoldAll, missing, same, is, none, one}
 use Rattle.aw_iograph.specs.Graphs.{Member, Plus, step, more}
 use Rattle.aw_iograph.proofs.Members.{never}
-use Rattle.aw_space.specs.Laws.{Leads, AreAcyclic}
-use Rattle.aw_space.proofs.EquationValues.{HaveValues}
+use Rattle.aw_joint.specs.Laws.{Leads, AreAcyclic}
+use Rattle.aw_joint.proofs.EquationValues.{HaveValues}
 
 module _ (k : Map) where
   -- nothing that it reaches, in no step or more, is on a circle

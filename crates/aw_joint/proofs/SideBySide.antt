@@ -11,7 +11,7 @@ use Rattle.aw_term.specs.Configs.{Row, Config, insert_row, insert_rows, rounds, 
 use Rattle.aw_iograph.specs.Graphs.{Member}
 use Rattle.aw_accept.specs.Acyclic.{Pairs}
 use Rattle.aw_iograph.specs.Occurrences.{item}
-use Rattle.aw_space.specs.Joint.{Held, held_of, insert_held, insert_all}
+use Rattle.aw_joint.specs.Joint.{Held, held_of, insert_held, insert_all}
 use Rattle.aw_iograph.proofs.Members.{never}
 
 -- what holds of the first and of the second holds of either choice

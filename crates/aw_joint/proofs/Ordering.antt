@@ -8,7 +8,7 @@ use Rattle.aw_iograph.specs.Graphs.{Member}
 use Rattle.aw_iograph.proofs.Members.{never}
 use Rattle.aw_term.specs.WellFormed.{Each, Later}
 use Rattle.aw_accept.proofs.ConfigLemmas.{Member-insert_row}
-use Rattle.aw_space.proofs.Lists.{each_of}
+use Rattle.aw_joint.proofs.Lists.{each_of}
 use Rattle.aw_accept.proofs.Fitting.{each_member}
 use Rattle.aw_term.proofs.Eaches.{each_map}
 use Rattle.aw_term.proofs.NodeOrder.{node-no, node-trans, node-tri}

@@ -1,5 +1,5 @@
 //! Cases that were worked by hand: the definitions over references compute just what stands in them.
-ghost use Rattle.aw_space.specs.Worked.{Clinic, ClinicValues, Waiting, WaitingNoMore, OwnResult, OwnResultValues, OwnResultAccepted};
+ghost use Rattle.aw_joint.specs.Worked.{Clinic, ClinicValues, Waiting, WaitingNoMore, OwnResult, OwnResultValues, OwnResultAccepted};
 
 /// The nodes, the equations, the unfolded values and the answers of three small cases, by the definitions alone.
 pub fn worked_choices()

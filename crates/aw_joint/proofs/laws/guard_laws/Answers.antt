@@ -1,6 +1,6 @@
 use Rattle.std.proofs.Common.{◌∙◌, sym, subst}
-use Rattle.aw_space.proofs.Guarding.{Final, guard_all-keeps}
-use Rattle.aw_space.proofs.laws.guard_laws.Goals as goal
+use Rattle.aw_joint.proofs.Guarding.{Final, guard_all-keeps}
+use Rattle.aw_joint.proofs.laws.guard_laws.Goals as goal
 
 pub returns-clause-yes : goal.returns-clause-yes
 returns-clause-yes c k l within ps rs bound e = guard_all-keeps k l within 1 ps rs (subst (Final l) (sym e) tt) ∙ e
