@@ -1,0 +1,5 @@
+pub mod Standings
+pub mod Records
+pub mod Due
+pub mod Tested
+pub mod KeptStates

@@ -1,0 +1,11 @@
+//! How the rules stand at the open nodes that a role holds: kept by slots, and tested again only where something came that
+//! they waited for.
+#![tactic(auto)]
+
+mod kept;
+mod listing;
+mod record;
+mod testing;
+
+pub use kept::Kept;
+pub use record::Record;
