@@ -1,10 +1,11 @@
 -- The triples that have to wait, where a mark, a record or a number changes.
 use Rattle.std.proofs.Common.{◌≡◌, ◌≢◌, ℕ, zero, suc, ◌+◌, ◌<◌, ◌≤◌, ◌⊎◌, inl, inr, Bool, true, false, cond, List, [], ◌∷◌, ◌++◌, length, Option, Some, None, slice_get, refl, sym, ap, ◌∙◌, subst, arith}
-use Rattle.std.specs.Prelude.{count_by, sum_by, insert, nat_eq, ◌&&◌}
+use Rattle.std.specs.Prelude.{count_by, sum_by, filter, insert, nat_eq, not, ◌&&◌}
 use Rattle.std.proofs.lemmas.List.Sums.{sum_by-append, sum_by-cons, sum_by-insert}
 use Rattle.std.proofs.lemmas.Bool.{eqb-true, eq-eqb}
+use Rattle.std.proofs.lemmas.Bool.Decides.{eqb_tells}
 use Rattle.aw_work.specs.declared.block.Triple.{Triple}
-use Rattle.aw_work.specs.Triples.{triple, waiting_at}
+use Rattle.aw_work.specs.Triples.{triple, waiting_at, others_than}
 use Rattle.aw_kept.specs.declared.record.Stands.{Stands}
 use Rattle.aw_kept.specs.declared.record.Stands.TheVariants as stands
 use Rattle.aw_kept.specs.declared.record.Mark.{Mark}
@@ -159,3 +160,89 @@ triple_counts slot n rule ts =
 
 pub waits_counts : (slot n rule : ℕ) → waiting_at slot (triple slot n rule ∷ []) ≡ 1
 waits_counts slot n rule = ap (λ b. cond b 1 0 + 0) (eq-eqb slot slot refl)
+
+-- without the node with this number: what is due of the others
+module _ (p : Triple → Bool) (n : ℕ) where
+  elsewhere : Triple → Bool
+  elsewhere t = not (nat_eq t.node n)
+
+  counted_here : (ts : List Triple) → count_by p (filter elsewhere ts) ≡ count_by (λ t. elsewhere t && p t) ts
+  counted_here [] = refl
+  counted_here (t ∷ ts) = by (elsewhere t) refl
+    where
+      by : (b : Bool) → elsewhere t ≡ b → count_by p (filter elsewhere (t ∷ ts)) ≡ count_by (λ t. elsewhere t && p t) (t ∷ ts)
+      by true e =
+          ap (λ b. count_by p (cond b (t ∷ filter elsewhere ts) (filter elsewhere ts))) e
+          ∙ sum_by-cons (λ t. cond (p t) 1 0) t (filter elsewhere ts)
+          ∙ ap (λ z. cond (p t) 1 0 + z) (counted_here ts)
+          ∙ ap (λ b. cond (b && p t) 1 0 + count_by (λ t. elsewhere t && p t) ts) (sym e)
+          ∙ sym (sum_by-cons (λ t. cond (elsewhere t && p t) 1 0) t ts)
+      by false e =
+          ap (λ b. count_by p (cond b (t ∷ filter elsewhere ts) (filter elsewhere ts))) e
+          ∙ counted_here ts
+          ∙ omega (arith, sum_by-cons (λ t. cond (elsewhere t && p t) 1 0) t ts, ap (λ b. cond (b && p t) 1 0) e)
+
+  -- those of another node all count, and those of this one do not
+  others_due : (m : ℕ) (ms : List Mark) → m ≢ n → count_by (λ t. elsewhere t && p t) (due_marks m ms) ≡ count_by p (due_marks m ms)
+  others_due m [] d = refl
+  others_due m (k ∷ ms) d =
+      omega (arith, one k.stands, others_due m ms d,
+        sum_by-append (λ t. cond (elsewhere t && p t) 1 0) (due_of m k.rule k.stands) (due_marks m ms),
+        sum_by-append (λ t. cond (p t) 1 0) (due_of m k.rule k.stands) (due_marks m ms))
+    where
+      not_here : nat_eq m n ≡ false
+      not_here = by (eqb_tells m n)
+        where
+          by : ((nat_eq m n ≡ true) × (m ≡ n)) ⊎ ((nat_eq m n ≡ false) × (m ≢ n)) → nat_eq m n ≡ false
+          by (inl (t, same)) = absurd (d same)
+          by (inr (t, other)) = t
+
+      one : (s : Stands) → count_by (λ t. elsewhere t && p t) (due_of m k.rule s) ≡ count_by p (due_of m k.rule s)
+      one stands.Ready = refl
+      one (stands.Differs place) = refl
+      one (stands.Circle c) = refl
+      one stands.TooDeep = refl
+      one (stands.Waits c) = ap (λ b. cond (not b && p (triple c m k.rule)) 1 0 + 0) not_here
+
+  none_here : (ms : List Mark) → count_by (λ t. elsewhere t && p t) (due_marks n ms) ≡ 0
+  none_here [] = refl
+  none_here (k ∷ ms) =
+      omega (arith, one k.stands, none_here ms, sum_by-append (λ t. cond (elsewhere t && p t) 1 0) (due_of n k.rule k.stands) (due_marks n ms))
+    where
+      one : (s : Stands) → count_by (λ t. elsewhere t && p t) (due_of n k.rule s) ≡ 0
+      one stands.Ready = refl
+      one (stands.Differs place) = refl
+      one (stands.Circle c) = refl
+      one stands.TooDeep = refl
+      one (stands.Waits c) = ap (λ b. cond (not b && p (triple c n k.rule)) 1 0 + 0) (eq-eqb n n refl)
+
+  record_due : (m : ℕ) (o q : Option Record) → (m ≢ n → q ≡ o) → (m ≡ n → count_by p (due_record m q) ≡ 0) → count_by (λ t. elsewhere t && p t) (due_record m o) ≡ count_by p (due_record m q)
+  record_due m o q others here = by (eqb_tells m n)
+    where
+      other : (o' : Option Record) → m ≢ n → count_by (λ t. elsewhere t && p t) (due_record m o') ≡ count_by p (due_record m o')
+      other None d = refl
+      other (Some x) d = others_due m x.marks.items d
+
+      same_node : (o' : Option Record) → m ≡ n → count_by (λ t. elsewhere t && p t) (due_record m o') ≡ 0
+      same_node None e = refl
+      same_node (Some x) e = ap (λ z. count_by (λ t. elsewhere t && p t) (due_marks z x.marks.items)) e ∙ none_here x.marks.items
+
+      by : ((nat_eq m n ≡ true) × (m ≡ n)) ⊎ ((nat_eq m n ≡ false) × (m ≢ n)) → count_by (λ t. elsewhere t && p t) (due_record m o) ≡ count_by p (due_record m q)
+      by (inl (t, same)) = same_node o same ∙ sym (here same)
+      by (inr (t, d)) = other o d ∙ ap (λ z. count_by p (due_record m z)) (sym (others d))
+
+  -- what is due where the marks of this node are gone
+  pub due_dropped : (ns : List ℕ) (xs ys : List Record) → ((m : ℕ) → m ≢ n → slice_get ys m ≡ slice_get xs m) → count_by p (due_record n (slice_get ys n)) ≡ 0 →
+      count_by (λ t. elsewhere t && p t) (due xs ns) ≡ count_by p (due ys ns)
+  due_dropped [] xs ys others gone = refl
+  due_dropped (m ∷ ns) xs ys others gone =
+      omega (arith,
+        record_due m (slice_get xs m) (slice_get ys m) (λ d. others m d) (λ e. ap (λ z. count_by p (due_record z (slice_get ys z))) e ∙ gone),
+        due_dropped ns xs ys others gone,
+        sum_by-append (λ t. cond (elsewhere t && p t) 1 0) (due_record m (slice_get xs m)) (due xs ns),
+        sum_by-append (λ t. cond (p t) 1 0) (due_record m (slice_get ys m)) (due ys ns))
+
+  -- of the same triples the others are the same
+  pub same_others : (ts : List Triple) (ns : List ℕ) (xs ys : List Record) → count_by (λ t. elsewhere t && p t) ts ≡ count_by (λ t. elsewhere t && p t) (due xs ns) →
+      ((m : ℕ) → m ≢ n → slice_get ys m ≡ slice_get xs m) → count_by p (due_record n (slice_get ys n)) ≡ 0 → count_by p (others_than n ts) ≡ count_by p (due ys ns)
+  same_others ts ns xs ys same others gone = counted_here ts ∙ same ∙ due_dropped ns xs ys others gone

@@ -1,5 +1,5 @@
 -- How a rule stands at a node, its arguments aside, where references are told by slots.
-use Rattle.std.specs.Prelude.{◌≡◌, ℕ, Bool, false, true, List, Option, None, Some, slice_get}
+use Rattle.std.specs.Prelude.{◌≡◌, ℕ, Bool, false, true, List, Option, None, Some, slice_get, if◌then◌else◌}
 use Rattle.aw_term.specs.Names.{Node, Ref}
 use Rattle.aw_term.specs.Rules.{Rule}
 use Rattle.aw_term.specs.Choices.{Answer, WaitsFor, Mismatch, CircleAt, TooDeep, after_guard}
@@ -9,6 +9,8 @@ use Rattle.aw_store.specs.Equations.{Map}
 use Rattle.aw_store.specs.NamedRefs.{is_named}
 use Rattle.aw_apply.specs.Guard.{guard_all}
 use Rattle.aw_apply.specs.Named.{as_named}
+use Rattle.aw_apply.specs.declared.guard.Guard.{Guard}
+use Rattle.aw_apply.specs.declared.guard.Guard.TheVariants as guard
 use Rattle.aw_kept.specs.declared.record.Stands.{Stands}
 use Rattle.aw_kept.specs.declared.record.Stands.TheVariants as stands
 
@@ -33,3 +35,10 @@ is_one_of late (Some r) = is_named late r
 abbrev pub waits_for_one : List Ref → List Ref → Stands → Bool
 waits_for_one names late (stands.Waits slot) = is_one_of late (slice_get names slot)
 waits_for_one names late _ = false
+
+-- how a rule stands whose guard gives this, and at which a child's name would be too long or not
+abbrev pub guard_stands : Bool → Guard → Stands
+guard_stands deep (guard.Yes bound) = if deep then stands.TooDeep else stands.Ready
+guard_stands deep (guard.Waits slot) = stands.Waits slot
+guard_stands deep (guard.Differs place) = stands.Differs place
+guard_stands deep (guard.Circle slot) = stands.Circle slot

@@ -7,7 +7,7 @@ use Rattle.aw_store.specs.NamedRefs.{body_at}
 use Rattle.aw_held.specs.declared.held.Held.{Held}
 use Rattle.aw_work.specs.declared.block.Triple.{Triple}
 use Rattle.aw_kept.specs.declared.record.Stands.{Stands}
-use Rattle.aw_kept.specs.declared.record.Stands.TheVariants.{Waits}
+use Rattle.aw_kept.specs.declared.record.Stands.TheVariants.{Waits, TooDeep}
 use Rattle.aw_kept.specs.declared.record.Mark.{Mark}
 use Rattle.aw_kept.specs.declared.record.Record.{Record}
 use Rattle.aw_kept.specs.Records.{IsOf, IsTold, stand_at, mark_rule, with_stands, has_live}
@@ -28,6 +28,10 @@ pub record IsTested (g : Grammar) (k : Map) (names : List Ref) (n at : ℕ) (m :
   pub sort : new.sort ≡ old.sort
   pub deep : new.deep ≡ old.deep
   pub waiting : (p : Triple → Bool) → count_by p us ≡ count_by p (due_of n m.rule stands) + count_by p ts
+
+-- a mark that was not tested yet
+abbrev pub IsUntested : Mark → Type 0
+IsUntested m = m.stands ≡ TooDeep
 
 -- No mark of a record lets its rule wait.
 abbrev pub IsFresh : Record → Type 0

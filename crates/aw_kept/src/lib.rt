@@ -3,9 +3,10 @@
 #![tactic(auto)]
 
 mod kept;
-mod listing;
+mod preparing;
 mod record;
 mod testing;
 
 pub use kept::Kept;
+pub use preparing::prepare;
 pub use record::Record;

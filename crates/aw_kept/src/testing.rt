@@ -1,9 +1,7 @@
 //! Tests of rules at a held node, by what is kept of it.
-ghost use Rattle.std.specs.Prelude.{◌≡◌, ◌<◌, ◌≤◌, ◌+◌, List, Some, true, All, length, map as list_map, nat_eq, slice_get, vec_len};
+ghost use Rattle.std.specs.Prelude.{◌≡◌, ◌<◌, ◌≤◌, ◌+◌, ◌&&◌, List, Some, true, All, length, map as list_map, nat_eq, nat_lt, slice_get, vec_len};
 ghost use Rattle.aw_term.specs.Names.{Node as NodeValue, Ref as RefName};
 ghost use Rattle.aw_term.specs.Trees.{join};
-ghost use Rattle.aw_term.specs.Choices.{after_guard};
-ghost use Rattle.aw_term.specs.Runs.{refusal_of};
 ghost use Rattle.aw_term.specs.Views.{pattern_of};
 ghost use Rattle.aw_term.specs.WellFormed.{all_leaves, all_nesting};
 ghost use Rattle.aw_grammar.specs.declared.rule.Sort.{Sort as SortValue};
@@ -11,9 +9,8 @@ ghost use Rattle.aw_grammar.specs.GrammarView.{rule_of};
 ghost use Rattle.aw_grammar.specs.GrammarOf.{grammar_of};
 ghost use Rattle.aw_held.specs.declared.held.Held.{Held as HeldValue};
 ghost use Rattle.aw_store.specs.NamedRefs.{AreNamed};
-ghost use Rattle.aw_apply.specs.GuardView.{guard_of};
 ghost use Rattle.aw_kept.specs.declared.record.Mark.{Mark as MarkValue};
-ghost use Rattle.aw_kept.specs.Standings.{kept_refusal, told_refusal};
+ghost use Rattle.aw_kept.specs.Standings.{guard_stands, kept_refusal, told_refusal};
 ghost use Rattle.aw_kept.specs.Records.{IsFit, IsOf, IsTold, with_stands, has_live};
 ghost use Rattle.aw_kept.specs.Tested.{IsTested, IsFresh, AreTested, LacksBody};
 
@@ -26,8 +23,7 @@ use std::sync::ledger::Ledger;
 
 /// How a rule stands where its guard gives this.
 fn stands_by(deep: bool, rule: &Rule, guard: &Guard) -> Stands
-    ensures { (names : List RefName) (sorts : List SortValue) (n : NodeValue) → deep ≡ nat_eq (length n.steps) 250 →
-        kept_refusal names result ≡ refusal_of (after_guard n (rule_of sorts rule.now) (guard_of names guard.now)) }
+    ensures { result ≡ guard_stands (deep && nat_lt 0 (length rule.now.children)) guard.now }
 {
     match guard {
         Guard::Yes(_) => {
