@@ -2,6 +2,8 @@
 use Rattle.std.proofs.Common.{◌≡◌, ◌≢◌, ℕ, zero, suc, ◌+◌, ◌<◌, ◌≤◌, ◌⊎◌, inl, inr, Bool, true, false, cond, List, [], ◌∷◌, ◌++◌, length, Option, Some, None, slice_get, refl, sym, ap, ◌∙◌, subst, arith}
 use Rattle.std.specs.Prelude.{count_by, sum_by, filter, insert, nat_eq, not, ◌&&◌}
 use Rattle.std.proofs.lemmas.List.Sums.{sum_by-append, sum_by-cons, sum_by-insert}
+use Rattle.std.specs.List.Sorted.{IsPermutation}
+use Rattle.std.proofs.lemmas.List.Sorted.{sum_by-IsPermutation}
 use Rattle.std.proofs.lemmas.Bool.{eqb-true, eq-eqb}
 use Rattle.std.proofs.lemmas.Bool.Decides.{eqb_tells}
 use Rattle.aw_work.specs.declared.block.Triple.{Triple}
@@ -113,37 +115,39 @@ module _ (slot n rule : ℕ) where
           let (a, u) = and_true _ _ t in
           let (c, d) = and_true _ _ u in
           inr (ap stands.Waits (eqb-true _ _ a), eqb-true _ _ c, eqb-true _ _ d)
-      by false t = inl (ap (λ z. cond z 1 0 + 0) t)
+      by false t = inl (ap (λ z. 0 + cond z 1 0) t)
 
   mark_found : (k : ℕ) (ms : List Mark) → 0 < count_by (is_triple slot n rule) (due_marks k ms) → (k ≡ n) × MarkWaits ms slot rule
   mark_found k [] l = absurd (omega (arith, l))
-  mark_found k (m ∷ ms) l = by (found k m ms m.stands true refl)
+  mark_found k (m ∷ ms) l = by (found k m ms m.stands true refl) (mark_found k ms)
     where
-      by : (count_by (is_triple slot n rule) (due_of k m.rule m.stands) ≡ 0) ⊎ ((m.stands ≡ stands.Waits slot) × (k ≡ n) × (m.rule ≡ rule)) → (k ≡ n) × MarkWaits (m ∷ ms) slot rule
-      by (inl none) =
-          let (e, j, f) = mark_found k ms (omega (arith, l, none, sum_by-append (λ t. cond (is_triple slot n rule t) 1 0) (due_of k m.rule m.stands) (due_marks k ms))) in
+      by : (count_by (is_triple slot n rule) (due_of k m.rule m.stands) ≡ 0) ⊎ ((m.stands ≡ stands.Waits slot) × (k ≡ n) × (m.rule ≡ rule)) →
+          (0 < count_by (is_triple slot n rule) (due_marks k ms) → (k ≡ n) × MarkWaits ms slot rule) → (k ≡ n) × MarkWaits (m ∷ ms) slot rule
+      by (inl none) go =
+          let (e, j, f) = go (omega (arith, l, none, sum_by-append (λ t. cond (is_triple slot n rule t) 1 0) (due_of k m.rule m.stands) (due_marks k ms))) in
           (e, suc j, f)
-      by (inr (w, e, r)) = (e, 0, ap Some (λ i. record { rule = r i; stands = w i }))
+      by (inr (w, e, r)) go = (e, 0, ap Some (λ i. record { rule = r i; stands = w i }))
 
   node_found : (ns : List ℕ) (xs : List Record) → 0 < count_by (is_triple slot n rule) (due xs ns) → NodeWaits ns xs slot n rule
   node_found [] xs l = absurd (omega (arith, l))
-  node_found (k ∷ ns) xs l = by (slice_get xs k) refl
+  node_found (k ∷ ns) xs l = by (slice_get xs k) refl (node_found ns xs)
     where
-      later : NodeWaits ns xs slot n rule → NodeWaits (k ∷ ns) xs slot n rule
-      later (i, x, e, f, w) = (suc i, x, e, f, w)
+      on : NodeWaits ns xs slot n rule → NodeWaits (k ∷ ns) xs slot n rule
+      on (i, x, e, f, w) = (suc i, x, e, f, w)
 
-      pass : (z : ℕ) → count_by (is_triple slot n rule) (due_record k (slice_get xs k)) ≡ z → z ≡ 0 → NodeWaits (k ∷ ns) xs slot n rule
-      pass z e none = later (node_found ns xs (omega (arith, l, e, none, sum_by-append (λ t. cond (is_triple slot n rule t) 1 0) (due_record k (slice_get xs k)) (due xs ns))))
+      pass : (0 < count_by (is_triple slot n rule) (due xs ns) → NodeWaits ns xs slot n rule) → count_by (is_triple slot n rule) (due_record k (slice_get xs k)) ≡ 0 → NodeWaits (k ∷ ns) xs slot n rule
+      pass go none = on (go (omega (arith, l, none, sum_by-append (λ t. cond (is_triple slot n rule t) 1 0) (due_record k (slice_get xs k)) (due xs ns))))
 
-      counted : (x : Record) → slice_get xs k ≡ Some x → (z : ℕ) → count_by (is_triple slot n rule) (due_marks k x.marks.items) ≡ z → NodeWaits (k ∷ ns) xs slot n rule
-      counted x e zero c = pass zero (ap (λ o. count_by (is_triple slot n rule) (due_record k o)) e ∙ c) refl
-      counted x e (suc z) c =
+      counted : (x : Record) → slice_get xs k ≡ Some x → (z : ℕ) → count_by (is_triple slot n rule) (due_marks k x.marks.items) ≡ z →
+          (0 < count_by (is_triple slot n rule) (due xs ns) → NodeWaits ns xs slot n rule) → NodeWaits (k ∷ ns) xs slot n rule
+      counted x e zero c go = pass go (ap (λ o. count_by (is_triple slot n rule) (due_record k o)) e ∙ c)
+      counted x e (suc z) c go =
           let (same, w) = mark_found k x.marks.items (omega (arith, c)) in
           (0, x, ap Some same, ap (slice_get xs) (sym same) ∙ e, w)
 
-      by : (o : Option Record) → slice_get xs k ≡ o → NodeWaits (k ∷ ns) xs slot n rule
-      by None e = pass 0 (ap (λ o. count_by (is_triple slot n rule) (due_record k o)) e) refl
-      by (Some x) e = counted x e _ refl
+      by : (o : Option Record) → slice_get xs k ≡ o → (0 < count_by (is_triple slot n rule) (due xs ns) → NodeWaits ns xs slot n rule) → NodeWaits (k ∷ ns) xs slot n rule
+      by None e go = pass go (ap (λ o. count_by (is_triple slot n rule) (due_record k o)) e)
+      by (Some x) e go = counted x e _ refl go
 
 -- what is due is a mark that waits
 pub due_is : (slot n rule : ℕ) (ns : List ℕ) (xs : List Record) → 0 < count_by (is_triple slot n rule) (due xs ns) → NodeWaits ns xs slot n rule
@@ -156,31 +160,31 @@ test_self slot n rule =
 -- the triple counts itself
 pub triple_counts : (slot n rule : ℕ) (ts : List Triple) → 0 < count_by (is_triple slot n rule) (triple slot n rule ∷ ts)
 triple_counts slot n rule ts =
-    omega (arith, sum_by-cons (λ t. cond (is_triple slot n rule t) 1 0) (triple slot n rule) ts, ap (λ b. cond b 1 0) (test_self slot n rule))
+    omega (arith, sum_by-cons (λ t. cond (is_triple slot n rule t) 1 0) (triple slot n rule) ts, ap {B = ℕ} (λ b. cond b 1 0) (test_self slot n rule))
 
 pub waits_counts : (slot n rule : ℕ) → waiting_at slot (triple slot n rule ∷ []) ≡ 1
-waits_counts slot n rule = ap (λ b. cond b 1 0 + 0) (eq-eqb slot slot refl)
+waits_counts slot n rule = ap (λ b. 0 + cond b 1 0) (eq-eqb slot slot refl)
 
 -- without the node with this number: what is due of the others
 module _ (p : Triple → Bool) (n : ℕ) where
-  elsewhere : Triple → Bool
+  abbrev pub elsewhere : Triple → Bool
   elsewhere t = not (nat_eq t.node n)
 
   counted_here : (ts : List Triple) → count_by p (filter elsewhere ts) ≡ count_by (λ t. elsewhere t && p t) ts
   counted_here [] = refl
-  counted_here (t ∷ ts) = by (elsewhere t) refl
+  counted_here (t ∷ ts) = by (elsewhere t) refl (counted_here ts)
     where
-      by : (b : Bool) → elsewhere t ≡ b → count_by p (filter elsewhere (t ∷ ts)) ≡ count_by (λ t. elsewhere t && p t) (t ∷ ts)
-      by true e =
+      by : (b : Bool) → elsewhere t ≡ b → count_by p (filter elsewhere ts) ≡ count_by (λ t. elsewhere t && p t) ts → count_by p (filter elsewhere (t ∷ ts)) ≡ count_by (λ t. elsewhere t && p t) (t ∷ ts)
+      by true e rest =
           ap (λ b. count_by p (cond b (t ∷ filter elsewhere ts) (filter elsewhere ts))) e
           ∙ sum_by-cons (λ t. cond (p t) 1 0) t (filter elsewhere ts)
-          ∙ ap (λ z. cond (p t) 1 0 + z) (counted_here ts)
+          ∙ ap (λ z. cond (p t) 1 0 + z) rest
           ∙ ap (λ b. cond (b && p t) 1 0 + count_by (λ t. elsewhere t && p t) ts) (sym e)
           ∙ sym (sum_by-cons (λ t. cond (elsewhere t && p t) 1 0) t ts)
-      by false e =
+      by false e rest =
           ap (λ b. count_by p (cond b (t ∷ filter elsewhere ts) (filter elsewhere ts))) e
-          ∙ counted_here ts
-          ∙ omega (arith, sum_by-cons (λ t. cond (elsewhere t && p t) 1 0) t ts, ap (λ b. cond (b && p t) 1 0) e)
+          ∙ rest
+          ∙ omega (arith, sum_by-cons (λ t. cond (elsewhere t && p t) 1 0) t ts, ap {B = ℕ} (λ b. cond (b && p t) 1 0) e)
 
   -- those of another node all count, and those of this one do not
   others_due : (m : ℕ) (ms : List Mark) → m ≢ n → count_by (λ t. elsewhere t && p t) (due_marks m ms) ≡ count_by p (due_marks m ms)
@@ -202,7 +206,7 @@ module _ (p : Triple → Bool) (n : ℕ) where
       one (stands.Differs place) = refl
       one (stands.Circle c) = refl
       one stands.TooDeep = refl
-      one (stands.Waits c) = ap (λ b. cond (not b && p (triple c m k.rule)) 1 0 + 0) not_here
+      one (stands.Waits c) = ap (λ b. 0 + cond (not b && p (triple c m k.rule)) 1 0) not_here
 
   none_here : (ms : List Mark) → count_by (λ t. elsewhere t && p t) (due_marks n ms) ≡ 0
   none_here [] = refl
@@ -214,7 +218,7 @@ module _ (p : Triple → Bool) (n : ℕ) where
       one (stands.Differs place) = refl
       one (stands.Circle c) = refl
       one stands.TooDeep = refl
-      one (stands.Waits c) = ap (λ b. cond (not b && p (triple c n k.rule)) 1 0 + 0) (eq-eqb n n refl)
+      one (stands.Waits c) = ap (λ b. 0 + cond (not b && p (triple c n k.rule)) 1 0) (eq-eqb n n refl)
 
   record_due : (m : ℕ) (o q : Option Record) → (m ≢ n → q ≡ o) → (m ≡ n → count_by p (due_record m q) ≡ 0) → count_by (λ t. elsewhere t && p t) (due_record m o) ≡ count_by p (due_record m q)
   record_due m o q others here = by (eqb_tells m n)
@@ -246,3 +250,13 @@ module _ (p : Triple → Bool) (n : ℕ) where
   pub same_others : (ts : List Triple) (ns : List ℕ) (xs ys : List Record) → count_by (λ t. elsewhere t && p t) ts ≡ count_by (λ t. elsewhere t && p t) (due xs ns) →
       ((m : ℕ) → m ≢ n → slice_get ys m ≡ slice_get xs m) → count_by p (due_record n (slice_get ys n)) ≡ 0 → count_by p (others_than n ts) ≡ count_by p (due ys ns)
   same_others ts ns xs ys same others gone = counted_here ts ∙ same ∙ due_dropped ns xs ys others gone
+
+-- a triple that waits now
+pub waited : (p : Triple → Bool) (slot n rule : ℕ) (s : Stands) (ts us : List Triple) → s ≡ stands.Waits slot → IsPermutation (triple slot n rule ∷ ts) us → count_by p us ≡ count_by p (due_of n rule s) + count_by p ts
+waited p slot n rule s ts us e same =
+    let f : Triple → ℕ = λ t. cond (p t) 1 0 in
+    omega (arith, sum_by-IsPermutation f (triple slot n rule ∷ ts) us same, sum_by-cons f (triple slot n rule) ts, sum_by-cons f (triple slot n rule) [], ap (λ z. count_by p (due_of n rule z)) e)
+
+-- those from which one was taken out
+pub taken_out : (p : Triple → Bool) (t : Triple) (ts us : List Triple) → IsPermutation ts (t ∷ us) → count_by p (t ∷ us) ≡ count_by p ts
+taken_out p t ts us same = sum_by-IsPermutation (λ z. cond (p z) 1 0) ts (t ∷ us) same

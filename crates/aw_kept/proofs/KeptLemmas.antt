@@ -11,7 +11,9 @@ use Rattle.aw_term.proofs.RefTests.{ref_eq-true}
 use Rattle.aw_store.specs.Refs.{ref_eq}
 use Rattle.aw_store.specs.Equations.{Map, find}
 use Rattle.aw_store.specs.NamedRefs.{is_named, body_at, IsNamedOnce}
+use Rattle.aw_term.specs.WellFormed.{takes_of}
 use Rattle.aw_held.specs.declared.held.Held.{Held}
+use Rattle.aw_held.specs.HeldView.{state_of}
 use Rattle.aw_work.specs.declared.block.Triple.{Triple}
 use Rattle.aw_work.specs.Triples.{triple, waiting_at}
 use Rattle.aw_kept.specs.declared.record.Stands.{Stands}
@@ -19,7 +21,7 @@ use Rattle.aw_kept.specs.declared.record.Stands.TheVariants as stands
 use Rattle.aw_kept.specs.declared.record.Mark.{Mark}
 use Rattle.aw_kept.specs.declared.record.Record.{Record}
 use Rattle.aw_kept.specs.Standings.{waits_for_one, is_one_of}
-use Rattle.aw_kept.specs.Records.{IsFit, IsOf, IsTold, AreTold, stand_at, with_stands, mark_rule, has_live, is_of_sort}
+use Rattle.aw_kept.specs.Records.{IsFit, IsOf, IsTold, AreTold, stand_at, with_stands, mark_rule, open_rules, has_live, is_of_sort}
 use Rattle.aw_kept.specs.Due.{due_of, due_marks, due_record, due, AreSame, waiting_mark}
 use Rattle.aw_kept.specs.Tested.{IsTested, LacksBody}
 use Rattle.aw_kept.specs.KeptStates.{AreApart, AreFit, AreKept}
@@ -69,7 +71,7 @@ module _ (g : Grammar) (k : Map) (names : List Ref) (slot n rule : ℕ) (ns : Li
   fit_again : IsFit g names x → IsFit g names y
   fit_again f = record {
       live = subst (λ v. All (λ s. s < length names) v.items) (sym test.slots) f.live;
-      takes = ap (λ v. length v.items) test.slots ∙ f.takes ∙ ap (λ s. _) (sym test.sort);
+      takes = ap (λ v. length v.items) test.slots ∙ f.takes ∙ ap (λ s. takes_of (slice_get g.sorts s)) (sym test.sort);
       rules = λ q z e. rules_by q z (get-stand_at test.stands j x.marks.items _ q z mark (ap (λ l. slice_get l q) (sym test.marks) ∙ e));
       stand = λ q z e. stand_by q z (get-stand_at test.stands j x.marks.items _ q z mark (ap (λ l. slice_get l q) (sym test.marks) ∙ e));
     }
@@ -125,7 +127,7 @@ module _ (g : Grammar) (k : Map) (names : List Ref) (slot n rule : ℕ) (ns : Li
               sort = o.sort ∙ sym test.sort;
               slots = ap (λ v. map (slice_get names) v.items) test.slots ∙ o.slots;
               deep = test.deep ∙ o.deep;
-              rules = ap (map mark_rule) test.marks ∙ rules-stand_at test.stands j x.marks.items ∙ o.rules ∙ ap (λ s. _) (sym test.sort);
+              rules = ap (map mark_rule) test.marks ∙ rules-stand_at test.stands j x.marks.items ∙ o.rules ∙ ap (λ s. open_rules g s (state_of h.done)) (sym test.sort);
             }
 
       told_by : (q m : ℕ) (h : Held) (z : Record) → slice_get ns q ≡ Some m → slice_get hs q ≡ Some h → WasWritten n y xs m z → AreTold g k names late h z.marks.items
@@ -146,7 +148,7 @@ module _ (g : Grammar) (k : Map) (names : List Ref) (slot n rule : ℕ) (ns : Li
     where
       by : ((nat_eq c slot ≡ true) × (c ≡ slot)) ⊎ ((nat_eq c slot ≡ false) × (c ≢ slot)) → waiting_at slot (due_of n rule (stands.Waits c)) ≡ 0
       by (inl (t, same)) = absurd (d (ap stands.Waits same))
-      by (inr (t, other)) = ap (λ b. cond b 1 0 + 0) t
+      by (inr (t, other)) = ap (λ b. 0 + cond b 1 0) t
 
   -- a rule that waits again waits for another slot
   pub waits_elsewhere : is_some (body_at k names slot) ≡ true → waiting_at slot us ≡ waiting_at slot ts
@@ -181,7 +183,7 @@ module _ (g : Grammar) (hs : List Held) (k : Map) (names : List Ref) (ns : List 
               let same : slot' ≡ slot = once slot' slot r (w ∙ ap Some (ref_eq-true q r c)) named in
               let due = due_at (λ t. nat_eq t.slot slot) ns xs i n x j m e u v in
               let here = ap (λ z. waiting_at slot (due_of n m.rule z)) (s ∙ ap stands.Waits same) in
-              let one = ap (λ b. cond b 1 0 + 0) (eq-eqb slot slot refl) in
+              let one = ap (λ b. 0 + cond b 1 0) (eq-eqb slot slot refl) in
               absurd (omega (arith, due, here, one, none, f.waiting (λ t. nat_eq t.slot slot)))
 
       by : (s : Stands) → m.stands ≡ s → waits_for_one names late s ≡ false → waits_for_one names (r ∷ late) s ≡ false

@@ -3,4 +3,4 @@ pub mod DueLemmas
 pub mod KeptLemmas
 pub mod GuardWaits
 pub mod Opening
-pub mod Preparing
+pub mod MarkLemmas

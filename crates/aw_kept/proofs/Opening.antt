@@ -7,6 +7,7 @@ use Rattle.aw_term.specs.Rules.{Grammar}
 use Rattle.aw_choice.specs.declared.choice.Choice.{Choice}
 use Rattle.aw_choice.specs.declared.choice.Choice.TheVariants.{Start, Develop}
 use Rattle.aw_store.specs.Equations.{Map}
+use Rattle.aw_term.specs.WellFormed.{takes_of}
 use Rattle.aw_held.specs.declared.held.Held.{Held}
 use Rattle.aw_held.specs.HeldView.{state_of}
 use Rattle.aw_held.specs.InOrder.{done_at}
@@ -103,7 +104,7 @@ module _ (g : Grammar) (names : List Ref) (at n : ℕ) (ns : List ℕ) (xs ys : 
   fit_closed : IsFit g names x → IsFit g names y
   fit_closed f = record {
     live = subst (λ v. All (λ s. s < length names) v.items) (sym slots) f.live;
-    takes = ap (λ v. length v.items) slots ∙ f.takes ∙ ap (λ s. _) (sym sort);
+    takes = ap (λ v. length v.items) slots ∙ f.takes ∙ ap (λ s. takes_of (slice_get g.sorts s)) (sym sort);
     rules = λ j m e. absurd (no_mark j m e);
     stand = λ j m e. absurd (no_mark j m e);
   }
@@ -144,7 +145,7 @@ module _ (g : Grammar) (names : List Ref) (at n : ℕ) (ns : List ℕ) (xs ys : 
 
       of_by : (i m : ℕ) (h : Held) (z : Record) → slice_get ns i ≡ Some m → WasDone c at hs i h → WasWritten n y xs m z → IsOf g names h z
       of_by i m h z e (inr (d, u)) (inl (s, t)) = absurd (d (place_here i m e s))
-      of_by i m h z e (inl (s, _)) (inr (d, w)) = absurd (d (number_here i m e s))
+      of_by i m h z e (inl (s, _, _, _)) (inr (d, w)) = absurd (d (number_here i m e s))
       of_by i m h z e (inr (_, u)) (inr (_, w)) = f.of_node i m h z e u w
       of_by i m h z e (inl (_, was, u, done)) (inl (s, t)) = subst (λ v. IsOf g names v z) (sym done) (subst (IsOf g names (record was { done = Some c })) (sym t) (of_done (f.of_node i n was x (e ∙ ap Some s) u old)))
         where
@@ -158,7 +159,7 @@ module _ (g : Grammar) (names : List Ref) (at n : ℕ) (ns : List ℕ) (xs ys : 
 
       told_by : (i m : ℕ) (h : Held) (z : Record) → slice_get ns i ≡ Some m → WasDone c at hs i h → WasWritten n y xs m z → AreTold g k names late h z.marks.items
       told_by i m h z e (inr (d, u)) (inl (s, t)) = absurd (d (place_here i m e s))
-      told_by i m h z e (inl (s, _)) (inr (d, w)) = absurd (d (number_here i m e s))
+      told_by i m h z e (inl (s, _, _, _)) (inr (d, w)) = absurd (d (number_here i m e s))
       told_by i m h z e (inr (_, u)) (inr (_, w)) = f.told i m h z e u w
       told_by i m h z e (inl (_, was, u, done)) (inl (s, t)) j v a b =
           let l : z.marks.items ≡ [] = ap (λ (q : Record). q.marks.items) t ∙ marks in

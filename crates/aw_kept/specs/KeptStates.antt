@@ -43,6 +43,6 @@ IsKept g hs k names kept = IsKeptBut g hs k names [] kept
 
 -- there is room for so many more nodes, and for so many more rules to wait
 pub record HasRoom (kept : Kept) (nodes waits : ℕ) : Type 0 where
-  pub numbers : vec_len kept.numbers + nodes ≤ vec_capacity kept.numbers
-  pub records : vec_len kept.records + nodes ≤ vec_capacity kept.records
-  pub waits : waits ≤ kept.work.spare
+  pub places : vec_len kept.numbers + nodes ≤ vec_capacity kept.numbers
+  pub entries : vec_len kept.records + nodes ≤ vec_capacity kept.records
+  pub spare : waits ≤ kept.work.spare

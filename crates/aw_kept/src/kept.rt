@@ -59,28 +59,28 @@ impl Kept {
     pub fn open<F: Facts, L: Ledger>(
         &mut self,
         at: usize,
-        record: Record,
+        entry: Record,
         grammar: &Grammar,
         facts: &F,
         steps: &mut Steps<L>,
     )
         requires within { at ≤ vec_len self.old.numbers }
         requires fits { IsFitKept (grammar_of grammar.now) (F.names facts.now) self.old }
-        requires fit { IsFit (grammar_of grammar.now) (F.names facts.now) record }
-        requires fresh { IsFresh record }
-        requires room { HasRoom self.old 1 (vec_len record.marks) }
-        ensures kept { (hs : List HeldValue) (h : HeldValue) (late : List RefName) → IsOf (grammar_of grammar.now) (F.names facts.now) h record →
+        requires fit { IsFit (grammar_of grammar.now) (F.names facts.now) entry }
+        requires fresh { IsFresh entry }
+        requires room { HasRoom self.old 1 (vec_len entry.marks) }
+        ensures kept { (hs : List HeldValue) (h : HeldValue) (late : List RefName) → IsOf (grammar_of grammar.now) (F.names facts.now) h entry →
             IsKeptBut (grammar_of grammar.now) hs (F.map facts.now) (F.names facts.now) late self.old →
             IsKeptBut (grammar_of grammar.now) (insert hs at h) (F.map facts.now) (F.names facts.now) late self.new }
         ensures fits { IsFitKept (grammar_of grammar.now) (F.names facts.now) self.new }
-        ensures room { (n w : ℕ) → HasRoom self.old (n + 1) (w + vec_len record.marks) → HasRoom self.new n w }
-        ensures steps { steps.new ≡ steps.old + vec_len record.marks }
+        ensures room { (n w : ℕ) → HasRoom self.old (n + 1) (w + vec_len entry.marks) → HasRoom self.new n w }
+        ensures steps { steps.new ≡ steps.old + vec_len entry.marks }
     {
         let number = self.records.len();
-        let mut record = record;
-        test_all(&mut record, number, grammar, facts, &mut self.work, steps);
+        let mut entry = entry;
+        test_all(&mut entry, number, grammar, facts, &mut self.work, steps);
         put_in(&mut self.numbers, at, number);
-        put_last(&mut self.records, record);
+        put_last(&mut self.records, entry);
     }
 
     /// Lets go what is kept of the node at this place, which was developed: none of its rules waits any more.
@@ -92,8 +92,8 @@ impl Kept {
     {
         let number = self.numbers[at];
         self.work.drop_node(number);
-        if let Some(record) = self.records.get_mut(number) {
-            record.marks.clear();
+        if let Some(entry) = self.records.get_mut(number) {
+            entry.marks.clear();
         }
     }
 
@@ -139,11 +139,11 @@ impl Kept {
         ensures room { (n w : ℕ) → HasRoom self.old n (w + 1) → HasRoom self.new n w }
         ensures step { steps.new ≡ steps.old + 1 }
     {
-        let record = &mut self.records[pair.node];
-        let Some(at) = place_of(record.marks.as_slice(), pair.rule, slot) else {
+        let entry = &mut self.records[pair.node];
+        let Some(at) = place_of(entry.marks.as_slice(), pair.rule, slot) else {
             unreachable!();
         };
-        test_mark(record, at, pair.node, grammar, facts, &mut self.work, steps);
+        test_mark(entry, at, pair.node, grammar, facts, &mut self.work, steps);
     }
 }
 
@@ -161,12 +161,12 @@ fn put_in(numbers: &mut Vec<usize>, at: usize, number: usize)
 }
 
 /// Puts a record after the others, where there is room.
-fn put_last(records: &mut Vec<Record>, record: Record)
+fn put_last(records: &mut Vec<Record>, entry: Record)
     requires room { vec_len records.old < vec_capacity records.old }
-    ensures items { records.new.items ≡ records.old.items ++ record ∷ [] }
+    ensures items { records.new.items ≡ records.old.items ++ entry ∷ [] }
     ensures room { vec_capacity records.old ≤ vec_capacity records.new }
 {
-    match records.push(record) {
+    match records.push(entry) {
         Ok(()) => {}
         Err(_) => unreachable!(),
     }

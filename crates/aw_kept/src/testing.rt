@@ -64,31 +64,31 @@ fn test_stands<F: Facts, L: Ledger>(
 
 /// How the rule of a mark stands at the node of the record.
 fn test_at<F: Facts, L: Ledger>(
-    record: &Record,
+    entry: &Record,
     at: usize,
     grammar: &Grammar,
     facts: &F,
     steps: &mut Steps<L>,
 ) -> Stands
-    requires within { at < length record.now.marks.items }
-    requires fit { IsFit (grammar_of grammar.now) (F.names facts.now) record.now }
-    ensures told { (h : HeldValue) (m : MarkValue) → IsOf (grammar_of grammar.now) (F.names facts.now) h record.now → slice_get record.now.marks.items at ≡ Some m →
+    requires within { at < length entry.now.marks.items }
+    requires fit { IsFit (grammar_of grammar.now) (F.names facts.now) entry.now }
+    ensures told { (h : HeldValue) (m : MarkValue) → IsOf (grammar_of grammar.now) (F.names facts.now) h entry.now → slice_get entry.now.marks.items at ≡ Some m →
         IsTold (grammar_of grammar.now) (F.map facts.now) (F.names facts.now) h (with_stands m result) }
     ensures lacks { LacksBody (F.map facts.now) (F.names facts.now) result }
     ensures live { has_live (length (F.names facts.now)) result ≡ true }
     ensures step { steps.new ≡ steps.old + 1 }
 {
-    let mark = record.marks[at];
+    let mark = entry.marks[at];
     let Some(rule) = grammar.rule(mark.rule) else {
         unreachable!();
     };
-    test_stands(facts, rule, record.slots.as_slice(), record.deep, steps)
+    test_stands(facts, rule, entry.slots.as_slice(), entry.deep, steps)
 }
 
 /// Tests the rule of a mark at the node of the record, which has this number: the mark says how it stands from now on, and it
 /// waits where it stands so. There is room for it to wait.
 pub fn test_mark<F: Facts, L: Ledger>(
-    record: &mut Record,
+    entry: &mut Record,
     at: usize,
     number: usize,
     grammar: &Grammar,
@@ -96,38 +96,38 @@ pub fn test_mark<F: Facts, L: Ledger>(
     work: &mut Work,
     steps: &mut Steps<L>,
 )
-    requires within { at < length record.old.marks.items }
-    requires fit { IsFit (grammar_of grammar.now) (F.names facts.now) record.old }
+    requires within { at < length entry.old.marks.items }
+    requires fit { IsFit (grammar_of grammar.now) (F.names facts.now) entry.old }
     requires room { 0 < work.old.spare }
-    ensures tested { (m : MarkValue) → slice_get record.old.marks.items at ≡ Some m →
-        IsTested (grammar_of grammar.now) (F.map facts.now) (F.names facts.now) number at m record.old record.new work.old.waiting work.new.waiting }
+    ensures tested { (m : MarkValue) → slice_get entry.old.marks.items at ≡ Some m →
+        IsTested (grammar_of grammar.now) (F.map facts.now) (F.names facts.now) number at m entry.old entry.new work.old.waiting work.new.waiting }
     ensures spare { work.old.spare ≤ work.new.spare + 1 }
     ensures step { steps.new ≡ steps.old + 1 }
 {
-    let stands = test_at(record, at, grammar, facts, steps);
-    let mark = &mut record.marks[at];
+    let stands = test_at(entry, at, grammar, facts, steps);
+    let mark = &mut entry.marks[at];
     mark.stands = stands;
     wait_for(work, number, mark.rule, stands);
 }
 
 /// Tests the rule of each mark of a record, none of which waits yet. There is room for all to wait.
 pub fn test_all<F: Facts, L: Ledger>(
-    record: &mut Record,
+    entry: &mut Record,
     number: usize,
     grammar: &Grammar,
     facts: &F,
     work: &mut Work,
     steps: &mut Steps<L>,
 )
-    requires fit { IsFit (grammar_of grammar.now) (F.names facts.now) record.old }
-    requires fresh { IsFresh record.old }
-    requires room { vec_len record.old.marks ≤ work.old.spare }
-    ensures tested { AreTested (grammar_of grammar.now) (F.map facts.now) (F.names facts.now) number record.old record.new work.old.waiting work.new.waiting }
-    ensures fit { IsFit (grammar_of grammar.now) (F.names facts.now) record.new }
-    ensures spare { work.old.spare ≤ work.new.spare + vec_len record.old.marks }
-    ensures steps { steps.new ≡ steps.old + vec_len record.old.marks }
+    requires fit { IsFit (grammar_of grammar.now) (F.names facts.now) entry.old }
+    requires fresh { IsFresh entry.old }
+    requires room { vec_len entry.old.marks ≤ work.old.spare }
+    ensures tested { AreTested (grammar_of grammar.now) (F.map facts.now) (F.names facts.now) number entry.old entry.new work.old.waiting work.new.waiting }
+    ensures fit { IsFit (grammar_of grammar.now) (F.names facts.now) entry.new }
+    ensures spare { work.old.spare ≤ work.new.spare + vec_len entry.old.marks }
+    ensures steps { steps.new ≡ steps.old + vec_len entry.old.marks }
 {
-    for at in 0..record.marks.len() {
-        test_mark(record, at, number, grammar, facts, work, steps);
+    for at in 0..entry.marks.len() {
+        test_mark(entry, at, number, grammar, facts, work, steps);
     }
 }
