@@ -1,7 +1,7 @@
 -- The triples that have to wait, where a mark, a record or a number changes.
 use Rattle.std.proofs.Common.{◌≡◌, ◌≢◌, ℕ, zero, suc, ◌+◌, ◌<◌, ◌≤◌, ◌⊎◌, inl, inr, Bool, true, false, cond, List, [], ◌∷◌, ◌++◌, length, Option, Some, None, slice_get, refl, sym, ap, ◌∙◌, subst, arith}
 use Rattle.std.specs.Prelude.{count_by, sum_by, filter, insert, nat_eq, not, ◌&&◌}
-use Rattle.std.proofs.lemmas.List.Sums.{sum_by-append, sum_by-cons, sum_by-insert}
+use Rattle.std.proofs.lemmas.List.Sums.{sum_by-append, sum_by-cons, sum_by-insert, length-filter, count_by-le-length}
 use Rattle.std.specs.List.Sorted.{IsPermutation}
 use Rattle.std.proofs.lemmas.List.Sorted.{sum_by-IsPermutation}
 use Rattle.std.proofs.lemmas.Bool.{eqb-true, eq-eqb}
@@ -66,7 +66,7 @@ module _ (p : Triple → Bool) where
   due_inserted ns xs at n =
       due_sum (insert ns at n) xs ∙ sum_by-insert (λ m. count_by p (due_record m (slice_get xs m))) ns at n ∙ ap (λ z. z + count_by p (due_record n (slice_get xs n))) (sym (due_sum ns xs))
 
-  positive_at : (n : ℕ) (ms : List Mark) (j : ℕ) (m : Mark) → slice_get ms j ≡ Some m → count_by p (due_of n m.rule m.stands) ≤ count_by p (due_marks n ms)
+  pub positive_at : (n : ℕ) (ms : List Mark) (j : ℕ) (m : Mark) → slice_get ms j ≡ Some m → count_by p (due_of n m.rule m.stands) ≤ count_by p (due_marks n ms)
   positive_at n [] j m e = absurd cc
   positive_at n (k ∷ ms) zero m e =
       let same : k ≡ m = cc in
@@ -124,16 +124,16 @@ module _ (slot n rule : ℕ) where
       by : (count_by (is_triple slot n rule) (due_of k m.rule m.stands) ≡ 0) ⊎ ((m.stands ≡ stands.Waits slot) × (k ≡ n) × (m.rule ≡ rule)) →
           (0 < count_by (is_triple slot n rule) (due_marks k ms) → (k ≡ n) × MarkWaits ms slot rule) → (k ≡ n) × MarkWaits (m ∷ ms) slot rule
       by (inl none) go =
-          let (e, j, f) = go (omega (arith, l, none, sum_by-append (λ t. cond (is_triple slot n rule t) 1 0) (due_of k m.rule m.stands) (due_marks k ms))) in
-          (e, suc j, f)
-      by (inr (w, e, r)) go = (e, 0, ap Some (λ i. record { rule = r i; stands = w i }))
+          let r = go (omega (arith, l, none, sum_by-append (λ t. cond (is_triple slot n rule t) 1 0) (due_of k m.rule m.stands) (due_marks k ms))) in
+          (r.0, (suc r.1.0, r.1.1))
+      by (inr (w, e, r)) go = (e, (0, ap Some (λ i. record { rule = r i; stands = w i })))
 
   node_found : (ns : List ℕ) (xs : List Record) → 0 < count_by (is_triple slot n rule) (due xs ns) → NodeWaits ns xs slot n rule
   node_found [] xs l = absurd (omega (arith, l))
   node_found (k ∷ ns) xs l = by (slice_get xs k) refl (node_found ns xs)
     where
       on : NodeWaits ns xs slot n rule → NodeWaits (k ∷ ns) xs slot n rule
-      on (i, x, e, f, w) = (suc i, x, e, f, w)
+      on w = (suc w.0, w.1, w.2, w.3, w.4)
 
       pass : (0 < count_by (is_triple slot n rule) (due xs ns) → NodeWaits ns xs slot n rule) → count_by (is_triple slot n rule) (due_record k (slice_get xs k)) ≡ 0 → NodeWaits (k ∷ ns) xs slot n rule
       pass go none = on (go (omega (arith, l, none, sum_by-append (λ t. cond (is_triple slot n rule t) 1 0) (due_record k (slice_get xs k)) (due xs ns))))
@@ -142,8 +142,8 @@ module _ (slot n rule : ℕ) where
           (0 < count_by (is_triple slot n rule) (due xs ns) → NodeWaits ns xs slot n rule) → NodeWaits (k ∷ ns) xs slot n rule
       counted x e zero c go = pass go (ap (λ o. count_by (is_triple slot n rule) (due_record k o)) e ∙ c)
       counted x e (suc z) c go =
-          let (same, w) = mark_found k x.marks.items (omega (arith, c)) in
-          (0, x, ap Some same, ap (slice_get xs) (sym same) ∙ e, w)
+          let r = mark_found k x.marks.items (omega (arith, c)) in
+          (0, x, ap Some r.0, ap (slice_get xs) (sym r.0) ∙ e, r.1)
 
       by : (o : Option Record) → slice_get xs k ≡ o → (0 < count_by (is_triple slot n rule) (due xs ns) → NodeWaits ns xs slot n rule) → NodeWaits (k ∷ ns) xs slot n rule
       by None e go = pass go (ap (λ o. count_by (is_triple slot n rule) (due_record k o)) e)
@@ -190,9 +190,13 @@ module _ (p : Triple → Bool) (n : ℕ) where
   others_due : (m : ℕ) (ms : List Mark) → m ≢ n → count_by (λ t. elsewhere t && p t) (due_marks m ms) ≡ count_by p (due_marks m ms)
   others_due m [] d = refl
   others_due m (k ∷ ms) d =
-      omega (arith, one k.stands, others_due m ms d,
+      omega (
+        arith,
+        one k.stands,
+        others_due m ms d,
         sum_by-append (λ t. cond (elsewhere t && p t) 1 0) (due_of m k.rule k.stands) (due_marks m ms),
-        sum_by-append (λ t. cond (p t) 1 0) (due_of m k.rule k.stands) (due_marks m ms))
+        sum_by-append (λ t. cond (p t) 1 0) (due_of m k.rule k.stands) (due_marks m ms),
+      )
     where
       not_here : nat_eq m n ≡ false
       not_here = by (eqb_tells m n)
@@ -240,11 +244,13 @@ module _ (p : Triple → Bool) (n : ℕ) where
       count_by (λ t. elsewhere t && p t) (due xs ns) ≡ count_by p (due ys ns)
   due_dropped [] xs ys others gone = refl
   due_dropped (m ∷ ns) xs ys others gone =
-      omega (arith,
+      omega (
+        arith,
         record_due m (slice_get xs m) (slice_get ys m) (λ d. others m d) (λ e. ap (λ z. count_by p (due_record z (slice_get ys z))) e ∙ gone),
         due_dropped ns xs ys others gone,
         sum_by-append (λ t. cond (elsewhere t && p t) 1 0) (due_record m (slice_get xs m)) (due xs ns),
-        sum_by-append (λ t. cond (p t) 1 0) (due_record m (slice_get ys m)) (due ys ns))
+        sum_by-append (λ t. cond (p t) 1 0) (due_record m (slice_get ys m)) (due ys ns),
+      )
 
   -- of the same triples the others are the same
   pub same_others : (ts : List Triple) (ns : List ℕ) (xs ys : List Record) → count_by (λ t. elsewhere t && p t) ts ≡ count_by (λ t. elsewhere t && p t) (due xs ns) →
@@ -260,3 +266,13 @@ waited p slot n rule s ts us e same =
 -- those from which one was taken out
 pub taken_out : (p : Triple → Bool) (t : Triple) (ts us : List Triple) → IsPermutation ts (t ∷ us) → count_by p (t ∷ us) ≡ count_by p ts
 taken_out p t ts us same = sum_by-IsPermutation (λ z. cond (p z) 1 0) ts (t ∷ us) same
+
+-- one fewer waits for the slot
+pub taken_one : (slot n rule : ℕ) (ts us : List Triple) → IsPermutation ts (triple slot n rule ∷ us) → waiting_at slot ts ≡ 1 + waiting_at slot us
+taken_one slot n rule ts us same =
+    let f : Triple → ℕ = λ t. cond (nat_eq t.slot slot) 1 0 in
+    omega (arith, sum_by-IsPermutation f ts (triple slot n rule ∷ us) same, sum_by-cons f (triple slot n rule) us, ap {B = ℕ} (λ b. cond b 1 0) (eq-eqb slot slot refl))
+
+-- not more wait where those of a node are gone
+pub others_fewer : (n : ℕ) (ts : List Triple) → length (others_than n ts) ≤ length ts
+others_fewer n ts = omega (arith, length-filter (λ t. not (nat_eq t.node n)) ts, count_by-le-length (λ t. not (nat_eq t.node n)) ts)

@@ -34,14 +34,19 @@ module _ (g : Grammar) (k : Map) (names : List Ref) (at : ℕ) (ns : List ℕ) (
 
   pub fits_opened : AreFit g names ns xs ts → AreFit g names (insert ns at (length xs)) (xs ++ y ∷ []) us
   fits_opened f = record {
-      apart = apart_inserted ns at (length xs) f.apart (λ j e. absurd (omega (arith, f.known j (length xs) e)));
-      known = λ i m e. known_by m (inserted_one ns at (length xs) i m e);
-      fit = λ i m z e w. fit_by m z w (inserted_one ns at (length xs) i m e);
-      waiting = λ p.
-        omega (arith, test.waiting p, f.waiting p, due_inserted p ns (xs ++ y ∷ []) at (length xs),
+    apart = apart_inserted ns at (length xs) f.apart (λ j e. absurd (omega (arith, f.known j (length xs) e)));
+    known = λ i m e. known_by m (inserted_one ns at (length xs) i m e);
+    fit = λ i m z e w. fit_by m z w (inserted_one ns at (length xs) i m e);
+    waiting = λ p.
+        omega (
+          arith,
+          test.waiting p,
+          f.waiting p,
+          due_inserted p ns (xs ++ y ∷ []) at (length xs),
           due_more p ns xs (xs ++ y ∷ []) (λ i m e. get-push xs y m (f.known i m e)),
-          ap (λ o. count_by p (due_record (length xs) o)) (get-last xs y));
-    }
+          ap (λ o. count_by p (due_record (length xs) o)) (get-last xs y),
+        );
+  }
     where
       known_by : (m : ℕ) → (m ≡ length xs) ⊎ ((j : ℕ) × (slice_get ns j ≡ Some m)) → m < length (xs ++ y ∷ [])
       known_by m (inl s) = omega (arith, s, length-append xs (y ∷ []))
@@ -62,11 +67,11 @@ module _ (g : Grammar) (k : Map) (names : List Ref) (at : ℕ) (ns : List ℕ) (
   pub kept_opened : (hs : List Held) (late : List Ref) (h : Held) → at ≤ length ns → IsOf g names h x → AreKept g hs k names late ns xs ts →
       AreKept g (insert hs at h) k names late (insert ns at (length xs)) (xs ++ y ∷ []) us
   kept_opened hs late h within o f = record {
-      fits = fits_opened f.fits;
-      beside = omega (arith, length-insert ns at (length xs) within, length-insert hs at h (omega (arith, within, f.beside)), f.beside);
-      of_node = λ i m q z e u w. of_by m q z w (inserted_both ns hs at (length xs) h i m q f.beside e u);
-      told = λ i m q z e u w. told_by m q z w (inserted_both ns hs at (length xs) h i m q f.beside e u);
-    }
+    fits = fits_opened f.fits;
+    beside = omega (arith, length-insert ns at (length xs) within, length-insert hs at h (omega (arith, within, f.beside)), f.beside);
+    of_node = λ i m q z e u w. of_by m q z w (inserted_both ns hs at (length xs) h i m q f.beside e u);
+    told = λ i m q z e u w. told_by m q z w (inserted_both ns hs at (length xs) h i m q f.beside e u);
+  }
     where
       of_by : (m : ℕ) (q : Held) (z : Record) → slice_get (xs ++ y ∷ []) m ≡ Some z → StoodBefore ns hs (length xs) h m q → IsOf g names q z
       of_by m q z w (inl (s, t)) = subst (λ v. IsOf g names v z) (sym t) (subst (IsOf g names h) (sym (new_is m z s w)) (of_tested h o))
@@ -77,6 +82,22 @@ module _ (g : Grammar) (k : Map) (names : List Ref) (at : ℕ) (ns : List ℕ) (
           subst (λ v. AreTold g k names late v z.marks.items) (sym t)
           (subst (λ (v : Record). AreTold g k names late h v.marks.items) (sym (new_is m z s w)) (λ j v a b. test.told h o j v a))
       told_by m q z w (inr (j, e, u)) = f.told j m q z e u (before m z (f.fits.known j m e) w)
+
+-- the same by the values that the program has
+module _ (g : Grammar) (k : Map) (names : List Ref) (at n : ℕ) (ns ms : List ℕ) (xs ys : List Record) (ts us : List Triple) (x y : Record)
+    (last : n ≡ length xs) (numbers : ms ≡ insert ns at n) (records : ys ≡ xs ++ y ∷ []) (test : AreTested g k names n x y ts us) (fit : IsFit g names y) where
+  test_last : AreTested g k names (length xs) x y ts us
+  test_last = subst (λ z. AreTested g k names z x y ts us) last test
+
+  pub fits_open : AreFit g names ns xs ts → AreFit g names ms ys us
+  fits_open f =
+      subst (λ z. AreFit g names z ys us) (sym (numbers ∙ ap (insert ns at) last))
+      (subst (λ z. AreFit g names (insert ns at (length xs)) z us) (sym records) (fits_opened g k names at ns xs ts us x y test_last fit f))
+
+  pub kept_open : (hs : List Held) (late : List Ref) (h : Held) → at ≤ length ns → IsOf g names h x → AreKept g hs k names late ns xs ts → AreKept g (insert hs at h) k names late ms ys us
+  kept_open hs late h within o f =
+      subst (λ z. AreKept g (insert hs at h) k names late z ys us) (sym (numbers ∙ ap (insert ns at) last))
+      (subst (λ z. AreKept g (insert hs at h) k names late (insert ns at (length xs)) z us) (sym records) (kept_opened g k names at ns xs ts us x y test_last fit hs late h within o f))
 
 -- a node in a list in which one was developed
 abbrev pub WasDone : Choice → ℕ → List Held → ℕ → Held → Type 0
@@ -114,12 +135,12 @@ module _ (g : Grammar) (names : List Ref) (at n : ℕ) (ns : List ℕ) (xs ys : 
 
   pub fits_closed : AreFit g names ns xs ts → AreFit g names ns ys (others_than n ts)
   fits_closed f = record {
-      apart = f.apart;
-      known = λ i m e. omega (arith, f.known i m e, set.length);
-      fit = λ i m z e w. fit_by i m z e (written xs ys n y set m z w);
-      waiting = λ p. same_others p n ts ns xs ys (f.waiting (λ t. not (nat_eq t.node n) && p t)) set.others
+    apart = f.apart;
+    known = λ i m e. omega (arith, f.known i m e, set.length);
+    fit = λ i m z e w. fit_by i m z e (written xs ys n y set m z w);
+    waiting = λ p. same_others p n ts ns xs ys (f.waiting (λ t. not (nat_eq t.node n) && p t)) set.others
         (ap (λ o. count_by p (due_record n o)) set.here ∙ ap (λ l. count_by p (due_marks n l)) marks);
-    }
+  }
     where
       fit_by : (i m : ℕ) (z : Record) → slice_get ns i ≡ Some m → WasWritten n y xs m z → IsFit g names z
       fit_by i m z e (inl (s, t)) = subst (IsFit g names) (sym t) (fit_closed (f.fit at n x here old))
@@ -127,11 +148,11 @@ module _ (g : Grammar) (names : List Ref) (at n : ℕ) (ns : List ℕ) (xs ys : 
 
   pub kept_closed : (hs : List Held) (k : Map) (late : List Ref) (c : Choice) → AreKept g hs k names late ns xs ts → AreKept g (done_at c at hs) k names late ns ys (others_than n ts)
   kept_closed hs k late c f = record {
-      fits = fits_closed f.fits;
-      beside = f.beside ∙ sym (length-done_at c at hs);
-      of_node = λ i m h z e u w. of_by i m h z e (get-done_at c at hs i h u) (written xs ys n y set m z w);
-      told = λ i m h z e u w. told_by i m h z e (get-done_at c at hs i h u) (written xs ys n y set m z w);
-    }
+    fits = fits_closed f.fits;
+    beside = f.beside ∙ sym (length-done_at c at hs);
+    of_node = λ i m h z e u w. of_by i m h z e (get-done_at c at hs i h u) (written xs ys n y set m z w);
+    told = λ i m h z e u w. told_by i m h z e (get-done_at c at hs i h u) (written xs ys n y set m z w);
+  }
     where
       none_open : (c : Choice) (s : ℕ) → [] ≡ open_rules g s (state_of (Some c))
       none_open (Start sort case) s = refl
@@ -161,7 +182,7 @@ module _ (g : Grammar) (names : List Ref) (at n : ℕ) (ns : List ℕ) (xs ys : 
       told_by i m h z e (inr (d, u)) (inl (s, t)) = absurd (d (place_here i m e s))
       told_by i m h z e (inl (s, _, _, _)) (inr (d, w)) = absurd (d (number_here i m e s))
       told_by i m h z e (inr (_, u)) (inr (_, w)) = f.told i m h z e u w
-      told_by i m h z e (inl (_, was, u, done)) (inl (s, t)) j v a b =
+      told_by i m h z e (inl (_, was, u, done)) (inl (s, t)) = λ j v a b.
           let l : z.marks.items ≡ [] = ap (λ (q : Record). q.marks.items) t ∙ marks in
           let gone : slice_get z.marks.items j ≡ slice_get [] j = ap (λ q. slice_get q j) l in
           absurd cc
