@@ -5,3 +5,5 @@ pub mod GuardWaits
 pub mod AllTested
 pub mod Opening
 pub mod MarkLemmas
+pub mod Growing
+pub mod ItemLemmas

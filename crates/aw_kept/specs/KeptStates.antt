@@ -1,13 +1,14 @@
 -- What is kept for a list of held nodes: how each rule of its sort stands at each open node, and which of them wait.
-use Rattle.std.specs.Prelude.{◌≡◌, ℕ, ◌+◌, ◌<◌, ◌≤◌, List, [], length, vec_len, vec_capacity, Some, slice_get}
+use Rattle.std.specs.Prelude.{◌≡◌, ℕ, ◌+◌, ◌<◌, ◌≤◌, false, List, [], length, vec_len, vec_capacity, None, Some, slice_get}
 use Rattle.aw_term.specs.Names.{Ref}
 use Rattle.aw_term.specs.Rules.{Grammar}
-use Rattle.aw_store.specs.Equations.{Map}
+use Rattle.aw_store.specs.Equations.{Map, find}
+use Rattle.aw_store.specs.NamedRefs.{is_named}
 use Rattle.aw_held.specs.declared.held.Held.{Held}
 use Rattle.aw_work.specs.declared.block.Triple.{Triple}
 use Rattle.aw_kept.specs.declared.record.Record.{Record}
 use Rattle.aw_kept.specs.declared.kept.Kept.{Kept}
-use Rattle.aw_kept.specs.Records.{IsFit, IsOf, AreTold}
+use Rattle.aw_kept.specs.Records.{IsFit, IsOf, AreTold, AreLive}
 use Rattle.aw_kept.specs.Due.{due, AreSame}
 
 -- no two nodes have one number
@@ -46,3 +47,11 @@ pub record HasRoom (kept : Kept) (nodes waits : ℕ) : Type 0 where
   pub places : vec_len kept.numbers + nodes ≤ vec_capacity kept.numbers
   pub entries : vec_len kept.records + nodes ≤ vec_capacity kept.records
   pub spare : waits ≤ kept.work.spare
+
+-- each reference that got an equation from the one map to the other is among the later ones, as is each that was late before
+abbrev pub AreLate : Map → Map → List Ref → List Ref → Type 0
+AreLate k l late later = (r : Ref) → is_named later r ≡ false → (is_named late r ≡ false) × (find k r ≡ None → find l r ≡ None)
+
+-- each slot in the marks of the node at a place has a name
+abbrev pub AreLiveAt : List Ref → ℕ → Kept → Type 0
+AreLiveAt names at kept = (n : ℕ) (x : Record) → slice_get kept.numbers.items at ≡ Some n → slice_get kept.records.items n ≡ Some x → AreLive names x.marks.items

@@ -39,6 +39,10 @@ has_live n (stands.Waits slot) = nat_lt slot n
 has_live n (stands.Circle slot) = nat_lt slot n
 has_live n _ = true
 
+-- each slot in these marks has a name
+abbrev pub AreLive : List Ref → List Mark → Type 0
+AreLive names ms = (j : ℕ) (m : Mark) → slice_get ms j ≡ Some m → has_live (length names) m.stands ≡ true
+
 -- A record in which each slot has a name, as many as the sort takes, and each mark is of a rule of the sort.
 pub record IsFit (g : Grammar) (names : List Ref) (x : Record) : Type 0 where
   pub live : All (λ slot. slot < length names) x.slots.items

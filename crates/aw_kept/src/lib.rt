@@ -3,10 +3,13 @@
 #![tactic(auto)]
 
 mod kept;
+mod laws;
+mod listing;
 mod preparing;
 mod record;
 mod testing;
 
 pub use kept::Kept;
+pub use laws::kept_laws;
 pub use preparing::prepare;
 pub use record::Record;
