@@ -276,3 +276,9 @@ taken_one slot n rule ts us same =
 -- not more wait where those of a node are gone
 pub others_fewer : (n : ℕ) (ts : List Triple) → length (others_than n ts) ≤ length ts
 others_fewer n ts = omega (arith, length-filter (λ t. not (nat_eq t.node n)) ts, count_by-le-length (λ t. not (nat_eq t.node n)) ts)
+
+-- not more wait for any slot
+pub taken_fewer : (q slot n rule : ℕ) (ts us : List Triple) → IsPermutation ts (triple slot n rule ∷ us) → waiting_at q us ≤ waiting_at q ts
+taken_fewer q slot n rule ts us same =
+    let f : Triple → ℕ = λ t. cond (nat_eq t.slot q) 1 0 in
+    omega (arith, sum_by-IsPermutation f ts (triple slot n rule ∷ us) same, sum_by-cons f (triple slot n rule) us)

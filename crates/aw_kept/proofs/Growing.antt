@@ -1,13 +1,12 @@
 -- What is kept stays so where names come, and where equations come but for the rules that wait for their left sides.
-use Rattle.std.proofs.Common.{◌≡◌, ℕ, ◌+◌, ◌<◌, ◌≤◌, Bool, true, false, cond, List, [], ◌∷◌, ◌++◌, length, map, Option, Some, None, slice_get, refl, sym, ap, ◌∙◌, subst, arith, length-append}
-use Rattle.std.specs.Prelude.{nat_lt, All}
+use Rattle.std.proofs.Common.{◌≡◌, ℕ, ◌≤◌, Bool, true, false, cond, List, length, map, Option, Some, None, slice_get, refl, sym, ap, ◌∙◌, arith, length-append}
 use Rattle.std.proofs.lemmas.Bool.{ltb-true, lt-ltb}
 use Rattle.aw_term.specs.Names.{Node, Ref}
 use Rattle.aw_term.specs.Rules.{Rule, Grammar}
 use Rattle.aw_term.specs.Matching.{Matched, Yes, Waits, Differs, Circle}
-use Rattle.aw_term.specs.Choices.{Answer, WaitsFor, CircleAt, TooDeep, Outcome, Refused, Takes, after_guard, deep}
+use Rattle.aw_term.specs.Choices.{WaitsFor, CircleAt, TooDeep, Refused, Takes, after_guard, deep}
 use Rattle.aw_term.specs.Runs.{refusal_of}
-use Rattle.aw_store.specs.Equations.{Body, Map, find}
+use Rattle.aw_store.specs.Equations.{Map}
 use Rattle.aw_store.specs.NamedRefs.{is_named, Grows}
 use Rattle.aw_store.proofs.SlotLemmas.{slot-grown, AreNamed-grown}
 use Rattle.aw_apply.specs.Guard.{guard_all}
@@ -18,11 +17,10 @@ use Rattle.aw_held.specs.declared.held.Held.{Held}
 use Rattle.aw_work.specs.declared.block.Triple.{Triple}
 use Rattle.aw_kept.specs.declared.record.Stands.{Stands}
 use Rattle.aw_kept.specs.declared.record.Stands.TheVariants as stands
-use Rattle.aw_kept.specs.declared.record.Mark.{Mark}
 use Rattle.aw_kept.specs.declared.record.Record.{Record}
 use Rattle.aw_kept.specs.Standings.{kept_refusal, told_refusal, waits_for_one, is_one_of}
-use Rattle.aw_kept.specs.Records.{IsFit, IsOf, IsTold, AreTold, has_live}
-use Rattle.aw_kept.specs.KeptStates.{AreFit, AreKept, AreLate}
+use Rattle.aw_kept.specs.Records.{IsFit, IsOf, has_live}
+use Rattle.aw_kept.specs.KeptStates.{AreKept, AreLate}
 use Rattle.aw_kept.proofs.GuardWaits.{guard-waits}
 
 -- a rule that waits, or meets a circle, does so by its guard
@@ -136,6 +134,6 @@ module _ (k l : Map) (names late later : List Ref) (more : IsSubmap k l) (covers
     beside = f.beside;
     of_node = f.of_node;
     told = λ i n h x e u v j m w not rule d.
-      let old = f.told i n h x e u v j m w (late_before m.stands not) rule d in
-      old ∙ sym (told_stays h.node h.inherited rule m.stands not old);
+        let old = f.told i n h x e u v j m w (late_before m.stands not) rule d in
+        old ∙ sym (told_stays h.node h.inherited rule m.stands not old);
   }

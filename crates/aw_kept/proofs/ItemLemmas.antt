@@ -1,8 +1,8 @@
 -- What is kept is the worklist, and what waits for a slot is what the worklist shows as waiting for its reference.
-use Rattle.std.proofs.Common.{◌≡◌, ◌≢◌, ℕ, zero, suc, ◌+◌, ◌<◌, ◌≤◌, ◌⊎◌, inl, inr, Bool, true, false, cond, List, [], ◌∷◌, ◌++◌, length, map, Option, Some, None, slice_get, get_or, refl, sym, ap, ◌∙◌, subst, arith}
-use Rattle.std.specs.Prelude.{nat_eq, nat_lt, count_by, option_map}
+use Rattle.std.proofs.Common.{◌≡◌, ◌≢◌, ℕ, zero, suc, ◌+◌, ◌<◌, ◌≤◌, ◌⊎◌, inl, inr, Bool, true, false, cond, List, [], ◌∷◌, length, map, Option, Some, None, slice_get, get_or, refl, sym, ap, ◌∙◌, arith}
+use Rattle.std.specs.Prelude.{nat_eq, nat_lt, option_map}
 use Rattle.std.proofs.lemmas.List.Sums.{sum_by-append, sum_by-cons}
-use Rattle.std.proofs.lemmas.Bool.{eqb-true, eq-eqb, ltb-true}
+use Rattle.std.proofs.lemmas.Bool.{ltb-true}
 use Rattle.std.proofs.lemmas.Bool.Decides.{eqb_tells}
 use Rattle.std.proofs.lemmas.Option.{slice_get_cases}
 use Rattle.aw_term.specs.Names.{Node, Ref}
@@ -10,7 +10,7 @@ use Rattle.aw_term.specs.Rules.{Rule, Grammar, sort_of}
 use Rattle.aw_term.specs.Configs.{State, Pending, Done}
 use Rattle.aw_term.specs.Artifacts.{Item}
 use Rattle.aw_term.specs.Matching.{Matched, Yes, Waits, Differs, Circle}
-use Rattle.aw_term.specs.Choices.{Answer, WaitsFor, Mismatch, CircleAt, TooDeep, Outcome, Refused, Takes, after_guard, deep}
+use Rattle.aw_term.specs.Choices.{WaitsFor, Mismatch, CircleAt, TooDeep, Refused, Takes, after_guard, deep}
 use Rattle.aw_term.specs.Runs.{refusal_of}
 use Rattle.aw_term.proofs.RefTests.{ref_eq-true, ref_eq-self}
 use Rattle.aw_store.specs.Refs.{ref_eq}
@@ -29,9 +29,9 @@ use Rattle.aw_kept.specs.declared.record.Stands.TheVariants as stands
 use Rattle.aw_kept.specs.declared.record.Mark.{Mark}
 use Rattle.aw_kept.specs.declared.record.Record.{Record}
 use Rattle.aw_kept.specs.Standings.{kept_refusal, waits_for_one, is_one_of}
-use Rattle.aw_kept.specs.Records.{IsFit, IsOf, IsTold, mark_rule, rules_of, open_rules, has_live}
+use Rattle.aw_kept.specs.Records.{IsOf, IsTold, mark_rule, rules_of, open_rules, has_live}
 use Rattle.aw_kept.specs.Due.{due_of, due_marks, due_record, due}
-use Rattle.aw_kept.specs.KeptStates.{AreFit, AreKept}
+use Rattle.aw_kept.specs.KeptStates.{AreKept}
 use Rattle.aw_kept.specs.Items.{said_refusal, kept_item, waits_on, waiting_on}
 
 -- a refusal that is kept is said by the references of its slots
@@ -151,9 +151,13 @@ module _ (names : List Ref) (once : IsNamedOnce names) (slot : ℕ) (r : Ref) (n
   marks_wait : (n : ℕ) (nd : Node) (ms : List Mark) → ((j : ℕ) (m : Mark) → slice_get ms j ≡ Some m → has_live (length names) m.stands ≡ true) → waiting_at slot (due_marks n ms) ≡ waiting_on r (map (kept_item names nd) ms)
   marks_wait n nd [] live = refl
   marks_wait n nd (m ∷ ms) live =
-      omega (arith, mark_waits n m.rule m.stands (live 0 m refl), marks_wait n nd ms (λ j z e. live (suc j) z e),
+      omega (
+        arith,
+        mark_waits n m.rule m.stands (live 0 m refl),
+        marks_wait n nd ms (λ j z e. live (suc j) z e),
         sum_by-append (λ t. cond (nat_eq t.slot slot) 1 0) (due_of n m.rule m.stands) (due_marks n ms),
-        sum_by-cons (λ (i : Item). cond (waits_on r i.refusal) 1 0) (kept_item names nd m) (map (kept_item names nd) ms))
+        sum_by-cons (λ (i : Item). cond (waits_on r i.refusal) 1 0) (kept_item names nd m) (map (kept_item names nd) ms),
+      )
 
   -- what is kept of a node with this number shows its items
   abbrev ShowsItems : Grammar → Map → List Record → ℕ → Held → Type 0
@@ -167,13 +171,15 @@ module _ (names : List Ref) (once : IsNamedOnce names) (slot : ℕ) (r : Ref) (n
   all_wait g k xs (n ∷ ns) [] l shows = absurd (omega (arith, l))
   all_wait g k xs (n ∷ ns) (h ∷ hs) l shows =
       let (x, here, live, items) = shows 0 n h refl refl in
-      omega (arith,
+      omega (
+        arith,
         ap (λ o. waiting_at slot (due_record n o)) here,
         marks_wait n h.node x.marks.items live,
         ap (waiting_on r) items,
         all_wait g k xs ns hs (omega (arith, l)) (λ i m q e f. shows (suc i) m q e f),
         sum_by-append (λ t. cond (nat_eq t.slot slot) 1 0) (due_record n (slice_get xs n)) (due xs ns),
-        sum_by-append (λ (i : Item). cond (waits_on r i.refusal) 1 0) (open_items g (state_of h.done) k (held_of g h)) (site_worklist g k (all_of g hs)))
+        sum_by-append (λ (i : Item). cond (waits_on r i.refusal) 1 0) (open_items g (state_of h.done) k (held_of g h)) (site_worklist g k (all_of g hs)),
+      )
 
   -- as many pairs wait for the slot of a reference as items of the worklist wait for the reference
   pub pairs_wait : (g : Grammar) (k : Map) (hs : List Held) (ns : List ℕ) (xs : List Record) (ts : List Triple) → AreKept g hs k names [] ns xs ts → waiting_at slot ts ≡ waiting_on r (site_worklist g k (all_of g hs))

@@ -1,17 +1,16 @@
 -- What is kept stays so, where rules are tested again, a node comes or is developed.
-use Rattle.std.proofs.Common.{◌≡◌, ◌≢◌, ℕ, zero, suc, ◌+◌, ◌<◌, ◌≤◌, ◌⊎◌, inl, inr, Bool, true, false, cond, List, [], ◌∷◌, ◌++◌, length, map, Option, Some, None, slice_get, get_or, refl, sym, ap, ◌∙◌, subst, arith}
-use Rattle.std.specs.Prelude.{count_by, insert, slice_set, is_some, nat_eq, nat_lt, ◌||◌, All, option_and_then}
-use Rattle.std.proofs.lemmas.List.Sums.{sum_by-append, sum_by-cons}
+use Rattle.std.proofs.Common.{◌≡◌, ◌≢◌, ℕ, zero, suc, ◌+◌, ◌<◌, ◌⊎◌, inl, inr, Bool, true, false, cond, List, [], ◌∷◌, length, map, Option, Some, None, slice_get, get_or, refl, sym, ap, ◌∙◌, subst, arith}
+use Rattle.std.specs.Prelude.{count_by, slice_set, is_some, nat_eq, ◌||◌, All}
+use Rattle.std.proofs.lemmas.List.Sums.{sum_by-cons}
 use Rattle.std.specs.List.Sorted.{IsPermutation}
 use Rattle.std.proofs.lemmas.List.Sorted.{sum_by-IsPermutation}
-use Rattle.std.proofs.lemmas.Bool.{eqb-true, eq-eqb}
+use Rattle.std.proofs.lemmas.Bool.{eq-eqb}
 use Rattle.std.proofs.lemmas.Bool.Decides.{eqb_tells}
-use Rattle.std.proofs.lemmas.Option.{slice_get_within}
 use Rattle.aw_term.specs.Names.{Ref}
 use Rattle.aw_term.specs.Rules.{Grammar}
 use Rattle.aw_term.proofs.RefTests.{ref_eq-true}
 use Rattle.aw_store.specs.Refs.{ref_eq}
-use Rattle.aw_store.specs.Equations.{Map, find}
+use Rattle.aw_store.specs.Equations.{Map}
 use Rattle.aw_store.specs.NamedRefs.{is_named, body_at, IsNamedOnce}
 use Rattle.aw_term.specs.WellFormed.{takes_of}
 use Rattle.aw_held.specs.declared.held.Held.{Held}
@@ -22,13 +21,14 @@ use Rattle.aw_kept.specs.declared.record.Stands.{Stands}
 use Rattle.aw_kept.specs.declared.record.Stands.TheVariants as stands
 use Rattle.aw_kept.specs.declared.record.Mark.{Mark}
 use Rattle.aw_kept.specs.declared.record.Record.{Record}
+use Rattle.aw_kept.specs.declared.kept.Kept.{Kept}
 use Rattle.aw_kept.specs.Standings.{waits_for_one, is_one_of}
 use Rattle.aw_kept.specs.Records.{IsFit, IsOf, IsTold, AreTold, stand_at, with_stands, mark_rule, open_rules, has_live, is_of_sort}
 use Rattle.aw_kept.specs.Due.{due_of, due_marks, due_record, due, AreSame, waiting_mark}
-use Rattle.aw_kept.specs.Tested.{IsTested, LacksBody}
-use Rattle.aw_kept.specs.KeptStates.{AreApart, AreFit, AreKept}
+use Rattle.aw_kept.specs.Tested.{IsTested}
+use Rattle.aw_kept.specs.KeptStates.{AreApart, AreFit, AreKept, IsFitKept, AreLiveAt}
 use Rattle.aw_kept.proofs.Places.{IsSetAt}
-use Rattle.aw_kept.proofs.DueLemmas.{marks_stand, due_changed, due_at, due_is, is_triple, triple_counts, taken_out, NodeWaits}
+use Rattle.aw_kept.proofs.DueLemmas.{marks_stand, due_changed, due_at, due_is, is_triple, triple_counts, NodeWaits}
 
 -- a mark in a list where one stands otherwise now
 abbrev pub Stood : Stands → ℕ → List Mark → Mark → ℕ → Mark → Type 0
@@ -151,22 +151,22 @@ module _ (g : Grammar) (k : Map) (names : List Ref) (slot n rule : ℕ) (ns : Li
           told_mark a v not (inl (c, d)) = subst (IsTold g k names h) (sym d) (test.told h (here_of q m h same e u))
           told_mark a v not (inr (_, w)) = f.told q n h x (e ∙ ap Some same) u here a v w not
 
-  none_for : (s : Stands) → s ≢ stands.Waits slot → waiting_at slot (due_of n rule s) ≡ 0
-  none_for stands.Ready d = refl
-  none_for (stands.Differs place) d = refl
-  none_for (stands.Circle c) d = refl
-  none_for stands.TooDeep d = refl
-  none_for (stands.Waits c) d = by (eqb_tells c slot)
+  none_for : (q : ℕ) (s : Stands) → s ≢ stands.Waits q → waiting_at q (due_of n rule s) ≡ 0
+  none_for q stands.Ready d = refl
+  none_for q (stands.Differs place) d = refl
+  none_for q (stands.Circle c) d = refl
+  none_for q stands.TooDeep d = refl
+  none_for q (stands.Waits c) d = by (eqb_tells c q)
     where
-      by : ((nat_eq c slot ≡ true) × (c ≡ slot)) ⊎ ((nat_eq c slot ≡ false) × (c ≢ slot)) → waiting_at slot (due_of n rule (stands.Waits c)) ≡ 0
+      by : ((nat_eq c q ≡ true) × (c ≡ q)) ⊎ ((nat_eq c q ≡ false) × (c ≢ q)) → waiting_at q (due_of n rule (stands.Waits c)) ≡ 0
       by (inl (t, same)) = absurd (d (ap stands.Waits same))
       by (inr (t, other)) = ap (λ b. 0 + cond b 1 0) t
 
-  -- a rule that waits again waits for another slot
-  pub waits_elsewhere : is_some (body_at k names slot) ≡ true → waiting_at slot us ≡ waiting_at slot ts
-  waits_elsewhere learnt =
-      let other : test.stands ≢ stands.Waits slot = λ e. absurd (not_none (body_at k names slot) learnt (test.lacks slot e)) in
-      omega (arith, test.waiting (λ t. nat_eq t.slot slot), none_for test.stands other)
+  -- a rule that waits again does not wait for a slot whose reference has an equation
+  pub waits_elsewhere : (q : ℕ) → is_some (body_at k names q) ≡ true → waiting_at q us ≡ waiting_at q ts
+  waits_elsewhere q learnt =
+      let other : test.stands ≢ stands.Waits q = λ e. absurd (not_none (body_at k names q) learnt (test.lacks q e)) in
+      omega (arith, test.waiting (λ t. nat_eq t.slot q), none_for q test.stands other)
     where
       not_none : {A : Type 0} (o : Option A) → is_some o ≡ true → o ≡ None → ⊥
       not_none None t e = absurd cc
@@ -229,3 +229,7 @@ count_same p ts us same = sum_by-IsPermutation (λ z. cond (p z) 1 0) ts us same
 
 pub one_record : (xs : List Record) (i : ℕ) (x y : Record) → slice_get xs i ≡ Some x → slice_get xs i ≡ Some y → x ≡ y
 one_record xs i x y e f = cc
+
+-- what is fit has live marks at each place
+pub live_at : (g : Grammar) (names : List Ref) (at : ℕ) (kept : Kept) → IsFitKept g names kept → AreLiveAt names at kept
+live_at g names at kept f n x e u = (f.fit at n x e u).stand

@@ -7,3 +7,4 @@ pub mod Opening
 pub mod MarkLemmas
 pub mod Growing
 pub mod ItemLemmas
+pub mod Placed

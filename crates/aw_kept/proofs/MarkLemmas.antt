@@ -1,5 +1,5 @@
 -- The marks of a record before any test.
-use Rattle.std.proofs.Common.{◌≡◌, ℕ, zero, suc, ◌+◌, ◌<◌, ◌≤◌, Bool, true, false, cond, List, [], ◌∷◌, ◌++◌, length, map, get_or, Option, Some, None, slice_get, refl, sym, ap, ◌∙◌, subst, arith, drop, append_assoc, add-one}
+use Rattle.std.proofs.Common.{◌≡◌, ℕ, zero, suc, ◌+◌, ◌≤◌, Bool, true, false, cond, List, [], ◌∷◌, ◌++◌, length, map, Option, Some, None, slice_get, refl, sym, ap, ◌∙◌, subst, arith, drop, append_assoc, add-one}
 use Rattle.std.specs.Prelude.{nat_eq, All, option_map}
 use Rattle.std.proofs.lemmas.Option.{slice_get-map}
 use Rattle.std.proofs.lemmas.List.{append-nil}
@@ -21,7 +21,7 @@ use Rattle.aw_grammar.specs.GrammarOf.{grammar_of}
 use Rattle.aw_kept.specs.declared.record.Stands.TheVariants as stands
 use Rattle.aw_kept.specs.declared.record.Mark.{Mark}
 use Rattle.aw_kept.specs.declared.record.Record.{Record}
-use Rattle.aw_kept.specs.Records.{IsFit, IsOf, mark_rule, rules_of, is_of_sort, has_live}
+use Rattle.aw_kept.specs.Records.{IsFit, mark_rule, rules_of, is_of_sort, has_live}
 use Rattle.aw_kept.specs.Due.{due_of, due_marks}
 use Rattle.aw_kept.specs.Tested.{IsUntested}
 

@@ -1,5 +1,5 @@
 -- What is kept where a node comes, and where one was developed.
-use Rattle.std.proofs.Common.{◌≡◌, ◌≢◌, ℕ, zero, suc, ◌+◌, ◌<◌, ◌≤◌, ◌⊎◌, inl, inr, Bool, true, false, cond, List, [], ◌∷◌, ◌++◌, length, map, Option, Some, None, slice_get, refl, sym, ap, ◌∙◌, subst, arith, length-append}
+use Rattle.std.proofs.Common.{◌≡◌, ◌≢◌, ℕ, zero, suc, ◌<◌, ◌≤◌, ◌⊎◌, inl, inr, List, [], ◌∷◌, ◌++◌, length, map, Some, slice_get, refl, sym, ap, ◌∙◌, subst, arith, length-append}
 use Rattle.std.specs.Prelude.{count_by, insert, nat_eq, not, ◌&&◌, All}
 use Rattle.std.proofs.lemmas.List.Edits.{length-insert}
 use Rattle.aw_term.specs.Names.{Ref}
@@ -15,10 +15,10 @@ use Rattle.aw_work.specs.declared.block.Triple.{Triple}
 use Rattle.aw_work.specs.Triples.{others_than}
 use Rattle.aw_kept.specs.declared.record.Mark.{Mark}
 use Rattle.aw_kept.specs.declared.record.Record.{Record}
-use Rattle.aw_kept.specs.Records.{IsFit, IsOf, IsTold, AreTold, open_rules, mark_rule}
-use Rattle.aw_kept.specs.Due.{due_marks, due_record, due}
+use Rattle.aw_kept.specs.Records.{IsFit, IsOf, AreTold, open_rules, mark_rule}
+use Rattle.aw_kept.specs.Due.{due_marks, due_record}
 use Rattle.aw_kept.specs.Tested.{AreTested}
-use Rattle.aw_kept.specs.KeptStates.{AreApart, AreFit, AreKept}
+use Rattle.aw_kept.specs.KeptStates.{AreFit, AreKept}
 use Rattle.aw_kept.proofs.Places.{IsSetAt, StoodBefore, get-push, get-last, inserted_both, inserted_one, apart_inserted}
 use Rattle.aw_kept.proofs.DueLemmas.{due_more, due_inserted, same_others}
 use Rattle.aw_kept.proofs.KeptLemmas.{WasWritten, written}

@@ -1,5 +1,5 @@
 -- How a rule stands at a node, its arguments aside, where references are told by slots.
-use Rattle.std.specs.Prelude.{◌≡◌, ℕ, Bool, false, true, List, Option, None, Some, slice_get, if◌then◌else◌}
+use Rattle.std.specs.Prelude.{Bool, false, List, Option, None, Some, slice_get, if◌then◌else◌}
 use Rattle.aw_term.specs.Names.{Node, Ref}
 use Rattle.aw_term.specs.Rules.{Rule}
 use Rattle.aw_term.specs.Choices.{Answer, WaitsFor, Mismatch, CircleAt, TooDeep, after_guard}

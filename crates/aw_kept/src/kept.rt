@@ -97,7 +97,8 @@ impl Kept {
         }
     }
 
-    /// Tests the rules that wait for a slot whose reference just got an equation, each once. It takes no memory.
+    /// Tests the rules that wait for a slot whose reference just got an equation, each once. It takes no memory. None of them
+    /// waits again for a reference that has an equation (`fewer`), so that several calls in turn test no pair twice.
     pub fn learn<F: Facts, L: Ledger>(
         &mut self,
         slot: usize,
@@ -113,6 +114,7 @@ impl Kept {
         ensures fits { IsFitKept (grammar_of grammar.now) (F.names facts.now) self.new }
         ensures room { (n w : ℕ) → HasRoom self.old n w → HasRoom self.new n w }
         ensures steps { steps.new ≡ steps.old + waiting_at slot self.old.work.waiting }
+        ensures fewer { (q : ℕ) → is_some (body_at (F.map facts.now) (F.names facts.now) q) ≡ true → waiting_at q self.new.work.waiting ≤ waiting_at q self.old.work.waiting }
     {
         while let Some(pair) = self.work.take(slot) {
             self.test_pair(slot, pair, grammar, facts, steps);
@@ -135,7 +137,7 @@ impl Kept {
             AreKept (grammar_of grammar.now) hs (F.map facts.now) (F.names facts.now) late self.old.numbers.items self.old.records.items (triple slot pair.node pair.rule ∷ self.old.work.waiting) →
             IsKeptBut (grammar_of grammar.now) hs (F.map facts.now) (F.names facts.now) late self.new }
         ensures fits { IsFitKept (grammar_of grammar.now) (F.names facts.now) self.new }
-        ensures waiting { waiting_at slot self.new.work.waiting ≡ waiting_at slot self.old.work.waiting }
+        ensures waiting { (q : ℕ) → is_some (body_at (F.map facts.now) (F.names facts.now) q) ≡ true → waiting_at q self.new.work.waiting ≡ waiting_at q self.old.work.waiting }
         ensures room { (n w : ℕ) → HasRoom self.old n (w + 1) → HasRoom self.new n w }
         ensures step { steps.new ≡ steps.old + 1 }
     {

@@ -1,14 +1,12 @@
-use Rattle.std.proofs.Common.{◌≡◌, ◌∙◌, ◌≤◌, Some, slice_get, length, map, ap, sym, subst, refl, arith}
+use Rattle.std.proofs.Common.{◌∙◌, slice_get, length, map, ap, sym, subst, refl, arith}
 use Rattle.std.proofs.lemmas.Option.{slice_get_read}
-use Rattle.aw_term.specs.Trees.{join}
 use Rattle.aw_term.specs.Views.{pattern_of}
-use Rattle.aw_term.specs.WellFormed.{takes_of, leaves_of}
+use Rattle.aw_term.specs.WellFormed.{takes_of}
 use Rattle.aw_term.proofs.Joined.{leaves_join}
 use Rattle.aw_grammar.specs.GrammarOf.{grammar_of}
-use Rattle.aw_grammar.specs.GrammarView.{rule_of}
 use Rattle.aw_grammar.proofs.RuleSizes.{patterns_shallow, patterns_few, patterns_taken, leaves_few}
 use Rattle.aw_store.specs.NamedRefs.{AreNamed}
-use Rattle.aw_kept.specs.Standings.{kept_refusal, told_refusal}
+use Rattle.aw_kept.specs.Standings.{told_refusal}
 use Rattle.aw_kept.proofs.MarkLemmas.{found_rule, no_rule, mark_sort, no_mark, one_mark, rule_back}
 use Rattle.aw_kept.proofs.testing.test_at.Goals as goal
 

@@ -1,4 +1,4 @@
-use Rattle.std.proofs.Common.{◌≡◌, ◌∙◌, ◌+◌, refl, length, ap, sym}
+use Rattle.std.proofs.Common.{◌∙◌, ◌+◌, refl, length, ap}
 use Rattle.std.specs.Prelude.{count_by}
 use Rattle.std.proofs.lemmas.Option.{slice_get_read}
 use Rattle.aw_kept.specs.declared.record.Mark.{Mark}

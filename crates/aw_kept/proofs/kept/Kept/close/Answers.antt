@@ -1,7 +1,6 @@
-use Rattle.std.proofs.Common.{rules, ◌≡◌, ◌<◌, ◌≤◌, Some, get_or, length, slice_get, ap, refl, subst, sym, arith}
+use Rattle.std.proofs.Common.{rules, ◌≡◌, ◌<◌, get_or, length, ap, refl, subst, sym, arith}
 use Rattle.std.specs.Prelude.{slice_set}
 use Rattle.std.proofs.lemmas.Option.{slice_get_read}
-use Rattle.aw_work.specs.Triples.{others_than}
 use Rattle.aw_held.specs.InOrder.{done_at}
 use Rattle.aw_kept.specs.declared.record.Record.{Record}
 use Rattle.aw_kept.specs.KeptStates.{AreKept}

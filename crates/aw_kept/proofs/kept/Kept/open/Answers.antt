@@ -1,4 +1,4 @@
-use Rattle.std.proofs.Common.{◌≡◌, arith, ◌≤◌}
+use Rattle.std.proofs.Common.{arith}
 use Rattle.aw_grammar.specs.GrammarOf.{grammar_of}
 use Rattle.aw_kept.proofs.Opening.{kept_open, fits_open}
 use Rattle.aw_kept.proofs.kept.Kept.open.Goals as goal

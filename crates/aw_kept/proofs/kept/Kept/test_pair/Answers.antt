@@ -1,4 +1,4 @@
-use Rattle.std.proofs.Common.{◌≡◌, ◌∙◌, ◌<◌, Some, slice_get, length, ap, refl, sym, arith}
+use Rattle.std.proofs.Common.{◌∙◌, slice_get, length, ap, refl, sym, arith}
 use Rattle.std.specs.Prelude.{slice_set}
 use Rattle.std.proofs.lemmas.Option.{slice_get_read, slice_get_within}
 use Rattle.aw_grammar.specs.GrammarOf.{grammar_of}
@@ -65,7 +65,7 @@ returns-clause-fits g c =
     w.2 here mark (c.test_mark.ensures.tested (waiting_mark c.args.pair.rule c.args.slot) mark) (set_at xs n c.test_mark.new.entry within) c.requires.fits
 
 pub returns-clause-waiting : goal.returns-clause-waiting
-returns-clause-waiting g c =
+returns-clause-waiting g c q learnt =
     let gr = grammar_of c.args.grammar.now in
     let names = g.F.Facts.names c.args.facts.now in
     let ns = c.args.self.now.numbers.items in
@@ -77,4 +77,4 @@ returns-clause-waiting g c =
     let here = slice_get_read xs (length xs) n x refl within c.index_mut-entry.ensures.value in
     let mark = ap (λ l. slice_get l c.in-Some.at) (sym c.as_slice.ensures.value) ∙ c.in-Some.ensures.found in
     waits_elsewhere gr (g.F.Facts.map c.args.facts.now) names c.args.slot n c.args.pair.rule ns xs (slice_set xs n c.test_mark.new.entry) c.args.self.now.work.waiting c.test_mark.new.work.waiting w.0 c.in-Some.at x c.test_mark.new.entry
-    w.2 here mark (c.test_mark.ensures.tested (waiting_mark c.args.pair.rule c.args.slot) mark) (set_at xs n c.test_mark.new.entry within) c.requires.learnt
+    w.2 here mark (c.test_mark.ensures.tested (waiting_mark c.args.pair.rule c.args.slot) mark) (set_at xs n c.test_mark.new.entry within) q learnt
