@@ -1,5 +1,5 @@
 //! Requests from a stream that comes in any pieces.
-ghost use Rattle.std.specs.Prelude.{◌≡◌, ◌≤◌, ◌++◌, [], false, length, drop, IfOk, OnOk, OnErr};
+ghost use Rattle.std.specs.Prelude.{◌≡◌, ◌≤◌, ◌↔◌, ◌++◌, [], false, length, drop, IsTrue, IfOk, OnOk, OnErr};
 ghost use Rattle.aw_wire.specs.Gives.{Gives};
 ghost use Rattle.aw_msg.specs.Frames.{frame, FrameInRange};
 ghost use Rattle.aw_msg.specs.FrameView.{frame_of};
@@ -90,6 +90,13 @@ impl FrameReader {
             }
             Err(Unread::NoMemory) => Err(AllocError),
         }
+    }
+
+    /// Whether no byte waits to be taken.
+    pub fn is_empty(&self) -> bool
+        ensures { IsTrue result ↔ (self.now.bytes ≡ []) }
+    {
+        self.kept.as_slice().is_empty()
     }
 
     /// Whether `next` answered `Bad`.

@@ -1,0 +1,4 @@
+pub mod Courses
+pub mod Servings
+pub mod Stretches
+pub mod TalkLemmas

@@ -1,0 +1,157 @@
+-- What goes over a wire in one session, bit by bit.
+use Rattle.std.proofs.Common.{◌≡◌, ℕ, ◌<◌, ◌≤◌, List, [], ◌∷◌, ◌++◌, length, take, drop, Bool, true, false, ◌||◌, Option, None, Some, refl, ap, sym, ◌∙◌, append_assoc, append-nil}
+use Rattle.aw_out.specs.Causes.{Rose}
+use Rattle.aw_out.specs.Wires.{Session, Content, Both, with_last, after_read, after_write, after_fault, ReadsInSession, WritesInSession}
+use Rattle.aw_out.specs.declared.edge.Got.TheVariants.{Read, End, Failed}
+use Rattle.aw_out.specs.declared.edge.Put.TheVariants.{Took, Failed as NotTaken}
+use Rattle.aw_session.specs.Talking.{grown, Grows, Counts, Talks, TalksInPart}
+
+-- two changes that are one
+with_last-same : (f g : Session → Session) (xs : List Session) → ((s : Session) → f s ≡ g s) → with_last f xs ≡ with_last g xs
+with_last-same f g [] same = refl
+with_last-same f g (s ∷ []) same = ap (λ (t : Session). t ∷ []) (same s)
+with_last-same f g (s ∷ t ∷ ts) same = ap (λ (us : List Session). s ∷ us) (with_last-same f g (t ∷ ts) same)
+
+-- no change
+with_last-none : (xs : List Session) → with_last (λ s. s) xs ≡ xs
+with_last-none [] = refl
+with_last-none (s ∷ []) = refl
+with_last-none (s ∷ t ∷ ts) = ap (λ (us : List Session). s ∷ us) (with_last-none (t ∷ ts))
+
+-- one change and then another
+with_last-twice : (f g : Session → Session) (xs : List Session) → with_last g (with_last f xs) ≡ with_last (λ s. g (f s)) xs
+with_last-twice f g [] = refl
+with_last-twice f g (s ∷ []) = refl
+with_last-twice f g (s ∷ t ∷ []) = refl
+with_last-twice f g (s ∷ t ∷ u ∷ us) = ap (λ (vs : List Session). s ∷ vs) (with_last-twice f g (t ∷ u ∷ us))
+
+or-false : (b : Bool) → (b || false) ≡ b
+or-false true = refl
+or-false false = refl
+
+or-assoc : (a b c : Bool) → ((a || b) || c) ≡ (a || (b || c))
+or-assoc true b c = refl
+or-assoc false b c = refl
+
+-- nothing was read or written
+grown-none : (s : Session) → grown [] [] false s ≡ s
+grown-none s = let r = append-nil s.read in let w = append-nil s.written in let f = or-false s.failed in cc
+
+-- some was written
+grown-write : (bytes : List ℕ) (s : Session) → after_write bytes s ≡ grown [] bytes false s
+grown-write bytes s = let r = append-nil s.read in let f = or-false s.failed in cc
+
+-- some was read
+grown-read : (bytes : List ℕ) (s : Session) → after_read bytes s ≡ grown bytes [] false s
+grown-read bytes s = let w = append-nil s.written in let f = or-false s.failed in cc
+
+or-true : (b : Bool) → (b || true) ≡ true
+or-true true = refl
+or-true false = refl
+
+-- a call failed
+grown-fault : (s : Session) → after_fault s ≡ grown [] [] true s
+grown-fault s = let r = append-nil s.read in let w = append-nil s.written in let f = or-true s.failed in cc
+
+-- one growth and then another
+grown-twice : (r w r' w' : List ℕ) (b b' : Bool) (s : Session) → grown r' w' b' (grown r w b s) ≡ grown (r ++ r') (w ++ w') (b || b') s
+grown-twice r w r' w' b b' s = let x = append_assoc s.read r r' in let y = append_assoc s.written w w' in let z = or-assoc s.failed b b' in cc
+
+-- nothing happened
+grows-none : (c : Option Content) → Both (Grows [] [] false) c c
+grows-none None = tt
+grows-none (Some c) = (sym (with_last-same (grown [] [] false) (λ s. s) c.passed grown-none ∙ with_last-none c.passed), refl)
+
+-- something happened and then more
+grows-then : (r w r' w' : List ℕ) (b b' : Bool) (x y z : Option Content) → Both (Grows r w b) x y → Both (Grows r' w' b') y z → Both (Grows (r ++ r') (w ++ w') (b || b')) x z
+grows-then r w r' w' b b' None None None g h = tt
+grows-then r w r' w' b b' None None (Some z) g h = absurd h
+grows-then r w r' w' b b' None (Some y) z g h = absurd g
+grows-then r w r' w' b b' (Some x) None z g h = absurd g
+grows-then r w r' w' b b' (Some x) (Some y) None g h = absurd h
+grows-then r w r' w' b b' (Some x) (Some y) (Some z) g h = (
+  h.0 ∙ ap (with_last (grown r' w' b')) g.0 ∙ with_last-twice (grown r w b) (grown r' w' b') x.passed
+  ∙ with_last-same (λ s. grown r' w' b' (grown r w b s)) (grown (r ++ r') (w ++ w') (b || b')) x.passed (grown-twice r w r' w' b b'),
+  h.1 ∙ g.1,
+)
+
+-- a write
+grows-took : (n : ℕ) (bytes : List ℕ) (x y : Option Content) → Both (WritesInSession (Took n) bytes) x y → Both (Grows [] (take n bytes) false) x y
+grows-took n bytes None None h = tt
+grows-took n bytes None (Some y) h = absurd h
+grows-took n bytes (Some x) None h = absurd h
+grows-took n bytes (Some x) (Some y) h = (h.0 ∙ with_last-same (after_write (take n bytes)) (grown [] (take n bytes) false) x.passed (grown-write (take n bytes)), h.1.1)
+
+-- a write that failed
+grows-not_taken : (bytes : List ℕ) (x y : Option Content) → Both (WritesInSession NotTaken bytes) x y → Both (Grows [] [] true) x y
+grows-not_taken bytes None None h = tt
+grows-not_taken bytes None (Some y) h = absurd h
+grows-not_taken bytes (Some x) None h = absurd h
+grows-not_taken bytes (Some x) (Some y) h =
+    (ap (λ (c : Content). c.passed) h ∙ with_last-same after_fault (grown [] [] true) x.passed grown-fault, ap (λ (c : Content). c.coming) h)
+
+-- a read
+grows-read : (n : ℕ) (buf : List ℕ) (x y : Option Content) → Both (ReadsInSession (Read n) buf) x y → Both (Grows (take n buf) [] false) x y
+grows-read n buf None None h = tt
+grows-read n buf None (Some y) h = absurd h
+grows-read n buf (Some x) None h = absurd h
+grows-read n buf (Some x) (Some y) h = (h.0 ∙ with_last-same (after_read (take n buf)) (grown (take n buf) [] false) x.passed (grown-read (take n buf)), h.1.1)
+
+-- a read that failed
+grows-not_read : (buf : List ℕ) (x y : Option Content) → Both (ReadsInSession Failed buf) x y → Both (Grows [] [] true) x y
+grows-not_read buf None None h = tt
+grows-not_read buf None (Some y) h = absurd h
+grows-not_read buf (Some x) None h = absurd h
+grows-not_read buf (Some x) (Some y) h =
+    (ap (λ (c : Content). c.passed) h ∙ with_last-same after_fault (grown [] [] true) x.passed grown-fault, ap (λ (c : Content). c.coming) h)
+
+-- the end
+grows-end : (buf : List ℕ) (x y : Option Content) → Both (ReadsInSession End buf) x y → Both (Grows [] [] false) x y
+grows-end buf None None h = tt
+grows-end buf None (Some y) h = absurd h
+grows-end buf (Some x) None h = absurd h
+grows-end buf (Some x) (Some y) h = let none = grows-none (Some x) in (ap (λ (c : Content). c.passed) h.1 ∙ none.0, ap (λ (c : Content). c.coming) h.1)
+
+-- ---- the whole wire
+
+pub talks-none : {W : Type 0} (content : W → Option Content) (is_open : W → Bool) (faults failed_openings : W → ℕ) (a : W) → is_open a ≡ true → Talks content is_open faults failed_openings a a [] [] false
+talks-none content is_open faults failed_openings a e = record { stays = e; told = grows-none (content a); counts = refl; openings = refl }
+
+counts-then : (b : Bool) (x y z : ℕ) → y ≡ x → Counts b y z → Counts b x z
+counts-then true x y z e h = rw (← e) h
+counts-then false x y z e h = h ∙ e
+
+pub talks-then : {W : Type 0} (content : W → Option Content) (is_open : W → Bool) (faults failed_openings : W → ℕ) (a b c : W) (r w r' w' : List ℕ) (f : Bool) →
+    Talks content is_open faults failed_openings a b r w false → Talks content is_open faults failed_openings b c r' w' f →
+    Talks content is_open faults failed_openings a c (r ++ r') (w ++ w') f
+talks-then content is_open faults failed_openings a b c r w r' w' f g h = record {
+  stays = h.stays;
+  told = grows-then r w r' w' false f (content a) (content b) (content c) g.told h.told;
+  counts = counts-then f (faults a) (faults b) (faults c) g.counts h.counts;
+  openings = h.openings ∙ g.openings;
+}
+
+pub talks-took : {W : Type 0} (content : W → Option Content) (is_open : W → Bool) (faults failed_openings : W → ℕ) (a b : W) (n : ℕ) (bytes : List ℕ) →
+    is_open b ≡ true → Both (WritesInSession (Took n) bytes) (content a) (content b) → faults b ≡ faults a → failed_openings b ≡ failed_openings a →
+    Talks content is_open faults failed_openings a b [] (take n bytes) false
+talks-took content is_open faults failed_openings a b n bytes o c f k = record { stays = o; told = grows-took n bytes (content a) (content b) c; counts = f; openings = k }
+
+pub talks-not_taken : {W : Type 0} (content : W → Option Content) (is_open : W → Bool) (faults failed_openings : W → ℕ) (a b : W) (bytes : List ℕ) →
+    is_open b ≡ true → Both (WritesInSession NotTaken bytes) (content a) (content b) → faults a ≤ faults b → Rose (faults a) (faults b) → failed_openings b ≡ failed_openings a →
+    Talks content is_open faults failed_openings a b [] [] true
+talks-not_taken content is_open faults failed_openings a b bytes o c f r k = record { stays = o; told = grows-not_taken bytes (content a) (content b) c; counts = (f, r); openings = k }
+
+pub talks-read : {W : Type 0} (content : W → Option Content) (is_open : W → Bool) (faults failed_openings : W → ℕ) (a b : W) (n : ℕ) (buf : List ℕ) →
+    is_open b ≡ true → Both (ReadsInSession (Read n) buf) (content a) (content b) → faults b ≡ faults a → failed_openings b ≡ failed_openings a →
+    Talks content is_open faults failed_openings a b (take n buf) [] false
+talks-read content is_open faults failed_openings a b n buf o c f k = record { stays = o; told = grows-read n buf (content a) (content b) c; counts = f; openings = k }
+
+pub talks-end : {W : Type 0} (content : W → Option Content) (is_open : W → Bool) (faults failed_openings : W → ℕ) (a b : W) (buf : List ℕ) →
+    is_open b ≡ true → Both (ReadsInSession End buf) (content a) (content b) → faults b ≡ faults a → failed_openings b ≡ failed_openings a →
+    Talks content is_open faults failed_openings a b [] [] false
+talks-end content is_open faults failed_openings a b buf o c f k = record { stays = o; told = grows-end buf (content a) (content b) c; counts = f; openings = k }
+
+pub talks-not_read : {W : Type 0} (content : W → Option Content) (is_open : W → Bool) (faults failed_openings : W → ℕ) (a b : W) (buf : List ℕ) →
+    is_open b ≡ true → Both (ReadsInSession Failed buf) (content a) (content b) → faults a ≤ faults b → Rose (faults a) (faults b) → failed_openings b ≡ failed_openings a →
+    Talks content is_open faults failed_openings a b [] [] true
+talks-not_read content is_open faults failed_openings a b buf o c f r k = record { stays = o; told = grows-not_read buf (content a) (content b) c; counts = (f, r); openings = k }

@@ -1,0 +1,31 @@
+-- What goes over a wire while one session is open.
+use Rattle.std.specs.Prelude.{◌≡◌, ℕ, ◌<◌, ◌≤◌, List, length, take, [], ◌∷◌, ◌++◌, Bool, true, false, ◌||◌, Option, None, Some}
+use Rattle.aw_out.specs.Causes.{Rose}
+use Rattle.aw_out.specs.Wires.{Session, Content, Both, with_last}
+
+-- the session after these bytes were read and written in it, and perhaps a call failed
+abbrev pub grown : List ℕ → List ℕ → Bool → Session → Session
+grown read written failed s = record s { read = s.read ++ read; written = s.written ++ written; failed = s.failed || failed }
+
+-- the last session has grown so, and no other came or will not come
+abbrev pub Grows : List ℕ → List ℕ → Bool → Content → Content → Type 0
+Grows read written failed old new = (new.passed ≡ with_last (grown read written failed) old.passed) × (new.coming ≡ old.coming)
+
+-- the count of faults rose exactly where a call failed
+abbrev pub Counts : Bool → ℕ → ℕ → Type 0
+Counts true old new = (old ≤ new) × Rose old new
+Counts false old new = new ≡ old
+
+-- In the open session these bytes were read and written, and perhaps a call failed. A wire is seen by its content, whether a session is open, and
+-- its counts of faults and of failed openings.
+pub record Talks {W : Type 0} (content : W → Option Content) (is_open : W → Bool) (faults failed_openings : W → ℕ) (old new : W) (read written : List ℕ) (failed : Bool) : Type 0 where
+  pub stays : is_open new ≡ true
+  pub told : Both (Grows read written failed) (content old) (content new)
+  pub counts : Counts failed (faults old) (faults new)
+  pub openings : failed_openings new ≡ failed_openings old
+
+-- of some bytes a front part was written, but not all, and then a write failed
+pub record TalksInPart {W : Type 0} (content : W → Option Content) (is_open : W → Bool) (faults failed_openings : W → ℕ) (old new : W) (bytes : List ℕ) : Type 0 where
+  pub count : ℕ
+  pub part : count < length bytes
+  pub talks : Talks content is_open faults failed_openings old new [] (take count bytes) true

@@ -1,0 +1,69 @@
+//! Sessions one after the other.
+ghost use Rattle.std.specs.Prelude.{◌≡◌, ◌⊎◌, ◌<◌, ◌≤◌, List, [], ◌++◌, length, IfOk, IfErr};
+ghost use Rattle.aw_session.specs.Sessions.{IsServing, NoneComes, StopsServing, ServesNext, StopsNext};
+
+use crate::handles::Handles;
+use crate::log::{Log, SessionLog};
+use crate::session::serve_session;
+use aw_out::{Arrival, Wire};
+use std::alloc::Global;
+
+/// Why no further session was served.
+#[derive(Debug, Drop)]
+pub enum Stopped<X> {
+    /// The next session could not be opened.
+    NetFault,
+    /// A frame got no reply, or there was no memory to note one more session.
+    Node(X),
+}
+
+/// Serves the next session and notes it, if one comes.
+fn serve_next<W: Wire, H: Handles>(
+    alloc: Global,
+    node: &mut H,
+    role: u16,
+    log: &mut Vec<SessionLog>,
+    wire: &mut W,
+) -> Result<bool, Stopped<H::Fault>>
+    requires { role < 64 }
+    ensures ok { IfOk result (ServesNext H.answers W.content W.faults W.failed_openings role node.old node.new wire.old wire.new log.old.items log.new.items) }
+    ensures err { IfErr result (StopsNext H.answers H.breaks W.content W.failed_openings role node.old node.new wire.old wire.new) }
+{
+    if let Err(fault) = log.reserve(1) {
+        return Err(Stopped::Node(H::Fault::from(fault)));
+    }
+    match wire.next_session(role) {
+        Arrival::Session => match serve_session(alloc, node, wire) {
+            Ok(entry) => {
+                log.push(entry).unwrap();
+                Ok(true)
+            }
+            Err(fault) => Err(Stopped::Node(fault)),
+        },
+        Arrival::End => Ok(false),
+        Arrival::Failed => Err(Stopped::NetFault),
+    }
+}
+
+/// Serves so many sessions, or as many as come, and tells of each. The workspace stays as it is from one session to the next.
+pub fn serve_sessions<W: Wire, H: Handles>(
+    alloc: Global,
+    node: &mut H,
+    role: u16,
+    sessions: u32,
+    wire: &mut W,
+) -> Result<Log, Stopped<H::Fault>>
+    requires { role < 64 }
+    ensures ok { IfOk result (IsServing H.answers W.content W.faults W.failed_openings role node.old node.new wire.old wire.new) }
+    ensures most { IfOk result (λ log. length log ≤ sessions) }
+    ensures all { IfOk result (λ log. (length log ≡ sessions) ⊎ NoneComes (W.content wire.new)) }
+    ensures err { IfErr result (StopsServing H.answers H.breaks W.content W.failed_openings role node.old node.new wire.old wire.new) }
+{
+    let mut log = Vec::new(alloc);
+    while log.len() < sessions as usize {
+        if !serve_next(alloc, node, role, &mut log, wire)? {
+            return Ok(Log::from_vec(log));
+        }
+    }
+    Ok(Log::from_vec(log))
+}

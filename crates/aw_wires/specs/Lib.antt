@@ -1,0 +1,2 @@
+pub mod MemWires
+pub mod Shown
