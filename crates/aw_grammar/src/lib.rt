@@ -10,6 +10,7 @@ pub mod grammar;
 mod kinds;
 mod made;
 mod named;
+mod of_declared;
 pub mod raw;
 mod resolve;
 pub mod rule;

@@ -1,11 +1,11 @@
 //! The grammar of one role's rules alone.
 ghost use Rattle.std.specs.Prelude.{◌≡◌, IfOk};
 ghost use Rattle.aw_term.specs.Rules.{role_of, some_rules};
-ghost use Rattle.aw_grammar.specs.GrammarView.{plain_words, rule_of, sorts_of};
-ghost use Rattle.aw_grammar.specs.GrammarOf.{grammar_of, words_of};
+ghost use Rattle.aw_grammar.specs.GrammarView.{rule_of, sorts_of};
+ghost use Rattle.aw_grammar.specs.GrammarOf.{grammar_of};
 ghost use Rattle.aw_grammar.specs.SomeRules.{is_at, rules_at};
 
-use crate::copies::{copy_cons, copy_names, copy_rule, copy_sorts, index_of};
+use crate::copies::{copy_cons, copy_names, copy_rule, copy_sorts};
 use crate::grammar::Grammar;
 use crate::rule::{Rule, Rules, Sorts};
 use aw_list::Items;
@@ -43,25 +43,16 @@ fn rules_at(sorts: &Sorts, rules: &Rules, role: u16) -> Result<Rules, AllocError
 
 /// The same grammar with the rules of one role alone, in their order: those whose sort is that role's.
 pub fn only_rules_of(alloc: Global, g: &Grammar, role: u16) -> Result<Grammar, AllocError>
+    ensures roles { IfOk result (λ h. h.roles ≡ g.now.roles) }
+    ensures cons { IfOk result (λ h. h.cons ≡ g.now.cons) }
+    ensures sorts { IfOk result (λ h. h.sorts ≡ g.now.sorts) }
+    ensures rules { IfOk result (λ h. h.rules ≡ rules_at g.now.sorts role g.now.rules) }
     ensures grammar { IfOk result (λ h. grammar_of h ≡ some_rules (is_at (grammar_of g.now).sorts role) (grammar_of g.now)) }
-    ensures words { IfOk result (λ h. words_of h ≡ plain_words g.now.roles g.now.cons g.now.sorts (rules_at g.now.sorts role g.now.rules)) }
 {
     let roles = copy_names(&g.roles)?;
     let cons = copy_cons(&g.cons)?;
     let sorts = copy_sorts(&g.sorts)?;
     let rules = rules_at(&g.sorts, &g.rules, role)?;
-    let role_index = index_of(alloc, g.roles.as_slice())?;
-    let con_index = index_of(alloc, g.cons.as_slice())?;
-    let sort_index = index_of(alloc, g.sorts.as_slice())?;
-    let rule_index = index_of(alloc, rules.as_slice())?;
-    Ok(Grammar {
-        roles,
-        cons,
-        sorts,
-        rules,
-        role_index,
-        con_index,
-        sort_index,
-        rule_index,
-    })
+    let kept = Grammar::of_declared(alloc, roles, cons, sorts, rules)?;
+    Ok(kept)
 }

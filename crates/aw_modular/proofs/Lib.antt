@@ -1,0 +1,10 @@
+pub mod RoleRelations
+pub mod Joining
+pub mod Trying
+pub mod Declarings
+pub mod Excesses
+pub mod Yeses
+pub mod Wholes
+pub mod PartsFit
+pub mod Sharing
+pub mod FacesKept

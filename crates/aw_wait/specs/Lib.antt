@@ -1,0 +1,4 @@
+pub mod Waiting
+pub mod Seeding
+pub mod Refusals
+pub mod Worked
