@@ -79,6 +79,15 @@ pub con_length : (c : ℕ) (parts : List grounds.Ground) → length (spelled_gro
 con_length c parts =
     ap (λ t. length (spelled_ground t)) (ground_con c parts) ∙ omega (arith, ap length (parts_join (map ground_of parts)))
 
+pub con_counted : (g : grounds.Ground) (c : ℕ) (parts qs : List grounds.Ground) (n new : ℕ) → g ≡ grounds.Con c parts → qs ≡ parts → n ≡ capped (length (flat_map spelled_ground (map ground_of qs))) → new ≡ capped (n + 4) → new ≡ capped (length (spelled_ground (ground_of g)))
+con_counted g c parts qs n new is same here added =
+    sums n new (length (flat_map spelled_ground (map ground_of parts))) (length (spelled_ground (ground_of g)))
+    (here ∙ ap (λ ps. capped (length (flat_map spelled_ground (map ground_of ps)))) same) added
+    (ap (λ t. length (spelled_ground (ground_of t))) is ∙ con_length c parts)
+  where
+    sums : (n new a b : ℕ) → n ≡ capped a → new ≡ capped (n + 4) → b ≡ 4 + a → new ≡ capped b
+    sums n new a b here added is = omega arith
+
 pub develop_length : (n : Node) (rule : ℕ) (args : List Ground) → length (spelled_choice (Q.Develop n rule args)) ≡ 4 + length (spelled_node n) + length (flat_map spelled_ground args)
 develop_length n rule args = omega (arith, length-append (spelled_node n) (to_be_bytes w16 rule ++ spelled_grounds args))
 

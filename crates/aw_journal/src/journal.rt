@@ -7,7 +7,7 @@ ghost use Rattle.aw_journal.specs.Format.{u64_bytes, u16_bytes, head, front, has
 ghost use Rattle.aw_journal.specs.Journal.{IsSettled, IsBeforeOrAfter, StandsAt, IsAround, IsAll, StartsClosed, behind_gate, end_after};
 ghost use Rattle.aw_journal.specs.Events.{AllEvents, EventInRange, payload_of};
 ghost use Rattle.aw_journal.specs.EventView.{event_of, events_seen};
-ghost use Rattle.aw_journal.specs.Opens.{HasThisHead, IsForeign, IsOldOrSame, BeginsClosed};
+ghost use Rattle.aw_journal.specs.Opens.{HasThisHead, IsForeign, IsOldOrSame, AllOldOrAllSame, BeginsClosed};
 
 use crate::payload::{NodeEvent, record_bytes};
 use crate::lengths::payload_len;
@@ -97,6 +97,8 @@ impl Journal {
         ensures settled { IfOk result (λ j. IsTrue (D.tells disk.old) → IsSettled D.seen D.may_leave disk.new j) }
         // A crash at any moment leaves a file that could be there before, or one with the same events.
         ensures any_moment { IsTrue (D.tells disk.old) → LeavesOnly D.moment D.left_since disk.old disk.new (IsOldOrSame (D.may_leave disk.old) (D.seen disk.old)) }
+        // At the end no image is new, or each image has the same events.
+        ensures images { IsTrue (D.tells disk.old) → AllOldOrAllSame (D.may_leave disk.old) (D.seen disk.old) (D.may_leave disk.new) }
         // What is read has the same events.
         ensures reads_same { IsTrue (D.tells disk.old) → events_of (D.seen disk.new) ≡ events_of (D.seen disk.old) }
         ensures bad_head { IsErrOf result OpenFault.BadHead → IsTrue (D.tells disk.old) → IsForeign role text.now (D.seen disk.old) × (D.seen disk.new ≡ D.seen disk.old) }

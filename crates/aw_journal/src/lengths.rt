@@ -119,7 +119,6 @@ fn message_len(m: &Message) -> u64
 }
 
 #[cycle(counting)]
-#[tactic(auto, using(crate::proofs::Counts::con_length))]
 fn ground_len(ground: &Ground) -> u64
     ensures { result ≡ capped (length (spelled_ground (ground_of ground.now))) }
 {

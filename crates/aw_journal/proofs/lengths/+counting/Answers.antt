@@ -1,8 +1,7 @@
-use Rattle.std.proofs.Common.{ap, length, map, arith}
-use Rattle.std.specs.List.{flat_map}
+use Rattle.std.proofs.Common.{arith}
 use Rattle.aw_term.specs.Views.{ground_of}
 use Rattle.aw_wire.specs.Grounds.{spelled_ground}
-use Rattle.aw_journal.proofs.Counts.{counted_more, counted_all, con_length}
+use Rattle.aw_journal.proofs.Counts.{counted_more, counted_all, con_counted}
 use Rattle.aw_journal.proofs.lengths.+counting.Goals as goal
 
 pub each_len-loop-ground-preserved : goal.each_len-loop-ground-preserved
@@ -14,4 +13,5 @@ pub each_len-returns : goal.each_len-returns
 each_len-returns t c = counted_all spelled_ground ground_of c.args.grounds.now c.loop-ground.ground-index c.loop-ground.count (omega arith) c.loop-ground.invariant
 
 pub ground_len-returns-in-Con : goal.ground_len-returns-in-Con
-ground_len-returns-in-Con t c = let h = c.in-Con in ?
+ground_len-returns-in-Con t c =
+    con_counted c.args.ground.now c.in-Con.field-0 c.in-Con.parts c.as_slice.result.now c.each_len.result c.saturating_add.result c.in-Con.is c.as_slice.ensures c.each_len.ensures c.saturating_add.ensures
