@@ -45,6 +45,7 @@ fn ask_event(alloc: Global) -> NodeEvent
 }
 
 /// Where a session ended.
+#[derive(Clone, Copy)]
 pub enum End {
     Whole,
     Opening(OpenFault),
@@ -52,12 +53,13 @@ pub enum End {
 }
 
 /// How many events were acknowledged in a session, and where it ended.
+#[derive(Clone, Copy)]
 pub struct Came {
     pub acknowledged: usize,
     pub end: End,
 }
 
-fn came(acknowledged: usize, end: End) -> Came {
+fn end_at(acknowledged: usize, end: End) -> Came {
     Came { acknowledged, end }
 }
 
@@ -65,18 +67,18 @@ fn came(acknowledged: usize, end: End) -> Came {
 pub fn run_session(alloc: Global, disk: &mut MemDisk, limit: u64) -> Came {
     let mut journal = match Journal::reopen(alloc, disk, ROLE, head_text(), limit) {
         Ok(journal) => journal,
-        Err(fault) => return came(0, End::Opening(fault)),
+        Err(fault) => return end_at(0, End::Opening(fault)),
     };
     match journal.append(disk, start_event()) {
         Ok(()) => {}
-        Err(fault) => return came(0, End::Appending(fault)),
+        Err(fault) => return end_at(0, End::Appending(fault)),
     }
     match journal.append(disk, ask_event(alloc)) {
         Ok(()) => {}
-        Err(fault) => return came(1, End::Appending(fault)),
+        Err(fault) => return end_at(1, End::Appending(fault)),
     }
     match Journal::reopen(alloc, disk, ROLE, head_text(), limit) {
-        Ok(again) => came(again.events().len(), End::Whole),
-        Err(fault) => came(2, End::Opening(fault)),
+        Ok(again) => end_at(again.events().len(), End::Whole),
+        Err(fault) => end_at(2, End::Opening(fault)),
     }
 }
