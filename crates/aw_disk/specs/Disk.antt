@@ -1,6 +1,5 @@
 -- What the calls of a disk do to its bytes, and what a crash may leave between two syncs.
-use Rattle.std.specs.Prelude.{◌≡◌, ◌⊎◌, ℕ, ◌+◌, ◌≤◌, min, max, Bool, List, ◌++◌, length, take, drop}
-use mathlib.Core.Logic.{inl}
+use Rattle.std.specs.Prelude.{◌≡◌, ◌⊎◌, ℕ, ◌+◌, ◌≤◌, min, max, List, ◌++◌, length, take, drop}
 use Rattle.aw_out.specs.declared.edge.Got.{Got}
 use Rattle.aw_out.specs.declared.edge.Got.TheVariants.{Read, End, Failed}
 

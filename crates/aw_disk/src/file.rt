@@ -56,12 +56,7 @@ fn read_from<R: Files>(
     file.read(buf)
 }
 
-fn write_to<R: Files>(
-    rt: &R,
-    file: &mut Option<R::File>,
-    at: u64,
-    b: &[u8],
-) -> io::Result<()> {
+fn write_to<R: Files>(rt: &R, file: &mut Option<R::File>, at: u64, b: &[u8]) -> io::Result<()> {
     let file = opened(rt, file)?;
     file.seek(SeekFrom::Start(at))?;
     file.write_all(b)

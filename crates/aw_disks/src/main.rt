@@ -29,7 +29,13 @@ const MOST_INPUT: usize = 1_048_576;
 
 fn disk_of(alloc: Global, bytes: &[u8], fails: &[usize]) -> Result<MemDisk, AllocError> {
     let bytes = Text::from_bytes(alloc, bytes)?;
-    MemDisk::new(alloc, bytes, DiskCalls::from_slice(alloc, fails)?, ROOM, ROOM)
+    MemDisk::new(
+        alloc,
+        bytes,
+        DiskCalls::from_slice(alloc, fails)?,
+        ROOM,
+        ROOM,
+    )
 }
 
 fn opening_word(fault: OpenFault) -> &'static [u8] {
@@ -70,7 +76,12 @@ fn push_hex(alloc: Global, told: &mut Text, bytes: &[u8]) -> Result<(), AllocErr
 }
 
 /// Adds how far a session came, and what the disk holds.
-fn push_session(alloc: Global, told: &mut Text, disk: &mut MemDisk, limit: u64) -> Result<(), AllocError> {
+fn push_session(
+    alloc: Global,
+    told: &mut Text,
+    disk: &mut MemDisk,
+    limit: u64,
+) -> Result<(), AllocError> {
     let Came { acknowledged, end } = run_session(alloc, disk, limit);
     push_count(told, acknowledged, b"acknowledged, ")?;
     told.push_bytes(end_word(end))?;
@@ -79,7 +90,13 @@ fn push_session(alloc: Global, told: &mut Text, disk: &mut MemDisk, limit: u64) 
 }
 
 /// Adds how many events a file has, or why it is not opened.
-fn push_opened(alloc: Global, told: &mut Text, disk: &mut MemDisk, role: u16, limit: u64) -> Result<(), AllocError> {
+fn push_opened(
+    alloc: Global,
+    told: &mut Text,
+    disk: &mut MemDisk,
+    role: u16,
+    limit: u64,
+) -> Result<(), AllocError> {
     match Journal::reopen(alloc, disk, role, head_text(), limit) {
         Ok(journal) => push_count(told, journal.events().len(), b"events"),
         Err(fault) => told.push_bytes(opening_word(fault)),

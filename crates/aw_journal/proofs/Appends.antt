@@ -1,15 +1,14 @@
 -- What a file stands for before, while and after a record is added to it.
-use Rattle.std.specs.Prelude.{◌≡◌, ◌≢◌, ◌⊎◌, ℕ, ◌+◌, ◌^◌, ◌<◌, ◌≤◌, List, [], ◌∷◌, ◌++◌, Bool, IsTrue, true, length, take, drop}
-use Rattle.std.proofs.Common.{inl, inr, refl, sym, ◌∙◌, ap, subst, arith, length-append, append_assoc, append-nil}
+use Rattle.std.specs.Prelude.{◌≡◌, ◌≢◌, ℕ, ◌+◌, ◌^◌, ◌<◌, List, [], ◌∷◌, ◌++◌, Bool, IsTrue, length, drop}
+use Rattle.std.proofs.Common.{inl, inr, sym, ◌∙◌, ap, arith, length-append, append_assoc, append-nil}
 use Rattle.std.proofs.lemmas.Bool.{cases_eq}
-use Rattle.aw_disk.specs.Disk.{Only}
 use Rattle.aw_journal.specs.Format.{events_of, events_from, front, head, records, record_of}
 use Rattle.aw_journal.specs.Events.{Event, IsEvent, AllEvents, payload_of}
 use Rattle.aw_journal.specs.EventView.{event_of, events_seen}
 use Rattle.aw_journal.specs.declared.payload.NodeEvent.{NodeEvent}
 use Rattle.aw_journal.proofs.Events.{events_push}
 use Rattle.aw_journal.proofs.Bytes.{closed, events_front, events_spelled, length-head, length-spelled}
-use Rattle.aw_journal.specs.Journal.{Kept, StandsFor, IsSettled, StandsAt, IsAround, IsBeforeOrAfter, behind_gate, end_after}
+use Rattle.aw_journal.specs.Journal.{Kept, IsSettled, StandsAt, IsAround, IsBeforeOrAfter, behind_gate}
 
 pub length-front : (role : ℕ) (text : List ℕ) (events : List Event) → length (front role text events) ≡ 11 + length text + length (records events)
 length-front role text events = omega (arith, length-append (head role text) (records events), length-head role text)
@@ -68,9 +67,9 @@ module _ {D : Type 0} (tells : D → Bool) (seen : D → List ℕ) (may_leave : 
           rest = behind;
           shut = omega arith;
           is = stands_at.is ∙ ap (λ (l : List ℕ). front j.role j.text events ++ 1 ∷ l) (append_assoc spelled (0 ∷ []) behind)
-            ∙ sym (append_assoc (front j.role j.text events) (1 ∷ spelled) (0 ∷ behind))
-            ∙ ap (λ (l : List ℕ). l ++ 0 ∷ behind) (sym (front_push j.role j.text events (event_of event)))
-            ∙ ap (λ (es : List Event). front j.role j.text es ++ 0 ∷ behind) (sym (events_push j.events event));
+              ∙ sym (append_assoc (front j.role j.text events) (1 ∷ spelled) (0 ∷ behind))
+              ∙ ap (λ (l : List ℕ). l ++ 0 ∷ behind) (sym (front_push j.role j.text events (event_of event)))
+              ∙ ap (λ (es : List Event). front j.role j.text es ++ 0 ∷ behind) (sym (events_push j.events event));
         };
         durable = stands_at.durable;
       }

@@ -1,14 +1,14 @@
 -- What files stand for.
-use Rattle.std.specs.Prelude.{◌≡◌, ◌≢◌, ◌⊎◌, ℕ, zero, suc, ◌+◌, ◌-◌, ◌^◌, ◌<◌, ◌≤◌, List, [], ◌∷◌, ◌++◌, Bool, true, false, None, Some, length, take, drop, get_or, if◌then◌else◌, cond, ◌==◌, nat_lt}
+use Rattle.std.specs.Prelude.{◌≡◌, ◌≢◌, ℕ, zero, suc, ◌+◌, ◌^◌, ◌<◌, List, [], ◌∷◌, ◌++◌, true, false, None, Some, length, take, drop, get_or, nat_lt}
 use Rattle.std.specs.declared.option.Option.{Option}
-use Rattle.std.specs.Int.{w16, w64, to_be_bytes, from_be_bytes}
-use Rattle.std.proofs.Common.{refl, sym, ◌∙◌, ap, arith, length-append, append_assoc, inl, inr}
-use Rattle.std.proofs.lemmas.Bool.{lt-ltb, cases_eq}
+use Rattle.std.specs.Int.{w64, from_be_bytes}
+use Rattle.std.proofs.Common.{refl, sym, ◌∙◌, ap, arith, length-append, append_assoc}
+use Rattle.std.proofs.lemmas.Bool.{lt-ltb}
 use Rattle.std.proofs.lemmas.Bool.Decides.{nat_tests}
 use Rattle.std.proofs.lemmas.Nat.{from_be_bytes-to_be_bytes_8, be_bytes_8}
-use Rattle.std.proofs.lemmas.List.{take_at, drop_at, append-nil}
+use Rattle.std.proofs.lemmas.List.{take_at, drop_at}
 use Rattle.aw_journal.proofs.Events.{event_in_payload}
-use Rattle.aw_journal.specs.Format.{framed, with_length, whole_of, whole, then_more, events_from, has_head, events_of, head, record_of, records, front, u64_bytes, u64_in, u16_bytes}
+use Rattle.aw_journal.specs.Format.{framed, whole_of, whole, then_more, events_from, has_head, events_of, head, record_of, records, front, u64_bytes, u64_in, u16_bytes}
 use Rattle.aw_journal.specs.Events.{Event, IsEvent, AllEvents, event_in, payload_of}
 
 pub length-u64_bytes : (n : ℕ) → length (u64_bytes n) ≡ 8

@@ -1,11 +1,11 @@
 -- How long spellings are.
-use Rattle.std.proofs.Common.{◌≡◌, ℕ, suc, ◌+◌, ◌-◌, ◌*◌, ◌^◌, ◌<◌, ◌≤◌, min, List, [], ◌∷◌, ◌++◌, length, get_or, take, map, refl, sym, ap, subst, ◌∙◌, arith}
+use Rattle.std.proofs.Common.{◌≡◌, ℕ, ◌+◌, ◌*◌, ◌<◌, ◌≤◌, List, [], ◌∷◌, ◌++◌, length, get_or, take, map, refl, sym, ap, ◌∙◌, arith}
 use Rattle.std.specs.List.{flat_map}
 use Rattle.std.specs.Int.{w16, to_be_bytes}
 use Rattle.std.proofs.lemmas.List.{length-append, take_all}
 use Rattle.std.proofs.lemmas.List.Concat.{flat_map-cons}
 use Rattle.std.proofs.lemmas.List.Folds.{flat_map-map}
-use Rattle.aw_term.specs.Trees.{Made, Con, join, count}
+use Rattle.aw_term.specs.Trees.{count}
 use Rattle.aw_term.specs.Names.{Step, Node, Slot, Result, Part, Ref}
 use Rattle.aw_term.specs.Rules.{Ground}
 use Rattle.aw_term.specs.Choices as Q
@@ -14,10 +14,10 @@ use Rattle.aw_term.specs.declared.ground.Ground as grounds
 use Rattle.aw_term.proofs.ViewLemmas.{ground_con}
 use Rattle.aw_store.specs.Equations.{Equation}
 use Rattle.aw_apply.specs.Made.{Call}
-use Rattle.aw_apply.specs.Messages.{Kind, Calls, Asks, Tells, Message}
+use Rattle.aw_apply.specs.Messages.{Calls, Asks, Tells, Message}
 use Rattle.aw_wire.specs.Names.{spelled_step, spelled_node, spelled_slot, spelled_ref, spelled_refs}
 use Rattle.aw_wire.specs.Texts.{spelled_text}
-use Rattle.aw_wire.specs.Grounds.{spelled_head, spelled_ground, spelled_parts, spelled_grounds}
+use Rattle.aw_wire.specs.Grounds.{spelled_ground, spelled_grounds}
 use Rattle.aw_wire.specs.Choices.{spelled_choice}
 use Rattle.aw_wire.proofs.GroundLaws.{parts_join}
 use Rattle.aw_wire.proofs.Adding.{one_more}

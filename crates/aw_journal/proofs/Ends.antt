@@ -1,13 +1,10 @@
 -- What a crash leaves while what lies past a gate is cut off.
-use Rattle.std.specs.Prelude.{◌≡◌, ◌≢◌, ◌⊎◌, ℕ, zero, suc, ◌+◌, ◌-◌, ◌<◌, ◌≤◌, min, List, [], ◌∷◌, ◌++◌, Bool, IsTrue, None, Some, length, take, drop, if◌then◌else◌}
-use Rattle.std.specs.declared.option.Option.{Option}
-use Rattle.std.proofs.Common.{inl, inr, refl, sym, ◌∙◌, ap, subst, arith, length-append, append_assoc}
-use Rattle.std.proofs.lemmas.List.{take-take, length-drop, drop_all}
+use Rattle.std.specs.Prelude.{◌≡◌, ℕ, zero, suc, ◌+◌, ◌-◌, List, [], ◌∷◌, ◌++◌, Bool, length, take}
+use Rattle.std.proofs.Common.{sym, ◌∙◌, ap, subst, arith, length-append, append_assoc}
 use Rattle.std.proofs.Math.Seq.{take-length}
-use Rattle.aw_disk.specs.Disk.{Cut, Torn}
-use Rattle.aw_journal.specs.Journal.{StandsAt}
+use Rattle.aw_disk.specs.Disk.{Cut}
 use Rattle.aw_journal.specs.Opens.{IsShut, IsEnded, AfterCut}
-use Rattle.aw_journal.proofs.Places.{torn_place, written_place, through_place, long_place}
+use Rattle.aw_journal.proofs.Places.{through_place, long_place}
 
 pub take_past : (xs ys : List ℕ) (m n : ℕ) → m ≡ length xs + n → take m (xs ++ ys) ≡ xs ++ take n ys
 take_past [] ys m n is = let same : m ≡ n = omega arith in ap (λ (k : ℕ). take k ys) same

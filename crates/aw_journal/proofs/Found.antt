@@ -1,11 +1,10 @@
 -- Whether a whole record stands behind a gate.
 use Rattle.std.specs.Prelude.{◌≡◌, ◌≢◌, ℕ, zero, suc, ◌+◌, ◌-◌, ◌^◌, ◌<◌, ◌≤◌, List, [], ◌∷◌, ◌++◌, Bool, true, false, None, Some, length, take, drop, get_or, cond, nat_lt, ◌==◌}
-use Rattle.std.specs.declared.option.Option.{Option}
-use Rattle.std.proofs.Common.{inl, inr, refl, sym, ◌∙◌, ap, subst, arith, length-append, append_assoc, take-append-drop, length-drop}
+use Rattle.std.proofs.Common.{refl, sym, ◌∙◌, ap, arith, append_assoc, take-append-drop, length-drop}
 use Rattle.std.proofs.lemmas.List.{length-take-le, length-take, drop-drop, drop_more}
 use Rattle.std.proofs.lemmas.Bool.Decides.{nat_tests}
-use Rattle.aw_journal.specs.Format.{framed, whole, whole_of, with_length, u64_in, u64_bytes, record_of, records, events_from, then_more}
-use Rattle.aw_journal.specs.Events.{Event, event_in, payload_of}
+use Rattle.aw_journal.specs.Format.{framed, whole, whole_of, u64_in, u64_bytes, record_of, records, events_from}
+use Rattle.aw_journal.specs.Events.{Event, event_in}
 use Rattle.aw_journal.proofs.Bytes.{u64_in-take, closed, whole_bad}
 use Rattle.aw_journal.specs.Scan.{Found, FoundEvent, IsPayload}
 use Rattle.aw_wire.specs.Bytes.{AreBytes}
@@ -48,10 +47,10 @@ payload_stands rest n bytes fits =
     record {
       within = omega (arith, length-drop 8 rest);
       parts = sym (take-append-drop 8 rest) ∙ ap (λ (l : List ℕ). take 8 rest ++ l) (sym (take-append-drop n behind))
-        ∙ sym (append_assoc (take 8 rest) (take n behind) (drop n behind))
-        ∙ ap (λ (l : List ℕ). l ++ take n behind ++ drop n behind) (sym bytes)
-        ∙ ap (λ (l : List ℕ). l ++ drop n behind) (sym (framed_at payload n long))
-        ∙ ap (λ (l : List ℕ). framed payload ++ l) (drop-drop n 8 rest);
+          ∙ sym (append_assoc (take 8 rest) (take n behind) (drop n behind))
+          ∙ ap (λ (l : List ℕ). l ++ take n behind ++ drop n behind) (sym bytes)
+          ∙ ap (λ (l : List ℕ). l ++ drop n behind) (sym (framed_at payload n long))
+          ∙ ap (λ (l : List ℕ). framed payload ++ l) (drop-drop n 8 rest);
     }
 
 pub found_at : (bytes : List ℕ) (gate n : ℕ) → gate < length bytes → get_or bytes gate 0 ≡ 1 → IsPayload (drop (gate + 1) bytes) n → Found bytes gate (gate + 9 + n)
@@ -60,15 +59,15 @@ found_at bytes gate n within is_open payload =
     let here : drop gate bytes ≡ 1 ∷ rest = drop_more bytes gate 0 within ∙ ap (λ (k : ℕ). k ∷ rest) is_open in
     let size = length-drop (gate + 1) bytes in
     let event_is : take n (drop 8 rest) ≡ take (gate + 9 + n - (gate + 9)) (drop (gate + 9) bytes) =
-        (let same : n ≡ gate + 9 + n - (gate + 9) = omega arith in ap (λ (k : ℕ). take k (drop 8 rest)) same)
-        ∙ ap (λ (l : List ℕ). take (gate + 9 + n - (gate + 9)) l) (drop-drop 8 (gate + 1) bytes ∙ (let same : gate + 1 + 8 ≡ gate + 9 = omega arith in ap (λ (k : ℕ). drop k bytes) same)) in
+    (let same : n ≡ gate + 9 + n - (gate + 9) = omega arith in ap (λ (k : ℕ). take k (drop 8 rest)) same)
+    ∙ ap (λ (l : List ℕ). take (gate + 9 + n - (gate + 9)) l) (drop-drop 8 (gate + 1) bytes ∙ (let same : gate + 1 + 8 ≡ gate + 9 = omega arith in ap (λ (k : ℕ). drop k bytes) same)) in
     let next_is : drop (8 + n) rest ≡ drop (gate + 9 + n) bytes = drop-drop (8 + n) (gate + 1) bytes ∙ (let same : gate + 1 + (8 + n) ≡ gate + 9 + n = omega arith in ap (λ (k : ℕ). drop k bytes) same) in
     record {
       within = omega (arith, payload.within, size);
       later = omega arith;
       parts = here ∙ ap (λ (l : List ℕ). 1 ∷ l) payload.parts
-        ∙ ap (λ (l : List ℕ). 1 ∷ (framed l ++ drop (8 + n) rest)) event_is
-        ∙ ap (λ (l : List ℕ). 1 ∷ (framed (take (gate + 9 + n - (gate + 9)) (drop (gate + 9) bytes)) ++ l)) next_is;
+          ∙ ap (λ (l : List ℕ). 1 ∷ (framed l ++ drop (8 + n) rest)) event_is
+          ∙ ap (λ (l : List ℕ). 1 ∷ (framed (take (gate + 9 + n - (gate + 9)) (drop (gate + 9) bytes)) ++ l)) next_is;
     }
 
 -- a record stands whole, and its payload is no event

@@ -1,10 +1,10 @@
 -- What a crash leaves while a record is written behind a closed gate, and then the gate is opened.
-use Rattle.std.specs.Prelude.{◌≡◌, ◌⊎◌, ℕ, ◌+◌, ◌<◌, ◌≤◌, List, [], ◌∷◌, ◌++◌, Bool, IsTrue, length, take, drop}
-use Rattle.std.proofs.Common.{inl, inr, refl, sym, ◌∙◌, ap, subst, arith, length-append}
+use Rattle.std.specs.Prelude.{◌≡◌, ℕ, ◌+◌, ◌≤◌, List, [], ◌∷◌, ◌++◌, Bool, IsTrue, length, take, drop}
+use Rattle.std.proofs.Common.{sym, ◌∙◌, ap, subst, arith, length-append}
 use Rattle.std.proofs.lemmas.List.{length-take-le}
-use Rattle.aw_disk.specs.Disk.{written, Torn, Only, Follows}
-use Rattle.aw_journal.proofs.Places.{torn_behind, torn_place, written_behind, written_place, long_place}
-use Rattle.aw_journal.specs.Journal.{AfterTorn, StandsAt, IsAround, behind_gate}
+use Rattle.aw_disk.specs.Disk.{written, Torn, Only}
+use Rattle.aw_journal.proofs.Places.{torn_behind, torn_place, written_behind, written_place}
+use Rattle.aw_journal.specs.Journal.{AfterTorn, StandsAt, behind_gate}
 
 module _ {D : Type 0} (tells : D → Bool) (seen : D → List ℕ) (may_leave : D → List ℕ → Type 0) where
   abbrev Stands : D → ℕ → List ℕ → List ℕ → ℕ → Type 0

@@ -1,14 +1,14 @@
 -- Files without a head, and ones with one.
-use Rattle.std.specs.Prelude.{◌≡◌, ◌≢◌, ◌⊎◌, ℕ, zero, suc, ◌+◌, ◌-◌, ◌^◌, ◌<◌, ◌≤◌, min, List, [], ◌∷◌, ◌++◌, Bool, IsTrue, true, false, None, Some, length, take, drop, get_or, if◌then◌else◌, nat_lt, ◌==◌}
+use Rattle.std.specs.Prelude.{◌≡◌, ◌≢◌, ℕ, ◌+◌, ◌-◌, ◌^◌, ◌<◌, ◌≤◌, List, [], ◌∷◌, ◌++◌, Bool, IsTrue, true, false, None, Some, length, take, drop, get_or, if◌then◌else◌, nat_lt, ◌==◌}
 use Rattle.std.specs.declared.option.Option.{Option}
-use Rattle.std.proofs.Common.{inl, inr, refl, sym, ◌∙◌, ap, subst, arith, length-append, append_assoc, append-nil, take-append-drop, length-drop}
+use Rattle.std.proofs.Common.{inl, inr, refl, sym, ◌∙◌, ap, subst, arith, length-append, append_assoc, append-nil, length-drop}
 use Rattle.std.proofs.lemmas.Bool.{cases_eq, ltb-true, ltb-false, lt-ltb}
 use Rattle.std.proofs.lemmas.Bool.Decides.{nat_tests}
 use Rattle.std.proofs.lemmas.List.{drop_more, length-take, take-take, drop-take, drop_all, drop_at}
 use Rattle.aw_journal.specs.Format.{has_head, head, front, records, events_of, events_from, whole, whole_of, with_length, then_more, u64_in}
 use Rattle.aw_journal.specs.Events.{Event, AllEvents, event_in}
 use Rattle.aw_journal.specs.declared.payload.NodeEvent.{NodeEvent}
-use Rattle.aw_journal.proofs.Bytes.{headless, length-head, events_front, u64_in-take, closed}
+use Rattle.aw_journal.proofs.Bytes.{headless, events_front, u64_in-take, closed}
 use Rattle.aw_journal.specs.Journal.{StandsAt, IsSettled, IsAround, behind_gate, Kept}
 use Rattle.aw_journal.specs.Opens.{IsEnded, HasThisHead}
 use Rattle.aw_journal.specs.Scan.{FoundAll}
@@ -34,7 +34,7 @@ around_head role text rest c shut fits closed_gate (inl p) = ap events_of p.1 �
 around_head role text rest c shut fits closed_gate (inr p) = elim (cases_eq p.0 1) [
   | inl is_open ↦ at_rest role text [] tt fits c (drop (length (head role text ++ 0 ∷ [])) rest) 0 (omega arith)
       (p.1 ∙ ap (λ (gate : ℕ). gate ∷ behind_gate (head role text ++ 0 ∷ []) rest) is_open ∙ ap (λ (l : List ℕ). 1 ∷ l) (append_assoc (head role text) (0 ∷ []) (drop (length (head role text ++ 0 ∷ [])) rest))
-       ∙ sym (front_none role text (0 ∷ drop (length (head role text ++ 0 ∷ [])) rest)))
+      ∙ sym (front_none role text (0 ∷ drop (length (head role text ++ 0 ∷ [])) rest)))
   | inr still ↦ ap events_of p.1 ∙ headless (p.0 ∷ behind_gate (head role text ++ 0 ∷ []) rest) (headless_shut p.0 _ still)
 ]
 
@@ -114,7 +114,7 @@ pub resumed : (role : ℕ) (text bytes : List ℕ) (from gate : ℕ) (events : L
 resumed role text bytes from gate events has is found =
     let back : drop from bytes ≡ has.0 ∷ has.1 = ap (λ (l : List ℕ). drop from l) has.2 ∙ drop_at (1 ∷ head role text) (has.0 ∷ has.1) from (sym is) in
     let parts : bytes ≡ front role text events ++ drop gate bytes =
-      has.2 ∙ ap (λ (l : List ℕ). (1 ∷ head role text) ++ l) (sym back ∙ found.parts) ∙ sym (append_assoc (1 ∷ head role text) (records events) (drop gate bytes)) in
+    has.2 ∙ ap (λ (l : List ℕ). (1 ∷ head role text) ++ l) (sym back ∙ found.parts) ∙ sym (append_assoc (1 ∷ head role text) (records events) (drop gate bytes)) in
     let here : drop gate bytes ≡ get_or bytes gate 0 ∷ drop (gate + 1) bytes = drop_more bytes gate 0 found.within in
     let place : gate ≡ length (front role text events) = omega (arith, ap length parts, length-append (front role text events) (drop gate bytes), length-drop gate bytes, found.within) in
     let long = length-front role text events in
@@ -123,7 +123,7 @@ resumed role text bytes from gate events has is found =
       is = parts ∙ ap (λ (l : List ℕ). front role text events ++ l) here;
       none = ap (events_from 0) (sym here) ∙ found.no_more;
       events_are = ap events_of parts ∙ events_front role text events (drop gate bytes) found.all (omega (arith, long, place, found.small)) (omega (arith, long, place, found.small)) (omega (arith, length-drop gate bytes, found.within))
-        ∙ ap (λ (es : List Event). events ++ es) found.no_more ∙ append-nil events;
+          ∙ ap (λ (es : List Event). events ++ es) found.no_more ∙ append-nil events;
       fits = omega (arith, place, found.small);
       all = found.all;
     }

@@ -1,9 +1,9 @@
 -- Calls that write nothing.
 use Rattle.std.specs.Prelude.{◌≡◌, ℕ, List, Bool}
 use Rattle.std.proofs.Common.{refl, ◌∙◌}
-use Rattle.aw_disk.specs.Disk.{Elapses, LeavesOnly}
+use Rattle.aw_disk.specs.Disk.{Elapses}
 use Rattle.aw_journal.specs.Journal.{Quiet}
-use Rattle.aw_journal.proofs.Moments.{started, goes_on, runs_on}
+use Rattle.aw_journal.proofs.Moments.{started, goes_on}
 
 module _ {D : Type 0} (tells : D → Bool) (seen : D → List ℕ) (may_leave : D → List ℕ → Type 0) (moment : D → ℕ) (left_since : D → ℕ → List ℕ → Type 0) (only_now : (d : D) (c : List ℕ) → left_since d (moment d) c → may_leave d c) where
   pub quiet_none : (d : D) → Quiet tells seen may_leave moment left_since d d

@@ -1,5 +1,5 @@
 -- Events of a node, and how each is spelled in bytes.
-use Rattle.std.specs.Prelude.{ℕ, zero, suc, List, [], ◌∷◌, Option, None, Some, option_map}
+use Rattle.std.specs.Prelude.{ℕ, zero, suc, List, [], ◌∷◌, Option, None, option_map}
 use Rattle.aw_term.specs.Choices as Q
 use Rattle.aw_term.specs.WellFormed.{Each}
 use Rattle.aw_wire.specs.Choices.{choice, spelled_choice}

@@ -1,5 +1,5 @@
 -- What contracts see of a journal, and of the disk that it stands on.
-use Rattle.std.specs.Prelude.{◌≡◌, ◌≢◌, ◌⊎◌, ℕ, ◌+◌, List, [], ◌∷◌, ◌++◌, Bool, IsTrue, true, false, length, drop}
+use Rattle.std.specs.Prelude.{◌≡◌, ◌≢◌, ◌⊎◌, ℕ, ◌+◌, List, [], ◌∷◌, ◌++◌, Bool, IsTrue, length, drop}
 use Rattle.aw_disk.specs.Disk.{Only, Torn, LeavesOnly}
 use Rattle.aw_journal.specs.Format.{events_of, front}
 use Rattle.aw_journal.specs.Events.{Event, AllEvents}

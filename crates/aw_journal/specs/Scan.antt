@@ -1,5 +1,5 @@
 -- Records found in a file, and what is left of one whose end is cut off.
-use Rattle.std.specs.Prelude.{◌≡◌, ◌≢◌, ℕ, ◌+◌, ◌-◌, ◌^◌, ◌<◌, ◌≤◌, List, [], ◌∷◌, ◌++◌, length, take, drop}
+use Rattle.std.specs.Prelude.{◌≡◌, ℕ, ◌+◌, ◌-◌, ◌^◌, ◌<◌, ◌≤◌, List, [], ◌∷◌, ◌++◌, length, take, drop}
 use Rattle.aw_journal.specs.Format.{framed, record_of, records, events_from}
 use Rattle.aw_journal.specs.Events.{Event, IsEvent, AllEvents}
 

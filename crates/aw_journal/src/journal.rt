@@ -9,13 +9,13 @@ ghost use Rattle.aw_journal.specs.Events.{AllEvents, EventInRange, payload_of};
 ghost use Rattle.aw_journal.specs.EventView.{event_of, events_seen};
 ghost use Rattle.aw_journal.specs.Opens.{HasThisHead, IsForeign, IsOldOrSame, AllOldOrAllSame, BeginsClosed};
 
-use crate::payload::{NodeEvent, record_bytes};
 use crate::lengths::payload_len;
+use crate::payload::{NodeEvent, record_bytes};
 use crate::reads::{OpenFault, read_file, settle};
 use crate::scan::scan;
 use crate::steps::{end_at, write_synced};
-use aw_list::Text;
 use aw_disk::{Did, Disk};
+use aw_list::Text;
 use std::alloc::{AllocError, Global};
 use std::marker::Model;
 
@@ -47,7 +47,6 @@ pub struct Journal {
 
 impl Model for Journal {
     ghost use Rattle.aw_journal.specs.Journal.{Kept, kept, IsKept};
-
     ghost use Rattle.std.specs.Coded.{codes};
     ghost use Rattle.aw_journal.specs.contracts.payload.NodeEvent as event;
 
@@ -302,7 +301,14 @@ fn start<D: Disk>(
         Did::Failed => return Err(OpenFault::DiskFault),
     }
     match put_record(disk, 0, &head) {
-        Did::Done => Ok(Journal::made(alloc, role, kept, Vec::new(alloc), 11 + text.len() as u64, limit)),
+        Did::Done => Ok(Journal::made(
+            alloc,
+            role,
+            kept,
+            Vec::new(alloc),
+            11 + text.len() as u64,
+            limit,
+        )),
         Did::Failed => Err(OpenFault::DiskFault),
     }
 }

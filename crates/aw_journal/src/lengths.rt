@@ -26,7 +26,9 @@ use aw_term::Ground;
 fn node_len(node: &Node) -> u64
     ensures { result ≡ capped (length (spelled_node node.now)) }
 {
-    (node.steps.len() as u64).saturating_mul(3).saturating_add(11)
+    (node.steps.len() as u64)
+        .saturating_mul(3)
+        .saturating_add(11)
 }
 
 #[tactic(auto, using(crate::proofs::Counts::ref_length))]

@@ -29,7 +29,11 @@ pub(crate) fn scan(alloc: Global, bytes: &[u8], from: usize) -> Result<Scanned, 
 }
 
 /// The event of the record behind this gate, and the gate behind it, where it is open and the record whole.
-fn next_event(alloc: Global, bytes: &[u8], gate: usize) -> Result<Option<(NodeEvent, usize)>, AllocError>
+fn next_event(
+    alloc: Global,
+    bytes: &[u8],
+    gate: usize,
+) -> Result<Option<(NodeEvent, usize)>, AllocError>
     requires { gate < length bytes.now }
     ensures { IfOk result (λ found. MatchOption found (events_from 0 (drop gate bytes.now) ≡ []) (λ x. FoundEvent bytes.now gate x.1 (event_of x.0))) }
 {

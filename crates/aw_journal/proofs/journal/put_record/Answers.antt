@@ -1,9 +1,7 @@
-use Rattle.std.proofs.Common.{◌≡◌, ℕ, ◌+◌, ◌++◌, ◌≤◌, List, [], ◌∷◌, length, arith, inl, inr, sym, ◌∙◌, ap, subst, refl}
-use Rattle.std.specs.Prelude.{IsTrue}
-use Rattle.aw_disk.specs.Disk.{Torn, Only, written}
-use Rattle.aw_journal.specs.Journal.{AfterTorn, StandsAt, IsAround, behind_gate}
+use Rattle.std.proofs.Common.{length, inl, inr, refl}
+use Rattle.aw_journal.specs.Journal.{IsAround, behind_gate}
 use Rattle.aw_journal.proofs.Moments.{weaker, runs_on}
-use Rattle.aw_journal.proofs.Gates.{staged, staged_outcome, gate_outcome, opened_gate, as_long}
+use Rattle.aw_journal.proofs.Gates.{staged, staged_outcome, gate_outcome, opened_gate}
 use Rattle.aw_journal.proofs.journal.put_record.Goals as goal
 
 pub returns-in-Failed-clause-any_moment : goal.returns-in-Failed-clause-any_moment

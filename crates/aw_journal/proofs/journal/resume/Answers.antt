@@ -1,13 +1,10 @@
-use Rattle.std.specs.Prelude.{◌≡◌, ℕ, ◌+◌, ◌^◌, ◌<◌, List, [], ◌∷◌, ◌++◌, IsTrue, true, length, drop, get_or, ◌==◌, if◌then◌else◌}
+use Rattle.std.specs.Prelude.{◌≡◌, ℕ, ◌+◌, List, [], IsTrue, true, length, drop, get_or, ◌==◌, if◌then◌else◌}
 use Rattle.std.proofs.Common.{refl, sym, ◌∙◌, ap, subst, arith}
-use Rattle.aw_disk.specs.Disk.{LeavesOnly}
-use Rattle.aw_journal.specs.Format.{events_of, front, head, records}
-use Rattle.aw_journal.specs.Events.{Event}
+use Rattle.aw_journal.specs.Format.{events_of, front}
 use Rattle.aw_journal.specs.Journal.{Kept, IsSettled, StandsAt}
-use Rattle.aw_journal.specs.Opens.{HasThisHead}
 use Rattle.aw_journal.specs.EventView.{events_seen}
 use Rattle.aw_journal.proofs.Moments.{weaker, read_last}
-use Rattle.aw_journal.proofs.Heads.{resumed, Resumed, ended_events, shut_after, as_made}
+use Rattle.aw_journal.proofs.Heads.{resumed, ended_events, shut_after, as_made}
 use Rattle.aw_journal.proofs.journal.resume.Goals as goal
 
 pub made-requires-clause-all : goal.made-requires-clause-all
@@ -80,7 +77,6 @@ returns-clause-any_moment g c told =
     let standing : StandsAt g.D.Disk.tells g.D.Disk.seen g.D.Disk.may_leave old found.gate (front c.args.role text (events_seen found.events.items)) rest gate = record { told = told; is = all.is ∙ r.is; durable = all.durable; place_is = r.place } in
     weaker g.D.Disk.moment g.D.Disk.left_since old c.end_at.new.disk _ (λ f. events_of f ≡ events_of bytes) (c.end_at.ensures.any_moment (front c.args.role text (events_seen found.events.items)) rest gate standing)
     (λ f left. ended_events c.args.role text rest f (events_seen found.events.items) gate r.all r.fits r.none left ∙ sym r.events_are)
-
 
 pub returns-in-Done-clause-reads : goal.returns-in-Done-clause-reads
 returns-in-Done-clause-reads g c told =

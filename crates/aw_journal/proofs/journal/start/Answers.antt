@@ -1,10 +1,10 @@
-use Rattle.std.specs.Prelude.{◌≡◌, ℕ, ◌+◌, ◌^◌, ◌<◌, List, [], ◌∷◌, ◌++◌, IsTrue, true, length}
+use Rattle.std.specs.Prelude.{◌≡◌, ℕ, ◌^◌, ◌<◌, List, [], ◌∷◌, ◌++◌, IsTrue, true, length}
 use Rattle.std.proofs.Common.{refl, sym, ◌∙◌, ap, subst, arith}
 use Rattle.aw_disk.specs.Disk.{LeavesOnly}
 use Rattle.aw_journal.specs.Format.{events_of, front, head, records}
 use Rattle.aw_journal.specs.Events.{Event, AllEvents}
 use Rattle.aw_journal.proofs.Bytes.{headless}
-use Rattle.aw_journal.specs.Journal.{Kept, IsSettled, IsAround, StandsAt, behind_gate}
+use Rattle.aw_journal.specs.Journal.{IsSettled, IsAround, StandsAt, behind_gate}
 use Rattle.aw_journal.specs.EventView.{events_seen}
 use Rattle.aw_journal.proofs.Moments.{weaker, runs_on, read_last}
 use Rattle.aw_journal.proofs.Appends.{length-front}

@@ -1,4 +1,4 @@
-use Rattle.std.proofs.Common.{refl, rules, arith, ◌∙◌, ap}
+use Rattle.std.proofs.Common.{rules, arith, ◌∙◌, ap}
 use Rattle.aw_journal.specs.Format.{u64_in, u64_bytes}
 use Rattle.aw_journal.proofs.Bytes.{u64_bytes-u64_in}
 use Rattle.aw_journal.proofs.scan.number_in.Goals as goal

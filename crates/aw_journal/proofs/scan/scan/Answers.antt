@@ -1,4 +1,4 @@
-use Rattle.std.proofs.Common.{◌≡◌, ◌++◌, ◌∷◌, [], List, drop, ◌∙◌, ap, sym, subst, arith}
+use Rattle.std.proofs.Common.{◌≡◌, ◌++◌, ◌∷◌, [], List, drop, ◌∙◌, ap, sym, subst}
 use Rattle.aw_journal.specs.Format.{records}
 use Rattle.aw_journal.specs.Events.{Event, AllEvents}
 use Rattle.aw_journal.specs.EventView.{event_of, events_seen}
@@ -17,6 +17,6 @@ loop-events-preserved c =
     record {
       within = found.within;
       parts = found_push (drop c.args.from c.args.bytes.now) (drop c.loop-events.gate c.args.bytes.now) (drop c.in-Some.next c.args.bytes.now) had (event_of event) c.loop-events.invariant.parts found.parts
-        ∙ ap (λ (es : List Event). records es ++ drop c.in-Some.next c.args.bytes.now) (sym pushed);
+          ∙ ap (λ (es : List Event). records es ++ drop c.in-Some.next c.args.bytes.now) (sym pushed);
       all = subst AllEvents (sym pushed) (all_push had (event_of event) c.loop-events.invariant.all found.is);
     }

@@ -1,4 +1,3 @@
-use Rattle.std.proofs.Common.{length}
 use Rattle.aw_disk.proofs.Untold.{cut_same}
 use Rattle.aw_journal.specs.Opens.{AfterCut}
 use Rattle.aw_journal.proofs.Moments.{started, goes_on}

@@ -1,7 +1,6 @@
-use Rattle.std.proofs.Common.{◌≡◌, ℕ, List, inl, inr, refl, sym, ◌∙◌, ap, subst, arith}
-use Rattle.std.specs.Prelude.{[], ◌∷◌, ◌+◌, ◌≤◌, ◌<◌, length, IsTrue, take, if◌then◌else◌}
-use Rattle.aw_journal.specs.Journal.{StandsAt}
-use Rattle.aw_journal.specs.Opens.{IsShut, IsEnded, AfterCut}
+use Rattle.std.proofs.Common.{ℕ, List, refl, sym, ◌∙◌, ap, subst, arith}
+use Rattle.std.specs.Prelude.{◌+◌, IsTrue, take, if◌then◌else◌}
+use Rattle.aw_journal.specs.Opens.{IsEnded}
 use Rattle.aw_journal.proofs.Moments.{weaker, runs_on}
 use Rattle.aw_journal.proofs.Ends.{ended, shut_ended, cut_done}
 use Rattle.aw_journal.proofs.steps.end_at.Goals as goal

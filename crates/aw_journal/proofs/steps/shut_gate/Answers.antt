@@ -1,6 +1,4 @@
-use Rattle.std.proofs.Common.{◌≡◌, ℕ, List, inl, inr, refl, ◌∙◌}
-use Rattle.std.specs.Prelude.{[], ◌∷◌, length}
-use Rattle.aw_journal.specs.Journal.{AfterTorn, StandsAt}
+use Rattle.std.proofs.Common.{inl, inr, refl, ◌∙◌}
 use Rattle.aw_journal.specs.Opens.{IsShut}
 use Rattle.aw_journal.proofs.Moments.{started, goes_on}
 use Rattle.aw_journal.proofs.Gates.{gate_outcome}

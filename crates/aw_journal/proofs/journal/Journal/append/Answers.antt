@@ -1,7 +1,7 @@
-use Rattle.std.specs.Prelude.{◌≡◌, ◌≢◌, ℕ, ◌+◌, ◌^◌, ◌<◌, List, [], ◌∷◌, ◌++◌, IsTrue, length}
+use Rattle.std.specs.Prelude.{◌≡◌, ℕ, ◌^◌, ◌<◌, List, [], ◌∷◌, ◌++◌, length}
 use Rattle.std.proofs.Common.{refl, sym, ◌∙◌, ap, subst, arith, inl, length-append}
 use Rattle.aw_disk.specs.Disk.{LeavesOnly}
-use Rattle.aw_journal.specs.Format.{events_of, front, record_of}
+use Rattle.aw_journal.specs.Format.{front, record_of}
 use Rattle.aw_journal.specs.Events.{Event, AllEvents, payload_of}
 use Rattle.aw_journal.proofs.Bytes.{length-spelled, all_push}
 use Rattle.aw_journal.specs.Journal.{Kept, kept, IsSettled, IsBeforeOrAfter, IsAround, StandsAt, behind_gate, end_after}
@@ -9,7 +9,7 @@ use Rattle.aw_journal.specs.EventView.{event_of, events_seen}
 use Rattle.aw_journal.specs.declared.payload.NodeEvent.{NodeEvent}
 use Rattle.aw_journal.proofs.Events.{events_push}
 use Rattle.aw_journal.proofs.Moments.{started, weaker}
-use Rattle.aw_journal.proofs.Appends.{length-front, length-front_push, around, settled_events, stands, settled_after}
+use Rattle.aw_journal.proofs.Appends.{length-front_push, around, settled_events, stands, settled_after}
 use Rattle.aw_journal.proofs.journal.Journal.append.Goals as goal
 
 pub returns-in-None-clause-any_moment : goal.returns-in-None-clause-any_moment
@@ -107,13 +107,13 @@ returns-in-Done-clause-settled g c told =
     let after_bytes = subst (λ (b : List ℕ). StandsAt g.D.Disk.tells g.D.Disk.seen g.D.Disk.may_leave c.put_record.new.disk c.self.inside.gate (front j.role j.text (events_seen j.events)) (behind_gate b settled.file.rest) 1) bytes after in
     let now = settled_after g.D.Disk.tells g.D.Disk.seen g.D.Disk.may_leave c.put_record.new.disk j c.self.inside.gate c.args.event settled.file.rest after_bytes in
     let pushed : c.push.new.self.items ≡ c.self.inside.events.items ++ c.args.event ∷ [] =
-      (rw c.unwrap.ensures at c.push.ensures.items) ∙ ap (λ (es : List NodeEvent). es ++ c.args.event ∷ []) c.reserve.ensures.items in
+    (rw c.unwrap.ensures at c.push.ensures.items) ∙ ap (λ (es : List NodeEvent). es ++ c.args.event ∷ []) c.reserve.ensures.items in
     subst (λ (es : List NodeEvent). IsSettled g.D.Disk.seen g.D.Disk.may_leave c.put_record.new.disk (record j { events = es })) (sym pushed) now
 
 pub invariant_of-self-in-Done-1 : goal.invariant_of-self-in-Done-1
 invariant_of-self-in-Done-1 g c =
     let pushed : events_seen c.push.new.self.items ≡ events_seen c.self.inside.events.items ++ event_of c.args.event ∷ [] =
-      ap events_seen ((rw c.unwrap.ensures at c.push.ensures.items) ∙ ap (λ (es : List NodeEvent). es ++ c.args.event ∷ []) c.reserve.ensures.items) ∙ events_push c.self.inside.events.items c.args.event in
+    ap events_seen ((rw c.unwrap.ensures at c.push.ensures.items) ∙ ap (λ (es : List NodeEvent). es ++ c.args.event ∷ []) c.reserve.ensures.items) ∙ events_push c.self.inside.events.items c.args.event in
     let long = length-front_push c.self.inside.role c.self.inside.text (events_seen c.self.inside.events.items) (event_of c.args.event) in
     record { all = subst AllEvents (sym pushed) (all_push (events_seen c.self.inside.events.items) (event_of c.args.event) c.self.invariant.all (c.in_ok-bytes.ensures.sized, c.requires.event)); gate = omega (arith, long, c.in-Some.ensures.0, c.payload_len-count.ensures, c.self.invariant.gate, ap (λ (es : List Event). length (front c.self.inside.role c.self.inside.text es)) pushed) }
 
