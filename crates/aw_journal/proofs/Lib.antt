@@ -1,0 +1,11 @@
+pub mod Events
+pub mod Counts
+pub mod Bytes
+pub mod Places
+pub mod Moments
+pub mod Quiets
+pub mod Gates
+pub mod Appends
+pub mod Found
+pub mod Ends
+pub mod Heads

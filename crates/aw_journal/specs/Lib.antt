@@ -1,0 +1,7 @@
+pub mod Events
+pub mod EventView
+pub mod Format
+pub mod Journal
+pub mod Lengths
+pub mod Opens
+pub mod Scan

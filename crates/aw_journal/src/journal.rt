@@ -1,0 +1,358 @@
+//! The events of a node, each on the disk before it is acknowledged.
+ghost use Rattle.std.specs.Prelude.{◌≡◌, ◌≤◌, ◌<◌, ◌+◌, ◌++◌, ◌∷◌, ◌^◌, ◌↔◌, ◌⊎◌, [], ℕ, List, Bool, IsTrue, true, false, length, IfOk, OnOk, OnErr, IsErrOf, MatchOption};
+ghost use Rattle.aw_out.specs.Causes.{Rose};
+ghost use Rattle.aw_disk.specs.Disk.{Only, LeavesOnly};
+ghost use Rattle.aw_journal.specs.declared.journal.AppendFault.TheVariants.{NoMemory};
+ghost use Rattle.aw_journal.specs.Format.{u64_bytes, u16_bytes, head, front, has_head, events_of};
+ghost use Rattle.aw_journal.specs.Journal.{IsSettled, IsBeforeOrAfter, StandsAt, IsAround, IsAll, StartsClosed, behind_gate, end_after};
+ghost use Rattle.aw_journal.specs.Events.{AllEvents, EventInRange, payload_of};
+ghost use Rattle.aw_journal.specs.EventView.{event_of, events_seen};
+ghost use Rattle.aw_journal.specs.Opens.{HasThisHead, IsForeign, IsOldOrSame, AllOldOrAllSame, BeginsClosed};
+
+use crate::lengths::payload_len;
+use crate::payload::{NodeEvent, record_bytes};
+use crate::reads::{OpenFault, read_file, settle};
+use crate::scan::scan;
+use crate::steps::{end_at, write_synced};
+use aw_disk::{Did, Disk};
+use aw_list::Text;
+use std::alloc::{AllocError, Global};
+use std::marker::Model;
+
+#[derive(Clone, Copy, Debug, PartialEq, Eq)]
+pub enum AppendFault {
+    DiskFault,
+    Full,
+    NoMemory,
+}
+
+impl From<AllocError> for AppendFault {
+    ghost from_gives = { λ _ e. e ≡ NoMemory };
+
+    fn from(_: AllocError) -> Self {
+        AppendFault::NoMemory
+    }
+}
+
+#[derive(Drop)]
+pub struct Journal {
+    alloc: Global,
+    role: u16,
+    text: Text,
+    events: Vec<NodeEvent>,
+    gate: u64,
+    limit: u64,
+    usable: bool,
+}
+
+impl Model for Journal {
+    ghost use Rattle.aw_journal.specs.Journal.{Kept, kept, IsKept};
+    ghost use Rattle.std.specs.Coded.{codes};
+    ghost use Rattle.aw_journal.specs.contracts.payload.NodeEvent as event;
+
+    ghost Value = { Kept };
+
+    ghost coded = { Prim.hlevel (codes, event.the_row.coded) };
+
+    ghost view = { kept };
+
+    ghost invariant = { IsKept };
+}
+
+impl Journal {
+    fn made(
+        alloc: Global,
+        role: u16,
+        text: Text,
+        events: Vec<NodeEvent>,
+        gate: u64,
+        limit: u64,
+    ) -> Journal
+        requires gate { gate ≡ length (front role text (events_seen events.items)) }
+        requires all { AllEvents (events_seen events.items) }
+        ensures { result ≡ record { role = role; text = text; events = events.items; limit = limit; usable = true } }
+    {
+        Journal {
+            alloc,
+            role,
+            text,
+            events,
+            gate,
+            limit,
+            usable: true,
+        }
+    }
+
+    /// Opens the journal of this role and text, and repairs its end. It may crash too.
+    pub fn reopen<D: Disk>(
+        alloc: Global,
+        disk: &mut D,
+        role: u16,
+        text: &[u8],
+        limit: u64,
+    ) -> Result<Journal, OpenFault>
+        ensures ok { IfOk result (λ j. IsTrue (D.tells disk.old) → events_seen j.events ≡ events_of (D.seen disk.old)) }
+        ensures made { IfOk result (λ j. (j.role ≡ role) × (j.text ≡ text.now) × (j.limit ≡ limit) × IsTrue j.usable) }
+        ensures settled { IfOk result (λ j. IsTrue (D.tells disk.old) → IsSettled D.seen D.may_leave disk.new j) }
+        // A crash at any moment leaves a file that could be there before, or one with the same events.
+        ensures any_moment { IsTrue (D.tells disk.old) → LeavesOnly D.moment D.left_since disk.old disk.new (IsOldOrSame (D.may_leave disk.old) (D.seen disk.old)) }
+        // At the end no image is new, or each image has the same events.
+        ensures images { IsTrue (D.tells disk.old) → AllOldOrAllSame (D.may_leave disk.old) (D.seen disk.old) (D.may_leave disk.new) }
+        // What is read has the same events.
+        ensures reads_same { IsTrue (D.tells disk.old) → events_of (D.seen disk.new) ≡ events_of (D.seen disk.old) }
+        ensures bad_head { IsErrOf result OpenFault.BadHead → IsTrue (D.tells disk.old) → IsForeign role text.now (D.seen disk.old) × (D.seen disk.new ≡ D.seen disk.old) }
+        ensures good_head { OnOk result (IsTrue (D.tells disk.old) → IsForeign role text.now (D.seen disk.old) → ⊥) }
+        ensures full { IsErrOf result OpenFault.Full → IsTrue (D.tells disk.old) → (has_head (D.seen disk.old) ≡ false) × (limit < 12 + length text.now) × (D.seen disk.new ≡ D.seen disk.old) }
+        ensures not_full { OnOk result (IsTrue (D.tells disk.old) → has_head (D.seen disk.old) ≡ false → 12 + length text.now ≤ limit) }
+        ensures tells { D.tells disk.new ≡ D.tells disk.old }
+        ensures never_falls { D.faults disk.old ≤ D.faults disk.new }
+        ensures fault { IsErrOf result OpenFault.DiskFault → Rose (D.faults disk.old) (D.faults disk.new) }
+    {
+        match settle(disk) {
+            Did::Done => {}
+            Did::Failed => return Err(OpenFault::DiskFault),
+        }
+        let bytes = read_file(alloc, disk)?;
+        if stands(&bytes) {
+            resume(alloc, disk, role, text, &bytes, limit)
+        } else {
+            start(alloc, disk, role, text, &bytes, limit)
+        }
+    }
+
+    /// The events, in order.
+    pub fn events(&self) -> &[NodeEvent]
+        ensures { result.now ≡ self.now.events }
+    {
+        self.events.as_slice()
+    }
+
+    /// Adds an event. At `Ok` it is acknowledged: from then on each crash leaves a file that has it.
+    pub fn append<D: Disk>(&mut self, disk: &mut D, event: NodeEvent) -> Result<(), AppendFault>
+        requires usable { IsTrue self.old.usable }
+        requires settled { IsTrue (D.tells disk.old) → IsSettled D.seen D.may_leave disk.old self.old }
+        requires event { EventInRange (event_of event) }
+        ensures acknowledged { OnOk result (self.new ≡ record self.old { events = self.old.events ++ event ∷ [] }) }
+        ensures settled { OnOk result (IsTrue (D.tells disk.old) → IsSettled D.seen D.may_leave disk.new self.new) }
+        // A crash at any moment of the call leaves the events from before it, with the new one or without.
+        ensures any_moment { IsTrue (D.tells disk.old) → LeavesOnly D.moment D.left_since disk.old disk.new (IsBeforeOrAfter (events_seen self.old.events) (event_of event)) }
+        ensures tells { D.tells disk.new ≡ D.tells disk.old }
+        ensures fault { IsErrOf result AppendFault.DiskFault → Rose (D.faults disk.old) (D.faults disk.new) × (self.new ≡ record self.old { usable = false }) }
+        ensures full { IsErrOf result AppendFault.Full → self.old.limit < end_after self.old (event_of event) }
+        ensures full_always { self.old.limit < end_after self.old (event_of event) → IsErrOf result AppendFault.Full }
+        ensures untouched { IsErrOf result AppendFault.Full → (disk.new ≡ disk.old) × (self.new ≡ self.old) }
+        ensures untouched_too { IsErrOf result AppendFault.NoMemory → (disk.new ≡ disk.old) × (self.new ≡ self.old) }
+        ensures never_falls { D.faults disk.old ≤ D.faults disk.new }
+    {
+        let count = payload_len(&event);
+        let next = match next_gate(self.gate, count, self.limit) {
+            Some(next) => next,
+            None => return Err(AppendFault::Full),
+        };
+        let bytes = record_bytes(self.alloc, count, &event)?;
+        self.events.reserve(1)?;
+        match put_record(disk, self.gate, bytes.as_slice()) {
+            Did::Done => {
+                self.gate = next;
+                self.events.push(event).unwrap();
+                Ok(())
+            }
+            Did::Failed => {
+                self.usable = false;
+                Err(AppendFault::DiskFault)
+            }
+        }
+    }
+}
+
+/// Where the next gate stands behind a record of an event of this length, if it stands within the limit.
+fn next_gate(gate: u64, len: u64, limit: u64) -> Option<u64>
+    ensures { MatchOption result (limit < gate + len + 10) (λ next. (next ≡ gate + len + 9) × (next < limit)) }
+{
+    let next = gate.checked_add(9)?.checked_add(len)?;
+    if next < limit { Some(next) } else { None }
+}
+
+/// Writes a record behind its gate, which is closed, and opens it.
+fn put_record<D: Disk>(disk: &mut D, gate: u64, b: &[u8]) -> Did
+    requires some { 0 < length b.now }
+    requires fits { gate + 1 + length b.now < 2 ^ 64 }
+    requires within { IsTrue (D.tells disk.old) → gate < length (D.seen disk.old) }
+    ensures done { result ≡ Did.Done → (before rest : List ℕ) (shut : ℕ) → StandsAt D.tells D.seen D.may_leave disk.old gate before rest shut
+        → StandsAt D.tells D.seen D.may_leave disk.new gate before (behind_gate b.now rest) 1 }
+    ensures any_moment { (before rest : List ℕ) (shut : ℕ) → StandsAt D.tells D.seen D.may_leave disk.old gate before rest shut
+        → LeavesOnly D.moment D.left_since disk.old disk.new (IsAround before shut (behind_gate b.now rest)) }
+    ensures tells { D.tells disk.new ≡ D.tells disk.old }
+    ensures never_falls { D.faults disk.old ≤ D.faults disk.new }
+    ensures cause { result ≡ Did.Failed → Rose (D.faults disk.old) (D.faults disk.new) }
+{
+    match write_synced(disk, gate + 1, b) {
+        Did::Done => write_synced(disk, gate, &[1]),
+        Did::Failed => Did::Failed,
+    }
+}
+
+fn length_bytes(n: u64) -> [u8; 8]
+    ensures { result ≡ u64_bytes n }
+{
+    n.to_be_bytes()
+}
+
+/// Whether a head stands.
+fn stands(bytes: &[u8]) -> bool
+    ensures { result ≡ has_head bytes.now }
+{
+    bytes.len() >= 2 && bytes[0] == 1
+}
+
+/// Whether a head of a text of this length and the gate behind it stand within the limit.
+fn has_place(len: usize, limit: u64) -> bool
+    ensures { IsTrue result ↔ 12 + len ≤ limit }
+{
+    match (len as u64).checked_add(12) {
+        Some(end) => end <= limit,
+        None => false,
+    }
+}
+
+/// An open gate and the head behind it.
+fn open_head(alloc: Global, role: u16, text: &[u8]) -> Result<Vec<u8>, AllocError>
+    ensures { IfOk result (λ bytes. bytes.items ≡ 1 ∷ head role text.now) }
+{
+    let mut bytes = Vec::new(alloc);
+    bytes.push(1)?;
+    bytes.extend_from_slice(&role_bytes(role))?;
+    bytes.extend_from_slice(&length_bytes(text.len() as u64))?;
+    bytes.extend_from_slice(text)?;
+    Ok(bytes)
+}
+
+/// The head behind its gate, and a closed gate.
+fn head_behind(alloc: Global, role: u16, text: &[u8]) -> Result<Vec<u8>, AllocError>
+    ensures { IfOk result (λ bytes. bytes.items ≡ head role text.now ++ 0 ∷ []) }
+{
+    let mut bytes = Vec::new(alloc);
+    bytes.extend_from_slice(&role_bytes(role))?;
+    bytes.extend_from_slice(&length_bytes(text.len() as u64))?;
+    bytes.extend_from_slice(text)?;
+    bytes.push(0)?;
+    Ok(bytes)
+}
+
+fn role_bytes(role: u16) -> [u8; 2]
+    ensures { result ≡ u16_bytes role }
+{
+    role.to_be_bytes()
+}
+
+/// Closes the first byte of a file without a head, where it must be closed.
+fn close_first<D: Disk>(disk: &mut D, bytes: &[u8]) -> Did
+    requires headless { has_head bytes.now ≡ false }
+    requires read { IsTrue (D.tells disk.old) → IsAll D.seen D.may_leave disk.old bytes.now }
+    ensures done { result ≡ Did.Done → IsTrue (D.tells disk.old) → StartsClosed D.tells D.seen D.may_leave disk.new }
+    ensures any_moment { IsTrue (D.tells disk.old) → LeavesOnly D.moment D.left_since disk.old disk.new (λ c. has_head c ≡ false) }
+    ensures tells { D.tells disk.new ≡ D.tells disk.old }
+    ensures never_falls { D.faults disk.old ≤ D.faults disk.new }
+    ensures cause { result ≡ Did.Failed → Rose (D.faults disk.old) (D.faults disk.new) }
+{
+    if must_close(bytes) {
+        write_synced(disk, 0, &[0])
+    } else {
+        settle(disk)
+    }
+}
+
+/// Whether the first byte of a file without a head is missing, or open.
+fn must_close(bytes: &[u8]) -> bool
+    ensures short { IsTrue result → length bytes.now ≤ 1 }
+    ensures closed { result ≡ false → has_head bytes.now ≡ false → BeginsClosed bytes.now }
+{
+    bytes.is_empty() || bytes.len() == 1 && bytes[0] == 1
+}
+
+fn start<D: Disk>(
+    alloc: Global,
+    disk: &mut D,
+    role: u16,
+    text: &[u8],
+    bytes: &[u8],
+    limit: u64,
+) -> Result<Journal, OpenFault>
+    requires headless { has_head bytes.now ≡ false }
+    requires read { IsTrue (D.tells disk.old) → IsAll D.seen D.may_leave disk.old bytes.now }
+    ensures ok { IfOk result (λ j. j ≡ record { role = role; text = text.now; events = []; limit = limit; usable = true }) }
+    ensures settled { IfOk result (λ j. IsTrue (D.tells disk.old) → IsSettled D.seen D.may_leave disk.new j) }
+    ensures any_moment { IsTrue (D.tells disk.old) → LeavesOnly D.moment D.left_since disk.old disk.new (λ c. events_of c ≡ []) }
+    ensures reads { IsTrue (D.tells disk.old) → events_of (D.seen disk.new) ≡ [] }
+    ensures not_bad { IsErrOf result OpenFault.BadHead → ⊥ }
+    ensures full { IsErrOf result OpenFault.Full → (limit < 12 + length text.now) × (disk.new ≡ disk.old) }
+    ensures not_full { OnOk result (12 + length text.now ≤ limit) }
+    ensures tells { D.tells disk.new ≡ D.tells disk.old }
+    ensures never_falls { D.faults disk.old ≤ D.faults disk.new }
+    ensures fault { IsErrOf result OpenFault.DiskFault → Rose (D.faults disk.old) (D.faults disk.new) }
+{
+    if !has_place(text.len(), limit) {
+        return Err(OpenFault::Full);
+    }
+    let kept = Text::from_bytes(alloc, text)?;
+    let head = head_behind(alloc, role, text)?;
+    match close_first(disk, bytes) {
+        Did::Done => {}
+        Did::Failed => return Err(OpenFault::DiskFault),
+    }
+    match put_record(disk, 0, &head) {
+        Did::Done => Ok(Journal::made(
+            alloc,
+            role,
+            kept,
+            Vec::new(alloc),
+            11 + text.len() as u64,
+            limit,
+        )),
+        Did::Failed => Err(OpenFault::DiskFault),
+    }
+}
+
+fn resume<D: Disk>(
+    alloc: Global,
+    disk: &mut D,
+    role: u16,
+    text: &[u8],
+    bytes: &[u8],
+    limit: u64,
+) -> Result<Journal, OpenFault>
+    requires headed { has_head bytes.now ≡ true }
+    requires read { IsTrue (D.tells disk.old) → IsAll D.seen D.may_leave disk.old bytes.now }
+    ensures ok { IfOk result (λ j. events_seen j.events ≡ events_of bytes.now) }
+    ensures made { IfOk result (λ j. (j.role ≡ role) × (j.text ≡ text.now) × (j.limit ≡ limit) × IsTrue j.usable) }
+    ensures settled { IfOk result (λ j. IsTrue (D.tells disk.old) → IsSettled D.seen D.may_leave disk.new j) }
+    ensures any_moment { IsTrue (D.tells disk.old) → LeavesOnly D.moment D.left_since disk.old disk.new (λ c. events_of c ≡ events_of bytes.now) }
+    ensures reads { IsTrue (D.tells disk.old) → events_of (D.seen disk.new) ≡ events_of bytes.now }
+    ensures bad_head { IsErrOf result OpenFault.BadHead → (HasThisHead role text.now bytes.now → ⊥) × (disk.new ≡ disk.old) }
+    ensures good_head { OnOk result (HasThisHead role text.now bytes.now) }
+    ensures not_full { IsErrOf result OpenFault.Full → ⊥ }
+    ensures tells { D.tells disk.new ≡ D.tells disk.old }
+    ensures never_falls { D.faults disk.old ≤ D.faults disk.new }
+    ensures fault { IsErrOf result OpenFault.DiskFault → Rose (D.faults disk.old) (D.faults disk.new) }
+{
+    let head = open_head(alloc, role, text)?;
+    if !goes_on(bytes, &head) {
+        return Err(OpenFault::BadHead);
+    }
+    let kept = Text::from_bytes(alloc, text)?;
+    let found = scan(alloc, bytes, head.len())?;
+    match end_at(disk, found.gate as u64, bytes[found.gate] == 1) {
+        Did::Done => Ok(Journal::made(alloc, role, kept, found.events, found.gate as u64, limit)),
+        Did::Failed => Err(OpenFault::DiskFault),
+    }
+}
+
+/// Whether the bytes begin with these and go on.
+fn goes_on(bytes: &[u8], front: &[u8]) -> bool
+    ensures { IsTrue result ↔ (byte : ℕ) × (rest : List ℕ) × (bytes.now ≡ front.now ++ byte ∷ rest) }
+{
+    if front.len() >= bytes.len() {
+        return false;
+    }
+    bytes.starts_with(front)
+}
