@@ -1,0 +1,2 @@
+pub mod ApartTold
+pub mod Telling
