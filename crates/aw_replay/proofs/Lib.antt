@@ -1,0 +1,4 @@
+pub mod LineParts
+pub mod Events
+pub mod Arms
+pub mod Replays
