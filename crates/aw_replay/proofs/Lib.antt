@@ -1,4 +1,5 @@
 pub mod LineParts
 pub mod Events
 pub mod Arms
+pub mod Endings
 pub mod Replays

@@ -32,24 +32,27 @@ module _ {W : Type 0} (f : Ghosts W) (ws : List W) (ps : List ℕ) (best at : �
   pub old_first : (old new : Held) → next_of f ws ps best ≡ Some old → next_of f ws ps at ≡ Some new → node_lt old.node new.node ≡ true → IsFirstOf f ws ps (at + 1) best
   old_first old new was is before j k l e =
       below_more (Over best) at (λ j l k e. first j k l e) (λ k e.
-          let same : new ≡ k = cc in
-          (old, was, record {
-            behind = λ le.
-                let eq : best ≡ at = omega (arith, le, low) in
-                let one : old ≡ new = let z : next_of f ws ps at ≡ Some old = subst (λ n. next_of f ws ps n ≡ Some old) eq was in cc in
-                never (node-no new.node (subst (λ x. node_lt x.node new.node ≡ true) one before));
-            ahead = λ lt. subst (λ x. node_lt old.node x.node ≡ true) same before;
-          })) j l k e
+      let same : new ≡ k = cc in (
+        old,
+        was,
+        record {
+          behind = λ le.
+              let eq : best ≡ at = omega (arith, le, low) in
+              let one : old ≡ new = let z : next_of f ws ps at ≡ Some old = subst (λ n. next_of f ws ps n ≡ Some old) eq was in cc in
+              never (node-no new.node (subst (λ x. node_lt x.node new.node ≡ true) one before));
+          ahead = λ lt. subst (λ x. node_lt old.node x.node ≡ true) same before;
+        },
+      )) j l k e
 
   -- the new one comes before it
   pub new_before : (old new : Held) → next_of f ws ps best ≡ Some old → next_of f ws ps at ≡ Some new → node_lt old.node new.node ≡ false → IsFirstOf f ws ps (at + 1) at
   new_before old new was is after j k l e =
       below_more (Over at) at (λ j l k e.
-          let (h, a, i) = first j k l e in
-          let same : h ≡ old = cc in
-          let x : IsFirst best old j k = subst (λ y. IsFirst best y j k) same i in
-          (new, is, record { behind = λ le. node_order.chain k.node old.node new.node (behind_old old j k x) after; ahead = λ lt. absurd (omega (arith, lt, l)) }))
-          (λ k e. let same : new ≡ k = cc in (new, is, itself at new k same)) j l k e
+      let (h, a, i) = first j k l e in
+      let same : h ≡ old = cc in
+      let x : IsFirst best old j k = subst (λ y. IsFirst best y j k) same i in
+      (new, is, record { behind = λ le. node_order.chain k.node old.node new.node (behind_old old j k x) after; ahead = λ lt. absurd (omega (arith, lt, l)) }))
+      (λ k e. let same : new ≡ k = cc in (new, is, itself at new k same)) j l k e
     where
       by_place : (old : Held) (j : ℕ) (k : Held) → IsFirst best old j k → (b : Bool) → node_lt k.node old.node ≡ b → (best < j → node_lt k.node old.node ≡ false) → (j ≤ best → node_lt k.node old.node ≡ false) → b ≡ false
       by_place old j k x false e far near = refl

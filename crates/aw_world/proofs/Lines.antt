@@ -17,12 +17,11 @@ goes_on whole a b old mid new r1 r e ok first second =
     subst (λ t. Prints t old new r) (sym e) (Prints-second a b old mid new r (subst (λ x. Prints a old mid x) ok first) second)
 
 -- the items of two lists at one place, where the one tells of the other
-pub told_here : {S H : Type 0} (at : S → Option H) (spots : List S) (hs : List H) (i : ℕ) (s : S) → map at spots ≡ map Some hs → i < length spots → s ≡ get_or spots i s
-    → (h : H) × (at s ≡ Some h) × (slice_get hs i ≡ Some h)
-told_here at [] hs i s e l is = absurd (omega (arith, l))
-told_here at (x ∷ spots) [] i s e l is = absurd cc
-told_here at (x ∷ spots) (h ∷ hs) zero s e l is = let z : at x ≡ Some h = cc in (h, ap at is ∙ z, refl)
-told_here at (x ∷ spots) (h ∷ hs) (suc i) s e l is = let z : map at spots ≡ map Some hs = cc in told_here at spots hs i s z (omega (arith, l)) is
+pub told_here : {S H : Type 0} (at : S → Option H) (spots : List S) (hs : List H) (i : ℕ) (s : S) → map at spots ≡ map Some hs → slice_get spots i ≡ Some s → (h : H) × (at s ≡ Some h) × (slice_get hs i ≡ Some h)
+told_here at [] hs i s e is = absurd cc
+told_here at (x ∷ spots) [] i s e is = absurd cc
+told_here at (x ∷ spots) (h ∷ hs) zero s e is = let same : x ≡ s = same_Some x s is in let z : at x ≡ Some h = cc in (h, ap at (sym same) ∙ z, refl)
+told_here at (x ∷ spots) (h ∷ hs) (suc i) s e is = let z : map at spots ≡ map Some hs = cc in told_here at spots hs i s z is
 
 pub told_length : {S H : Type 0} (at : S → Option H) (spots : List S) (hs : List H) → map at spots ≡ map Some hs → length spots ≡ length hs
 told_length at spots hs e = sym (length-map spots at) ∙ ap length e ∙ length-map hs Some

@@ -56,15 +56,17 @@ get_set_cases (z ∷ xs) (suc i) zero x y e = inr e
 get_set_cases (z ∷ xs) (suc i) (suc j) x y e = elim (get_set_cases xs i j x y e) [ inl p ↦ inl (ap suc p.0, p.1) | inr p ↦ inr p ]
 
 pub placed_set : {W : Type 0} (f : Ghosts W) (g : Grammar) (ws : List W) (i : ℕ) (old new : W) → ArePlaced f g ws → i < length ws → old ≡ get_or ws i old
-  → f.its_grammar new ≡ f.its_grammar old → f.its_role new ≡ f.its_role old → ArePlaced f g (slice_set ws i new)
+    → f.its_grammar new ≡ f.its_grammar old → f.its_role new ≡ f.its_role old → ArePlaced f g (slice_set ws i new)
 placed_set f g ws i old new P l e eg er =
     let here : slice_get ws i ≡ Some old = slice_get_read ws (length ws) i old refl l e in
     record {
       count = length_set ws i new ∙ P.count;
       role = λ j y s. elim (get_set_cases ws i j new y s) [
-          inl p ↦ ap (λ z. f.its_role z) (sym p.1) ∙ er ∙ P.role i old here ∙ sym p.0
-        | inr p ↦ P.role j y p ];
+        | inl p ↦ ap (λ z. f.its_role z) (sym p.1) ∙ er ∙ P.role i old here ∙ sym p.0
+        | inr p ↦ P.role j y p
+      ];
       grammar = λ j y s. elim (get_set_cases ws i j new y s) [
-          inl p ↦ ap (λ z. same_grammar (f.its_grammar z) (grammar_of g)) (sym p.1) ∙ ap (λ z. same_grammar z (grammar_of g)) eg ∙ P.grammar i old here
-        | inr p ↦ P.grammar j y p ];
+        | inl p ↦ ap (λ z. same_grammar (f.its_grammar z) (grammar_of g)) (sym p.1) ∙ ap (λ z. same_grammar z (grammar_of g)) eg ∙ P.grammar i old here
+        | inr p ↦ P.grammar j y p
+      ];
     }

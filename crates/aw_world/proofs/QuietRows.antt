@@ -38,10 +38,10 @@ module _ {W : Type 0} (f : Ghosts W) (w : World W f) (quiet : first_open w ≡ N
       let p = grammar_of d in
       let prop = prints_prop (artifact_text (words_of d) c) old new r in
       ∥∥₁_elim d.well_formed prop (λ wf. ∥∥₁_elim w.accepted.now.sound prop (λ so. ∥∥₁_elim w.reached prop (λ x.
-          let v = world_after p w.loads x.0 in
-          let u : undivided p [] v.taken ≡ Some c = ap (undivided p []) x.2.taken ∙ e in
-          let (rows, read, same) = (artifacts_law (words_of d) p (wf, so) w.loads x.0 x.1 (is_quiet v x.2) v.taken (same_choices v.taken) c u).0 in
-          subst (λ t. Prints t old new r) (sym same) (prints v x.2 rows read))))
+      let v = world_after p w.loads x.0 in
+      let u : undivided p [] v.taken ≡ Some c = ap (undivided p []) x.2.taken ∙ e in
+      let (rows, read, same) = (artifacts_law (words_of d) p (wf, so) w.loads x.0 x.1 (is_quiet v x.2) v.taken (same_choices v.taken) c u).0 in
+      subst (λ t. Prints t old new r) (sym same) (prints v x.2 rows read))))
 
   -- there are as many nodes as rows
   pub quiet_length : (n : ℕ) → ((v : V.World) → Shows f w v → n ≡ length (gather v.sites)) → (c : Config) → undivided (grammar_of w.accepted.now.grammar) [] (map choice_of w.taken.items) ≡ Some c → n ≡ length c
@@ -49,7 +49,7 @@ module _ {W : Type 0} (f : Ghosts W) (w : World W f) (quiet : first_open w ≡ N
       let d = w.accepted.now.grammar in
       let p = grammar_of d in
       ∥∥₁_elim d.well_formed (ℕ_set _ _) (λ wf. ∥∥₁_elim w.accepted.now.sound (ℕ_set _ _) (λ so. ∥∥₁_elim w.reached (ℕ_set _ _) (λ x.
-          let v = world_after p w.loads x.0 in
-          let u : undivided p [] v.taken ≡ Some c = ap (undivided p []) x.2.taken ∙ e in
-          let (c', e', i, h) = headline (words_of d) p (wf, so) w.loads x.0 x.1 in
-          count v x.2 ∙ pairs_length _ (gather v.sites) c (h (is_quiet v x.2) v.taken (same_choices v.taken) c u).agree)))
+      let v = world_after p w.loads x.0 in
+      let u : undivided p [] v.taken ≡ Some c = ap (undivided p []) x.2.taken ∙ e in
+      let (c', e', i, h) = headline (words_of d) p (wf, so) w.loads x.0 x.1 in
+      count v x.2 ∙ pairs_length _ (gather v.sites) c (h (is_quiet v x.2) v.taken (same_choices v.taken) c u).agree)))

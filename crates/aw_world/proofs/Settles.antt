@@ -42,7 +42,7 @@ module _ {W : Type 0} (f : Ghosts W) (w : World W f) where
 
 -- a message that was not delivered leaves room for one delivery more
 pub room_left : {W : Type 0} (f : Ghosts W) (w : World W f) (k : ℕ) → V.first_false 0 (marks w.messages w.marks.delivered.items) ≡ Some k
-  → suc (count_set w.marks.delivered.items) ≤ bound_of (grammar_of w.accepted.now.grammar) (map choice_of w.taken.items)
+    → suc (count_set w.marks.delivered.items) ≤ bound_of (grammar_of w.accepted.now.grammar) (map choice_of w.taken.items)
 room_left f w k first = at_reached f w _ _ (λ es may S accepted.
     let p = grammar_of w.accepted.now.grammar in
     let v = world_after p w.loads es in
@@ -52,43 +52,44 @@ room_left f w k first = at_reached f w _ _ (λ es may S accepted.
     omega (arith, n.1, c, t))
 
 module _ {W : Type 0} (f : Ghosts W) (w x : World W f) (k : ℕ) (first : V.first_false 0 (marks w.messages w.marks.delivered.items) ≡ Some k)
-  (stepped : (v : V.World) → Shows f w v → Shows f x (V.deliver (grammar_of w.accepted.now.grammar) v k).world) where
+    (stepped : (v : V.World) → Shows f w v → Shows f x (V.deliver (grammar_of w.accepted.now.grammar) v k).world) where
   is_first : (v : V.World) → Shows f w v → V.undelivered v ≡ Some k
   is_first v S = ap (V.first_false 0) S.delivered ∙ first
 
   -- one more is delivered
   pub one_more : (suc (count_set w.marks.delivered.items) ≤ count_set x.marks.delivered.items) × (count_set x.marks.delivered.items ≤ suc (count_set w.marks.delivered.items))
   one_more =
-      let p = grammar_of w.accepted.now.grammar in
-      (at_reached f w _ _ (λ es may S accepted.
-        let v = world_after p w.loads es in
-        let n = nearer (words_of w.accepted.now.grammar) p accepted w.loads es may k (is_first v S) in
-        let a = counted f w v S in
-        let b = counted f x (V.deliver p v k).world (stepped v S) in
-        omega (arith, n.0, a, b)),
-       at_reached f w _ _ (λ es may S accepted.
-        let v = world_after p w.loads es in
-        let n = nearer (words_of w.accepted.now.grammar) p accepted w.loads es may k (is_first v S) in
-        let a = counted f w v S in
-        let b = counted f x (V.deliver p v k).world (stepped v S) in
-        omega (arith, n.0, a, b)))
+      let p = grammar_of w.accepted.now.grammar in (
+        at_reached f w _ _ (λ es may S accepted.
+            let v = world_after p w.loads es in
+            let n = nearer (words_of w.accepted.now.grammar) p accepted w.loads es may k (is_first v S) in
+            let a = counted f w v S in
+            let b = counted f x (V.deliver p v k).world (stepped v S) in
+            omega (arith, n.0, a, b)),
+        at_reached f w _ _ (λ es may S accepted.
+            let v = world_after p w.loads es in
+            let n = nearer (words_of w.accepted.now.grammar) p accepted w.loads es may k (is_first v S) in
+            let a = counted f w v S in
+            let b = counted f x (V.deliver p v k).world (stepped v S) in
+            omega (arith, n.0, a, b)),
+      )
 
   -- so the deliveries that are left come down
   pub fewer_left : bound_of (grammar_of w.accepted.now.grammar) (map choice_of x.taken.items) - count_set x.marks.delivered.items < bound_of (grammar_of w.accepted.now.grammar) (map choice_of w.taken.items) - count_set w.marks.delivered.items
   fewer_left =
       let p = grammar_of w.accepted.now.grammar in
       at_reached f w _ _ (λ es may S accepted.
-        let v = world_after p w.loads es in
-        let n = nearer (words_of w.accepted.now.grammar) p accepted w.loads es may k (is_first v S) in
-        let a = counted f w v S in
-        let b = counted f x (V.deliver p v k).world (stepped v S) in
-        let t : bound_of p (map choice_of x.taken.items) ≡ bound_of p (map choice_of w.taken.items) = ap (bound_of p) (sym (stepped v S).taken ∙ deliver_taken p v k ∙ S.taken) in
-        let s : bound_of p v.taken ≡ bound_of p (map choice_of w.taken.items) = ap (bound_of p) S.taken in
-        omega (arith, n.0, n.1, a, b, t, s))
+      let v = world_after p w.loads es in
+      let n = nearer (words_of w.accepted.now.grammar) p accepted w.loads es may k (is_first v S) in
+      let a = counted f w v S in
+      let b = counted f x (V.deliver p v k).world (stepped v S) in
+      let t : bound_of p (map choice_of x.taken.items) ≡ bound_of p (map choice_of w.taken.items) = ap (bound_of p) (sym (stepped v S).taken ∙ deliver_taken p v k ∙ S.taken) in
+      let s : bound_of p v.taken ≡ bound_of p (map choice_of w.taken.items) = ap (bound_of p) S.taken in
+      omega (arith, n.0, n.1, a, b, t, s))
 
   pub settled_more : (start : V.World → Type 0) (n : ℕ) → n ≤ count_set w.marks.delivered.items
-    → ((v : V.World) → start v → Shows f w (V.settle (count_set w.marks.delivered.items - n) (grammar_of w.accepted.now.grammar) v))
-    → (v : V.World) → start v → Shows f x (V.settle (count_set x.marks.delivered.items - n) (grammar_of w.accepted.now.grammar) v)
+      → ((v : V.World) → start v → Shows f w (V.settle (count_set w.marks.delivered.items - n) (grammar_of w.accepted.now.grammar) v))
+      → (v : V.World) → start v → Shows f x (V.settle (count_set x.marks.delivered.items - n) (grammar_of w.accepted.now.grammar) v)
   settled_more start n l so v s =
       let p = grammar_of w.accepted.now.grammar in
       let m = count_set w.marks.delivered.items - n in
@@ -97,16 +98,16 @@ module _ {W : Type 0} (f : Ghosts W) (w x : World W f) (k : ℕ) (first : V.firs
       subst (λ j. Shows f x (V.settle j p v)) e (subst (Shows f x) (sym (settle_more p m v k (is_first (V.settle m p v) (so v s)))) (stepped (V.settle m p v) (so v s)))
 
   pub settled_on : (p : Grammar) → grammar_of w.accepted.now.grammar ≡ p → (start : V.World → Type 0) (n : ℕ) → n ≤ count_set w.marks.delivered.items
-    → ((v : V.World) → start v → Shows f w (V.settle (count_set w.marks.delivered.items - n) p v))
-    → (v : V.World) → start v → Shows f x (V.settle (count_set x.marks.delivered.items - n) p v)
+      → ((v : V.World) → start v → Shows f w (V.settle (count_set w.marks.delivered.items - n) p v))
+      → (v : V.World) → start v → Shows f x (V.settle (count_set x.marks.delivered.items - n) p v)
   settled_on p e = subst (λ q. (start : V.World → Type 0) (n : ℕ) → n ≤ count_set w.marks.delivered.items
-    → ((v : V.World) → start v → Shows f w (V.settle (count_set w.marks.delivered.items - n) q v))
-    → (v : V.World) → start v → Shows f x (V.settle (count_set x.marks.delivered.items - n) q v)) e settled_more
+      → ((v : V.World) → start v → Shows f w (V.settle (count_set w.marks.delivered.items - n) q v))
+      → (v : V.World) → start v → Shows f x (V.settle (count_set x.marks.delivered.items - n) q v)) e settled_more
 
 -- where none is left, so many deliveries are as good as the bound
 pub settled_all : {W : Type 0} (f : Ghosts W) (w : World W f) (n : ℕ) (v : V.World) → V.first_false 0 (marks w.messages w.marks.delivered.items) ≡ None
-  → Shows f w (V.settle (count_set w.marks.delivered.items - n) (grammar_of w.accepted.now.grammar) v)
-  → Shows f w (V.settle (bound_of (grammar_of w.accepted.now.grammar) v.taken) (grammar_of w.accepted.now.grammar) v)
+    → Shows f w (V.settle (count_set w.marks.delivered.items - n) (grammar_of w.accepted.now.grammar) v)
+    → Shows f w (V.settle (bound_of (grammar_of w.accepted.now.grammar) v.taken) (grammar_of w.accepted.now.grammar) v)
 settled_all f w n v quiet S =
     let p = grammar_of w.accepted.now.grammar in
     let m = count_set w.marks.delivered.items - n in
@@ -115,5 +116,5 @@ settled_all f w n v quiet S =
     subst (Shows f w) (sym (settle_done p m (bound_of p v.taken) v (omega (arith, b, t)) (ap (V.first_false 0) S.delivered ∙ quiet))) S
 
 pub settled_whole : {W : Type 0} (f : Ghosts W) (w : World W f) (p : Grammar) → grammar_of w.accepted.now.grammar ≡ p → (n : ℕ) (v : V.World) → V.first_false 0 (marks w.messages w.marks.delivered.items) ≡ None
-  → Shows f w (V.settle (count_set w.marks.delivered.items - n) p v) → Shows f w (V.settle (bound_of p v.taken) p v)
+    → Shows f w (V.settle (count_set w.marks.delivered.items - n) p v) → Shows f w (V.settle (bound_of p v.taken) p v)
 settled_whole f w p e n v quiet = subst (λ q. Shows f w (V.settle (count_set w.marks.delivered.items - n) q v) → Shows f w (V.settle (bound_of q v.taken) q v)) e (settled_all f w n v quiet)

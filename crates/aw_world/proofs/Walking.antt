@@ -83,7 +83,7 @@ module _ {W : Type 0} (f : Ghosts W) where
       none j (Some k) a m = let (g, i, z) = first j k m a in absurd cc
 
 some_of : {A : Type 0} (o : Option A) → IsSome o → (x : A) × (o ≡ Some x)
-some_of None h = absurd h
+some_of None h = absurd cc
 some_of (Some x) h = (x, refl)
 
 -- where the next node of a workspace stands
@@ -115,8 +115,8 @@ passes f up ws ps new b spot l first some is set =
     let s = stands f ws ps b some in
     let p : get_or ps b 0 ≡ s.place = get_or_from_slice_get ps b s.place 0 s.place_is in
     let there : held_at f ws spot ≡ Some s.node =
-        ap (held_at f ws) is ∙ ap (λ o. option_and_then (λ w. slice_get (f.its_nodes w) (get_or ps b 0)) o) s.site_is ∙ ap (λ n. slice_get (f.its_nodes s.workspace) n) p ∙ s.node_is in
+    ap (held_at f ws) is ∙ ap (λ o. option_and_then (λ w. slice_get (f.its_nodes w) (get_or ps b 0)) o) s.site_is ∙ ap (λ n. slice_get (f.its_nodes s.workspace) n) p ∙ s.node_is in
     let next : next_of f ws ps b ≡ Some s.node =
-        ap (λ o. option_and_then (λ w. option_and_then (λ p. slice_get (f.its_nodes w) p) (slice_get ps b)) o) s.site_is ∙ ap (λ o. option_and_then (λ p. slice_get (f.its_nodes s.workspace) p) o) s.place_is ∙ s.node_is in
+    ap (λ o. option_and_then (λ w. option_and_then (λ p. slice_get (f.its_nodes w) p) (slice_get ps b)) o) s.site_is ∙ ap (λ o. option_and_then (λ p. slice_get (f.its_nodes s.workspace) p) o) s.place_is ∙ s.node_is in
     let moved : new ≡ slice_set ps b (suc s.place) = set ∙ ap (slice_set ps b) (let z : get_or ps b 0 + 1 ≡ suc s.place = omega (arith, p) in z) in
     (s.node, there, taken_next f up ws ps b s.place s.node l first next s.place_is ∙ ap (λ qs. s.node ∷ merged (left_of f ws qs)) (sym moved))

@@ -1,5 +1,5 @@
 -- What holds of a world of the program because events lead to it.
-use Rattle.std.proofs.Common.{◌≡◌, ℕ, zero, suc, ◌<◌, ◌≤◌, arith, Bool, true, List, [], ◌∷◌, length, map, ap, sym, ◌∙◌, refl, subst, inl, inr, Some}
+use Rattle.std.proofs.Common.{◌≡◌, ℕ, zero, suc, ◌<◌, ◌≤◌, arith, Bool, true, false, List, [], ◌∷◌, length, map, ap, sym, ◌∙◌, refl, subst, inl, inr, Some}
 use Rattle.std.specs.Prelude.{◌&&◌, slice_get, option_map, nat_eq}
 use Rattle.std.specs.Coded.{le_prop}
 use Rattle.std.proofs.Math.Logic.{∥∥₁_elim, ∥∥₁_map}
@@ -101,27 +101,27 @@ module _ {W : Type 0} (f : Ghosts W) (a : Accepted) (loads : Bool) (ws : List W)
   pub reached_contents : HaveContents (grammar_of a.grammar) ms
   reached_contents i m e =
       ∥∥₁_elim d.well_formed (Bool-set _ _) (λ w. ∥∥₁_elim a.sound (Bool-set _ _) (λ s. ∥∥₁_elim h (Bool-set _ _) (λ r.
-          contents_law (words_of d) p (w, s) loads r.0 r.1 i (message_of p m) (ap (λ z. slice_get z i) r.2.messages ∙ slice_get-map (message_of p) ms i ∙ ap (option_map (message_of p)) e))))
+      contents_law (words_of d) p (w, s) loads r.0 r.1 i (message_of p m) (ap (λ z. slice_get z i) r.2.messages ∙ slice_get-map (message_of p) ms i ∙ ap (option_map (message_of p)) e))))
 
   pub reached_homes : ((w : W) (s : Site) → f.shows w s → s.held ≡ all_of (f.its_grammar w) (f.its_nodes w)) → ArePlaced f a.grammar ws → AreAtHome f (grammar_of a.grammar) ws
   reached_homes hold placed i j w x e at =
       ∥∥₁_elim d.well_formed (ℕ_set _ _) (λ wf. ∥∥₁_elim a.sound (ℕ_set _ _) (λ so. ∥∥₁_elim h (ℕ_set _ _) (λ r.
-          let v = world_after p loads r.0 in
-          let (s, here, shown) = site_there (λ x s. f.shows x s) ws v.sites i w r.2.sites e in
-          let same : f.its_grammar w ≡ p = grammars_are_one (f.its_grammar w) p (placed.grammar i w e) in
-          let held : (V.site_at v i).held ≡ all_of p (f.its_nodes w) = ap (λ t. t.held) (got_site (empty_site false i) v.sites i s here) ∙ hold w s shown ∙ ap (λ g. all_of g (f.its_nodes w)) same in
-          homes_law (words_of d) p (wf, so) loads r.0 r.1 i (held_of p x)
-              (subst (Member (held_of p x)) (sym held) (member_got (all_of p (f.its_nodes w)) j (held_of p x) (slice_get-map (held_of p) (f.its_nodes w) j ∙ ap (option_map (held_of p)) at))))))
+      let v = world_after p loads r.0 in
+      let (s, here, shown) = site_there (λ x s. f.shows x s) ws v.sites i w r.2.sites e in
+      let same : f.its_grammar w ≡ p = grammars_are_one (f.its_grammar w) p (placed.grammar i w e) in
+      let held : (V.site_at v i).held ≡ all_of p (f.its_nodes w) = ap (λ t. t.held) (got_site (empty_site false i) v.sites i s here) ∙ hold w s shown ∙ ap (λ g. all_of g (f.its_nodes w)) same in
+      homes_law (words_of d) p (wf, so) loads r.0 r.1 i (held_of p x)
+      (subst (Member (held_of p x)) (sym held) (member_got (all_of p (f.its_nodes w)) j (held_of p x) (slice_get-map (held_of p) (f.its_nodes w) j ∙ ap (option_map (held_of p)) at))))))
 
   pub reached_bound : length ms ≤ bound_of (grammar_of a.grammar) (map choice_of ts)
   reached_bound =
       ∥∥₁_elim d.well_formed le_prop (λ w. ∥∥₁_elim a.sound le_prop (λ s. ∥∥₁_elim h le_prop (λ r.
-          let b = within_bound (words_of d) p (w, s) loads r.0 r.1 in
-          let m : length (world_after p loads r.0).messages ≡ length ms = ap length r.2.messages ∙ length-map ms (message_of p) in
-          let t = ap (bound_of p) r.2.taken in
-          omega (arith, b, m, t))))
+      let b = within_bound (words_of d) p (w, s) loads r.0 r.1 in
+      let m : length (world_after p loads r.0).messages ≡ length ms = ap length r.2.messages ∙ length-map ms (message_of p) in
+      let t = ap (bound_of p) r.2.taken in
+      omega (arith, b, m, t))))
 
   pub reached_configured : ∥ IsConfigured (grammar_of a.grammar) (map choice_of ts) ∥₁
   reached_configured =
       ∥∥₁_elim d.well_formed ∥∥₁_prop (λ w. ∥∥₁_elim a.sound ∥∥₁_prop (λ s. ∥∥₁_map h (λ r.
-          subst (IsConfigured p) r.2.taken (configured_law (words_of d) p (w, s) loads r.0 r.1))))
+      subst (IsConfigured p) r.2.taken (configured_law (words_of d) p (w, s) loads r.0 r.1))))

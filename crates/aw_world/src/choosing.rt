@@ -15,8 +15,8 @@ use aw_accept::Accepted;
 use aw_base::home_of;
 use aw_choice::{Answer, Choice};
 use aw_grammar::Grammar;
-use aw_name::{Node, Trail};
 use aw_msg::Messages;
+use aw_name::{Node, Trail};
 use std::alloc::{AllocError, Global};
 
 /// The role of a node, and 0 where its name is not valid.

@@ -78,11 +78,7 @@ fn push_open(nodes: &mut Vec<Node>, held: &Held) -> Result<(), AllocError>
 }
 
 /// Adds the node at a place where it is open.
-fn open_at<W: Workspace>(
-    sites: &[W],
-    spot: &Spot,
-    nodes: &mut Vec<Node>,
-) -> Result<(), AllocError>
+fn open_at<W: Workspace>(sites: &[W], spot: &Spot, nodes: &mut Vec<Node>) -> Result<(), AllocError>
     requires { IsSome (held_at ⟦<W as Workspace>⟧ sites.now spot.now) }
     ensures { OnOk result ((h : HeldValue) → held_at ⟦<W as Workspace>⟧ sites.now spot.now ≡ Some h → nodes.new.items ≡ nodes.old.items ++ open_on (state_of h.done) h.node []) }
 {
@@ -116,7 +112,8 @@ impl<'g, W: Workspace> World<'g, W> {
         ensures role { W.its_role result.now ≡ role }
         ensures grammar { same_grammar (W.its_grammar result.now) (grammar_of self.now.accepted.now.grammar) ≡ true }
     {
-        &self.sites[usize::from(role)]
+        let site = &self.sites[usize::from(role)];
+        site
     }
 
     /// How each rule stands at each open node of a role, in order.

@@ -15,7 +15,11 @@ use aw_msg::Messages;
 use std::alloc::{AllocError, Global};
 
 /// A workspace for each role.
-fn make_sites<'g, W: Made<'g>>(alloc: Global, accepted: &'g Accepted, loads: bool) -> Result<Vec<W>, AllocError>
+fn make_sites<'g, W: Made<'g>>(
+    alloc: Global,
+    accepted: &'g Accepted,
+    loads: bool,
+) -> Result<Vec<W>, AllocError>
     ensures placed { IfOk result (λ ws. ArePlaced ⟦<W as Workspace>⟧ accepted.now.grammar ws.items) }
     ensures shown { IfOk result (λ ws. Pairs (λ x s. W.shows x s) ws.items (list_map (P.empty_site loads) (upto 0 (grammar_of accepted.now.grammar).roles))) }
 {
@@ -31,7 +35,11 @@ impl<'g, W: Made<'g>> World<'g, W> {
     ghost use Rattle.aw_world.specs.Shown.{Shows};
 
     /// No site holds anything, and no message was sent.
-    pub fn new(alloc: Global, accepted: &'g Accepted, loads: bool) -> Result<World<'g, W>, AllocError>
+    pub fn new(
+        alloc: Global,
+        accepted: &'g Accepted,
+        loads: bool,
+    ) -> Result<World<'g, W>, AllocError>
         ensures accepted { IfOk result (λ w. w.accepted.now ≡ accepted.now) }
         ensures loads { IfOk result (λ w. w.loads ≡ loads) }
         ensures empty { IfOk result (λ w. Shows ⟦<W as Workspace>⟧ w (V.empty_world (grammar_of accepted.now.grammar) loads)) }

@@ -1,5 +1,5 @@
 //! The nodes of several workspaces in one order.
-ghost use Rattle.std.specs.Prelude.{◌≡◌, ◌+◌, ◌<◌, ◌≤◌, ◌∷◌, [], List, ℕ, Some, None, IfOk, IfSome, IsSome, length, map as list_map, slice_index, slice_set};
+ghost use Rattle.std.specs.Prelude.{◌≡◌, ◌+◌, ◌<◌, ◌≤◌, ◌∷◌, [], List, ℕ, Some, None, IfOk, IfSome, IsSome, length, map as list_map, replicate, slice_index, slice_set};
 ghost use Rattle.aw_world.specs.Firsts.{next_of, IsFirstOf};
 ghost use Rattle.aw_world.specs.Merged.{merged, nodes_of, left_of, held_at, PassesOn};
 
@@ -89,11 +89,18 @@ fn take_next<W: Workspace>(sites: &[W], places: &mut [usize]) -> Option<Spot>
     }
 }
 
+/// The start of each of so many workspaces.
+fn starts(alloc: Global, count: usize) -> Result<Vec<usize>, AllocError>
+    ensures { IfOk result (λ places. places.items ≡ replicate count 0) }
+{
+    Ok(vec![in alloc; 0; count]?)
+}
+
 /// Where the nodes of all workspaces stand, in the order of nodes.
 pub(crate) fn in_order<W: Workspace>(alloc: Global, sites: &[W]) -> Result<Vec<Spot>, AllocError>
     ensures { IfOk result (λ spots. list_map (held_at ⟦<W as Workspace>⟧ sites.now) spots.items ≡ list_map Some (merged (nodes_of ⟦<W as Workspace>⟧ sites.now))) }
 {
-    let mut places = vec![in alloc; 0; sites.len()]?;
+    let mut places = starts(alloc, sites.len())?;
     let mut spots = Vec::new(alloc);
     while let Some(spot) = take_next(sites, places.as_mut_slice()) {
         spots.push(spot)?;

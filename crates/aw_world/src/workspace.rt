@@ -43,7 +43,12 @@ pub trait Workspace: Drop {
     ghost shows: { Self → P.Site → Type 0 };
 
     /// Answers a choice, and appends what it sends to a list; how many messages those are. An error changes nothing.
-    fn choose_into(&mut self, accepted: &Accepted, choice: &Choice, copy: &mut Messages) -> Result<(Answer, usize), AllocError>
+    fn choose_into(
+        &mut self,
+        accepted: &Accepted,
+        choice: &Choice,
+        copy: &mut Messages,
+    ) -> Result<(Answer, usize), AllocError>
         requires grammar { same_grammar (its_grammar self.old) (grammar_of accepted.now.grammar) ≡ true }
         requires ok { choice_ok (grammar_of accepted.now.grammar) (choice_of choice.now) ≡ true }
         requires here { home (grammar_of accepted.now.grammar) (node_of (choice_of choice.now)) ≡ its_role self.old }
@@ -57,7 +62,12 @@ pub trait Workspace: Drop {
         ensures err_sent { OnErr result (copy.new ≡ copy.old) };
 
     /// Takes in a message, and appends what it sends to a list. An error changes nothing.
-    fn receive_into(&mut self, accepted: &Accepted, message: &Message, copy: &mut Messages) -> Result<bool, AllocError>
+    fn receive_into(
+        &mut self,
+        accepted: &Accepted,
+        message: &Message,
+        copy: &mut Messages,
+    ) -> Result<bool, AllocError>
         requires grammar { same_grammar (its_grammar self.old) (grammar_of accepted.now.grammar) ≡ true }
         requires contents { HasContents (message_of (grammar_of accepted.now.grammar) message.now) }
         ensures grammar { its_grammar self.new ≡ its_grammar self.old }
@@ -80,7 +90,13 @@ pub trait Workspace: Drop {
 
     /// Prints the artifact line of the node at a place, from the equations that it has. Where the text would pass the report's limit, or
     /// memory is missing, the report has got the front of the line.
-    fn print_row(&self, alloc: Global, accepted: &Accepted, place: usize, report: &mut Report) -> Result<(), PrintFault>
+    fn print_row(
+        &self,
+        alloc: Global,
+        accepted: &Accepted,
+        place: usize,
+        report: &mut Report,
+    ) -> Result<(), PrintFault>
         requires grammar { same_grammar (its_grammar self.now) (grammar_of accepted.now.grammar) ≡ true }
         requires place { place < length (its_nodes self.now) }
         ensures { (s : P.Site) → shows self.now s → PrintsRow accepted.now.grammar s place report.old report.new result };
@@ -98,9 +114,13 @@ pub trait Workspace: Drop {
 /// A workspace that can be made for a grammar.
 pub trait Made<'g>: Workspace {
     /// A workspace that holds nothing.
-    fn make(alloc: Global, accepted: &'g Accepted, role: u16, loads: bool) -> Result<Self, AllocError>
+    fn make(
+        alloc: Global,
+        accepted: &'g Accepted,
+        role: u16,
+        loads: bool,
+    ) -> Result<Self, AllocError>
         ensures grammar { IfOk result (λ w. same_grammar (Self.its_grammar w) (grammar_of accepted.now.grammar) ≡ true) }
         ensures role { IfOk result (λ w. Self.its_role w ≡ role) }
         ensures shows { IfOk result (λ w. Self.shows w (P.empty_site loads role)) };
-
 }

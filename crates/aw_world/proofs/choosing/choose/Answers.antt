@@ -31,7 +31,7 @@ returns-clause-steps g c = λ flags l v S.
     let e : at ≡ home p (V.node_of x) = c.from.ensures ∙ c.role_of-at.ensures ∙ ap (λ z. home (grammar_of z) (V.node_of x)) c.grammar.ensures.value in
     let ch = c.args.choice in
     let noted = c.note.ensures ∙ ap (λ b. if b then c.reserve.new.self.items ++ ch ∷ [] else c.reserve.new.self.items) c.is_taken-is_taken.ensures
-        ∙ ap (λ z. if is_taken (answer_of c.in_ok-answer.answer) then z ++ ch ∷ [] else z) c.in_ok-reserve.ensures.items in
+    ∙ ap (λ z. if is_taken (answer_of c.in_ok-answer.answer) then z ++ ch ∷ [] else z) c.in_ok-reserve.ensures.items in
     subst (λ k. Steps g.W.Workspace d c.choose_at.new.sites.items c.choose_at.new.messages flags c.note.new.taken.items (V.chosen_at v k x (D.choose p (V.site_at v k) x)) (replies.Choice c.in_ok-answer.answer)) e
     (chose g.W.Workspace d c.args.sites.now.items c.choose_at.new.sites.items c.args.messages.now c.choose_at.new.messages flags c.args.taken.now.items c.note.new.taken.items c.args.choice c.in_ok-answer.answer v at _
-      (honest p (V.site_at v at) x) (c.in_ok-answer.ensures.chose v.sites S.sites) noted l S)
+    (honest p (V.site_at v at) x) (c.in_ok-answer.ensures.chose v.sites S.sites) noted l S)

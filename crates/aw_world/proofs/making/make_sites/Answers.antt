@@ -23,9 +23,11 @@ loop-role-preserved g c =
       shown = subst (λ zs. Pairs R zs (map (empty_site c.args.loads) (upto 0 (n + 1)))) (sym e)
           (subst (Pairs R (ws ++ x ∷ [])) (sym (all_end (empty_site c.args.loads) n)) (pairs_end R ws _ x _ i.shown c.in_ok-make.ensures.shows));
       role = λ j y s. elim (get_end ws x j y (ap (λ zs. slice_get zs j) (sym e) ∙ s)) [
-          | inl h ↦ i.role j y h
-          | inr h ↦ ap (λ z. f.its_role z) (sym h.1) ∙ c.in_ok-make.ensures.role ∙ sym i.count ∙ sym h.0 ];
+        | inl h ↦ i.role j y h
+        | inr h ↦ ap (λ z. f.its_role z) (sym h.1) ∙ c.in_ok-make.ensures.role ∙ sym i.count ∙ sym h.0
+      ];
       grammar = λ j y s. elim (get_end ws x j y (ap (λ zs. slice_get zs j) (sym e) ∙ s)) [
-          | inl h ↦ i.grammar j y h
-          | inr h ↦ ap (λ z. same_grammar (f.its_grammar z) (grammar_of c.args.accepted.now.grammar)) (sym h.1) ∙ c.in_ok-make.ensures.grammar ];
+        | inl h ↦ i.grammar j y h
+        | inr h ↦ ap (λ z. same_grammar (f.its_grammar z) (grammar_of c.args.accepted.now.grammar)) (sym h.1) ∙ c.in_ok-make.ensures.grammar
+      ];
     }

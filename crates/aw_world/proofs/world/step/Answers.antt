@@ -14,7 +14,7 @@ returns-in_err-answer-in-Choose-clause-err g c =
     let d = c.args.accepted.now.grammar in
     let flags = c.args.marks.now.delivered.items in
     let kept : (v : V.World) → Seen g.W.Workspace d c.args.sites.now.items c.args.messages.now flags c.args.taken.now.items v → Seen g.W.Workspace d c.choose.new.sites.items c.choose.new.messages flags c.choose.new.taken.items v =
-        λ v S. c.in_err-answer-in-Choose.ensures.err flags v S in
+    λ v S. c.in_err-answer-in-Choose.ensures.err flags v S in
     on_err _ kept
 
 pub returns-in_ok-answer-in-Choose-clause-steps : goal.returns-in_ok-answer-in-Choose-clause-steps
