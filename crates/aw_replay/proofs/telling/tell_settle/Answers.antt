@@ -98,3 +98,16 @@ returns-clause-text g c = on_ok_weaker c.push_settled.result (λ e v s.
     e ∙ ap (λ j. c.loop-number.text ++ (codes "settled " ++ (decimal j ++ codes "\n"))) ec
     ∙ ap (λ z. c.loop-number.text ++ z) (sym (lines_end (words_of d) p (V.settle m p v) (b - m) m (ap (V.first_false 0) (i.settled v s).delivered ∙ (sym c.quiet.ensures ∙ c.in_default.is))))
     ∙ i.lines v s) c.push_settled.ensures
+
+pub returns-clause-some : goal.returns-clause-some
+returns-clause-some g c =
+    let w = c.loop-number.world in
+    let i = c.loop-number.invariant in
+    let p = grammar_of c.args.world.now.accepted.now.grammar in
+    let m = count_set w.marks.delivered.items - count_set c.args.world.now.marks.delivered.items in
+    let b = bounded g.W.Workspace w in
+    let kept : SettlesSome g.W.Workspace c.args.world.now w = λ v s.
+        let t : bound_of (grammar_of w.accepted.now.grammar) (map choice_of w.taken.items) ≡ bound_of p v.taken =
+            ap (λ (a : Accepted). bound_of (grammar_of a.grammar) (map choice_of w.taken.items)) i.accepted ∙ ap (bound_of p) (sym (i.settled v s).taken ∙ settle_taken p m v) in
+        (m, omega (arith, b, t), i.settled v s) in
+    on_err _ kept
