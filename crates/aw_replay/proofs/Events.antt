@@ -28,7 +28,7 @@ all_may_stand g (e ∷ es) m = (may_stand g e m.0, all_may_stand g es m.1)
 
 -- one event more was done
 pub events_more : (g : Grammar) (v : World) (es : List Event) (i j : ℕ) (e : Event) → j ≡ i + 1 → i < length es → e ≡ get_or es i e
-  → after_event g (after_events g v (map event_seen (take i es))) (event_seen e) ≡ after_events g v (map event_seen (take j es))
+    → after_event g (after_events g v (map event_seen (take i es))) (event_seen e) ≡ after_events g v (map event_seen (take j es))
 events_more g v [] i j e n l s = absurd (omega (arith, l))
 events_more g v (x ∷ es) zero zero e n l s = absurd (omega (arith, n))
 events_more g v (x ∷ es) zero (suc zero) e n l s = ap (λ z. after_event g v (event_seen z)) s
@@ -38,7 +38,7 @@ events_more g v (x ∷ es) (suc i) (suc j) e n l s = events_more g (after_event 
 
 -- the lines of one event stand in front of those behind it
 pub lines_drop : (w : Words) (g : Grammar) (u : World) (es : List Event) (i j : ℕ) (e : Event) → j ≡ i + 1 → i < length es → e ≡ get_or es i e
-  → all_lines w g u (map event_seen (drop i es)) ≡ event_lines w g u (event_seen e) ++ all_lines w g (after_event g u (event_seen e)) (map event_seen (drop j es))
+    → all_lines w g u (map event_seen (drop i es)) ≡ event_lines w g u (event_seen e) ++ all_lines w g (after_event g u (event_seen e)) (map event_seen (drop j es))
 lines_drop w g u [] i j e n l s = absurd (omega (arith, l))
 lines_drop w g u (x ∷ es) zero zero e n l s = absurd (omega (arith, n))
 lines_drop w g u (x ∷ es) zero (suc zero) e n l s = ap (λ z. event_lines w g u (event_seen z) ++ all_lines w g (after_event g u (event_seen z)) (map event_seen es)) (sym s)
@@ -68,7 +68,7 @@ all_taken (a ∷ as') = let (n, e) = all_taken as' in (suc n, ap (λ z. a ∷ z)
 
 -- some first moves of one event, after those of the events before it
 pub some_before : (g : Grammar) (v : World) (es : List Event) (i : ℕ) (e : Event) → i < length es → e ≡ get_or es i e → (m : ℕ)
-  → (n : ℕ) × (run g v (take n (all_moves g v (map event_seen es))) ≡ run g (after_events g v (map event_seen (take i es))) (take m (moves_of g (after_events g v (map event_seen (take i es))) (event_seen e))))
+    → (n : ℕ) × (run g v (take n (all_moves g v (map event_seen es))) ≡ run g (after_events g v (map event_seen (take i es))) (take m (moves_of g (after_events g v (map event_seen (take i es))) (event_seen e))))
 some_before g v [] i e l s m = absurd (omega (arith, l))
 some_before g v (x ∷ es) zero e l s m =
     let (n, q) = front (moves_of g v (event_seen x)) (all_moves g (after_event g v (event_seen x)) (map event_seen es)) m in

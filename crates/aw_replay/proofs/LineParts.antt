@@ -16,7 +16,7 @@ use Rattle.aw_msg.specs.MessageView.{message_of}
 use Rattle.aw_merge.proofs.Settling.{settle_more}
 
 pub told_delivery : (c a d : G.Grammar) → c ≡ a → a ≡ d → (k : ℕ) (r : V.Reply) (v : V.World) (x : V.Stepped) (n : ℕ) (ms : List Message) → r ≡ x.reply → x.world.messages ≡ map (message_of (grammar_of a)) ms → length v.messages ≡ n
-  → deliver_line k r ++ sent_lines (words_of c) n (drop n (map (message_of (grammar_of c)) ms)) ≡ move_lines (words_of d) v (V.Delivers k) x
+    → deliver_line k r ++ sent_lines (words_of c) n (drop n (map (message_of (grammar_of c)) ms)) ≡ move_lines (words_of d) v (V.Delivers k) x
 told_delivery c a d e1 e2 k r v x n ms er em en =
     let ew : words_of c ≡ words_of d = ap words_of (e1 ∙ e2) in
     let es : map (message_of (grammar_of c)) ms ≡ x.world.messages = ap (λ (g : G.Grammar). map (message_of (grammar_of g)) ms) e1 ∙ sym em in
@@ -24,7 +24,7 @@ told_delivery c a d e1 e2 k r v x n ms er em en =
     λ i. deliver_line k (er i) ++ sent_lines (ew i) (ne i) (drop (ne i) (es i))
 
 pub told_choice : (c a d : G.Grammar) → c ≡ a → a ≡ d → (y : Choice) (r : V.Reply) (v : V.World) (x : V.Stepped) (n : ℕ) (ms : List Message) → r ≡ x.reply → x.world.messages ≡ map (message_of (grammar_of a)) ms → length v.messages ≡ n
-  → answer_line (words_of c) y (answered r) ++ sent_lines (words_of c) n (drop n (map (message_of (grammar_of c)) ms)) ≡ move_lines (words_of d) v (V.Chooses y) x
+    → answer_line (words_of c) y (answered r) ++ sent_lines (words_of c) n (drop n (map (message_of (grammar_of c)) ms)) ≡ move_lines (words_of d) v (V.Chooses y) x
 told_choice c a d e1 e2 y r v x n ms er em en =
     let ew : words_of c ≡ words_of d = ap words_of (e1 ∙ e2) in
     let es : map (message_of (grammar_of c)) ms ≡ x.world.messages = ap (λ (g : G.Grammar). map (message_of (grammar_of g)) ms) e1 ∙ sym em in
@@ -37,7 +37,7 @@ lines_by n d w g v (Some k) = move_lines w v (V.Delivers k) (deliver g v k) ++ s
 
 -- the lines of one delivery, and of those behind it
 pub lines_more : (w : Words) (g : Grammar) (v : V.World) (b m n k : ℕ) → undelivered (settle m g v) ≡ Some k → n ≡ suc m → n ≤ b
-  → move_lines w (settle m g v) (V.Delivers k) (deliver g (settle m g v) k) ++ settle_lines (b - n) n w g (settle n g v) ≡ settle_lines (b - m) m w g (settle m g v)
+    → move_lines w (settle m g v) (V.Delivers k) (deliver g (settle m g v) k) ++ settle_lines (b - n) n w g (settle n g v) ≡ settle_lines (b - m) m w g (settle m g v)
 lines_more w g v b m n k e en l =
     let eb : suc (b - n) ≡ b - m = omega (arith, en, l) in
     let es : settle n g v ≡ (deliver g (settle m g v) k).world = ap (λ j. settle j g v) en ∙ settle_more g m v k e in

@@ -24,10 +24,7 @@ fn undelivered_line(alloc: Global, count: u64) -> Result<Text, AllocError>
 }
 
 /// Prints how many messages were never delivered.
-fn print_undelivered<W: Workspace>(
-    world: &World<W>,
-    report: &mut Report,
-) -> Result<(), PrintFault>
+fn print_undelivered<W: Workspace>(world: &World<W>, report: &mut Report) -> Result<(), PrintFault>
     ensures { Prints (undelivered_line (V.count_open (marks world.now.messages world.now.marks.delivered.items))) report.old report.new result }
 {
     let text = undelivered_line(world.allocator(), world.undelivered())?;
@@ -44,10 +41,7 @@ fn artifacts_line(alloc: Global, count: usize) -> Result<Text, AllocError>
 }
 
 /// Prints the artifacts of a world in which every message was delivered.
-fn print_artifacts<W: Workspace>(
-    world: &World<W>,
-    report: &mut Report,
-) -> Result<(), PrintFault>
+fn print_artifacts<W: Workspace>(world: &World<W>, report: &mut Report) -> Result<(), PrintFault>
     requires { first_open world.now ≡ None }
     ensures { PrintsQuiet ⟦<W as Workspace>⟧ world.now report.old report.new result }
 {

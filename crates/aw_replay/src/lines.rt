@@ -9,8 +9,8 @@ ghost use Rattle.aw_world.specs.MoveView.{reply_of};
 ghost use Rattle.aw_replay.specs.Telling.{sent_after};
 
 use crate::sent::push_sent;
-use aw_choice::{Answer, Choice};
 use aw_base::push_choice_line;
+use aw_choice::{Answer, Choice};
 use aw_grammar::Grammar;
 use aw_list::Text;
 use aw_msg::Message;

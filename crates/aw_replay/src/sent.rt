@@ -50,12 +50,7 @@ fn push_load(text: &mut Text, g: &Grammar, es: &[Equation]) -> Result<(), AllocE
 }
 
 /// Adds a call, as `call visit#1/admit.1 (visit#1:p2)`, without its load.
-fn push_call(
-    text: &mut Text,
-    g: &Grammar,
-    node: &Node,
-    inherited: &Refs,
-) -> Result<(), AllocError>
+fn push_call(text: &mut Text, g: &Grammar, node: &Node, inherited: &Refs) -> Result<(), AllocError>
     ensures { OnOk result (text.new ≡ text.old ++ call_text (words_of g.now) node.now inherited.now) }
 {
     text.push_bytes(b"call ")?;

@@ -29,7 +29,7 @@ returns-clause-prints g c =
     let end_ = after_events p start (map event_seen c.args.events.now) in
     Prints-second _ _ c.args.report.now c.tell_events.new.report c.print_ending.new.report c.print_ending.result (c.in_ok-tell_events.ensures.prints start c.requires.new)
     (subst (λ (a : Accepted). Prints (ending (words_of a.grammar) (grammar_of a.grammar) end_) c.tell_events.new.report c.print_ending.new.report c.print_ending.result) c.tell_events.ensures.accepted
-      (c.print_ending.ensures end_ (c.in_ok-tell_events.ensures.does start c.requires.new)))
+    (c.print_ending.ensures end_ (c.in_ok-tell_events.ensures.does start c.requires.new)))
 
 pub returns-clause-some : goal.returns-clause-some
 returns-clause-some g c =
@@ -37,6 +37,6 @@ returns-clause-some g c =
     let p = grammar_of w.accepted.now.grammar in
     let es = map event_seen c.args.events.now in
     let kept : DoesFirst g.W.Workspace w c.tell_events.new.world es = λ v s.
-        let b = all_taken (all_moves p v es) in
-        (b.0, subst (Shows g.W.Workspace c.tell_events.new.world) (sym (ap (V.run p v) b.1 ∙ events_run p v es)) (c.in_ok-tell_events.ensures.does v s)) in
+    let b = all_taken (all_moves p v es) in
+    (b.0, subst (Shows g.W.Workspace c.tell_events.new.world) (sym (ap (V.run p v) b.1 ∙ events_run p v es)) (c.in_ok-tell_events.ensures.does v s)) in
     on_err _ kept

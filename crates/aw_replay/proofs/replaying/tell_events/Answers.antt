@@ -38,11 +38,11 @@ loop-event-preserved g c =
       whole = λ v s new r next.
           let u = after_events p v (map event_seen (take n es)) in
           let one : Prints (event_lines (words_of d) p u (event_seen e)) c.loop-event.report c.tell_event.new.report (Ok tt) =
-              subst (λ (a : Accepted). Prints (event_lines (words_of a.grammar) (grammar_of a.grammar) u (event_seen e)) c.loop-event.report c.tell_event.new.report (Ok tt)) i.accepted (c.in_ok-tell_event.ensures.prints u (i.after v s)) in
+          subst (λ (a : Accepted). Prints (event_lines (words_of a.grammar) (grammar_of a.grammar) u (event_seen e)) c.loop-event.report c.tell_event.new.report (Ok tt)) i.accepted (c.in_ok-tell_event.ensures.prints u (i.after v s)) in
           let rest : Prints (all_lines (words_of d) p (after_event p u (event_seen e)) (map event_seen (drop (n + 1) es))) c.tell_event.new.report new r =
-              subst (λ z. Prints (all_lines (words_of d) p z (map event_seen (drop (n + 1) es))) c.tell_event.new.report new r) (sym (events_more p v es n (n + 1) e refl c.loop-event-test.true c.event-item.is)) next in
+          subst (λ z. Prints (all_lines (words_of d) p z (map event_seen (drop (n + 1) es))) c.tell_event.new.report new r) (sym (events_more p v es n (n + 1) e refl c.loop-event-test.true c.event-item.is)) next in
           i.whole v s new r (subst (λ t. Prints t c.loop-event.report new r) (sym (lines_drop (words_of d) p u es n (n + 1) e refl c.loop-event-test.true c.event-item.is))
-            (Prints-second _ _ c.loop-event.report c.tell_event.new.report new r one rest));
+          (Prints-second _ _ c.loop-event.report c.tell_event.new.report new r one rest));
     }
 
 pub returns-in_err-tell_event-clause-prints : goal.returns-in_err-tell_event-clause-prints
@@ -77,8 +77,8 @@ returns-in_err-tell_event-clause-some g c =
     let e = c.event-item.result in
     let x = c.tell_event.new.world in
     let kept : (v : V.World) → Shows g.W.Workspace c.args.world.now v → (k : ℕ) × Shows g.W.Workspace x (V.run p v (take k (all_moves p v (map event_seen es)))) = λ v s.
-        let u = after_events p v (map event_seen (take n es)) in
-        let h = c.in_err-tell_event.ensures.some u (i.after v s) in
-        let b = some_before p v es n e c.loop-event-test.true c.event-item.is h.0 in
-        (b.0, subst (Shows g.W.Workspace x) (sym b.1) (subst (λ (a : Accepted). Shows g.W.Workspace x (V.run (grammar_of a.grammar) u (take h.0 (moves_of (grammar_of a.grammar) u (event_seen e))))) i.accepted h.1)) in
+    let u = after_events p v (map event_seen (take n es)) in
+    let h = c.in_err-tell_event.ensures.some u (i.after v s) in
+    let b = some_before p v es n e c.loop-event-test.true c.event-item.is h.0 in
+    (b.0, subst (Shows g.W.Workspace x) (sym b.1) (subst (λ (a : Accepted). Shows g.W.Workspace x (V.run (grammar_of a.grammar) u (take h.0 (moves_of (grammar_of a.grammar) u (event_seen e))))) i.accepted h.1)) in
     on_err _ kept

@@ -11,7 +11,7 @@ use Rattle.aw_replay.proofs.telling.choice_lines.Goals as goal
 pub returns-in_err-tell_choice-clause-some : goal.returns-in_err-tell_choice-clause-some
 returns-in_err-tell_choice-clause-some g c =
     let kept : DoesSome g.W.Workspace c.args.world.now c.tell_choice.new.world (E.Chooses (choice_of c.args.choice.now)) =
-        λ v s. some_step g.W.Workspace c.args.world.now c.tell_choice.new.world (V.Chooses (choice_of c.args.choice.now)) c.in_err-tell_choice.ensures.some v s in
+    λ v s. some_step g.W.Workspace c.args.world.now c.tell_choice.new.world (V.Chooses (choice_of c.args.choice.now)) c.in_err-tell_choice.ensures.some v s in
     on_err _ kept
 
 pub returns-clause-tells : goal.returns-clause-tells

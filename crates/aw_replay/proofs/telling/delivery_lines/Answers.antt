@@ -10,7 +10,7 @@ use Rattle.aw_replay.proofs.telling.delivery_lines.Goals as goal
 pub returns-in_err-tell_delivery-clause-some : goal.returns-in_err-tell_delivery-clause-some
 returns-in_err-tell_delivery-clause-some g c =
     let kept : DoesSome g.W.Workspace c.args.world.now c.tell_delivery.new.world (E.Delivers c.args.number) =
-        λ v s. some_step g.W.Workspace c.args.world.now c.tell_delivery.new.world (V.Delivers c.args.number) c.in_err-tell_delivery.ensures.some v s in
+    λ v s. some_step g.W.Workspace c.args.world.now c.tell_delivery.new.world (V.Delivers c.args.number) c.in_err-tell_delivery.ensures.some v s in
     on_err _ kept
 
 pub returns-clause-tells : goal.returns-clause-tells

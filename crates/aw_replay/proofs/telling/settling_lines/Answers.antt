@@ -9,7 +9,7 @@ use Rattle.aw_replay.proofs.telling.settling_lines.Goals as goal
 pub returns-in_err-tell_settle-clause-some : goal.returns-in_err-tell_settle-clause-some
 returns-in_err-tell_settle-clause-some g c =
     let kept : DoesSome g.W.Workspace c.args.world.now c.tell_settle.new.world E.Settles =
-        some_settled g.W.Workspace c.args.world.now c.tell_settle.new.world c.in_err-tell_settle.ensures.some in
+    some_settled g.W.Workspace c.args.world.now c.tell_settle.new.world c.in_err-tell_settle.ensures.some in
     on_err _ kept
 
 pub returns-clause-tells : goal.returns-clause-tells

@@ -40,7 +40,7 @@ loop-number-preserved g c =
     let en : n ≡ suc m = omega (arith, i.counts, o.0, o.1) in
     let ea : x.accepted.now ≡ c.args.world.now.accepted.now = c.tell_delivery.ensures.accepted ∙ i.accepted in
     let so = settled_on g.W.Workspace w x k first c.in_ok-tell_delivery.ensures.stepped p (ap (λ (a : Accepted). grammar_of a.grammar) i.accepted)
-          (λ v. Shows g.W.Workspace c.args.world.now v) (count_set c.args.world.now.marks.delivered.items) i.counts i.settled in
+    (λ v. Shows g.W.Workspace c.args.world.now v) (count_set c.args.world.now.marks.delivered.items) i.counts i.settled in
     record {
       accepted = ea;
       loads = c.tell_delivery.ensures.loads ∙ i.loads;
@@ -50,10 +50,10 @@ loop-number-preserved g c =
           let u = V.settle m p v in
           let b = bound_of p v.taken in
           let t : bound_of (grammar_of x.accepted.now.grammar) (map choice_of x.taken.items) ≡ b =
-              ap (λ (a : Accepted). bound_of (grammar_of a.grammar) (map choice_of x.taken.items)) ea ∙ ap (bound_of p) (sym (so v s).taken ∙ settle_taken p n v) in
+          ap (λ (a : Accepted). bound_of (grammar_of a.grammar) (map choice_of x.taken.items)) ea ∙ ap (bound_of p) (sym (so v s).taken ∙ settle_taken p n v) in
           let l = bounded g.W.Workspace x in
           let told : c.tell_delivery.new.text ≡ c.loop-number.text ++ move_lines (words_of d) u (V.Delivers k) (V.deliver p u k) =
-              c.in_ok-tell_delivery.ensures.text u (i.settled v s) ∙ ap (λ (a : Accepted). c.loop-number.text ++ move_lines (words_of a.grammar) u (V.Delivers k) (V.deliver (grammar_of a.grammar) u k)) i.accepted in
+          c.in_ok-tell_delivery.ensures.text u (i.settled v s) ∙ ap (λ (a : Accepted). c.loop-number.text ++ move_lines (words_of a.grammar) u (V.Delivers k) (V.deliver (grammar_of a.grammar) u k)) i.accepted in
           ap (λ z. z ++ settle_lines (b - n) n (words_of d) p (V.settle n p v)) told
           ∙ append_assoc c.loop-number.text (move_lines (words_of d) u (V.Delivers k) (V.deliver p u k)) (settle_lines (b - n) n (words_of d) p (V.settle n p v))
           ∙ ap (λ z. c.loop-number.text ++ z) (lines_more (words_of d) p v b m n k (ap (V.first_false 0) (i.settled v s).delivered ∙ first) en (omega (arith, l, t)))
@@ -70,13 +70,17 @@ returns-in_err-tell_delivery-clause-some g c =
     let m = count_set w.marks.delivered.items - count_set c.args.world.now.marks.delivered.items in
     let b = room_left g.W.Workspace w k (sym c.quiet.ensures ∙ c.in-Some.is) in
     let kept : SettlesSome g.W.Workspace c.args.world.now x = λ v s.
-        let t : bound_of (grammar_of w.accepted.now.grammar) (map choice_of w.taken.items) ≡ bound_of p v.taken =
-            ap (λ (a : Accepted). bound_of (grammar_of a.grammar) (map choice_of w.taken.items)) i.accepted ∙ ap (bound_of p) (sym (i.settled v s).taken ∙ settle_taken p m v) in
-        elim (c.in_err-tell_delivery.ensures.some (V.settle m p v) (i.settled v s)) [
-          | inl S ↦ (m, omega (arith, b, t), S)
-          | inr S ↦ (suc m, omega (arith, b, t), subst (Shows g.W.Workspace x) (sym (settle_more p m v k (ap (V.first_false 0) (i.settled v s).delivered ∙ (sym c.quiet.ensures ∙ c.in-Some.is))))
-              (subst (λ (a : Accepted). Shows g.W.Workspace x (V.deliver (grammar_of a.grammar) (V.settle m p v) k).world) i.accepted S))
-        ] in
+    let t : bound_of (grammar_of w.accepted.now.grammar) (map choice_of w.taken.items) ≡ bound_of p v.taken =
+    ap (λ (a : Accepted). bound_of (grammar_of a.grammar) (map choice_of w.taken.items)) i.accepted ∙ ap (bound_of p) (sym (i.settled v s).taken ∙ settle_taken p m v) in
+    elim (c.in_err-tell_delivery.ensures.some (V.settle m p v) (i.settled v s)) [
+      | inl S ↦ (m, omega (arith, b, t), S)
+      | inr S ↦ (
+        suc m,
+        omega (arith, b, t),
+        subst (Shows g.W.Workspace x) (sym (settle_more p m v k (ap (V.first_false 0) (i.settled v s).delivered ∙ (sym c.quiet.ensures ∙ c.in-Some.is))))
+            (subst (λ (a : Accepted). Shows g.W.Workspace x (V.deliver (grammar_of a.grammar) (V.settle m p v) k).world) i.accepted S),
+      )
+    ] in
     on_err _ kept
 
 pub returns-clause-settled : goal.returns-clause-settled
@@ -107,7 +111,7 @@ returns-clause-some g c =
     let m = count_set w.marks.delivered.items - count_set c.args.world.now.marks.delivered.items in
     let b = bounded g.W.Workspace w in
     let kept : SettlesSome g.W.Workspace c.args.world.now w = λ v s.
-        let t : bound_of (grammar_of w.accepted.now.grammar) (map choice_of w.taken.items) ≡ bound_of p v.taken =
-            ap (λ (a : Accepted). bound_of (grammar_of a.grammar) (map choice_of w.taken.items)) i.accepted ∙ ap (bound_of p) (sym (i.settled v s).taken ∙ settle_taken p m v) in
-        (m, omega (arith, b, t), i.settled v s) in
+    let t : bound_of (grammar_of w.accepted.now.grammar) (map choice_of w.taken.items) ≡ bound_of p v.taken =
+    ap (λ (a : Accepted). bound_of (grammar_of a.grammar) (map choice_of w.taken.items)) i.accepted ∙ ap (bound_of p) (sym (i.settled v s).taken ∙ settle_taken p m v) in
+    (m, omega (arith, b, t), i.settled v s) in
     on_err _ kept

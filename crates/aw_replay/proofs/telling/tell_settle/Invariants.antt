@@ -18,9 +18,9 @@ invariant-loop-number g l = record {
       Shows g.W.Workspace l.world (V.settle (count_set l.world.marks.delivered.items - count_set l.initial.world.marks.delivered.items) (grammar_of l.initial.world.accepted.now.grammar) v);
   lines : (v : V.World) → Shows g.W.Workspace l.initial.world v →
       l.text ++ settle_lines (bound_of (grammar_of l.initial.world.accepted.now.grammar) v.taken - (count_set l.world.marks.delivered.items - count_set l.initial.world.marks.delivered.items))
-          (count_set l.world.marks.delivered.items - count_set l.initial.world.marks.delivered.items)
-          (words_of l.initial.world.accepted.now.grammar) (grammar_of l.initial.world.accepted.now.grammar)
-          (V.settle (count_set l.world.marks.delivered.items - count_set l.initial.world.marks.delivered.items) (grammar_of l.initial.world.accepted.now.grammar) v)
+      (count_set l.world.marks.delivered.items - count_set l.initial.world.marks.delivered.items)
+      (words_of l.initial.world.accepted.now.grammar) (grammar_of l.initial.world.accepted.now.grammar)
+      (V.settle (count_set l.world.marks.delivered.items - count_set l.initial.world.marks.delivered.items) (grammar_of l.initial.world.accepted.now.grammar) v)
       ≡ l.initial.text ++ settle_lines (bound_of (grammar_of l.initial.world.accepted.now.grammar) v.taken) 0 (words_of l.initial.world.accepted.now.grammar) (grammar_of l.initial.world.accepted.now.grammar) v;
 }
 
