@@ -1,0 +1,8 @@
+use Rattle.std.proofs.Common.{◌≡◌, ◌++◌, take, codes, flat_map}
+use Rattle.aw_grammar.specs.GrammarOf.{words_of}
+use Rattle.aw_react.specs.Transcripts.{equation_text}
+use Rattle.aw_store.specs.EquationView.{equation_of}
+use Rattle.aw_replay.proofs.sent.push_following.Given as goal
+
+abbrev pub invariant-loop-e : goal.invariant-loop-e
+invariant-loop-e l = l.text ≡ l.initial.text ++ flat_map (λ e. codes "; " ++ equation_text (words_of l.g) (equation_of e)) (take l.e-index l.es)

@@ -1,0 +1,11 @@
+use Rattle.std.proofs.Common.{◌≡◌, ◌++◌, drop, map}
+use Rattle.aw_grammar.specs.GrammarOf.{grammar_of, words_of}
+use Rattle.aw_msg.specs.MessageView.{message_of}
+use Rattle.aw_react.specs.Transcripts.{sent_lines}
+use Rattle.aw_replay.proofs.sent.push_sent.Given as goal
+
+-- the lines so far, and those that are left
+abbrev pub invariant-loop-number : goal.invariant-loop-number
+invariant-loop-number l =
+    l.text ++ sent_lines (words_of l.g) l.number (drop l.number (map (message_of (grammar_of l.g)) l.messages))
+    ≡ l.initial.text ++ sent_lines (words_of l.g) l.from (drop l.from (map (message_of (grammar_of l.g)) l.messages))

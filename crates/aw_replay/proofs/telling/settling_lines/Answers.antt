@@ -1,0 +1,18 @@
+use Rattle.std.proofs.Common.{◌≡◌, ℕ, ◌++◌, take, ap, ◌∙◌}
+use Rattle.aw_choice.specs.Events as E
+use Rattle.aw_react.specs.Outputs.{event_lines}
+use Rattle.aw_world.proofs.Pairings.{on_err}
+use Rattle.aw_replay.specs.Telling.{plain_of, named_by, DoesSome}
+use Rattle.aw_replay.proofs.Arms.{some_settled}
+use Rattle.aw_replay.proofs.telling.settling_lines.Goals as goal
+
+pub returns-in_err-tell_settle-clause-some : goal.returns-in_err-tell_settle-clause-some
+returns-in_err-tell_settle-clause-some g c =
+    let kept : DoesSome g.W.Workspace c.args.world.now c.tell_settle.new.world E.Settles =
+    some_settled g.W.Workspace c.args.world.now c.tell_settle.new.world c.in_err-tell_settle.ensures.some in
+    on_err _ kept
+
+pub returns-clause-tells : goal.returns-clause-tells
+returns-clause-tells g c = λ v s.
+    let w = c.args.world.now in
+    c.in_ok-tell_settle.ensures.text v s ∙ ap (λ t. t ++ event_lines (named_by w) (plain_of w) v E.Settles) c.new-text.ensures

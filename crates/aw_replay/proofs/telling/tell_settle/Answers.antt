@@ -1,0 +1,117 @@
+use Rattle.std.proofs.Common.{◌≡◌, ℕ, suc, ◌-◌, ◌<◌, ◌≤◌, ◌++◌, ap, sym, ◌∙◌, arith, subst, map, append_assoc, inl, inr, codes}
+use Rattle.std.specs.Fmt.{decimal}
+use Rattle.std.specs.Prelude.{◌⊎◌, Some, None}
+use Rattle.std.proofs.lemmas.Result.{on_ok_weaker}
+use Rattle.aw_choice.specs.ChoiceView.{choice_of}
+use Rattle.aw_grammar.specs.GrammarOf.{grammar_of, words_of}
+use Rattle.aw_accept.specs.declared.accepted.Accepted.{Accepted}
+use Rattle.aw_react.specs.Worlds as V
+use Rattle.aw_react.specs.Transcripts.{move_lines, settle_lines}
+use Rattle.aw_react.specs.Worlds.{count_set}
+use Rattle.aw_react.specs.Bounds.{bound_of}
+use Rattle.aw_world.specs.Shown.{Shows}
+use Rattle.aw_world.proofs.Pairings.{on_err}
+use Rattle.aw_merge.proofs.Settling.{settle_more, settle_taken}
+use Rattle.aw_world.proofs.Settles.{room_left, fewer_left, one_more, settled_on, settled_whole, bounded}
+use Rattle.aw_replay.specs.Telling.{SettlesSome}
+use Rattle.aw_replay.proofs.LineParts.{lines_more, lines_end}
+use Rattle.aw_replay.proofs.telling.tell_settle.Goals as goal
+
+pub loop-number-smaller : goal.loop-number-smaller
+loop-number-smaller g c =
+    let w = c.loop-number.world in
+    let x = c.tell_delivery.new.world in
+    subst (λ (a : Accepted). bound_of (grammar_of a.grammar) (map choice_of x.taken.items) - count_set x.marks.delivered.items < bound_of (grammar_of w.accepted.now.grammar) (map choice_of w.taken.items) - count_set w.marks.delivered.items)
+    (sym c.tell_delivery.ensures.accepted)
+    (fewer_left g.W.Workspace w x c.in-Some.number (sym c.quiet.ensures ∙ c.in-Some.is) c.in_ok-tell_delivery.ensures.stepped)
+
+pub loop-number-preserved : goal.loop-number-preserved
+loop-number-preserved g c =
+    let w = c.loop-number.world in
+    let x = c.tell_delivery.new.world in
+    let i = c.loop-number.invariant in
+    let k = c.in-Some.number in
+    let first = sym c.quiet.ensures ∙ c.in-Some.is in
+    let o = one_more g.W.Workspace w x k first c.in_ok-tell_delivery.ensures.stepped in
+    let d = c.args.world.now.accepted.now.grammar in
+    let p = grammar_of d in
+    let m = count_set w.marks.delivered.items - count_set c.args.world.now.marks.delivered.items in
+    let n = count_set x.marks.delivered.items - count_set c.args.world.now.marks.delivered.items in
+    let en : n ≡ suc m = omega (arith, i.counts, o.0, o.1) in
+    let ea : x.accepted.now ≡ c.args.world.now.accepted.now = c.tell_delivery.ensures.accepted ∙ i.accepted in
+    let so = settled_on g.W.Workspace w x k first c.in_ok-tell_delivery.ensures.stepped p (ap (λ (a : Accepted). grammar_of a.grammar) i.accepted)
+    (λ v. Shows g.W.Workspace c.args.world.now v) (count_set c.args.world.now.marks.delivered.items) i.counts i.settled in
+    record {
+      accepted = ea;
+      loads = c.tell_delivery.ensures.loads ∙ i.loads;
+      counts = omega (arith, i.counts, o.0, o.1);
+      settled = so;
+      lines = λ v s.
+          let u = V.settle m p v in
+          let b = bound_of p v.taken in
+          let t : bound_of (grammar_of x.accepted.now.grammar) (map choice_of x.taken.items) ≡ b =
+          ap (λ (a : Accepted). bound_of (grammar_of a.grammar) (map choice_of x.taken.items)) ea ∙ ap (bound_of p) (sym (so v s).taken ∙ settle_taken p n v) in
+          let l = bounded g.W.Workspace x in
+          let told : c.tell_delivery.new.text ≡ c.loop-number.text ++ move_lines (words_of d) u (V.Delivers k) (V.deliver p u k) =
+          c.in_ok-tell_delivery.ensures.text u (i.settled v s) ∙ ap (λ (a : Accepted). c.loop-number.text ++ move_lines (words_of a.grammar) u (V.Delivers k) (V.deliver (grammar_of a.grammar) u k)) i.accepted in
+          ap (λ z. z ++ settle_lines (b - n) n (words_of d) p (V.settle n p v)) told
+          ∙ append_assoc c.loop-number.text (move_lines (words_of d) u (V.Delivers k) (V.deliver p u k)) (settle_lines (b - n) n (words_of d) p (V.settle n p v))
+          ∙ ap (λ z. c.loop-number.text ++ z) (lines_more (words_of d) p v b m n k (ap (V.first_false 0) (i.settled v s).delivered ∙ first) en (omega (arith, l, t)))
+          ∙ i.lines v s;
+    }
+
+pub returns-in_err-tell_delivery-clause-some : goal.returns-in_err-tell_delivery-clause-some
+returns-in_err-tell_delivery-clause-some g c =
+    let w = c.loop-number.world in
+    let x = c.tell_delivery.new.world in
+    let i = c.loop-number.invariant in
+    let k = c.in-Some.number in
+    let p = grammar_of c.args.world.now.accepted.now.grammar in
+    let m = count_set w.marks.delivered.items - count_set c.args.world.now.marks.delivered.items in
+    let b = room_left g.W.Workspace w k (sym c.quiet.ensures ∙ c.in-Some.is) in
+    let kept : SettlesSome g.W.Workspace c.args.world.now x = λ v s.
+    let t : bound_of (grammar_of w.accepted.now.grammar) (map choice_of w.taken.items) ≡ bound_of p v.taken =
+    ap (λ (a : Accepted). bound_of (grammar_of a.grammar) (map choice_of w.taken.items)) i.accepted ∙ ap (bound_of p) (sym (i.settled v s).taken ∙ settle_taken p m v) in
+    elim (c.in_err-tell_delivery.ensures.some (V.settle m p v) (i.settled v s)) [
+      | inl S ↦ (m, omega (arith, b, t), S)
+      | inr S ↦ (
+        suc m,
+        omega (arith, b, t),
+        subst (Shows g.W.Workspace x) (sym (settle_more p m v k (ap (V.first_false 0) (i.settled v s).delivered ∙ (sym c.quiet.ensures ∙ c.in-Some.is))))
+            (subst (λ (a : Accepted). Shows g.W.Workspace x (V.deliver (grammar_of a.grammar) (V.settle m p v) k).world) i.accepted S),
+      )
+    ] in
+    on_err _ kept
+
+pub returns-clause-settled : goal.returns-clause-settled
+returns-clause-settled g c = on_ok_weaker c.push_settled.result (λ e v s.
+    let w = c.loop-number.world in
+    let i = c.loop-number.invariant in
+    settled_whole g.W.Workspace w (grammar_of c.args.world.now.accepted.now.grammar) (ap (λ (a : Accepted). grammar_of a.grammar) i.accepted) (count_set c.args.world.now.marks.delivered.items) v
+    (sym c.quiet.ensures ∙ c.in_default.is) (i.settled v s)) c.push_settled.ensures
+
+pub returns-clause-text : goal.returns-clause-text
+returns-clause-text g c = on_ok_weaker c.push_settled.result (λ e v s.
+    let w = c.loop-number.world in
+    let i = c.loop-number.invariant in
+    let d = c.args.world.now.accepted.now.grammar in
+    let p = grammar_of d in
+    let m = count_set w.marks.delivered.items - count_set c.args.world.now.marks.delivered.items in
+    let b = bound_of p v.taken in
+    let ec : c.delivered.result - c.delivered-before.result ≡ m = omega (arith, c.delivered.ensures, c.delivered-before.ensures) in
+    e ∙ ap (λ j. c.loop-number.text ++ (codes "settled " ++ (decimal j ++ codes "\n"))) ec
+    ∙ ap (λ z. c.loop-number.text ++ z) (sym (lines_end (words_of d) p (V.settle m p v) (b - m) m (ap (V.first_false 0) (i.settled v s).delivered ∙ (sym c.quiet.ensures ∙ c.in_default.is))))
+    ∙ i.lines v s) c.push_settled.ensures
+
+pub returns-clause-some : goal.returns-clause-some
+returns-clause-some g c =
+    let w = c.loop-number.world in
+    let i = c.loop-number.invariant in
+    let p = grammar_of c.args.world.now.accepted.now.grammar in
+    let m = count_set w.marks.delivered.items - count_set c.args.world.now.marks.delivered.items in
+    let b = bounded g.W.Workspace w in
+    let kept : SettlesSome g.W.Workspace c.args.world.now w = λ v s.
+    let t : bound_of (grammar_of w.accepted.now.grammar) (map choice_of w.taken.items) ≡ bound_of p v.taken =
+    ap (λ (a : Accepted). bound_of (grammar_of a.grammar) (map choice_of w.taken.items)) i.accepted ∙ ap (bound_of p) (sym (i.settled v s).taken ∙ settle_taken p m v) in
+    (m, omega (arith, b, t), i.settled v s) in
+    on_err _ kept

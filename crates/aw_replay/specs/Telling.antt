@@ -1,0 +1,113 @@
+-- What telling events does: to a world, and to a text.
+use Rattle.std.specs.Prelude.{◌≡◌, ◌≤◌, ℕ, Bool, List, [], ◌∷◌, ◌++◌, map, drop, take, codes, Some, ◌⊎◌}
+use Rattle.std.specs.Fmt.{decimal}
+use Rattle.std.specs.declared.result.Result.{Result}
+use Rattle.aw_term.specs.Artifacts.{Words}
+use Rattle.aw_term.specs.Choices.{undivided}
+use Rattle.aw_term.specs.Configs.{Config}
+use Rattle.aw_term.specs.Runs.{artifacts}
+use Rattle.aw_term.specs.Rules.{Grammar}
+use Rattle.aw_grammar.specs.declared.grammar.Grammar as made
+use Rattle.aw_grammar.specs.GrammarOf.{grammar_of, words_of}
+use Rattle.aw_choice.specs.ChoiceView.{choice_of}
+use Rattle.aw_choice.specs.Events.{Event, Settles}
+use Rattle.aw_msg.specs.declared.message.Message.{Message}
+use Rattle.aw_msg.specs.MessageView.{message_of}
+use Rattle.aw_out.specs.declared.error.PrintFault.{PrintFault}
+use Rattle.aw_out.specs.Report.{Bounded, Prints}
+use Rattle.aw_react.specs.Bounds.{bound_of, settled}
+use Rattle.aw_react.specs.Outputs.{after_event, after_events, event_lines, all_lines, moves_of, all_moves, ending}
+use Rattle.aw_react.specs.Transcripts.{sent_lines, move_lines, settle_lines}
+use Rattle.aw_react.specs.Worlds as V
+use Rattle.aw_world.specs.declared.workspace.Workspace.{Ghosts}
+use Rattle.aw_world.specs.declared.world.World.{World}
+use Rattle.aw_world.specs.Shown.{Shows}
+
+-- the lines of the messages of the program from a number on
+abbrev pub sent_after : made.Grammar → ℕ → List Message → List ℕ
+sent_after d n ms = sent_lines (words_of d) n (drop n (map (message_of (grammar_of d)) ms))
+
+-- `undelivered 3`
+abbrev pub undelivered_line : ℕ → List ℕ
+undelivered_line n = codes "undelivered " ++ (decimal n ++ codes "\n")
+
+-- `artifacts 2`
+abbrev pub artifacts_line : ℕ → List ℕ
+artifacts_line n = codes "artifacts " ++ (decimal n ++ codes "\n")
+
+-- behind each settling among these events no message is undelivered
+abbrev pub SettlingEnds : Grammar → Bool → List Event → Type 0
+SettlingEnds g loads es =
+    (before later : List Event) → es ≡ before ++ Settles ∷ later → V.IsQuiet (settled g (after_events g (V.empty_world g loads) before))
+
+-- the grammar of a world, and its words
+abbrev pub plain_of : {W : Type 0} {f : Ghosts W} → World W f → Grammar
+plain_of w = grammar_of w.accepted.now.grammar
+
+abbrev pub named_by : {W : Type 0} {f : Ghosts W} → World W f → Words
+named_by w = words_of w.accepted.now.grammar
+
+module _ {W : Type 0} (f : Ghosts W) where
+  -- ---- one choice or delivery: whatever plain world is seen before, the one behind it is seen after
+  abbrev pub Steps : World W f → World W f → V.Move → Type 0
+  Steps old new e = (v : V.World) → Shows f old v → Shows f new (V.step (plain_of old) v e).world
+
+  -- its lines were added to a text
+  abbrev pub AddsStep : World W f → V.Move → List ℕ → List ℕ → Type 0
+  AddsStep old e before after = (v : V.World) → Shows f old v → after ≡ before ++ move_lines (named_by old) v e (V.step (plain_of old) v e)
+
+  -- it was made, or nothing was
+  abbrev pub StepsOrNot : World W f → World W f → V.Move → Type 0
+  StepsOrNot old new e = (v : V.World) → Shows f old v → Shows f new v ⊎ Shows f new (V.step (plain_of old) v e).world
+
+  -- ---- settling
+  abbrev pub IsSettled : World W f → World W f → Type 0
+  IsSettled old new = (v : V.World) → Shows f old v → Shows f new (settled (plain_of old) v)
+
+  -- the lines of settling were added to a text
+  abbrev pub AddsSettling : World W f → List ℕ → List ℕ → Type 0
+  AddsSettling old before after = (v : V.World) → Shows f old v → after ≡ before ++ settle_lines (bound_of (plain_of old) v.taken) 0 (named_by old) (plain_of old) v
+
+  -- some of its deliveries were made
+  abbrev pub SettlesSome : World W f → World W f → Type 0
+  SettlesSome old new = (v : V.World) → Shows f old v → (n : ℕ) × (n ≤ bound_of (plain_of old) v.taken) × Shows f new (V.settle n (plain_of old) v)
+
+  -- ---- one event
+  abbrev pub Does : World W f → World W f → Event → Type 0
+  Does old new e = (v : V.World) → Shows f old v → Shows f new (after_event (plain_of old) v e)
+
+  -- the text is its lines
+  abbrev pub Tells : World W f → Event → List ℕ → Type 0
+  Tells old e text = (v : V.World) → Shows f old v → text ≡ event_lines (named_by old) (plain_of old) v e
+
+  -- its lines are printed
+  abbrev pub PrintsEvent : World W f → Event → Bounded → Bounded → Result Unit PrintFault → Type 0
+  PrintsEvent w e old new result = (v : V.World) → Shows f w v → Prints (event_lines (named_by w) (plain_of w) v e) old new result
+
+  -- some first choices and deliveries of it were made
+  abbrev pub DoesSome : World W f → World W f → Event → Type 0
+  DoesSome old new e = (v : V.World) → Shows f old v → (n : ℕ) × Shows f new (V.run (plain_of old) v (take n (moves_of (plain_of old) v e)))
+
+  -- ---- a list of events
+  abbrev pub DoesAll : World W f → World W f → List Event → Type 0
+  DoesAll old new es = (v : V.World) → Shows f old v → Shows f new (after_events (plain_of old) v es)
+
+  -- their lines are printed
+  abbrev pub PrintsAll : World W f → List Event → Bounded → Bounded → Result Unit PrintFault → Type 0
+  PrintsAll w es old new result = (v : V.World) → Shows f w v → Prints (all_lines (named_by w) (plain_of w) v es) old new result
+
+  -- some first choices and deliveries of theirs were made, in order; settling counts delivery by delivery
+  abbrev pub DoesFirst : World W f → World W f → List Event → Type 0
+  DoesFirst old new es = (v : V.World) → Shows f old v → (n : ℕ) × Shows f new (V.run (plain_of old) v (take n (all_moves (plain_of old) v es)))
+
+  -- ---- behind all events
+  abbrev pub PrintsEnding : World W f → Bounded → Bounded → Result Unit PrintFault → Type 0
+  PrintsEnding w old new result = (v : V.World) → Shows f w v → Prints (ending (named_by w) (plain_of w) v) old new result
+
+  -- the artifacts of the choices taken are printed
+  abbrev pub PrintsQuiet : World W f → Bounded → Bounded → Result Unit PrintFault → Type 0
+  PrintsQuiet w old new result = (c : Config) → undivided (plain_of w) [] (map choice_of w.taken.items) ≡ Some c → Prints (artifacts (named_by w) c) old new result
+
+  -- ---- the world to begin with: no role holds anything, and no message was sent
+  abbrev pub IsNew : World W f → Type 0
+  IsNew w = Shows f w (V.empty_world (plain_of w) w.loads)

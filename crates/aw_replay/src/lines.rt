@@ -1,0 +1,94 @@
+//! The lines of events.
+ghost use Rattle.std.specs.Prelude.{◌≡◌, ◌++◌, [], codes, decimal, map, drop, OnOk};
+ghost use Rattle.aw_choice.specs.ChoiceView.{choice_of, answer_of};
+ghost use Rattle.aw_grammar.specs.GrammarOf.{grammar_of, words_of};
+ghost use Rattle.aw_msg.specs.MessageView.{message_of};
+ghost use Rattle.aw_react.specs.Transcripts.{answered, deliver_line};
+ghost use Rattle.aw_term.specs.Runs.{answer_line};
+ghost use Rattle.aw_world.specs.MoveView.{reply_of};
+ghost use Rattle.aw_replay.specs.Telling.{sent_after};
+
+use crate::sent::push_sent;
+use aw_base::push_choice_line;
+use aw_choice::{Answer, Choice};
+use aw_grammar::Grammar;
+use aw_list::Text;
+use aw_msg::Message;
+use aw_text::push_number;
+use aw_world::Reply;
+use std::alloc::AllocError;
+
+/// Adds the line of a choice and what it was answered.
+fn push_answered(
+    text: &mut Text,
+    g: &Grammar,
+    choice: &Choice,
+    reply: &Reply,
+) -> Result<(), AllocError>
+    ensures { OnOk result (text.new ≡ text.old ++ answer_line (words_of g.now) (choice_of choice.now) (answered (reply_of reply.now))) }
+{
+    match reply {
+        Reply::Choice(answer) => push_choice_line(text, g, choice, answer),
+        _ => push_choice_line(text, g, choice, &Answer::NotHere),
+    }
+}
+
+/// Adds what was replied to a delivery.
+fn push_with(text: &mut Text, number: u64, reply: &[u8]) -> Result<(), AllocError>
+    ensures { OnOk result (text.new ≡ text.old ++ (codes "deliver " ++ (decimal number ++ reply.now))) }
+{
+    text.push_bytes(b"deliver ")?;
+    push_number(text, number)?;
+    text.push_bytes(reply)
+}
+
+/// Adds the line of a delivery.
+fn push_delivered(text: &mut Text, number: u64, reply: &Reply) -> Result<(), AllocError>
+    ensures { OnOk result (text.new ≡ text.old ++ deliver_line number (reply_of reply.now)) }
+{
+    match reply {
+        Reply::Choice(_) => Ok(()),
+        Reply::New => push_with(text, number, b": new\n"),
+        Reply::Again => push_with(text, number, b": again\n"),
+        Reply::NoMessage => push_with(text, number, b": no message\n"),
+    }
+}
+
+/// Adds the line that ends a settling.
+pub(crate) fn push_settled(text: &mut Text, count: u64) -> Result<(), AllocError>
+    ensures { OnOk result (text.new ≡ text.old ++ (codes "settled " ++ (decimal count ++ codes "\n"))) }
+{
+    text.push_bytes(b"settled ")?;
+    push_number(text, count)?;
+    text.push_bytes(b"\n")
+}
+
+/// Adds the lines of a delivery and of what it sent.
+pub(crate) fn push_delivery(
+    text: &mut Text,
+    g: &Grammar,
+    number: u64,
+    reply: Reply,
+    messages: &[Message],
+    before: usize,
+) -> Result<(), AllocError>
+    ensures { OnOk result (text.new ≡ text.old ++ (deliver_line number (reply_of reply) ++ sent_after g.now before messages.now)) }
+{
+    push_delivered(text, number, &reply)?;
+    push_sent(text, g, messages, before)
+}
+
+/// Adds the lines of a choice and of what it sent.
+pub(crate) fn push_chosen(
+    text: &mut Text,
+    g: &Grammar,
+    choice: &Choice,
+    reply: Reply,
+    messages: &[Message],
+    before: usize,
+) -> Result<(), AllocError>
+    ensures { OnOk result (text.new ≡ text.old ++ (answer_line (words_of g.now) (choice_of choice.now) (answered (reply_of reply)) ++ sent_after g.now before messages.now)) }
+{
+    push_answered(text, g, choice, &reply)?;
+    push_sent(text, g, messages, before)
+}

@@ -1,0 +1,90 @@
+//! Events replayed in a world.
+ghost use Rattle.std.specs.Prelude.{◌≡◌, ◌<◌, length, map, Err, IfOk, OnOk, OnErr};
+ghost use Rattle.aw_merge.specs.Headline.{HeadlineHolds};
+ghost use Rattle.aw_out.specs.Report.{Prints};
+ghost use Rattle.aw_react.specs.Outputs.{output_of};
+ghost use Rattle.aw_sched.specs.Answers.{event_seen, MayCome};
+ghost use Rattle.aw_term.specs.WellFormed.{Each};
+ghost use Rattle.aw_replay.specs.Telling.{plain_of, named_by, Does, DoesSome, PrintsEvent, DoesAll, DoesFirst, PrintsAll, IsNew, SettlingEnds};
+
+use crate::ending::print_ending;
+use crate::telling::tell;
+use aw_out::{OUTPUT_LIMIT, PrintFault, Report};
+use aw_sched::Event;
+use aw_world::{Workspace, World};
+
+/// Does what an event asks for, and prints its lines. After an error some first choices and deliveries of it were made.
+fn tell_event<W: Workspace>(
+    world: &mut World<W>,
+    event: &Event,
+    report: &mut Report,
+) -> Result<(), PrintFault>
+    requires { MayCome (plain_of world.old) event.now }
+    ensures accepted { world.new.accepted.now ≡ world.old.accepted.now }
+    ensures loads { world.new.loads ≡ world.old.loads }
+    ensures does { OnOk result (Does ⟦<W as Workspace>⟧ world.old world.new (event_seen event.now)) }
+    ensures prints { PrintsEvent ⟦<W as Workspace>⟧ world.old (event_seen event.now) report.old report.new result }
+    ensures some { OnErr result (DoesSome ⟦<W as Workspace>⟧ world.old world.new (event_seen event.now)) }
+{
+    let text = tell(world, event)?;
+    report.push(text.as_slice())
+}
+
+/// Does what all events ask for, in order, and prints their lines. After an error some first choices and deliveries were made.
+pub fn tell_events<W: Workspace>(
+    world: &mut World<W>,
+    events: &[Event],
+    report: &mut Report,
+) -> Result<(), PrintFault>
+    requires { Each (MayCome (plain_of world.old)) events.now }
+    ensures accepted { world.new.accepted.now ≡ world.old.accepted.now }
+    ensures loads { world.new.loads ≡ world.old.loads }
+    ensures does { OnOk result (DoesAll ⟦<W as Workspace>⟧ world.old world.new (map event_seen events.now)) }
+    ensures prints { PrintsAll ⟦<W as Workspace>⟧ world.old (map event_seen events.now) report.old report.new result }
+    ensures some { OnErr result (DoesFirst ⟦<W as Workspace>⟧ world.old world.new (map event_seen events.now)) }
+{
+    for event in events {
+        tell_event(world, event, report)?;
+    }
+    Ok(())
+}
+
+/// Replays events into a report.
+fn replay_into<W: Workspace>(
+    world: &mut World<W>,
+    events: &[Event],
+    report: &mut Report,
+) -> Result<(), PrintFault>
+    requires may_come { Each (MayCome (plain_of world.old)) events.now }
+    requires new { IsNew ⟦<W as Workspace>⟧ world.old }
+    ensures accepted { world.new.accepted.now ≡ world.old.accepted.now }
+    ensures loads { world.new.loads ≡ world.old.loads }
+    ensures prints { Prints (output_of (named_by world.old) (plain_of world.old) world.old.loads (map event_seen events.now)) report.old report.new result }
+    ensures does { OnOk result (DoesAll ⟦<W as Workspace>⟧ world.old world.new (map event_seen events.now)) }
+    ensures some { OnErr result (DoesFirst ⟦<W as Workspace>⟧ world.old world.new (map event_seen events.now)) }
+{
+    tell_events(world, events, report)?;
+    print_ending(world, report)
+}
+
+/// Replays events in a world in which nothing happened yet: the lines of all events, and then the artifacts where every message was
+/// delivered, and otherwise how many were not. It is too large exactly where the text would be longer than an output may be. After an
+/// error some first choices and deliveries of the events were made in the world.
+pub fn replay<W: Workspace>(world: &mut World<W>, events: &[Event]) -> Result<Report, PrintFault>
+    requires may_come { Each (MayCome (plain_of world.old)) events.now }
+    requires new { IsNew ⟦<W as Workspace>⟧ world.old }
+    ensures accepted { world.new.accepted.now ≡ world.old.accepted.now }
+    ensures loads { world.new.loads ≡ world.old.loads }
+    ensures output { IfOk result (λ report. report.text ≡ output_of (named_by world.old) (plain_of world.old) world.old.loads (map event_seen events.now)) }
+    ensures limit { IfOk result (λ report. report.limit ≡ OUTPUT_LIMIT) }
+    ensures too_large { result ≡ Err PrintFault.TooLarge → OUTPUT_LIMIT < length (output_of (named_by world.old) (plain_of world.old) world.old.loads (map event_seen events.now)) }
+    ensures does { OnOk result (DoesAll ⟦<W as Workspace>⟧ world.old world.new (map event_seen events.now)) }
+    ensures some { OnErr result (DoesFirst ⟦<W as Workspace>⟧ world.old world.new (map event_seen events.now)) }
+    ensures settles { SettlingEnds (plain_of world.old) world.old.loads (map event_seen events.now) }
+    ensures headline { ∥ HeadlineHolds (named_by world.old) (plain_of world.old) world.old.loads (map event_seen events.now) ∥₁ }
+{
+    let mut report = Report::new(world.allocator(), OUTPUT_LIMIT);
+    replay_into(world, events, &mut report)?;
+    let _text = report.bytes();
+    Ok(report)
+}

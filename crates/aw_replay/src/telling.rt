@@ -1,0 +1,152 @@
+//! What an event does in a world, and its lines.
+ghost use Rattle.std.specs.Prelude.{◌≡◌, ◌<◌, true, OnOk, OnErr, IfOk};
+ghost use Rattle.aw_base.specs.ChoiceFits.{choice_ok};
+ghost use Rattle.aw_choice.specs.ChoiceView.{choice_of};
+ghost use Rattle.aw_choice.specs.Events as E;
+ghost use Rattle.aw_react.specs.Worlds as V;
+ghost use Rattle.aw_sched.specs.Answers.{event_seen, MayCome};
+ghost use Rattle.aw_replay.specs.Telling.{plain_of, Steps, AddsStep, StepsOrNot, IsSettled, AddsSettling, SettlesSome, Does, Tells, DoesSome};
+
+use crate::lines::{push_chosen, push_delivery, push_settled};
+use aw_base::{push_item_lines, role_name};
+use aw_choice::{Choice, copy_choice};
+use aw_list::Text;
+use aw_sched::Event;
+use aw_world::{Move, Workspace, World};
+use std::alloc::AllocError;
+
+/// Makes a choice, and adds its lines. After an error it was made or not.
+fn tell_choice<W: Workspace>(
+    world: &mut World<W>,
+    choice: &Choice,
+    text: &mut Text,
+) -> Result<(), AllocError>
+    requires { choice_ok (plain_of world.old) (choice_of choice.now) ≡ true }
+    ensures accepted { world.new.accepted.now ≡ world.old.accepted.now }
+    ensures loads { world.new.loads ≡ world.old.loads }
+    ensures stepped { OnOk result (Steps ⟦<W as Workspace>⟧ world.old world.new (V.Chooses (choice_of choice.now))) }
+    ensures text { OnOk result (AddsStep ⟦<W as Workspace>⟧ world.old (V.Chooses (choice_of choice.now)) text.old text.new) }
+    ensures some { OnErr result (StepsOrNot ⟦<W as Workspace>⟧ world.old world.new (V.Chooses (choice_of choice.now))) }
+{
+    let before = world.messages().len();
+    let copy = copy_choice(choice)?;
+    let reply = world.step(Move::Choose(copy))?;
+    push_chosen(
+        text,
+        world.accepted().grammar(),
+        choice,
+        reply,
+        world.messages(),
+        before,
+    )
+}
+
+/// Delivers a message, and adds its lines. After an error it was delivered or not.
+fn tell_delivery<W: Workspace>(
+    world: &mut World<W>,
+    number: u64,
+    text: &mut Text,
+) -> Result<(), AllocError>
+    ensures accepted { world.new.accepted.now ≡ world.old.accepted.now }
+    ensures loads { world.new.loads ≡ world.old.loads }
+    ensures stepped { OnOk result (Steps ⟦<W as Workspace>⟧ world.old world.new (V.Delivers number)) }
+    ensures text { OnOk result (AddsStep ⟦<W as Workspace>⟧ world.old (V.Delivers number) text.old text.new) }
+    ensures some { OnErr result (StepsOrNot ⟦<W as Workspace>⟧ world.old world.new (V.Delivers number)) }
+{
+    let before = world.messages().len();
+    let reply = world.step(Move::Deliver(number))?;
+    push_delivery(
+        text,
+        world.accepted().grammar(),
+        number,
+        reply,
+        world.messages(),
+        before,
+    )
+}
+
+/// Delivers the first message that was not delivered, again and again, and adds the lines. After an error some of these
+/// deliveries were made.
+fn tell_settle<W: Workspace>(world: &mut World<W>, text: &mut Text) -> Result<(), AllocError>
+    ensures accepted { world.new.accepted.now ≡ world.old.accepted.now }
+    ensures loads { world.new.loads ≡ world.old.loads }
+    ensures settled { OnOk result (IsSettled ⟦<W as Workspace>⟧ world.old world.new) }
+    ensures text { OnOk result (AddsSettling ⟦<W as Workspace>⟧ world.old text.old text.new) }
+    ensures some { OnErr result (SettlesSome ⟦<W as Workspace>⟧ world.old world.new) }
+{
+    let before = world.delivered();
+    while let Some(number) = world.quiet() {
+        tell_delivery(world, number, text)?;
+    }
+    push_settled(text, world.delivered() - before)
+}
+
+/// Makes a choice; its lines.
+fn choice_lines<W: Workspace>(world: &mut World<W>, choice: &Choice) -> Result<Text, AllocError>
+    requires { choice_ok (plain_of world.old) (choice_of choice.now) ≡ true }
+    ensures accepted { world.new.accepted.now ≡ world.old.accepted.now }
+    ensures loads { world.new.loads ≡ world.old.loads }
+    ensures does { OnOk result (Does ⟦<W as Workspace>⟧ world.old world.new (E.Chooses (choice_of choice.now))) }
+    ensures tells { IfOk result (λ text. Tells ⟦<W as Workspace>⟧ world.old (E.Chooses (choice_of choice.now)) text) }
+    ensures some { OnErr result (DoesSome ⟦<W as Workspace>⟧ world.old world.new (E.Chooses (choice_of choice.now))) }
+{
+    let mut text = Text::new(world.allocator());
+    tell_choice(world, choice, &mut text)?;
+    Ok(text)
+}
+
+/// Delivers a message; its lines.
+fn delivery_lines<W: Workspace>(world: &mut World<W>, number: u64) -> Result<Text, AllocError>
+    ensures accepted { world.new.accepted.now ≡ world.old.accepted.now }
+    ensures loads { world.new.loads ≡ world.old.loads }
+    ensures does { OnOk result (Does ⟦<W as Workspace>⟧ world.old world.new (E.Delivers number)) }
+    ensures tells { IfOk result (λ text. Tells ⟦<W as Workspace>⟧ world.old (E.Delivers number) text) }
+    ensures some { OnErr result (DoesSome ⟦<W as Workspace>⟧ world.old world.new (E.Delivers number)) }
+{
+    let mut text = Text::new(world.allocator());
+    tell_delivery(world, number, &mut text)?;
+    Ok(text)
+}
+
+/// Settles the world; the lines.
+fn settling_lines<W: Workspace>(world: &mut World<W>) -> Result<Text, AllocError>
+    ensures accepted { world.new.accepted.now ≡ world.old.accepted.now }
+    ensures loads { world.new.loads ≡ world.old.loads }
+    ensures does { OnOk result (Does ⟦<W as Workspace>⟧ world.old world.new E.Settles) }
+    ensures tells { IfOk result (λ text. Tells ⟦<W as Workspace>⟧ world.old E.Settles text) }
+    ensures some { OnErr result (DoesSome ⟦<W as Workspace>⟧ world.old world.new E.Settles) }
+{
+    let mut text = Text::new(world.allocator());
+    tell_settle(world, &mut text)?;
+    Ok(text)
+}
+
+/// The lines of a worklist.
+fn list_lines<W: Workspace>(world: &World<W>, role: u16) -> Result<Text, AllocError>
+    requires { role < (plain_of world.now).roles }
+    ensures { IfOk result (λ text. Tells ⟦<W as Workspace>⟧ world.now (E.Lists role) text) }
+{
+    let items = world.list(role)?;
+    let mut text = Text::from_bytes(world.allocator(), b"list ")?;
+    text.push_bytes(role_name(world.accepted().grammar(), role))?;
+    text.push_bytes(b"\n")?;
+    push_item_lines(&mut text, world.accepted().grammar(), items.as_slice())?;
+    Ok(text)
+}
+
+/// Does what an event asks for; its lines. After an error some first choices and deliveries of it were made.
+pub(crate) fn tell<W: Workspace>(world: &mut World<W>, event: &Event) -> Result<Text, AllocError>
+    requires { MayCome (plain_of world.old) event.now }
+    ensures accepted { world.new.accepted.now ≡ world.old.accepted.now }
+    ensures loads { world.new.loads ≡ world.old.loads }
+    ensures does { OnOk result (Does ⟦<W as Workspace>⟧ world.old world.new (event_seen event.now)) }
+    ensures tells { IfOk result (λ text. Tells ⟦<W as Workspace>⟧ world.old (event_seen event.now) text) }
+    ensures some { OnErr result (DoesSome ⟦<W as Workspace>⟧ world.old world.new (event_seen event.now)) }
+{
+    match event {
+        Event::Choose(choice) => choice_lines(world, choice),
+        Event::Deliver(number) => delivery_lines(world, *number),
+        Event::Settle => settling_lines(world),
+        Event::List(role) => list_lines(world, *role),
+    }
+}

@@ -1,0 +1,16 @@
+pub mod MarkLemmas
+pub mod Pairings
+pub mod Stepping
+pub mod Reaching
+pub mod Settles
+pub mod Growing
+pub mod FirstNodes
+pub mod Walking
+pub mod Earlier
+pub mod WorldFacts
+pub mod Gathered
+pub mod Keeping
+pub mod Lines
+pub mod PrintProps
+pub mod QuietRows
+pub mod RowsAt

@@ -1,0 +1,127 @@
+-- What holds of a world of the program because events lead to it.
+use Rattle.std.proofs.Common.{◌≡◌, ℕ, zero, suc, ◌<◌, ◌≤◌, arith, Bool, true, false, List, [], ◌∷◌, length, map, ap, sym, ◌∙◌, refl, subst, inl, inr, Some}
+use Rattle.std.specs.Prelude.{◌&&◌, slice_get, option_map, nat_eq}
+use Rattle.std.specs.Coded.{le_prop}
+use Rattle.std.proofs.Math.Logic.{∥∥₁_elim, ∥∥₁_map}
+use mathlib.Core.Logic.{∥∥₁_prop}
+use Rattle.std.proofs.Math.Bool.{Bool-set}
+use Rattle.std.proofs.Math.Nat.{ℕ_set}
+use Rattle.std.proofs.lemmas.Bool.{and_parts, and_from}
+use Rattle.std.proofs.lemmas.List.{length-map}
+use Rattle.std.proofs.lemmas.Option.{slice_get-map, same_Some}
+use Rattle.aw_text.specs.Spelling.{is_content}
+use Rattle.aw_term.specs.Trees.{Head, Con, Num, Text}
+use Rattle.aw_term.specs.Rules.{get}
+use Rattle.aw_term.specs.Rules as R
+use Rattle.aw_term.specs.Artifacts.{Words}
+use Rattle.aw_term.specs.WellFormed.{Each, head_fits}
+use Rattle.aw_term.specs.Held as P
+use Rattle.aw_term.proofs.GrammarTests.{grammars_are_one}
+use Rattle.aw_iograph.specs.Graphs.{Member}
+use Rattle.aw_iograph.proofs.Members.{member_got}
+use Rattle.aw_accept.specs.Acyclic.{Pairs}
+use Rattle.aw_accept.specs.declared.accepted.Accepted.{Accepted}
+use Rattle.aw_grammar.specs.declared.grammar.Grammar.{Grammar}
+use Rattle.aw_grammar.specs.GrammarOf.{grammar_of, words_of}
+use Rattle.aw_choice.specs.declared.choice.Choice.{Choice}
+use Rattle.aw_choice.specs.ChoiceView.{choice_of}
+use Rattle.aw_held.specs.declared.held.Held.{Held}
+use Rattle.aw_held.specs.HeldView.{held_of, all_of}
+use Rattle.aw_store.specs.Equations.{Body, Same, Is, Equation}
+use Rattle.aw_apply.specs.Messages as plain
+use Rattle.aw_apply.specs.Messages.{carried}
+use Rattle.aw_joint.specs.Laws.{IsAccepted}
+use Rattle.aw_react.specs.Homes.{home}
+use Rattle.aw_react.specs.Sites.{Site, empty_site}
+use Rattle.aw_react.specs.ValidNames.{equation_ok}
+use Rattle.aw_react.specs.ValidNames as names
+use Rattle.aw_react.specs.Bounds.{bound_of}
+use Rattle.aw_react.specs.Worlds as V
+use Rattle.aw_react.specs.Worlds.{MayCome, world_after}
+use Rattle.aw_merge.specs.Invariant.{sender}
+use Rattle.aw_merge.proofs.Learning.{find-member}
+use Rattle.aw_merge.proofs.Nearing.{within_bound}
+use Rattle.aw_merge.proofs.WorldLaws.{invariant_law, headline}
+use Rattle.aw_msg.specs.declared.message.Message.{Message}
+use Rattle.aw_msg.specs.MessageView.{message_of}
+use Rattle.aw_world.specs.declared.workspace.Workspace.{Ghosts}
+use Rattle.aw_world.specs.Contents.{head_ok, body_ok, bodies_ok, HasContents, HaveContents}
+use Rattle.aw_world.specs.Opened.{AreAtHome}
+use Rattle.aw_world.specs.Seen.{ArePlaced, IsReached}
+use Rattle.aw_world.specs.Staying.{IsConfigured}
+
+-- ---- each text in a message is a content
+
+head_fine : (arities : List ℕ) (h : Head) (n : ℕ) → head_fits arities h n ≡ true → head_ok h ≡ true
+head_fine arities (Con c) n e = refl
+head_fine arities (Num k) n e = refl
+head_fine arities (Text t) n e = (and_parts (nat_eq n 0) (is_content t) e).1
+
+body_fine : (g : R.Grammar) (b : Body) → names.body_ok g b ≡ true → body_ok b ≡ true
+body_fine g (Same r) e = refl
+body_fine g (Is h rs) e = head_fine g.arities h (length rs) (and_parts _ _ e).0
+
+bodies_fine : (g : R.Grammar) (es : List Equation) → ((e : Equation) → Member e es → equation_ok g e ≡ true) → bodies_ok es ≡ true
+bodies_fine g [] f = refl
+bodies_fine g (e ∷ es) f = and_from (body_ok e.body) (bodies_ok es) (body_fine g e.body (and_parts _ _ (f e (inl refl))).1) (bodies_fine g es (λ x m. f x (inr m)))
+
+module _ (words : Words) (g : R.Grammar) (accepted : IsAccepted words g) (loads : Bool) (es : List V.Move) (may : Each (MayCome g) es) where
+  contents_law : (k : ℕ) (m : plain.Message) → slice_get (world_after g loads es).messages k ≡ Some m → HasContents m
+  contents_law k m s =
+      let (x, I) = invariant_law words g accepted loads es may in
+      bodies_fine g (carried m.kind) (λ e i. I.valid.equations e (find-member x.equations e.left e.body (I.known (sender g m.kind) e.left e.body (I.sender_has k m s e i))))
+
+  homes_law : (a : ℕ) (h : P.Held) → Member h (V.site_at (world_after g loads es) a).held → home g h.node ≡ a
+  homes_law a h m = let (x, I) = invariant_law words g accepted loads es may in (I.held a h m).1
+
+  configured_law : IsConfigured g (world_after g loads es).taken
+  configured_law = let (c, e, i, f) = headline words g accepted loads es may in (c, e, i)
+
+-- ---- the same of the program's world
+
+pub got_site : {A : Type 0} (d : A) (xs : List A) (i : ℕ) (x : A) → slice_get xs i ≡ Some x → get d xs i ≡ x
+got_site d [] i x e = absurd cc
+got_site d (y ∷ xs) zero x e = same_Some y x e
+got_site d (y ∷ xs) (suc i) x e = got_site d xs i x e
+
+-- the site at a workspace's place
+pub site_there : {A B : Type 0} (R : A → B → Type 0) (xs : List A) (ys : List B) (i : ℕ) (x : A) → Pairs R xs ys → slice_get xs i ≡ Some x → (y : B) × (slice_get ys i ≡ Some y) × R x y
+site_there R [] ys i x p e = absurd cc
+site_there R (a ∷ xs) [] i x p e = elim p [ ]
+site_there R (a ∷ xs) (b ∷ ys) zero x p e = (b, refl, subst (λ z. R z b) (same_Some a x e) p.0)
+site_there R (a ∷ xs) (b ∷ ys) (suc i) x p e = site_there R xs ys i x p.1 e
+
+module _ {W : Type 0} (f : Ghosts W) (a : Accepted) (loads : Bool) (ws : List W) (ms : List Message) (bs : List Bool) (ts : List Choice) (h : ∥ IsReached f a.grammar loads ws ms bs ts ∥₁) where
+  abbrev d : Grammar
+  d = a.grammar
+
+  abbrev p : R.Grammar
+  p = grammar_of a.grammar
+
+  pub reached_contents : HaveContents (grammar_of a.grammar) ms
+  reached_contents i m e =
+      ∥∥₁_elim d.well_formed (Bool-set _ _) (λ w. ∥∥₁_elim a.sound (Bool-set _ _) (λ s. ∥∥₁_elim h (Bool-set _ _) (λ r.
+      contents_law (words_of d) p (w, s) loads r.0 r.1 i (message_of p m) (ap (λ z. slice_get z i) r.2.messages ∙ slice_get-map (message_of p) ms i ∙ ap (option_map (message_of p)) e))))
+
+  pub reached_homes : ((w : W) (s : Site) → f.shows w s → s.held ≡ all_of (f.its_grammar w) (f.its_nodes w)) → ArePlaced f a.grammar ws → AreAtHome f (grammar_of a.grammar) ws
+  reached_homes hold placed i j w x e at =
+      ∥∥₁_elim d.well_formed (ℕ_set _ _) (λ wf. ∥∥₁_elim a.sound (ℕ_set _ _) (λ so. ∥∥₁_elim h (ℕ_set _ _) (λ r.
+      let v = world_after p loads r.0 in
+      let (s, here, shown) = site_there (λ x s. f.shows x s) ws v.sites i w r.2.sites e in
+      let same : f.its_grammar w ≡ p = grammars_are_one (f.its_grammar w) p (placed.grammar i w e) in
+      let held : (V.site_at v i).held ≡ all_of p (f.its_nodes w) = ap (λ t. t.held) (got_site (empty_site false i) v.sites i s here) ∙ hold w s shown ∙ ap (λ g. all_of g (f.its_nodes w)) same in
+      homes_law (words_of d) p (wf, so) loads r.0 r.1 i (held_of p x)
+      (subst (Member (held_of p x)) (sym held) (member_got (all_of p (f.its_nodes w)) j (held_of p x) (slice_get-map (held_of p) (f.its_nodes w) j ∙ ap (option_map (held_of p)) at))))))
+
+  pub reached_bound : length ms ≤ bound_of (grammar_of a.grammar) (map choice_of ts)
+  reached_bound =
+      ∥∥₁_elim d.well_formed le_prop (λ w. ∥∥₁_elim a.sound le_prop (λ s. ∥∥₁_elim h le_prop (λ r.
+      let b = within_bound (words_of d) p (w, s) loads r.0 r.1 in
+      let m : length (world_after p loads r.0).messages ≡ length ms = ap length r.2.messages ∙ length-map ms (message_of p) in
+      let t = ap (bound_of p) r.2.taken in
+      omega (arith, b, m, t))))
+
+  pub reached_configured : ∥ IsConfigured (grammar_of a.grammar) (map choice_of ts) ∥₁
+  reached_configured =
+      ∥∥₁_elim d.well_formed ∥∥₁_prop (λ w. ∥∥₁_elim a.sound ∥∥₁_prop (λ s. ∥∥₁_map h (λ r.
+      subst (IsConfigured p) r.2.taken (configured_law (words_of d) p (w, s) loads r.0 r.1))))

@@ -1,0 +1,17 @@
+use Rattle.std.proofs.Common.{drop}
+use Rattle.std.specs.Prelude.{Result}
+use Rattle.aw_term.specs.Artifacts.{artifact_text}
+use Rattle.aw_term.specs.Configs.{Config}
+use Rattle.aw_grammar.specs.GrammarOf.{grammar_of, words_of}
+use Rattle.aw_out.specs.declared.error.PrintFault.{PrintFault}
+use Rattle.aw_out.specs.Report.{Bounded, Prints}
+use Rattle.aw_react.specs.Worlds.{World}
+use Rattle.aw_merge.specs.ReadRows.{AreRead}
+use Rattle.aw_world.specs.Seen.{ShowEach}
+use Rattle.aw_world.proofs.listing.print_all.Given as goal
+
+-- whatever prints what is left has printed the whole
+abbrev pub invariant-loop-spot : goal.invariant-loop-spot
+invariant-loop-spot g l =
+    (v : World) → ShowEach g.W.Workspace l.sites v.sites → (rows : Config) → AreRead (grammar_of l.accepted.grammar) v rows → (new : Bounded) (result : Result Unit PrintFault) →
+    Prints (artifact_text (words_of l.accepted.grammar) (drop l.spot-index rows)) l.report new result → Prints (artifact_text (words_of l.accepted.grammar) rows) l.fn.report new result

@@ -1,0 +1,33 @@
+use Rattle.std.proofs.Common.{◌≡◌, ℕ, ◌+◌, List, [], ◌∷◌, ◌++◌, true, length, map, ap, sym, ◌∙◌, subst, arith, inl, inr}
+use Rattle.std.specs.Prelude.{slice_get, ◌⊎◌}
+use Rattle.std.proofs.lemmas.List.{length-append}
+use Rattle.aw_accept.specs.Acyclic.{Pairs}
+use Rattle.aw_grammar.specs.GrammarOf.{grammar_of}
+use Rattle.aw_term.specs.Rules.{upto}
+use Rattle.aw_react.specs.Sites.{Site, empty_site}
+use Rattle.aw_term.specs.SameGrammar.{same_grammar}
+use Rattle.aw_world.proofs.Growing.{pairs_end, get_end, all_end}
+use Rattle.aw_world.proofs.making.make_sites.Goals as goal
+
+pub loop-role-preserved : goal.loop-role-preserved
+loop-role-preserved g c =
+    let ws = c.loop-role.sites.items in
+    let x = c.in_ok-make.field-0 in
+    let i = c.loop-role.invariant in
+    let n = c.loop-role.role in
+    let f = g.W.Workspace in
+    let e = c.in_ok-push.ensures.items in
+    let R : g.row.W.Denot → Site → Type 0 = λ x s. f.shows x s in
+    record {
+      count = omega (arith, ap length e, length-append ws (x ∷ []), i.count);
+      shown = subst (λ zs. Pairs R zs (map (empty_site c.args.loads) (upto 0 (n + 1)))) (sym e)
+          (subst (Pairs R (ws ++ x ∷ [])) (sym (all_end (empty_site c.args.loads) n)) (pairs_end R ws _ x _ i.shown c.in_ok-make.ensures.shows));
+      role = λ j y s. elim (get_end ws x j y (ap (λ zs. slice_get zs j) (sym e) ∙ s)) [
+        | inl h ↦ i.role j y h
+        | inr h ↦ ap (λ z. f.its_role z) (sym h.1) ∙ c.in_ok-make.ensures.role ∙ sym i.count ∙ sym h.0
+      ];
+      grammar = λ j y s. elim (get_end ws x j y (ap (λ zs. slice_get zs j) (sym e) ∙ s)) [
+        | inl h ↦ i.grammar j y h
+        | inr h ↦ ap (λ z. same_grammar (f.its_grammar z) (grammar_of c.args.accepted.now.grammar)) (sym h.1) ∙ c.in_ok-make.ensures.grammar
+      ];
+    }

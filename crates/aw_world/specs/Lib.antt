@@ -1,0 +1,12 @@
+pub mod Marks
+pub mod Contents
+pub mod PrintedRows
+pub mod Reactions
+pub mod MoveView
+pub mod SiteAnswers
+pub mod Seen
+pub mod Firsts
+pub mod Merged
+pub mod Staying
+pub mod Opened
+pub mod Shown

@@ -1,0 +1,101 @@
+//! The delivery of a message in a world.
+ghost use Rattle.std.specs.Prelude.{◌≡◌, ◌<◌, ◌≤◌, if◌then◌else◌, ℕ, List, Bool, false, Some, None, IfOk, OnOk, OnErr, length, slice_get};
+ghost use Rattle.aw_grammar.specs.GrammarOf.{grammar_of};
+ghost use Rattle.aw_term.specs.Rules.{get};
+ghost use Rattle.aw_react.specs.Sites as P;
+ghost use Rattle.aw_msg.specs.MessageView.{message_of};
+ghost use Rattle.aw_choice.specs.declared.choice.Choice.{Choice};
+ghost use Rattle.aw_world.specs.Contents.{HasContents, HaveContents};
+ghost use Rattle.aw_world.specs.Seen.{ArePlaced, AreAddressed, ShowEach, TakesInAt, Delivers, reply_for, SeenStill};
+
+use crate::marks::Marks;
+use crate::moves::Reply;
+use crate::workspace::Workspace;
+use aw_accept::Accepted;
+use aw_msg::{Message, Messages, copy_message};
+use std::alloc::AllocError;
+
+/// Takes in a message at the workspace of a role.
+fn receive_at<W: Workspace>(
+    accepted: &Accepted,
+    sites: &mut Vec<W>,
+    at: usize,
+    message: &Message,
+    messages: &mut Messages,
+) -> Result<bool, AllocError>
+    requires placed { ArePlaced ⟦<W as Workspace>⟧ accepted.now.grammar sites.old.items }
+    requires at { at < length sites.old.items }
+    requires contents { HasContents (message_of (grammar_of accepted.now.grammar) message.now) }
+    ensures placed { ArePlaced ⟦<W as Workspace>⟧ accepted.now.grammar sites.new.items }
+    ensures grows { length messages.old ≤ length messages.new }
+    ensures got { IfOk result (λ new. TakesInAt ⟦<W as Workspace>⟧ accepted.now.grammar sites.old.items sites.new.items at messages.old messages.new message.now new) }
+    ensures err { OnErr result ((ss : List P.Site) → ShowEach ⟦<W as Workspace>⟧ sites.old.items ss → ShowEach ⟦<W as Workspace>⟧ sites.new.items ss) }
+    ensures err_messages { OnErr result (messages.new ≡ messages.old) }
+{
+    let site = &mut sites[at];
+    let new = site.receive_into(accepted, message, messages)?;
+    Ok(new)
+}
+
+/// The place of the message with a number; none where there is none.
+fn place(messages: &Messages, number: u64) -> Option<usize>
+    ensures none { result ≡ None → length messages.now ≤ number }
+    ensures some { (at : ℕ) → result ≡ Some at → (at ≡ number) × (at < length messages.now) }
+{
+    let at = usize::try_from(number).ok()?;
+    if at < messages.len() { Some(at) } else { None }
+}
+
+/// Delivers the message at a place. An error changes nothing.
+pub fn deliver_at<W: Workspace>(
+    accepted: &Accepted,
+    sites: &mut Vec<W>,
+    messages: &mut Messages,
+    marks: &mut Marks,
+    at: usize,
+) -> Result<bool, AllocError>
+    requires placed { ArePlaced ⟦<W as Workspace>⟧ accepted.now.grammar sites.old.items }
+    requires addressed { AreAddressed sites.old.items messages.old }
+    requires contents { HaveContents (grammar_of accepted.now.grammar) messages.old }
+    requires marked { length marks.old.delivered.items ≤ length messages.old }
+    requires at { at < length messages.old }
+    ensures placed { ArePlaced ⟦<W as Workspace>⟧ accepted.now.grammar sites.new.items }
+    ensures marked { length marks.new.delivered.items ≤ length messages.new }
+    ensures steps { IfOk result (λ new. Delivers ⟦<W as Workspace>⟧ accepted.now.grammar sites.old.items messages.old marks.old.delivered.items sites.new.items messages.new marks.new.delivered.items at (reply_for new)) }
+    ensures err { OnErr result ((taken : List Choice) → SeenStill ⟦<W as Workspace>⟧ accepted.now.grammar sites.old.items messages.old marks.old.delivered.items taken sites.new.items messages.new marks.new.delivered.items taken) }
+{
+    let message = copy_message(messages.at(at))?;
+    marks.pad(at)?;
+    let new = receive_at(accepted, sites, usize::from(message.to), &message, messages)?;
+    marks.mark(at);
+    Ok(new)
+}
+
+/// Delivers the message with a number, where there is one. An error changes nothing.
+pub fn deliver<W: Workspace>(
+    accepted: &Accepted,
+    sites: &mut Vec<W>,
+    messages: &mut Messages,
+    marks: &mut Marks,
+    number: u64,
+) -> Result<Reply, AllocError>
+    requires placed { ArePlaced ⟦<W as Workspace>⟧ accepted.now.grammar sites.old.items }
+    requires addressed { AreAddressed sites.old.items messages.old }
+    requires contents { HaveContents (grammar_of accepted.now.grammar) messages.old }
+    requires marked { length marks.old.delivered.items ≤ length messages.old }
+    ensures placed { ArePlaced ⟦<W as Workspace>⟧ accepted.now.grammar sites.new.items }
+    ensures marked { length marks.new.delivered.items ≤ length messages.new }
+    ensures steps { IfOk result (λ r. Delivers ⟦<W as Workspace>⟧ accepted.now.grammar sites.old.items messages.old marks.old.delivered.items sites.new.items messages.new marks.new.delivered.items number r) }
+    ensures err { OnErr result ((taken : List Choice) → SeenStill ⟦<W as Workspace>⟧ accepted.now.grammar sites.old.items messages.old marks.old.delivered.items taken sites.new.items messages.new marks.new.delivered.items taken) }
+{
+    match place(messages, number) {
+        Some(at) => {
+            if deliver_at(accepted, sites, messages, marks, at)? {
+                Ok(Reply::New)
+            } else {
+                Ok(Reply::Again)
+            }
+        }
+        None => Ok(Reply::NoMessage),
+    }
+}

@@ -1,0 +1,173 @@
+//! What the workspaces of a world hold.
+ghost use Rattle.std.specs.Prelude.{◌≡◌, ◌++◌, ◌<◌, ℕ, List, [], false, Some, None, true, IfOk, IsSome, OnOk, length, map as list_map, slice_get};
+ghost use Rattle.aw_choice.specs.ChoiceView.{item_of};
+ghost use Rattle.aw_grammar.specs.GrammarOf.{grammar_of};
+ghost use Rattle.aw_held.specs.HeldView.{all_of, state_of};
+ghost use Rattle.aw_held.specs.declared.held.Held.{Held as HeldValue};
+ghost use Rattle.aw_react.specs.Sites as P;
+ghost use Rattle.aw_react.specs.Worklists.{site_worklist};
+ghost use Rattle.aw_react.specs.Worlds as V;
+ghost use Rattle.aw_term.specs.SameGrammar.{same_grammar};
+ghost use Rattle.aw_term.specs.Rules.{Grammar as PlainGrammar, get};
+ghost use Rattle.aw_world.specs.Merged.{merged, nodes_of, held_at};
+ghost use Rattle.aw_world.specs.Opened.{AreAllInOrder, AreAtHome, open_on, open_nodes, without_count};
+ghost use Rattle.aw_world.specs.PrintedRows.{PrintsRow};
+ghost use Rattle.aw_world.specs.Reactions.{PrintsRows, PrintsArtifacts, HasRows};
+ghost use Rattle.aw_world.specs.Seen.{ArePlaced, ShowEach};
+
+use crate::merging::{Spot, in_order};
+use crate::workspace::Workspace;
+use crate::world::World;
+use aw_accept::Accepted;
+use aw_choice::Worklist;
+use aw_held::Held;
+use aw_list::Items;
+use aw_name::{Node, copy_node};
+use aw_out::{PrintFault, Report};
+use std::alloc::{AllocError, Global};
+
+/// Nodes in their order.
+pub type Nodes = Items<Node>;
+
+/// Prints the line of the node at a place.
+fn print_at<W: Workspace>(
+    alloc: Global,
+    accepted: &Accepted,
+    sites: &[W],
+    spot: &Spot,
+    report: &mut Report,
+) -> Result<(), PrintFault>
+    requires placed { ArePlaced ⟦<W as Workspace>⟧ accepted.now.grammar sites.now }
+    requires there { IsSome (held_at ⟦<W as Workspace>⟧ sites.now spot.now) }
+    ensures { (ss : List P.Site) → ShowEach ⟦<W as Workspace>⟧ sites.now ss → PrintsRow accepted.now.grammar (get (P.empty_site false spot.now.site) ss spot.now.site) spot.now.place report.old report.new result }
+{
+    let site = &sites[spot.site];
+    site.print_row(alloc, accepted, spot.place, report)
+}
+
+/// Prints the lines of all nodes.
+fn print_all<W: Workspace>(
+    alloc: Global,
+    accepted: &Accepted,
+    sites: &[W],
+    spots: &[Spot],
+    report: &mut Report,
+) -> Result<(), PrintFault>
+    requires placed { ArePlaced ⟦<W as Workspace>⟧ accepted.now.grammar sites.now }
+    requires homes { AreAtHome ⟦<W as Workspace>⟧ (grammar_of accepted.now.grammar) sites.now }
+    requires order { AreAllInOrder ⟦<W as Workspace>⟧ sites.now spots.now }
+    ensures { (v : V.World) → ShowEach ⟦<W as Workspace>⟧ sites.now v.sites → PrintsRows accepted.now.grammar v report.old report.new result }
+{
+    for spot in spots {
+        print_at(alloc, accepted, sites, spot, report)?;
+    }
+    Ok(())
+}
+
+/// Adds a node where it is open.
+fn push_open(nodes: &mut Vec<Node>, held: &Held) -> Result<(), AllocError>
+    ensures { OnOk result (nodes.new.items ≡ nodes.old.items ++ open_on (state_of held.now.done) held.now.node []) }
+{
+    match &held.done {
+        Some(_) => Ok(()),
+        None => {
+            nodes.push(copy_node(&held.node)?)?;
+            Ok(())
+        }
+    }
+}
+
+/// Adds the node at a place where it is open.
+fn open_at<W: Workspace>(sites: &[W], spot: &Spot, nodes: &mut Vec<Node>) -> Result<(), AllocError>
+    requires { IsSome (held_at ⟦<W as Workspace>⟧ sites.now spot.now) }
+    ensures { OnOk result ((h : HeldValue) → held_at ⟦<W as Workspace>⟧ sites.now spot.now ≡ Some h → nodes.new.items ≡ nodes.old.items ++ open_on (state_of h.done) h.node []) }
+{
+    let held = sites[spot.site].nodes();
+    push_open(nodes, &held[spot.place])
+}
+
+/// The open nodes among all.
+fn open_all<W: Workspace>(
+    alloc: Global,
+    sites: &[W],
+    spots: &[Spot],
+) -> Result<Vec<Node>, AllocError>
+    requires { AreAllInOrder ⟦<W as Workspace>⟧ sites.now spots.now }
+    ensures { IfOk result (λ nodes. (g : PlainGrammar) → nodes.items ≡ open_nodes (all_of g (merged (nodes_of ⟦<W as Workspace>⟧ sites.now)))) }
+{
+    let mut nodes = Vec::new(alloc);
+    for spot in spots {
+        open_at(sites, spot, &mut nodes)?;
+    }
+    Ok(nodes)
+}
+
+impl<'g, W: Workspace> World<'g, W> {
+    ghost use Rattle.aw_world.specs.Shown.{Shows, first_open};
+
+    /// The workspace of a role.
+    pub fn site(&self, role: u16) -> &W
+        requires { role < (grammar_of self.now.accepted.now.grammar).roles }
+        ensures shows { (v : V.World) → Shows ⟦<W as Workspace>⟧ self.now v → W.shows result.now (V.site_at v role) }
+        ensures role { W.its_role result.now ≡ role }
+        ensures grammar { same_grammar (W.its_grammar result.now) (grammar_of self.now.accepted.now.grammar) ≡ true }
+    {
+        let site = &self.sites[usize::from(role)];
+        site
+    }
+
+    /// How each rule stands at each open node of a role, in order.
+    pub fn list(&self, role: u16) -> Result<Worklist, AllocError>
+        requires { role < (grammar_of self.now.accepted.now.grammar).roles }
+        ensures { IfOk result (λ items. (v : V.World) → Shows ⟦<W as Workspace>⟧ self.now v → list_map item_of items ≡ site_worklist (grammar_of self.now.accepted.now.grammar) (V.site_at v role).equations (V.site_at v role).held) }
+    {
+        self.site(role).list(self.accepted)
+    }
+
+    /// Where the nodes of all roles stand, in the order of nodes.
+    pub fn in_order(&self) -> Result<Vec<Spot>, AllocError>
+        ensures order { IfOk result (λ spots. AreAllInOrder ⟦<W as Workspace>⟧ self.now.sites.items spots.items) }
+        ensures count { IfOk result (λ spots. (v : V.World) → Shows ⟦<W as Workspace>⟧ self.now v → length spots.items ≡ length (V.gather v.sites)) }
+        ensures quiet { IfOk result (λ spots. first_open self.now ≡ None → HasRows self.now.accepted.now.grammar self.now.taken.items (length spots.items)) }
+    {
+        in_order(self.allocator(), self.sites.as_slice())
+    }
+
+    /// The open nodes of all roles, in order.
+    pub fn pending(&self) -> Result<Nodes, AllocError>
+        ensures { IfOk result (λ nodes. (v : V.World) → Shows ⟦<W as Workspace>⟧ self.now v → nodes ≡ open_nodes (V.gather v.sites)) }
+    {
+        let spots = self.in_order()?;
+        let nodes = open_all(self.allocator(), self.sites.as_slice(), spots.as_slice())?;
+        Ok(Nodes::from_vec(nodes))
+    }
+
+    /// Prints the artifact line of each node that stands at one of these places, which are those of all nodes in order. Where the text
+    /// would pass the report's limit, or memory is missing, the report has got the front of the text.
+    pub fn print_rows(&self, spots: &[Spot], report: &mut Report) -> Result<(), PrintFault>
+        requires { AreAllInOrder ⟦<W as Workspace>⟧ self.now.sites.items spots.now }
+        ensures prints { (v : V.World) → Shows ⟦<W as Workspace>⟧ self.now v → PrintsRows self.now.accepted.now.grammar v report.old report.new result }
+        ensures quiet { first_open self.now ≡ None → PrintsArtifacts self.now.accepted.now.grammar self.now.taken.items report.old report.new result }
+    {
+        print_all(
+            self.allocator(),
+            self.accepted,
+            self.sites.as_slice(),
+            spots,
+            report,
+        )
+    }
+
+    /// Prints the artifact line of each node that any role holds, in the order of nodes, each from the equations of its own role; how
+    /// many lines there are. Once every message was delivered, the lines are the artifacts of the choices taken. Where the text would pass
+    /// the report's limit, or memory is missing, the report has got the front of the text.
+    pub fn artifacts(&self, report: &mut Report) -> Result<u64, PrintFault>
+        ensures count { IfOk result (λ n. (v : V.World) → Shows ⟦<W as Workspace>⟧ self.now v → n ≡ length (V.gather v.sites)) }
+        ensures prints { (v : V.World) → Shows ⟦<W as Workspace>⟧ self.now v → PrintsRows self.now.accepted.now.grammar v report.old report.new (without_count result) }
+        ensures quiet { first_open self.now ≡ None → PrintsArtifacts self.now.accepted.now.grammar self.now.taken.items report.old report.new (without_count result) }
+    {
+        let spots = self.in_order()?;
+        self.print_rows(spots.as_slice(), report)?;
+        Ok(spots.len() as u64)
+    }
+}

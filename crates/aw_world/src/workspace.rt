@@ -1,0 +1,126 @@
+//! What a world asks of a workspace: that it reacts as the plain definitions say.
+ghost use Rattle.std.specs.Prelude.{◌≡◌, ◌++◌, ◌≤◌, ◌<◌, ℕ, List, true, IfOk, OnOk, OnErr, length, map as list_map};
+ghost use Rattle.aw_grammar.specs.GrammarOf.{grammar_of};
+ghost use Rattle.aw_term.specs.Rules.{Grammar as PlainGrammar};
+ghost use Rattle.aw_term.specs.SameGrammar.{same_grammar};
+ghost use Rattle.aw_base.specs.ChoiceFits.{choice_ok};
+ghost use Rattle.aw_choice.specs.ChoiceView.{choice_of, answer_of};
+ghost use Rattle.aw_react.specs.Homes.{home};
+ghost use Rattle.aw_react.specs.Sites as P;
+ghost use Rattle.aw_react.specs.Worlds.{node_of};
+ghost use Rattle.aw_react.specs.Choosing.{answer_to};
+ghost use Rattle.aw_react.specs.SiteEvents.{after_choice, after_message};
+ghost use Rattle.aw_msg.specs.MessageView.{message_of};
+ghost use Rattle.aw_choice.specs.ChoiceView.{item_of};
+ghost use Rattle.aw_held.specs.declared.held.Held.{Held as HeldValue};
+ghost use Rattle.aw_held.specs.InOrder.{IsInOrder};
+ghost use Rattle.aw_held.specs.HeldView.{all_of};
+ghost use Rattle.aw_react.specs.Worklists.{site_worklist};
+ghost use Rattle.aw_world.specs.Contents.{HasContents};
+ghost use Rattle.aw_world.specs.PrintedRows.{PrintsRow};
+ghost use Rattle.aw_world.specs.Reactions.{choice_at, message_at, all_messages};
+ghost use Rattle.aw_world.specs.SiteAnswers.{sent_by, sent_back, is_new};
+
+use aw_accept::Accepted;
+use aw_choice::{Answer, Choice, Worklist};
+use aw_held::Held;
+use aw_msg::{Message, Messages};
+use aw_out::{PrintFault, Report};
+use std::alloc::{AllocError, Global};
+
+/// A workspace of one role.
+pub trait Workspace: Drop {
+    /// The grammar that it was made for.
+    ghost its_grammar: { Self → PlainGrammar };
+
+    /// The role that it was made for.
+    ghost its_role: { Self → ℕ };
+
+    /// The nodes that it holds.
+    ghost its_nodes: { Self → List HeldValue };
+
+    /// It can be seen as this site.
+    ghost shows: { Self → P.Site → Type 0 };
+
+    /// Answers a choice, and appends what it sends to a list; how many messages those are. An error changes nothing.
+    fn choose_into(
+        &mut self,
+        accepted: &Accepted,
+        choice: &Choice,
+        copy: &mut Messages,
+    ) -> Result<(Answer, usize), AllocError>
+        requires grammar { same_grammar (its_grammar self.old) (grammar_of accepted.now.grammar) ≡ true }
+        requires ok { choice_ok (grammar_of accepted.now.grammar) (choice_of choice.now) ≡ true }
+        requires here { home (grammar_of accepted.now.grammar) (node_of (choice_of choice.now)) ≡ its_role self.old }
+        ensures grammar { its_grammar self.new ≡ its_grammar self.old }
+        ensures role { its_role self.new ≡ its_role self.old }
+        ensures answer { IfOk result (λ r. (s : P.Site) → shows self.old s → answer_of r.0 ≡ answer_to (choice_at accepted.now.grammar s choice.now)) }
+        ensures site { OnOk result ((s : P.Site) → shows self.old s → shows self.new (after_choice s (choice_at accepted.now.grammar s choice.now))) }
+        ensures sent { OnOk result ((s : P.Site) → shows self.old s → all_messages accepted.now.grammar copy.new ≡ all_messages accepted.now.grammar copy.old ++ sent_by (choice_at accepted.now.grammar s choice.now)) }
+        ensures grows { length copy.old ≤ length copy.new }
+        ensures err { OnErr result ((s : P.Site) → shows self.old s → shows self.new s) }
+        ensures err_sent { OnErr result (copy.new ≡ copy.old) };
+
+    /// Takes in a message, and appends what it sends to a list. An error changes nothing.
+    fn receive_into(
+        &mut self,
+        accepted: &Accepted,
+        message: &Message,
+        copy: &mut Messages,
+    ) -> Result<bool, AllocError>
+        requires grammar { same_grammar (its_grammar self.old) (grammar_of accepted.now.grammar) ≡ true }
+        requires contents { HasContents (message_of (grammar_of accepted.now.grammar) message.now) }
+        ensures grammar { its_grammar self.new ≡ its_grammar self.old }
+        ensures role { its_role self.new ≡ its_role self.old }
+        ensures new { IfOk result (λ new. (s : P.Site) → shows self.old s → new ≡ is_new (message_at accepted.now.grammar s message.now)) }
+        ensures site { OnOk result ((s : P.Site) → shows self.old s → shows self.new (after_message s (message_at accepted.now.grammar s message.now))) }
+        ensures sent { OnOk result ((s : P.Site) → shows self.old s → all_messages accepted.now.grammar copy.new ≡ all_messages accepted.now.grammar copy.old ++ sent_back (message_at accepted.now.grammar s message.now)) }
+        ensures grows { length copy.old ≤ length copy.new }
+        ensures err { OnErr result ((s : P.Site) → shows self.old s → shows self.new s) }
+        ensures err_sent { OnErr result (copy.new ≡ copy.old) };
+
+    /// How each rule stands at each open node, the nodes in order.
+    fn list(&self, accepted: &Accepted) -> Result<Worklist, AllocError>
+        requires { same_grammar (its_grammar self.now) (grammar_of accepted.now.grammar) ≡ true }
+        ensures { IfOk result (λ items. (s : P.Site) → shows self.now s → list_map item_of items ≡ site_worklist (grammar_of accepted.now.grammar) s.equations s.held) };
+
+    /// The nodes that it holds, in order.
+    fn nodes(&self) -> &[Held]
+        ensures { result.now ≡ its_nodes self.now };
+
+    /// Prints the artifact line of the node at a place, from the equations that it has. Where the text would pass the report's limit, or
+    /// memory is missing, the report has got the front of the line.
+    fn print_row(
+        &self,
+        alloc: Global,
+        accepted: &Accepted,
+        place: usize,
+        report: &mut Report,
+    ) -> Result<(), PrintFault>
+        requires grammar { same_grammar (its_grammar self.now) (grammar_of accepted.now.grammar) ≡ true }
+        requires place { place < length (its_nodes self.now) }
+        ensures { (s : P.Site) → shows self.now s → PrintsRow accepted.now.grammar s place report.old report.new result };
+
+    /// Each site that it can be seen as has its role.
+    ghost has_role: { (w : Self) (s : P.Site) → shows w s → s.role ≡ its_role w };
+
+    /// Its nodes are in the order of their names.
+    ghost in_order: { (w : Self) → IsInOrder (its_nodes w) };
+
+    /// Each site that it can be seen as holds its nodes.
+    ghost holds: { (w : Self) (s : P.Site) → shows w s → s.held ≡ all_of (its_grammar w) (its_nodes w) };
+}
+
+/// A workspace that can be made for a grammar.
+pub trait Made<'g>: Workspace {
+    /// A workspace that holds nothing.
+    fn make(
+        alloc: Global,
+        accepted: &'g Accepted,
+        role: u16,
+        loads: bool,
+    ) -> Result<Self, AllocError>
+        ensures grammar { IfOk result (λ w. same_grammar (Self.its_grammar w) (grammar_of accepted.now.grammar) ≡ true) }
+        ensures role { IfOk result (λ w. Self.its_role w ≡ role) }
+        ensures shows { IfOk result (λ w. Self.shows w (P.empty_site loads role)) };
+}
