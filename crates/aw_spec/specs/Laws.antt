@@ -4,7 +4,7 @@ use Rattle.aw_term.specs.WellFormed.{Each}
 use Rattle.aw_grammar.specs.Written.{WrittenChild, side_by_side}
 use Rattle.aw_form.specs.Lexemes.{Lexeme}
 use Rattle.aw_form.specs.Laws.{AreWritten}
-use Rattle.aw_spec.specs.Lines.{Line, RoleLine, ConLine, SortLine, StartLine, OfferLine, UseLine, FreeLine, RuleLine, ScheduleLine, line_spelling}
+use Rattle.aw_spec.specs.Lines.{Line, RoleLine, ConLine, SortLine, StartLine, OfferLine, UseLine, TypeLine, ShapeLine, CarryLine, DependsLine, FreeLine, RuleLine, ScheduleLine, line_spelling}
 use Rattle.aw_spec.specs.ReadLine.{line_of}
 
 abbrev pub IsWrittenChild : WrittenChild → Type 0
@@ -18,6 +18,10 @@ IsWrittenLine (SortLine name role takes gives) = Unit {0}
 IsWrittenLine (StartLine sort) = Unit {0}
 IsWrittenLine (OfferLine sort) = Unit {0}
 IsWrittenLine (UseLine role sort) = Unit {0}
+IsWrittenLine (TypeLine name) = Unit {0}
+IsWrittenLine (ShapeLine con parts own) = Unit {0}
+IsWrittenLine (CarryLine sort takes gives) = Unit {0}
+IsWrittenLine (DependsLine sort i j) = Unit {0}
 IsWrittenLine FreeLine = Unit {0}
 IsWrittenLine (RuleLine rule) = AreWritten (side_by_side rule.patterns) × AreWritten (side_by_side rule.results) × Each IsWrittenChild rule.children
 IsWrittenLine (ScheduleLine loads) = Unit {0}

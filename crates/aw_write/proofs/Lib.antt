@@ -14,4 +14,6 @@ pub mod ReadFaces
 pub mod SaysTerms
 pub mod SaysTokens
 pub mod SpelledSpecs
+pub mod SpelledTypes
+pub mod Typing
 pub mod WrittenAgain

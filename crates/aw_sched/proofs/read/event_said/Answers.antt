@@ -8,4 +8,4 @@ pub event_of-requires : goal.event_of-requires
 event_of-requires c =
     let line = c.args.line.now in
     let tokens = c.args.tokens.now in
-    sound_line (lexemes line tokens) (line_seen c.in-Ok.said) (tokens_are_sound line 0 tokens c.requires) c.in-Ok.ensures
+    sound_line (lexemes line tokens) (line_seen c.in-Ok.said) (tokens_are_sound line 0 tokens c.requires.slices) c.in-Ok.ensures
