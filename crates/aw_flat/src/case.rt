@@ -13,11 +13,11 @@ use aw_form::Unread;
 use aw_list::Text;
 use aw_name::is_same_node;
 use aw_sched::{Event, SchedFault, read_schedule};
-use aw_typed::untyped;
 use aw_store::{
     Added, Body, Chase, Equation, Equations, Facts, ListFacts, Refs, body_text, chase, intern_all,
     push_body,
 };
+use aw_typed::untyped;
 use bstr::ByteSlice;
 use std::alloc::{AllocError, Global};
 

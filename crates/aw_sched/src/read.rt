@@ -6,12 +6,15 @@ ghost use Rattle.aw_term.specs.WellFormed.{Each};
 ghost use Rattle.aw_grammar.specs.GrammarOf.{declarations_of, grammar_of};
 ghost use Rattle.aw_form.specs.Lexemes.{lexemes};
 ghost use Rattle.aw_sched.specs.Lines.{line_of};
-ghost use Rattle.aw_sched.specs.Schedules.{by_form, by_type, event_fits, read_line, schedule_of};
+ghost use Rattle.aw_sched.specs.Events.{line_kind};
+ghost use Rattle.aw_sched.specs.LineSeen.{line_seen, HasContents};
+ghost use Rattle.aw_sched.specs.Schedules.{by_form, by_kind, by_type, event_fits, read_line, schedule_of};
 ghost use Rattle.aw_sched.specs.Answers.{Answers, HasTypes, MayCome, event_seen};
 ghost use Rattle.aw_sched.specs.LineEvents.{AddsLine, ReadsLine, fault_at};
 
 use crate::event::{Event, Events};
 use crate::fault::{LineFault, SchedFault, SchedKind};
+use crate::line::SchedLine;
 use crate::lookup::event_of;
 use crate::parse::parse_line;
 use aw_base::Grammar;
@@ -47,6 +50,25 @@ fn typed_event(g: &Grammar, t: &Typed, event: Event) -> Result<Option<Event>, Li
     Err(LineFault::Bad(SchedKind::Misfit))
 }
 
+/// The event that a line asks for, its arguments looked at, or the first kind of fault in it.
+fn said_event(
+    alloc: Global,
+    g: &Grammar,
+    t: &Typed,
+    line: &SchedLine,
+) -> Result<Option<Event>, LineFault>
+    requires contents { HasContents (line_seen line.now) }
+    requires made { IsMadeFor (grammar_of g.now) t.now }
+    ensures reads { ReadsLine (by_kind (types_of t.now.types) (declarations_of g.now) (line_seen line.now) (line_kind (declarations_of g.now) (line_seen line.now))) result }
+    ensures fits { IfOk result (λ found. IfSome found (MayCome (grammar_of g.now))) }
+    ensures types { IfOk result (λ found. IfSome found (HasTypes (types_of t.now.types) (grammar_of g.now))) }
+{
+    match event_of(alloc, g, line) {
+        Ok(event) => typed_event(g, t, event),
+        Err(fault) => Err(fault),
+    }
+}
+
 fn event_said(
     alloc: Global,
     g: &Grammar,
@@ -61,10 +83,7 @@ fn event_said(
     ensures types { IfOk result (λ found. IfSome found (HasTypes (types_of t.now.types) (grammar_of g.now))) }
 {
     match parse_line(alloc, line, tokens) {
-        Ok(said) => match event_of(alloc, g, &said) {
-            Ok(event) => typed_event(g, t, event),
-            Err(fault) => Err(fault),
-        },
+        Ok(said) => said_event(alloc, g, t, &said),
         Err(Unread::Form) => Err(LineFault::Bad(SchedKind::Form)),
         Err(Unread::NoMemory) => Err(LineFault::NoMemory),
     }

@@ -282,7 +282,6 @@ free_leads s false e =
 
 -- rules
 
-
 -- no rule is at fault where none of all is
 no_rule_fault : (sorts : List P.Sort) (offers : List ℕ) (uses : List Using) (i : ℕ) (pre : List Entry) (e : Entry) (post : List Entry) → rules_fault sorts offers uses i (map (λ (x : Entry). x.rule) (pre ++ e ∷ post)) ≡ None → rule_fault sorts offers uses e.rule ≡ None
 no_rule_fault sorts offers uses i [] e post h = here (rule_fault sorts offers uses e.rule) h

@@ -63,8 +63,7 @@ depends_spelled d (x ∷ ds) names fits declared =
     let few = few_counts (length d.roles) d.sorts x.sort from.0 fits from.1 in
     let takes : from.0.takes ≡ found.0.0 = ap (λ (c : ℕ × ℕ). c.0) from.2 in
     let gives : from.0.gives ≡ found.0.1 = ap (λ (c : ℕ × ℕ). c.1) from.2 in
-    let small : (n : ℕ) → n ≤ 8 → n < 2 ^ 64 = λ n h. omega (arith, h) in
-    (
+    let small : (n : ℕ) → n ≤ 8 → n < 2 ^ 64 = λ n h. omega (arith, h) in (
       (each_get IsName [] (sort_names d) x.sort names (named_below d.sorts x.sort (some_within d.sorts x.sort from.0 from.1)), small x.i (omega (arith, few.0, takes, found.3)), small x.j (omega (arith, few.1, gives, found.5))),
       depends_spelled d ds names fits declared.1,
     )
