@@ -175,7 +175,7 @@ shape_fits s (Some i) (Some x) within numbers none fit =
       few_types = fit.few_types;
       named = fit.named;
       differ = fit.differ;
-      shapes = alongside_set (ShapeFits n) (arities_in s.declared) s.types.shapes i c.arity (Some x) fit.shapes (get_map arity s.declared.cons i c found.1) (same_arity _ c x found.1 none.2.0, below.0, below.1);
+      shapes = alongside_set (ShapeFits n) (arities_in s.declared) s.types.shapes i c.arity (Some x) fit.shapes (get_map arity s.declared.cons i c found.1) (same_arity _ c x found.1 none.1.1.0, below.0, below.1);
       carries = fit.carries;
       depends = fit.depends;
       declared_once = fit.declared_once;
@@ -190,7 +190,7 @@ carry_fits s (Some i) (Some k) within numbers none fit =
     let found = get_within s.declared.sorts i (within i refl) in
     let c = found.0 in
     let below = numbers k refl in
-    let same = same_counts _ c k found.1 none.2.0 in
+    let same = same_counts _ c k found.1 none.1.1.0 in
     let size : length s.types.carries ≡ length s.declared.sorts = alongside_length (CarryFits n) (counts_in s.declared) s.types.carries fit.carries ∙ length-map s.declared.sorts counts in
     let some = any_set s.types.carries i k (omega (arith, size, within i refl)) in
     record {
@@ -222,7 +222,7 @@ depends_fits s None i j within none fit = absurd (both_ways _ none.1.0 refl)
 depends_fits s (Some k) i j within none fit =
     let found = get_within s.declared.sorts k (within k refl) in
     let c = found.0 in
-    let at = positions_of _ c i j found.1 none.2.0 in
+    let at = positions_of _ c i j found.1 none.1.1.0 in
     let new : Triple = record { sort = k; i = i; j = j } in
     record {
       typed = fit.typed;

@@ -30,6 +30,7 @@ fn declared_type(names: &Names, name: &[u8]) -> Option<u16>
 }
 
 /// The number of a type by its name.
+#[tactic(auto, using(crate::proofs::TypeSteps::number_of_declared))]
 pub(crate) fn type_named(types: &Types, name: &[u8]) -> Option<u16>
     requires { length types.now.names ≤ 256 }
     ensures { result ≡ place_of name.now (lines.type_names types.now) }
