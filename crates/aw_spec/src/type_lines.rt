@@ -1,11 +1,11 @@
 //! Lines of types: what they declare, and what is wrong with them.
-ghost use Rattle.std.specs.Prelude.{◌≡◌, ◌≤◌, ◌++◌, length, IfOk, Some, None, is_some, if◌then◌else◌};
+ghost use Rattle.std.specs.Prelude.{◌≡◌, ◌≤◌, ◌&&◌, nat_eq, ◌++◌, length, IfOk, Some, None, is_some, if◌then◌else◌};
 ghost use Rattle.std.specs.Option.{option_copied};
 ghost use Rattle.aw_index.specs.Places.{is_same, place_of};
 ghost use Rattle.aw_spec.specs.TypeLines as lines;
 ghost use Rattle.aw_spec.specs.TypePlaces.{place_from};
 
-use aw_base::{Con, Declared, Names, Numbers, Sort};
+use aw_base::{Con, Declared, Names, Numbers, Sort, Triple};
 use aw_list::{Items, Text};
 use aw_typed::{Carry, Shape, Types};
 use std::alloc::AllocError;
@@ -170,12 +170,26 @@ pub(crate) fn positions(sort: Option<&Sort>, i: u64, j: u64) -> Option<(u8, u8)>
     Some((position(sort.takes, i)?, position(sort.gives, j)?))
 }
 
+/// Whether a dependence is that of result `j` of the sort on its inherited value `i`.
+fn is_of(d: &Triple, sort: u16, i: u64, j: u64) -> bool
+    ensures { result ≡ (nat_eq d.now.sort sort && (nat_eq d.now.i i && nat_eq d.now.j j)) }
+{
+    d.sort == sort && (u64::from(d.i) == i && u64::from(d.j) == j)
+}
+
+/// Whether one of these is that of result `j` of the sort on its inherited value `i`.
+fn is_among(declared: &[Triple], sort: u16, i: u64, j: u64) -> bool
+    ensures { result ≡ lines.is_dependence declared.now (Some sort) i j }
+{
+    declared.iter().any(|d| is_of(d, sort, i, j))
+}
+
 /// Whether it is declared of the sort at a place that result `j` may depend on inherited value `i`.
 pub(crate) fn is_dependence(declared: &Declared, at: Option<u16>, i: u64, j: u64) -> bool
     ensures { result ≡ lines.is_dependence declared.now at i j }
 {
-    let Some(at) = at else {
-        return false;
-    };
-    declared.as_slice().iter().any(|x| x.sort == at && (u64::from(x.i) == i && u64::from(x.j) == j))
+    match at {
+        Some(sort) => is_among(declared.as_slice(), sort, i, j),
+        None => false,
+    }
 }
