@@ -20,6 +20,7 @@ ghost use Rattle.aw_spec.specs.Declares.{IsDeclared};
 
 use crate::fault::SpecKind;
 use crate::line::SpecLine;
+use crate::type_lines::{with_no_carry, with_no_shape};
 use aw_base::{AddFault, DeclKind, Declared, Grammar, RawCon, RawRule, RawSort, Rule};
 use aw_face::{FaceKind, Faces, Using, is_offered, is_used, rule_fault};
 use aw_form::Unread;
@@ -189,19 +190,24 @@ impl Draft {
         let Draft {
             grammar,
             faces,
-            mut types,
+            types,
             depends,
             free,
         } = self;
         let grammar = grammar.add_con(con)?;
-        types.shapes.push(None)?;
-        Ok(Draft {
-            grammar,
-            faces,
-            types,
-            depends,
-            free,
-        })
+        match with_no_shape(types) {
+            Ok(types) => Ok(Draft {
+                grammar,
+                faces,
+                types,
+                depends,
+                free,
+            }),
+            Err(_) => {
+                drop(grammar);
+                Err(LineFault::NoMemory)
+            }
+        }
     }
 
     fn add_sort(self, sort: RawSort) -> Result<Draft, LineFault>
@@ -212,19 +218,24 @@ impl Draft {
         let Draft {
             grammar,
             faces,
-            mut types,
+            types,
             depends,
             free,
         } = self;
         let grammar = grammar.add_sort(sort)?;
-        types.carries.push(None)?;
-        Ok(Draft {
-            grammar,
-            faces,
-            types,
-            depends,
-            free,
-        })
+        match with_no_carry(types) {
+            Ok(types) => Ok(Draft {
+                grammar,
+                faces,
+                types,
+                depends,
+                free,
+            }),
+            Err(_) => {
+                drop(grammar);
+                Err(LineFault::NoMemory)
+            }
+        }
     }
 
     fn add_start(self, sort: Text) -> Result<Draft, LineFault>

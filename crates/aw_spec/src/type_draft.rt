@@ -10,8 +10,8 @@ ghost use Rattle.aw_spec.specs.TypeLines.{item_at};
 use crate::draft::{Draft, LineFault};
 use crate::fault::SpecKind;
 use crate::type_lines::{
-    are_other_counts, carry_named, is_declared_at, is_dependence, is_other_arity, positions,
-    shape_named, type_named, with_at,
+    are_other_counts, carry_named, is_declared_at, is_dependence, is_other_arity, is_type,
+    positions, shape_named, with_at,
 };
 use aw_base::{Con, Names, Sort, Triple};
 use aw_list::Text;
@@ -44,7 +44,7 @@ impl Draft {
         if self.types.names.len() >= 256 {
             return Some(SpecKind::Limit);
         }
-        if type_named(&self.types, name.as_slice()).is_some() {
+        if is_type(&self.types, name.as_slice()) {
             return Some(SpecKind::Double);
         }
         None

@@ -1,7 +1,7 @@
 //! Lines of types: what they declare, and what is wrong with them.
-ghost use Rattle.std.specs.Prelude.{◌≡◌, ◌≤◌, ◌&&◌, nat_eq, ◌++◌, length, IfOk, Some, None, is_some, if◌then◌else◌};
+ghost use Rattle.std.specs.Prelude.{◌≡◌, ◌≤◌, ◌&&◌, ◌∷◌, [], nat_eq, ◌++◌, length, IfOk, Some, None, is_some, if◌then◌else◌};
 ghost use Rattle.std.specs.Option.{option_copied};
-ghost use Rattle.aw_index.specs.Places.{is_same, place_of};
+ghost use Rattle.aw_index.specs.Places.{is_same, place_of, stands};
 ghost use Rattle.aw_spec.specs.TypeLines as lines;
 ghost use Rattle.aw_spec.specs.TypePlaces.{place_from};
 
@@ -42,6 +42,33 @@ pub(crate) fn type_named(types: &Types, name: &[u8]) -> Option<u16>
         return Some(1);
     }
     declared_type(&types.names, name)
+}
+
+/// Whether a name is that of a type.
+#[tactic(auto, using(aw_index::proofs::Lookups::stands_is_placed))]
+pub(crate) fn is_type(types: &Types, name: &[u8]) -> bool
+    requires { length types.now.names ≤ 256 }
+    ensures { result ≡ stands name.now (lines.type_names types.now) }
+{
+    type_named(types, name).is_some()
+}
+
+/// The types with a constructor more, of which no shape is declared.
+pub(crate) fn with_no_shape(types: Types) -> Result<Types, AllocError>
+    ensures { IfOk result (λ t. t ≡ record types { shapes = types.shapes ++ None ∷ [] }) }
+{
+    let mut types = types;
+    types.shapes.push(None)?;
+    Ok(types)
+}
+
+/// The types with a sort more, of which no carry is declared.
+pub(crate) fn with_no_carry(types: Types) -> Result<Types, AllocError>
+    ensures { IfOk result (λ t. t ≡ record types { carries = types.carries ++ None ∷ [] }) }
+{
+    let mut types = types;
+    types.carries.push(None)?;
+    Ok(types)
 }
 
 /// The numbers of types by their names, where each name is that of a type.
