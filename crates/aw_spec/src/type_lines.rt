@@ -45,7 +45,6 @@ pub(crate) fn type_named(types: &Types, name: &[u8]) -> Option<u16>
 }
 
 /// Whether a name is that of a type.
-#[tactic(auto, using(aw_index::proofs::Lookups::stands_is_placed))]
 pub(crate) fn is_type(types: &Types, name: &[u8]) -> bool
     requires { length types.now.names ≤ 256 }
     ensures { result ≡ stands name.now (lines.type_names types.now) }
