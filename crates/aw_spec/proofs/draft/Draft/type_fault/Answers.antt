@@ -9,12 +9,12 @@ pub returns-then-is_type : goal.returns-then-is_type
 returns-then-is_type c =
     let t = c.args.self.now.types in
     let few : length t.names < 256 = omega (arith, c.len.ensures, c.if-len-ge256.false) in
-    let stands_so = sym c.if-is_type.ensures in
+    let stands_so = ap (λ name. stands name (type_names t)) (sym c.as_slice.ensures) ∙ sym c.if-is_type.ensures in
     sym (ap (λ b. cond b (Some Limit) (cond (stands c.args.name.now (type_names t)) (Some Double) None)) (lt-leb 256 (length t.names) few) ∙ ap (λ b. cond b (Some Double) None) stands_so)
 
 pub returns : goal.returns
 returns c =
     let t = c.args.self.now.types in
     let few : length t.names < 256 = omega (arith, c.len.ensures, c.if-len-ge256.false) in
-    let stands_not = sym c.if-is_type.ensures in
+    let stands_not = ap (λ name. stands name (type_names t)) (sym c.as_slice.ensures) ∙ sym c.if-is_type.ensures in
     sym (ap (λ b. cond b (Some Limit) (cond (stands c.args.name.now (type_names t)) (Some Double) None)) (lt-leb 256 (length t.names) few) ∙ ap (λ b. cond b (Some Double) None) stands_not)
