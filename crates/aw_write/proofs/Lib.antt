@@ -17,3 +17,4 @@ pub mod SpelledSpecs
 pub mod SpelledTypes
 pub mod Typing
 pub mod WrittenAgain
+pub mod TypeTexts

@@ -141,6 +141,15 @@ shape_said d offers uses names carries pre c post done rest x cons_differ differ
     ∙ ap (λ os. On (with_typing d offers uses (record t { typed = true; shapes = os }) [])) (set_at done None rest (Some x) i refl)
     ∙ ap (λ b. On (with_typing d offers uses (record (typed_by names (done ++ Some x ∷ rest) carries) { typed = b }) [])) (sym typed)
 
+-- the line of one shape, or none
+shape_leads : (d : Declarations) (offers : List ℕ) (uses : List Using) (names : List (List ℕ)) (carries : List (Option Carry)) (pre : List decl.Con) (c : decl.Con) (left : List decl.Con) (done : List (Option Shape)) → Differ (con_names d) → Differ (type_names (typed_by names [] [])) → d.cons ≡ pre ++ c ∷ left → length done ≡ length pre → (p : Option Shape) → ShapeFits (2 + length names) c.arity p →
+    Through shapes_stage (with_typing d offers uses (typed_by names (done ++ None ∷ map no_shape left) carries) []) (shape_line (type_names (typed_by names [] [])) c.name p) (with_typing d offers uses (typed_by names (done ++ p ∷ map no_shape left) carries) [])
+shape_leads d offers uses names carries pre c left done cons_differ differ e size None k = through_none shapes_stage (with_typing d offers uses (typed_by names (done ++ None ∷ map no_shape left) carries) [])
+shape_leads d offers uses names carries pre c left done cons_differ differ e size (Some x) k =
+    through_line shapes_stage (with_typing d offers uses (typed_by names (done ++ None ∷ map no_shape left) carries) []) (with_typing d offers uses (typed_by names (done ++ Some x ∷ map no_shape left) carries) [])
+    (ShapeLine c.name (map (get [] (type_names (typed_by names [] []))) x.parts) (get [] (type_names (typed_by names [] [])) x.own)) refl
+    (shape_said d offers uses names carries pre c left done (map no_shape left) x cons_differ differ e size k)
+
 shapes_lead : (d : Declarations) (offers : List ℕ) (uses : List Using) (names : List (List ℕ)) (carries : List (Option Carry)) (shapes : List (Option Shape)) → Differ (con_names d) → Differ (type_names (typed_by names [] [])) → Alongside (ShapeFits (2 + length names)) (arities_in d) shapes →
     Through shapes_stage (with_typing d offers uses (typed_by names (map no_shape d.cons) carries) []) (shape_lines (type_names (typed_by names [] [])) shapes d.cons) (with_typing d offers uses (typed_by names shapes carries) [])
 shapes_lead d offers uses names carries shapes cons_differ differ fit = go [] d.cons [] shapes refl refl fit
@@ -155,18 +164,10 @@ shapes_lead d offers uses names carries shapes cons_differ differ fit = go [] d.
         let types = type_names (typed_by names [] []) in
         let longer : length (done ++ o ∷ []) ≡ length (pre ++ c ∷ []) = omega (arith, size, length-append done (o ∷ []), length-append pre (c ∷ [])) in
         through_same shapes_stage (state (done ++ None ∷ map no_shape left)) (state (done ++ o ∷ map no_shape left)) (state (done ++ o ∷ todo)) (shape_line types c.name o) (shape_lines types todo left)
-        (one o f.0)
+        (shape_leads d offers uses names carries pre c left done cons_differ differ e size o f.0)
         (subst (λ os. Through shapes_stage (state os) (shape_lines types todo left) (state (done ++ o ∷ todo))) (append_assoc done (o ∷ []) (map no_shape left))
         (subst (λ os. Through shapes_stage (state ((done ++ o ∷ []) ++ map no_shape left)) (shape_lines types todo left) (state os)) (append_assoc done (o ∷ []) todo)
         (go (pre ++ c ∷ []) left (done ++ o ∷ []) todo (e ∙ sym (append_assoc pre (c ∷ []) left)) longer f.1)))
-      where
-        one : (p : Option Shape) → ShapeFits (2 + length names) c.arity p →
-            Through shapes_stage (with_typing d offers uses (typed_by names (done ++ None ∷ map no_shape left) carries) []) (shape_line (type_names (typed_by names [] [])) c.name p) (with_typing d offers uses (typed_by names (done ++ p ∷ map no_shape left) carries) [])
-        one None k = through_none shapes_stage (with_typing d offers uses (typed_by names (done ++ None ∷ map no_shape left) carries) [])
-        one (Some x) k =
-            through_line shapes_stage (with_typing d offers uses (typed_by names (done ++ None ∷ map no_shape left) carries) []) (with_typing d offers uses (typed_by names (done ++ Some x ∷ map no_shape left) carries) [])
-            (ShapeLine c.name (map (get [] (type_names (typed_by names [] []))) x.parts) (get [] (type_names (typed_by names [] [])) x.own)) refl
-            (shape_said d offers uses names carries pre c left done (map no_shape left) x cons_differ differ e size k)
 
 -- carries
 
@@ -197,6 +198,15 @@ carry_said d offers uses names shapes pre c post done rest k sorts_differ differ
     ∙ ap (λ os. On (with_typing d offers uses (record t { typed = true; carries = os }) [])) (set_at done None rest (Some k) i refl)
     ∙ ap (λ b. On (with_typing d offers uses (record (typed_by names shapes (done ++ Some k ∷ rest)) { typed = b }) [])) (sym typed)
 
+-- the line of one carry, or none
+carry_leads : (d : Declarations) (offers : List ℕ) (uses : List Using) (names : List (List ℕ)) (shapes : List (Option Shape)) (pre : List Sort) (c : Sort) (left : List Sort) (done : List (Option Carry)) → Differ (sort_names d) → Differ (type_names (typed_by names [] [])) → d.sorts ≡ pre ++ c ∷ left → length done ≡ length pre → (p : Option Carry) → CarryFits (2 + length names) (c.takes, c.gives) p →
+    Through carries_stage (with_typing d offers uses (typed_by names shapes (done ++ None ∷ map no_carry left)) []) (carry_line (type_names (typed_by names [] [])) c.name p) (with_typing d offers uses (typed_by names shapes (done ++ p ∷ map no_carry left)) [])
+carry_leads d offers uses names shapes pre c left done sorts_differ differ e size None k = through_none carries_stage (with_typing d offers uses (typed_by names shapes (done ++ None ∷ map no_carry left)) [])
+carry_leads d offers uses names shapes pre c left done sorts_differ differ e size (Some x) k =
+    through_line carries_stage (with_typing d offers uses (typed_by names shapes (done ++ None ∷ map no_carry left)) []) (with_typing d offers uses (typed_by names shapes (done ++ Some x ∷ map no_carry left)) [])
+    (CarryLine c.name (map (get [] (type_names (typed_by names [] []))) x.takes) (map (get [] (type_names (typed_by names [] []))) x.gives)) refl
+    (carry_said d offers uses names shapes pre c left done (map no_carry left) x sorts_differ differ e size k)
+
 carries_lead : (d : Declarations) (offers : List ℕ) (uses : List Using) (names : List (List ℕ)) (shapes : List (Option Shape)) (carries : List (Option Carry)) → Differ (sort_names d) → Differ (type_names (typed_by names [] [])) → Alongside (CarryFits (2 + length names)) (counts_in d) carries →
     Through carries_stage (with_typing d offers uses (typed_by names shapes (map no_carry d.sorts)) []) (carry_lines (type_names (typed_by names [] [])) carries d.sorts) (with_typing d offers uses (typed_by names shapes carries) [])
 carries_lead d offers uses names shapes carries sorts_differ differ fit = go [] d.sorts [] carries refl refl fit
@@ -211,18 +221,10 @@ carries_lead d offers uses names shapes carries sorts_differ differ fit = go [] 
         let types = type_names (typed_by names [] []) in
         let longer : length (done ++ o ∷ []) ≡ length (pre ++ c ∷ []) = omega (arith, size, length-append done (o ∷ []), length-append pre (c ∷ [])) in
         through_same carries_stage (state (done ++ None ∷ map no_carry left)) (state (done ++ o ∷ map no_carry left)) (state (done ++ o ∷ todo)) (carry_line types c.name o) (carry_lines types todo left)
-        (one o f.0)
+        (carry_leads d offers uses names shapes pre c left done sorts_differ differ e size o f.0)
         (subst (λ os. Through carries_stage (state os) (carry_lines types todo left) (state (done ++ o ∷ todo))) (append_assoc done (o ∷ []) (map no_carry left))
         (subst (λ os. Through carries_stage (state ((done ++ o ∷ []) ++ map no_carry left)) (carry_lines types todo left) (state os)) (append_assoc done (o ∷ []) todo)
         (go (pre ++ c ∷ []) left (done ++ o ∷ []) todo (e ∙ sym (append_assoc pre (c ∷ []) left)) longer f.1)))
-      where
-        one : (p : Option Carry) → CarryFits (2 + length names) (c.takes, c.gives) p →
-            Through carries_stage (with_typing d offers uses (typed_by names shapes (done ++ None ∷ map no_carry left)) []) (carry_line (type_names (typed_by names [] [])) c.name p) (with_typing d offers uses (typed_by names shapes (done ++ p ∷ map no_carry left)) [])
-        one None k = through_none carries_stage (with_typing d offers uses (typed_by names shapes (done ++ None ∷ map no_carry left)) [])
-        one (Some x) k =
-            through_line carries_stage (with_typing d offers uses (typed_by names shapes (done ++ None ∷ map no_carry left)) []) (with_typing d offers uses (typed_by names shapes (done ++ Some x ∷ map no_carry left)) [])
-            (CarryLine c.name (map (get [] (type_names (typed_by names [] []))) x.takes) (map (get [] (type_names (typed_by names [] []))) x.gives)) refl
-            (carry_said d offers uses names shapes pre c left done (map no_carry left) x sorts_differ differ e size k)
 
 -- dependences
 

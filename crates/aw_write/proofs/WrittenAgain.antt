@@ -1,5 +1,5 @@
 -- What is written of a specification is read as the specification.
-use Rattle.std.proofs.Common.{◌≡◌, ◌+◌, false, ap, ◌∙◌, [], ◌++◌, length, map, arith}
+use Rattle.std.proofs.Common.{◌≡◌, ◌+◌, false, refl, ap, ◌∙◌, [], ◌++◌, length, map, arith}
 use Rattle.aw_lex.specs.Lines.{lines_of}
 use Rattle.aw_grammar.specs.Declarations.{Declarations, sort_names}
 use Rattle.aw_spec.specs.Lines.{RoleLine}
