@@ -18,7 +18,7 @@ from pathlib import Path
 HERE = Path(__file__).resolve().parent
 DOCS = HERE.parent / "docs"
 COMMANDS = ("check", "plain", "replay")
-STATUS_OF = {"bad specification ": 3, "circular ": 4, "bad schedule ": 5}
+STATUS_OF = {"bad specification ": 3, "bad types ": 15, "circular ": 4, "bad schedule ": 5}
 PAGE_OF = {"specification": "LANGUAGE.md", "schedule": "SCHEDULE.md", "tutorial": "TUTORIAL.md"}
 
 

@@ -17,6 +17,7 @@ use aw_store::{
     Added, Body, Chase, Equation, Equations, Facts, ListFacts, Refs, body_text, chase, intern_all,
     push_body,
 };
+use aw_typed::untyped;
 use bstr::ByteSlice;
 use std::alloc::{AllocError, Global};
 
@@ -235,7 +236,9 @@ impl<'g> Case<'g> {
 
     /// Tells a line of a schedule, and answers its choice.
     fn push_choice(&mut self, line: &[u8]) -> Result<(), Unread> {
-        let events = match read_schedule(self.told.allocator(), self.grammar, line) {
+        let alloc = self.told.allocator();
+        let typed = untyped(alloc, self.grammar)?;
+        let events = match read_schedule(alloc, self.grammar, &typed, line) {
             Ok(events) => events,
             Err(SchedFault::NoMemory) => return Err(Unread::NoMemory),
             Err(SchedFault::Bad { .. }) => return Err(Unread::Form),

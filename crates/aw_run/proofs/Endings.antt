@@ -10,7 +10,7 @@ use Rattle.aw_run.specs.declared.reply.Reply.{Reply}
 use Rattle.aw_run.specs.declared.reply.Status.{Status}
 use Rattle.aw_run.specs.declared.reply.Status.TheVariants.{Done, NetFault, NoMemory, ReadFault, WriteFault}
 use Rattle.aw_run.specs.Words.{command_of}
-use Rattle.aw_run.specs.Output.{Output, Writes, PastInputLimit, BadSpecification, IsCircular, BadSchedule, PastOutputLimit, IsOutputOf}
+use Rattle.aw_run.specs.Output.{Output, Writes, PastInputLimit, BadSpecification, BadTypes, IsCircular, BadSchedule, PastOutputLimit, IsOutputOf}
 use Rattle.aw_run.specs.Replies.{ForInput, Replies, Devices, EndsWith, reply, reply_with, uses_wire, WritesSome, IsGood, Says, SaysAs}
 use Rattle.aw_run.specs.Laws.{HasOneReply}
 use Rattle.aw_run.proofs.OneOutputs.{one-output}
@@ -20,6 +20,7 @@ replies-done : (P : Output → Type 0) (said : Reply) (Q : List ℕ → Type 0) 
 replies-done P said Q (Writes text) holds is done text_has = let e : said.text ≡ text = cc (is) in (text, holds, subst Q e text_has)
 replies-done P said Q PastInputLimit holds is done text_has = absurd (cc (is, done))
 replies-done P said Q (BadSpecification why) holds is done text_has = absurd (cc (is, done))
+replies-done P said Q (BadTypes why) holds is done text_has = absurd (cc (is, done))
 replies-done P said Q (IsCircular why) holds is done text_has = absurd (cc (is, done))
 replies-done P said Q (BadSchedule why) holds is done text_has = absurd (cc (is, done))
 replies-done P said Q PastOutputLimit holds is done text_has = absurd (cc (is, done))

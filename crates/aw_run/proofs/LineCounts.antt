@@ -5,6 +5,7 @@ use Rattle.std.proofs.lemmas.List.Splits.{length-slice_split}
 use Rattle.std.proofs.lemmas.List.Sums.{count_by-le-length}
 use Rattle.aw_lex.specs.Lines.{lines_of, without_empty_last}
 use Rattle.aw_grammar.specs.Declarations.{Declarations}
+use Rattle.aw_typed.specs.Types.{Types}
 use Rattle.aw_spec.specs.Reading as S
 use Rattle.aw_spec.specs.Reading.{Spec, Draft, LineRead, Next, Fault, End, Reading, Good, Faulty, after_line}
 use Rattle.aw_sched.specs.Schedules as T
@@ -47,9 +48,9 @@ sched-step n line kind lines (Gives event) later rest e = omega (arith, rest (ev
 sched-step n line kind lines (T.Faulty k) later rest e = let h : n ≡ line = cc (e) in omega (arith, h)
 
 -- a fault of a schedule is told of one of its lines
-pub schedule-within : (d : Declarations) (n line : ℕ) (kind : SchedKind) (lines : List (List ℕ)) → T.read_lines d n lines ≡ FaultAt line kind → line < n + length lines
-schedule-within d n line kind [] e = absurd (cc (e))
-schedule-within d n line kind (l ∷ lines) e = sched-step n line kind lines _ (T.read_lines d (suc n) lines) (schedule-within d (suc n) line kind lines) e
+pub schedule-within : (t : Types) (d : Declarations) (n line : ℕ) (kind : SchedKind) (lines : List (List ℕ)) → T.read_lines t d n lines ≡ FaultAt line kind → line < n + length lines
+schedule-within t d n line kind [] e = absurd (cc (e))
+schedule-within t d n line kind (l ∷ lines) e = sched-step n line kind lines _ (T.read_lines t d (suc n) lines) (schedule-within t d (suc n) line kind lines) e
 
 -- what a specification takes and what stands behind it are all lines
 pub lines-behind : (input schedule : List ℕ) (s : Spec) (n : ℕ) (loads : Bool) → S.specification (lines_of input) ≡ Good s n loads → lines_of schedule ≡ drop n (lines_of input) → n + length (lines_of schedule) ≤ length input + 1

@@ -5,11 +5,13 @@ use Rattle.aw_term.specs.Artifacts.{Words}
 use Rattle.aw_grammar.specs.Declarations.{grammar_in, words_in}
 use Rattle.aw_accept.specs.declared.refused.Fault.{Fault}
 use Rattle.aw_told.proofs.OneTold.{one-found, one-text}
+use Rattle.aw_typed.specs.TypeFaults.{Fault as TypeFault, type_fault}
+use Rattle.aw_typed.specs.Typing.{types_of}
 use Rattle.aw_spec.specs.Reading.{Spec, Reading, Good, Faulty, specification}
 use Rattle.aw_run.specs.declared.source.TheConstants.{INPUT_LIMIT}
 use Rattle.aw_run.specs.declared.words.Job.{Job}
 use Rattle.aw_run.specs.declared.words.Job.TheVariants.{Check, Tells}
-use Rattle.aw_run.specs.Output.{Output, Writes, PastInputLimit, ByFault, IfAccepted, TellsDependences, TellsSchedule, Makes, BySpecification, IsOutputOf}
+use Rattle.aw_run.specs.Output.{Output, Writes, PastInputLimit, ByFault, ByTypes, IfAccepted, TellsDependences, TellsSchedule, MakesTyped, BySpecification, IsOutputOf}
 use Rattle.aw_run.specs.Laws.{HasOneOutput}
 
 -- P holds of one output at most
@@ -33,12 +35,17 @@ one-match false output P one a b x y = one a b x y
 one-dependences : (s : Spec) → One (TellsDependences s)
 one-dependences s a b x y = x.2 ∙ ap Writes (one-text (words_in s.declared) (grammar_in s.declared) x.0 y.0 x.1 y.1) ∙ sym y.2
 
-one-made : (job : Job) (s : Spec) (before : ℕ) (schedule : List (List ℕ)) → One (Makes job s before schedule)
+by-types : (w : Words) (P : Output → Type 0) → One P → (found : Option TypeFault) → One (ByTypes w found P)
+by-types w P one None a b x y = one a b x y
+by-types w P one (Some fault) a b x y = x ∙ sym y
+
+one-made : (job : Job) (s : Spec) (before : ℕ) (schedule : List (List ℕ)) → One (MakesTyped job s before schedule)
 one-made Check s before schedule = one-accepted s (TellsDependences s) (one-dependences s)
 one-made (Tells telling) s before schedule = one-accepted s (TellsSchedule telling s before schedule) (λ a b x y. x ∙ sym y)
 
 one-read : (job : Job) (lines : List (List ℕ)) (reading : Reading) → One (BySpecification job lines reading)
-one-read job lines (Good spec taken loads) = one-made job spec taken (drop taken lines)
+one-read job lines (Good spec taken loads) =
+    by-types (words_in spec.declared) (MakesTyped job spec taken (drop taken lines)) (one-made job spec taken (drop taken lines)) (type_fault (types_of spec.types) (grammar_in spec.declared))
 one-read job lines (Faulty line kind) = λ a b x y. x ∙ sym y
 
 pub one-output : HasOneOutput

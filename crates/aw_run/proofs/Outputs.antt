@@ -8,6 +8,8 @@ use Rattle.aw_grammar.specs.declared.grammar.Grammar.{Grammar}
 use Rattle.aw_grammar.specs.GrammarOf.{grammar_of, words_of, declarations_of}
 use Rattle.aw_grammar.specs.Declarations.{Declarations, grammar_in, words_in}
 use Rattle.aw_grammar.proofs.Entries.{declared_words, declared_grammar}
+use Rattle.aw_typed.specs.declared.data.Types.{Types}
+use Rattle.aw_typed.specs.Typing.{types_of}
 use Rattle.aw_spec.specs.Reading.{Spec, Reading, specification}
 use Rattle.aw_sched.specs.Events.{Event}
 use Rattle.aw_sched.specs.declared.fault.SchedKind.{SchedKind}
@@ -21,18 +23,19 @@ use Rattle.aw_run.specs.Replies.{reply_with}
 use Rattle.aw_run.specs.Output.{Output, PastInputLimit, BadSchedule, by_events, by_schedule, BySpecification, IsOutputOf}
 
 -- a good schedule
-pub schedule-good : (telling : Telling) (s : Spec) (g : Grammar) (before : ℕ) (schedule : List (List ℕ)) (events : List Event) → s.declared ≡ declarations_of g → read_lines (declarations_of g) 1 schedule ≡ Events events →
-    by_schedule telling s before (read_lines s.declared 1 schedule) ≡ by_events telling (words_of g) (grammar_of g) events
-schedule-good telling s g before schedule events same good =
-    ap (by_schedule telling s before) (ap (λ (d : Declarations). read_lines d 1 schedule) same ∙ good)
+pub schedule-good : (telling : Telling) (s : Spec) (g : Grammar) (before : ℕ) (schedule : List (List ℕ)) (events : List Event) (t : Types) → s.declared ≡ declarations_of g → s.types ≡ t → read_lines (types_of t) (declarations_of g) 1 schedule ≡ Events events →
+    by_schedule telling s before (read_lines (types_of s.types) s.declared 1 schedule) ≡ by_events telling (words_of g) (grammar_of g) events
+schedule-good telling s g before schedule events t same typed good =
+    ap (by_schedule telling s before) (ap (λ (u : Types). read_lines (types_of u) s.declared 1 schedule) typed ∙ ap (λ (d : Declarations). read_lines (types_of t) d 1 schedule) same ∙ good)
     ∙ ap (λ (d : Declarations). by_events telling (words_in d) (grammar_in d) events) same
     ∙ ap (λ (w : Words). by_events telling w (grammar_in (declarations_of g)) events) (sym (declared_words g))
     ∙ ap (λ (h : P.Grammar). by_events telling (words_of g) h events) (sym (declared_grammar g))
 
 -- a faulty one
-pub schedule-bad : (telling : Telling) (s : Spec) (d : Declarations) (before line : ℕ) (kind : SchedKind) (schedule : List (List ℕ)) → s.declared ≡ d → read_lines d 1 schedule ≡ FaultAt line kind →
-    reply_with (by_schedule telling s before (read_lines s.declared 1 schedule)) ≡ reply_with (BadSchedule (at_line (before + line) (schedule_kind kind)))
-schedule-bad telling s d before line kind schedule same faulty = ap (λ r. reply_with (by_schedule telling s before r)) (ap (λ (e : Declarations). read_lines e 1 schedule) same ∙ faulty)
+pub schedule-bad : (telling : Telling) (s : Spec) (d : Declarations) (before line : ℕ) (kind : SchedKind) (schedule : List (List ℕ)) (t : Types) → s.declared ≡ d → s.types ≡ t → read_lines (types_of t) d 1 schedule ≡ FaultAt line kind →
+    reply_with (by_schedule telling s before (read_lines (types_of s.types) s.declared 1 schedule)) ≡ reply_with (BadSchedule (at_line (before + line) (schedule_kind kind)))
+schedule-bad telling s d before line kind schedule t same typed faulty =
+    ap (λ r. reply_with (by_schedule telling s before r)) (ap (λ (u : Types). read_lines (types_of u) s.declared 1 schedule) typed ∙ ap (λ (e : Declarations). read_lines (types_of t) e 1 schedule) same ∙ faulty)
 
 -- an input within its limit, of which the specification is read
 pub output-read : (job : Job) (input : List ℕ) (reading : Reading) (output : Output) → length input ≤ INPUT_LIMIT → specification (lines_of input) ≡ reading → BySpecification job (lines_of input) reading output → IsOutputOf job input output

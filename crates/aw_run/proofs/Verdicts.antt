@@ -20,13 +20,18 @@ use Rattle.aw_spec.specs.Reading.{Spec}
 use Rattle.aw_spec.specs.declared.fault.SpecKind.{SpecKind}
 use Rattle.aw_sched.specs.declared.fault.SchedKind.{SchedKind}
 use Rattle.aw_sched.specs.KindNames.{kind_name as schedule_kind}
-use Rattle.aw_run.specs.Refusals.{at_line}
+use Rattle.aw_typed.specs.TypeFaults as F
+use Rattle.aw_typed.specs.TypeFaults.{type_fault}
+use Rattle.aw_typed.specs.Typing.{types_of, TellsTypes}
+use Rattle.aw_typed.specs.declared.data.TypeFault.{TypeFault}
+use Rattle.aw_typed.specs.declared.data.TypeFault.TheVariants as types
+use Rattle.aw_run.specs.Refusals.{at_line, types_text}
 use Rattle.aw_run.specs.declared.reply.Reply.{Reply}
 use Rattle.aw_run.specs.declared.reply.Status.TheVariants.{Done}
 use Rattle.aw_sched.specs.Schedules.{read_lines}
 use Rattle.aw_run.specs.declared.words.Telling.{Telling}
-use Rattle.aw_run.specs.Output.{Output, Writes, BadSpecification, IsCircular, BadSchedule, IfAccepted, TellsDependences, TellsSchedule, by_schedule}
-use Rattle.aw_run.specs.Replies.{Replies, RefusesGrammar, reply, reply_with}
+use Rattle.aw_run.specs.Output.{Output, Writes, BadSpecification, BadTypes, IsCircular, BadSchedule, ByTypes, IfTyped, IfAccepted, TellsDependences, TellsSchedule, by_schedule}
+use Rattle.aw_run.specs.Replies.{Replies, RefusesGrammar, RefusesTypes, reply, reply_with}
 
 -- the grammar is accepted
 pub accepted-then : (s : Spec) (g : Grammar) (P : Output → Type 0) (output : Output) → s.declared ≡ declarations_of g → HasNoCircle (grammar_of g) (IO (grammar_of g)) → P output → IfAccepted s P output
@@ -59,6 +64,28 @@ reply-map result P Q f = IfOk-weaker result _ _ (λ said is. (is.0, f is.0 is.1,
 pub accepts-grammar : {E : Type 0} (result : Result Reply E) (s : Spec) (g : Grammar) (P : Output → Type 0) → s.declared ≡ declarations_of g → HasNoCircle (grammar_of g) (IO (grammar_of g)) → IfOk result (λ said. Replies P said) → IfOk result (λ said. Replies (IfAccepted s P) said)
 accepts-grammar result s g P same sound = reply-map result P (IfAccepted s P) (λ output. accepted-then s g P output same sound)
 
+-- the types have no fault
+pub types-hold : {E : Type 0} (result : Result Reply E) (s : Spec) (g : Grammar) (P : Output → Type 0) → s.declared ≡ declarations_of g → type_fault (types_of s.types) (grammar_of g) ≡ None → IfOk result (λ said. Replies P said) → IfOk result (λ said. Replies (IfTyped s P) said)
+types-hold result s g P same none =
+    let found : type_fault (types_of s.types) (grammar_in s.declared) ≡ None = ap (λ (d : Declarations). type_fault (types_of s.types) (grammar_in d)) same ∙ ap (type_fault (types_of s.types)) (sym (declared_grammar g)) ∙ none in
+    reply-map result P (IfTyped s P) (λ output holds. subst (λ o. ByTypes (words_in s.declared) o P output) (sym found) holds)
+
+-- they have one
+fault-told : (s : Spec) (g : Grammar) (P : Output → Type 0) (fault : F.Fault) (said : Reply) → s.declared ≡ declarations_of g → type_fault (types_of s.types) (grammar_of g) ≡ Some fault → said ≡ reply_with (BadTypes (types_text (words_of g) fault)) → Replies (IfTyped s P) said
+fault-told s g P fault said same some is =
+    let found : type_fault (types_of s.types) (grammar_in s.declared) ≡ Some fault = ap (λ (d : Declarations). type_fault (types_of s.types) (grammar_in d)) same ∙ ap (type_fault (types_of s.types)) (sym (declared_grammar g)) ∙ some in
+    let told : BadTypes (types_text (words_of g) fault) ≡ BadTypes (types_text (words_in s.declared) fault) = ap (λ (w : Words). BadTypes (types_text w fault)) (declared_words g ∙ ap words_in (sym same)) in
+    (BadTypes (types_text (words_of g) fault), subst (λ o. ByTypes (words_in s.declared) o P (BadTypes (types_text (words_of g) fault))) (sym found) told, is)
+
+refuses-one : (fault : TypeFault) (s : Spec) (g : Grammar) (P : Output → Type 0) (said : Reply) → s.declared ≡ declarations_of g → TellsTypes (types_of s.types) (grammar_of g) fault → RefusesTypes (words_of g) fault said → Replies (IfTyped s P) said
+refuses-one (types.NoShape con) s g P said same tells is = fault-told s g P (F.NoShape con) said same tells is
+refuses-one (types.NoCarry sort) s g P said same tells is = fault-told s g P (F.NoCarry sort) said same tells is
+refuses-one (types.Rule rule place) s g P said same tells is = fault-told s g P (F.InRule rule place) said same tells is
+refuses-one types.NoMemory s g P said same tells is = absurd is
+
+pub refuses-types : {E : Type 0} (result : Result Reply E) (fault : TypeFault) (s : Spec) (g : Grammar) (P : Output → Type 0) → s.declared ≡ declarations_of g → TellsTypes (types_of s.types) (grammar_of g) fault → IfOk result (λ said. RefusesTypes (words_of g) fault said) → IfOk result (λ said. Replies (IfTyped s P) said)
+refuses-types result fault s g P same tells = IfOk-weaker result _ _ (λ said is. refuses-one fault s g P said same tells is)
+
 -- the text of an accepted grammar is written
 pub writes-dependences : (s : Spec) (g : Grammar) (text : List ℕ) → s.declared ≡ declarations_of g → TellsAccepted (words_of g) (grammar_of g) text → Replies (TellsDependences s) (reply Done text)
 writes-dependences s g text same tells =
@@ -72,8 +99,8 @@ reply-same result P output holds = IfOk-weaker result _ _ (λ said is. (output, 
 
 -- the reply that tells a schedule
 pub told-schedule : {E : Type 0} (result : Result Reply E) (telling : Telling) (s : Spec) (before : ℕ) (schedule : List (List ℕ)) →
-    IfOk result (λ said. said ≡ reply_with (by_schedule telling s before (read_lines s.declared 1 schedule))) → IfOk result (λ said. Replies (TellsSchedule telling s before schedule) said)
-told-schedule result telling s before schedule = reply-same result (TellsSchedule telling s before schedule) (by_schedule telling s before (read_lines s.declared 1 schedule)) refl
+    IfOk result (λ said. said ≡ reply_with (by_schedule telling s before (read_lines (types_of s.types) s.declared 1 schedule))) → IfOk result (λ said. Replies (TellsSchedule telling s before schedule) said)
+told-schedule result telling s before schedule = reply-same result (TellsSchedule telling s before schedule) (by_schedule telling s before (read_lines (types_of s.types) s.declared 1 schedule)) refl
 
 -- the refusal of a line by another name
 pub bad-line : {E : Type 0} (result : Result Reply E) (line line' : ℕ) (kind kind' : SpecKind) → line' ≡ line → kind' ≡ kind →

@@ -19,7 +19,9 @@ use Rattle.aw_run.specs.declared.words.Telling.TheVariants.{Undivided, Replayed}
 use Rattle.aw_run.specs.declared.words.Job.{Job}
 use Rattle.aw_run.specs.declared.words.Job.TheVariants.{Check, Tells}
 use Rattle.aw_sched.specs.KindNames.{kind_name as schedule_kind}
-use Rattle.aw_run.specs.Refusals.{at_line}
+use Rattle.aw_typed.specs.TypeFaults.{Fault as TypeFault, type_fault}
+use Rattle.aw_typed.specs.Typing.{types_of}
+use Rattle.aw_run.specs.Refusals.{at_line, types_text}
 use Rattle.aw_run.specs.Transcript.{choices_in, transcript}
 
 -- a text that is written, or why none is
@@ -27,6 +29,7 @@ pub data Output : Type 0 where
   Writes : (text : List ℕ) → Output
   PastInputLimit : Output
   BadSpecification : (why : List ℕ) → Output
+  BadTypes : (why : List ℕ) → Output
   IsCircular : (why : List ℕ) → Output
   BadSchedule : (why : List ℕ) → Output
   PastOutputLimit : Output
@@ -54,6 +57,15 @@ abbrev pub by_schedule : Telling → Spec → ℕ → Read → Output
 by_schedule telling s before (Events events) = by_events telling (words_in s.declared) (grammar_in s.declared) events
 by_schedule telling s before (FaultAt line kind) = BadSchedule (at_line (before + line) (schedule_kind kind))
 
+-- the first fault in the types is told, and where there is none P says what comes
+abbrev pub ByTypes : Words → Option TypeFault → (Output → Type 0) → Output → Type 0
+ByTypes w None P output = P output
+ByTypes w (Some fault) P output = output ≡ BadTypes (types_text w fault)
+
+-- where the types of the specification have no fault, P says what comes
+abbrev pub IfTyped : Spec → (Output → Type 0) → Output → Type 0
+IfTyped s P output = ByTypes (words_in s.declared) (type_fault (types_of s.types) (grammar_in s.declared)) P output
+
 -- the least circle is told, and where there is none P says what comes
 abbrev pub ByFault : Words → Option Fault → (Output → Type 0) → Output → Type 0
 ByFault w None P output = P output
@@ -69,12 +81,16 @@ TellsDependences s output = (text : List ℕ) × TellsAccepted (words_in s.decla
 
 -- the schedule that stands behind so many lines is told
 abbrev pub TellsSchedule : Telling → Spec → ℕ → List (List ℕ) → Output → Type 0
-TellsSchedule telling s before schedule output = output ≡ by_schedule telling s before (read_lines s.declared 1 schedule)
+TellsSchedule telling s before schedule output = output ≡ by_schedule telling s before (read_lines (types_of s.types) s.declared 1 schedule)
 
--- What each job makes of a specification, which takes so many lines, and of the lines behind it.
+-- What each job makes of a specification whose types have no fault, which takes so many lines, and of the lines behind it.
+abbrev pub MakesTyped : Job → Spec → ℕ → List (List ℕ) → Output → Type 0
+MakesTyped Check s before schedule = IfAccepted s (TellsDependences s)
+MakesTyped (Tells telling) s before schedule = IfAccepted s (TellsSchedule telling s before schedule)
+
+-- What each job makes of a specification, which takes so many lines, and of the lines behind it: a fault in the types is told first.
 abbrev pub Makes : Job → Spec → ℕ → List (List ℕ) → Output → Type 0
-Makes Check s before schedule = IfAccepted s (TellsDependences s)
-Makes (Tells telling) s before schedule = IfAccepted s (TellsSchedule telling s before schedule)
+Makes job s before schedule = IfTyped s (MakesTyped job s before schedule)
 
 -- a good specification is taken on to its job, and of another its first faulty line is told
 abbrev pub BySpecification : Job → List (List ℕ) → Reading → Output → Type 0

@@ -5,15 +5,20 @@ use Rattle.aw_out.specs.Wires.{Content}
 use Rattle.aw_grammar.specs.GrammarOf.{words_of}
 use Rattle.aw_accept.specs.declared.refused.Refused.{Refused}
 use Rattle.aw_accept.specs.declared.refused.Refused.TheVariants as refused
+use Rattle.aw_term.specs.Artifacts.{Words}
+use Rattle.aw_typed.specs.TypeFaults.{NoShape, NoCarry, InRule}
+use Rattle.aw_typed.specs.declared.data.TypeFault.{TypeFault}
+use Rattle.aw_typed.specs.declared.data.TypeFault.TheVariants as types
+use Rattle.aw_run.specs.Refusals.{types_text}
 use Rattle.aw_told.specs.Told.{circle_text}
 use Rattle.aw_run.specs.declared.words.Command.{Command}
 use Rattle.aw_run.specs.declared.words.Command.TheVariants.{Reads}
 use Rattle.aw_run.specs.declared.words.Job.{Job}
 use Rattle.aw_run.specs.declared.reply.Reply.{Reply}
 use Rattle.aw_run.specs.declared.reply.Status.{Status}
-use Rattle.aw_run.specs.declared.reply.Status.TheVariants.{Done, Usage, BadSpec, Circular, BadSchedule as BadSched, TooLarge, TooLong}
+use Rattle.aw_run.specs.declared.reply.Status.TheVariants.{Done, Usage, BadSpec, Circular, BadSchedule as BadSched, TooLarge, TooLong, BadTypes as BadTyped}
 use Rattle.aw_run.specs.Words.{command_of}
-use Rattle.aw_run.specs.Output.{Output, Writes, PastInputLimit, BadSpecification, IsCircular, BadSchedule, PastOutputLimit, IsOutputOf}
+use Rattle.aw_run.specs.Output.{Output, Writes, PastInputLimit, BadSpecification, BadTypes, IsCircular, BadSchedule, PastOutputLimit, IsOutputOf}
 
 -- a status, and what is written with it
 abbrev pub reply : Status → List ℕ → Reply
@@ -24,6 +29,7 @@ abbrev pub reply_with : Output → Reply
 reply_with (Writes text) = reply Done text
 reply_with PastInputLimit = reply TooLong []
 reply_with (BadSpecification why) = reply BadSpec (codes "bad specification " ++ (why ++ codes "\n"))
+reply_with (BadTypes why) = reply BadTyped (codes "bad types " ++ (why ++ codes "\n"))
 reply_with (IsCircular why) = reply Circular (codes "circular " ++ (why ++ codes "\n"))
 reply_with (BadSchedule why) = reply BadSched (codes "bad schedule " ++ (why ++ codes "\n"))
 reply_with PastOutputLimit = reply TooLarge []
@@ -32,6 +38,13 @@ reply_with PastOutputLimit = reply TooLarge []
 abbrev pub RefusesGrammar : Refused → Reply → Type 0
 RefusesGrammar (refused.Circular grammar rule occ) said = said ≡ reply_with (IsCircular (circle_text (words_of grammar) (record { rule = rule; occ = occ })))
 RefusesGrammar refused.NoMemory said = ⊥
+
+-- the reply to types with a fault; want of memory has none
+abbrev pub RefusesTypes : Words → TypeFault → Reply → Type 0
+RefusesTypes w (types.NoShape con) said = said ≡ reply_with (BadTypes (types_text w (NoShape con)))
+RefusesTypes w (types.NoCarry sort) said = said ≡ reply_with (BadTypes (types_text w (NoCarry sort)))
+RefusesTypes w (types.Rule rule place) said = said ≡ reply_with (BadTypes (types_text w (InRule rule place)))
+RefusesTypes w types.NoMemory said = ⊥
 
 -- the reply is that of an output with P
 abbrev pub Replies : (Output → Type 0) → Reply → Type 0

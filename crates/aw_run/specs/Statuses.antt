@@ -1,7 +1,7 @@
 -- How a run can end, and what each end says of it.
 use Rattle.std.specs.Prelude.{ℕ}
 use Rattle.aw_run.specs.declared.reply.Status.{Status}
-use Rattle.aw_run.specs.declared.reply.Status.TheVariants.{Done, Usage, BadSpec, Circular, BadSchedule, TooLarge, ReadFault, WriteFault, NetFault, NoMemory, TooLong}
+use Rattle.aw_run.specs.declared.reply.Status.TheVariants.{Done, Usage, BadSpec, Circular, BadSchedule, TooLarge, ReadFault, WriteFault, NetFault, NoMemory, TooLong, BadTypes}
 use Rattle.aw_run.specs.declared.reply.Stop.{Stop}
 use Rattle.aw_run.specs.declared.reply.Stop.TheVariants.{ReadFault as StopReadFault, NetFault as StopNetFault, NoMemory as StopNoMemory}
 
@@ -18,6 +18,7 @@ code_of WriteFault = 8
 code_of NetFault = 9
 code_of NoMemory = 10
 code_of TooLong = 11
+code_of BadTypes = 15
 
 abbrev pub status_of_stop : Stop → Status
 status_of_stop StopReadFault = ReadFault

@@ -1,22 +1,45 @@
 //! The commands that read the source to its end, and reply to what was read.
 ghost use Rattle.std.specs.Prelude.{◌≡◌, ◌≢◌, ◌≤◌, ◌+◌, ◌<◌, ◌^◌, [], IfOk, length};
 ghost use Rattle.aw_lex.specs.Lines.{lines_of};
+ghost use Rattle.aw_grammar.specs.GrammarOf.{grammar_of};
+ghost use Rattle.aw_typed.specs.Types.{AreFor};
+ghost use Rattle.aw_typed.specs.Typing.{types_of, IsMadeFor, NumbersInRange};
 ghost use Rattle.aw_spec.specs.Views.{spec_seen};
 ghost use Rattle.aw_out.specs.Causes.{Rose};
 ghost use Rattle.aw_out.specs.Edge.{IsUsedUp, GivesSome};
-ghost use Rattle.aw_run.specs.Output.{IsOutputOf, Makes};
+ghost use Rattle.aw_run.specs.Output.{IsOutputOf, Makes, MakesTyped};
 ghost use Rattle.aw_run.specs.Statuses.{IsReply, IsSilent, IsPastReading};
 ghost use Rattle.aw_run.specs.Replies.{ForInput, Replies};
 
 use crate::check::check;
-use crate::refusals::bad_specification;
+use crate::refusals::{bad_specification, bad_types};
 use crate::reply::{Reply, Stop};
 use crate::schedule::tell_schedule;
 use crate::source::{INPUT_LIMIT, unread};
 use crate::words::Job;
 use aw_out::{Source, read_all};
 use aw_spec::{SpecFault, SpecText, read_spec};
+use aw_typed::{Typed, type_check};
 use std::alloc::{AllocError, Global};
+
+/// The reply to a good specification whose types have no fault, and to what stands behind it.
+fn reply_to_typed(
+    alloc: Global,
+    job: Job,
+    spec: SpecText,
+    typed: &Typed,
+    schedule: &[u8],
+) -> Result<Reply, AllocError>
+    requires lines { spec.lines + length (lines_of schedule.now) < 2 ^ 64 }
+    requires types { typed.now.types ≡ spec.types }
+    requires made { IsMadeFor (grammar_of spec.grammar) typed.now }
+    ensures { IfOk result (λ reply. Replies (MakesTyped job (spec_seen spec) spec.lines (lines_of schedule.now)) reply) }
+{
+    match job {
+        Job::Check => check(alloc, spec),
+        Job::Tells(telling) => tell_schedule(alloc, telling, spec, typed, schedule),
+    }
+}
 
 /// The reply to a good specification, and to what stands behind it.
 fn reply_to_specification(
@@ -25,12 +48,14 @@ fn reply_to_specification(
     spec: SpecText,
     schedule: &[u8],
 ) -> Result<Reply, AllocError>
-    requires { spec.lines + length (lines_of schedule.now) < 2 ^ 64 }
+    requires lines { spec.lines + length (lines_of schedule.now) < 2 ^ 64 }
+    requires sizes { AreFor (grammar_of spec.grammar) (types_of spec.types) }
+    requires numbers { NumbersInRange (types_of spec.types) }
     ensures { IfOk result (λ reply. Replies (Makes job (spec_seen spec) spec.lines (lines_of schedule.now)) reply) }
 {
-    match job {
-        Job::Check => check(alloc, spec),
-        Job::Tells(telling) => tell_schedule(alloc, telling, spec, schedule),
+    match type_check(alloc, &spec.grammar, &spec.types) {
+        Ok(typed) => reply_to_typed(alloc, job, spec, &typed, schedule),
+        Err(fault) => bad_types(alloc, &spec.grammar, fault),
     }
 }
 

@@ -3,19 +3,20 @@ ghost use Rattle.std.specs.Prelude.{◌≡◌, ◌++◌, codes, OnOk, IfOk};
 ghost use Rattle.aw_spec.specs.KindNames.{kind_name};
 ghost use Rattle.aw_grammar.specs.GrammarOf.{words_of};
 ghost use Rattle.aw_told.specs.Told.{circle_text};
-ghost use Rattle.aw_run.specs.Output.{BadSpecification, IsCircular, BadSchedule};
+ghost use Rattle.aw_run.specs.Output.{BadSpecification, BadTypes, IsCircular, BadSchedule};
 ghost use Rattle.aw_sched.specs.KindNames.{kind_name as schedule_kind};
 ghost use Rattle.aw_run.specs.Refusals.{at_line};
-ghost use Rattle.aw_run.specs.Replies.{reply_with, RefusesGrammar};
+ghost use Rattle.aw_run.specs.Replies.{reply_with, RefusesGrammar, RefusesTypes};
 
 use crate::reply::{Reply, Status};
 use aw_accept::{Fault, Refused};
-use aw_base::Grammar;
+use aw_base::{Grammar, con_name, sort_name};
 use aw_list::Text;
 use aw_sched::SchedKind;
 use aw_spec::SpecKind;
 use aw_text::push_number;
 use aw_told::push_circle;
+use aw_typed::TypeFault;
 use std::alloc::{AllocError, Global};
 
 /// Adds `line 3 form`.
@@ -46,6 +47,45 @@ pub fn too_many_roles(alloc: Global) -> Result<Reply, AllocError>
     ensures { IfOk result (λ reply. reply ≡ reply_with (BadSpecification (codes "roles"))) }
 {
     Reply::line(alloc, Status::BadSpec, b"bad specification roles\n")
+}
+
+/// The refusal of types, with what is named after a word.
+fn types_line(alloc: Global, word: &[u8], name: &[u8]) -> Result<Reply, AllocError>
+    ensures { IfOk result (λ reply. reply ≡ reply_with (BadTypes (word.now ++ name.now))) }
+{
+    let mut text = Text::from_bytes(alloc, b"bad types ")?;
+    text.push_bytes(word)?;
+    text.push_bytes(name)?;
+    text.push_bytes(b"\n")?;
+    Ok(Reply {
+        status: Status::BadTypes,
+        text,
+    })
+}
+
+/// The refusal of types where a term of a rule does not fit.
+fn types_rule(alloc: Global, g: &Grammar, fault: Fault) -> Result<Reply, AllocError>
+    ensures { IfOk result (λ reply. reply ≡ reply_with (BadTypes (codes "rule " ++ circle_text (words_of g.now) fault))) }
+{
+    let mut text = Text::from_bytes(alloc, b"bad types rule ")?;
+    push_circle(&mut text, g, fault)?;
+    text.push_bytes(b"\n")?;
+    Ok(Reply {
+        status: Status::BadTypes,
+        text,
+    })
+}
+
+/// The refusal of types with a fault.
+pub fn bad_types(alloc: Global, g: &Grammar, fault: TypeFault) -> Result<Reply, AllocError>
+    ensures { IfOk result (λ reply. RefusesTypes (words_of g.now) fault reply) }
+{
+    match fault {
+        TypeFault::NoShape { con } => types_line(alloc, b"con ", con_name(g, con)),
+        TypeFault::NoCarry { sort } => types_line(alloc, b"sort ", sort_name(g, sort)),
+        TypeFault::Rule { rule, place } => types_rule(alloc, g, Fault { rule, occ: place }),
+        TypeFault::NoMemory => Err(AllocError),
+    }
 }
 
 /// The refusal of a specification in which a value depends on itself.

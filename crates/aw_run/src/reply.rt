@@ -30,6 +30,8 @@ pub enum Status {
     NoMemory,
     /// The input is longer than its limit.
     TooLong,
+    /// A constructor or a sort has no types, or a term does not fit.
+    BadTypes,
 }
 
 impl Status {
@@ -49,6 +51,7 @@ impl Status {
             Status::NetFault => 9,
             Status::NoMemory => 10,
             Status::TooLong => 11,
+            Status::BadTypes => 15,
         }
     }
 }

@@ -3,6 +3,7 @@ ghost use Rattle.std.specs.Prelude.{◌≡◌, ◌+◌, ◌<◌, ◌^◌, IfOk, 
 ghost use Rattle.aw_lex.specs.Lines.{lines_of};
 ghost use Rattle.aw_term.specs.WellFormed.{Each};
 ghost use Rattle.aw_grammar.specs.GrammarOf.{grammar_of, words_of, declarations_of};
+ghost use Rattle.aw_typed.specs.Typing.{types_of, IsMadeFor};
 ghost use Rattle.aw_spec.specs.Reading.{Spec};
 ghost use Rattle.aw_spec.specs.Views.{spec_seen};
 ghost use Rattle.aw_out.specs.Report.{Prints};
@@ -21,6 +22,7 @@ use aw_out::{OUTPUT_LIMIT, PrintFault, Report};
 use aw_plain::Plain;
 use aw_sched::{Event, SchedFault, read_schedule};
 use aw_spec::SpecText;
+use aw_typed::Typed;
 use std::alloc::{AllocError, Global};
 
 /// Whether so many roles are more than are told. Messages between roles are not told yet.
@@ -93,34 +95,39 @@ fn reply_to_schedule(
     alloc: Global,
     telling: Telling,
     accepted: &Accepted,
+    typed: &Typed,
     before: u64,
     schedule: &[u8],
 ) -> Result<Reply, AllocError>
-    requires { before + length (lines_of schedule.now) < 2 ^ 64 }
-    ensures { IfOk result (λ reply. (s : Spec) → s.declared ≡ declarations_of accepted.now.grammar →
-        reply ≡ reply_with (by_schedule telling s before (read_lines s.declared 1 (lines_of schedule.now)))) }
+    requires lines { before + length (lines_of schedule.now) < 2 ^ 64 }
+    requires made { IsMadeFor (grammar_of accepted.now.grammar) typed.now }
+    ensures { IfOk result (λ reply. (s : Spec) → s.declared ≡ declarations_of accepted.now.grammar → s.types ≡ typed.now.types →
+        reply ≡ reply_with (by_schedule telling s before (read_lines (types_of s.types) s.declared 1 (lines_of schedule.now)))) }
 {
     let g = accepted.grammar();
-    match read_schedule(alloc, g, schedule) {
+    match read_schedule(alloc, g, typed, schedule) {
         Ok(events) => reply_to_events(alloc, telling, accepted, events.as_slice()),
         Err(SchedFault::Bad { line, kind }) => bad_schedule(alloc, before + line, kind),
         Err(SchedFault::NoMemory) => Err(AllocError),
     }
 }
 
-/// The reply to a good specification, and to the schedule behind it.
+/// The reply to a good specification with these types, and to the schedule behind it.
 pub fn tell_schedule(
     alloc: Global,
     telling: Telling,
     spec: SpecText,
+    typed: &Typed,
     schedule: &[u8],
 ) -> Result<Reply, AllocError>
-    requires { spec.lines + length (lines_of schedule.now) < 2 ^ 64 }
+    requires lines { spec.lines + length (lines_of schedule.now) < 2 ^ 64 }
+    requires types { typed.now.types ≡ spec.types }
+    requires made { IsMadeFor (grammar_of spec.grammar) typed.now }
     ensures { IfOk result (λ reply. Replies (IfAccepted (spec_seen spec) (TellsSchedule telling (spec_seen spec) spec.lines (lines_of schedule.now))) reply) }
 {
     let SpecText { grammar, lines, .. } = spec;
     match accept(alloc, grammar) {
-        Ok(accepted) => reply_to_schedule(alloc, telling, &accepted, lines, schedule),
+        Ok(accepted) => reply_to_schedule(alloc, telling, &accepted, typed, lines, schedule),
         Err(refused) => not_accepted(alloc, refused),
     }
 }

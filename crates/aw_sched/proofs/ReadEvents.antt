@@ -3,6 +3,7 @@ use Rattle.std.proofs.Common.{◌≡◌, ℕ, suc, refl, ap, ◌∙◌, List, []
 use Rattle.aw_sched.specs.Events as P
 use Rattle.std.specs.Prelude.{Err}
 use Rattle.aw_grammar.specs.Declarations.{Declarations}
+use Rattle.aw_typed.specs.Types.{Types}
 use Rattle.aw_sched.specs.Schedules.{Read, Events, FaultAt, in_front, read_line, read_lines, with_event}
 use Rattle.aw_sched.specs.Answers.{Answers, event_seen}
 use Rattle.aw_sched.specs.LineEvents.{AddsLine, fault_at, with_events}
@@ -24,8 +25,8 @@ with_none [] = refl
 with_none (e ∷ es) = ap (with_event e) (with_none es)
 
 -- the first line at fault
-pub fault_answer : (d : Declarations) (before : List Event) (n : ℕ) (line : List ℕ) (more : List (List ℕ)) (fault : LineFault) → AddsLine before (read_line d line) (Err fault)
-    → Answers (with_events (map event_seen before) (read_lines d n (line ∷ more))) (Err (fault_at n fault))
-fault_answer d before n line more (Bad kind) h =
-    ap (λ r. with_events (map event_seen before) (in_front n r (read_lines d (suc n) more))) h ∙ with_fault (map event_seen before) n kind
-fault_answer d before n line more NoMemory h = tt
+pub fault_answer : (t : Types) (d : Declarations) (before : List Event) (n : ℕ) (line : List ℕ) (more : List (List ℕ)) (fault : LineFault) → AddsLine before (read_line t d line) (Err fault)
+    → Answers (with_events (map event_seen before) (read_lines t d n (line ∷ more))) (Err (fault_at n fault))
+fault_answer t d before n line more (Bad kind) h =
+    ap (λ r. with_events (map event_seen before) (in_front n r (read_lines t d (suc n) more))) h ∙ with_fault (map event_seen before) n kind
+fault_answer t d before n line more NoMemory h = tt

@@ -4,7 +4,8 @@ use Rattle.aw_term.specs.Rules.{Grammar}
 use Rattle.aw_choice.specs.ChoiceView.{choice_of}
 use Rattle.aw_base.specs.ChoiceFits.{choice_ok}
 use Rattle.aw_sched.specs.Events as P
-use Rattle.aw_sched.specs.Schedules.{Read, Events, FaultAt}
+use Rattle.aw_typed.specs.Types.{Types}
+use Rattle.aw_sched.specs.Schedules.{Read, Events, FaultAt, event_fits}
 use Rattle.aw_sched.specs.declared.event.Event.{Event}
 use Rattle.aw_sched.specs.declared.event.Event.TheVariants.{Choose, Deliver, Settle, List as Lists}
 use Rattle.aw_sched.specs.declared.fault.SchedFault.{SchedFault}
@@ -29,3 +30,7 @@ MayCome g (Choose c) = choice_ok g (choice_of c) ≡ true
 MayCome g (Deliver message) = Unit {0}
 MayCome g Settle = Unit {0}
 MayCome g (Lists role) = role < g.roles
+
+-- the arguments of a choice fit these types
+abbrev pub HasTypes : Types → Grammar → Event → Type 0
+HasTypes t g e = event_fits t g (event_seen e) ≡ true

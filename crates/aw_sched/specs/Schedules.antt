@@ -1,14 +1,17 @@
--- The events of a schedule, or its first faulty line and the first kind of fault there.
-use Rattle.std.specs.Prelude.{ℕ, suc, List, [], ◌∷◌, Option, None, Some, Result, Ok, Err, if◌then◌else◌}
+-- The events of a schedule, or its first faulty line and the first kind of fault there. The arguments of its choices are of these types.
+use Rattle.std.specs.Prelude.{ℕ, suc, Bool, true, List, [], ◌∷◌, Option, None, Some, Result, Ok, Err, if◌then◌else◌}
 use Rattle.aw_lex.specs.Lines.{lines_of, passed_over}
 use Rattle.aw_lex.specs.Tokens.{tokens_of}
 use Rattle.aw_lex.specs.declared.token.Token.{Token}
 use Rattle.aw_form.specs.Lexemes.{lexemes}
-use Rattle.aw_grammar.specs.Declarations.{Declarations}
+use Rattle.aw_term.specs.Rules.{Grammar}
+use Rattle.aw_grammar.specs.Declarations.{Declarations, grammar_in}
+use Rattle.aw_typed.specs.Types.{Types}
+use Rattle.aw_typed.specs.TypeFaults.{arg_ok}
 use Rattle.aw_sched.specs.Lines.{Line, line_of}
-use Rattle.aw_sched.specs.Events.{Event, event_of, line_kind}
+use Rattle.aw_sched.specs.Events.{Event, Chooses, Delivers, Settles, Lists, event_of, line_kind}
 use Rattle.aw_sched.specs.declared.fault.SchedKind.{SchedKind}
-use Rattle.aw_sched.specs.declared.fault.SchedKind.TheVariants.{Token as BadToken, Form}
+use Rattle.aw_sched.specs.declared.fault.SchedKind.TheVariants.{Token as BadToken, Form, Misfit as BadType}
 
 -- what a line gives: nothing, where it is passed over; an event; or a fault
 pub data LineRead : Type 0 where
@@ -16,20 +19,32 @@ pub data LineRead : Type 0 where
   Gives : (event : Event) → LineRead
   Faulty : (kind : SchedKind) → LineRead
 
-abbrev pub by_kind : Declarations → Line → Option SchedKind → LineRead
-by_kind d line None = Gives (event_of d line)
-by_kind d line (Some kind) = Faulty kind
+-- the arguments of a choice fit the types of its rule's parameters
+abbrev pub event_fits : Types → Grammar → Event → Bool
+event_fits t g (Chooses x) = arg_ok t g x
+event_fits t g (Delivers message) = true
+event_fits t g Settles = true
+event_fits t g (Lists role) = true
 
-abbrev pub by_form : Declarations → Option Line → LineRead
-by_form d None = Faulty Form
-by_form d (Some line) = by_kind d line (line_kind d line)
+-- an event whose arguments do not fit is at fault
+abbrev pub by_type : Types → Grammar → Event → LineRead
+by_type t g e = if event_fits t g e then Gives e else Faulty BadType
 
-abbrev pub by_tokens : Declarations → List ℕ → Result (List Token) ℕ → LineRead
-by_tokens d bytes (Ok tokens) = by_form d (line_of (lexemes bytes tokens))
-by_tokens d bytes (Err at) = Faulty BadToken
+-- a line is at fault by its kind, and then by the types of what it asks for
+abbrev pub by_kind : Types → Declarations → Line → Option SchedKind → LineRead
+by_kind t d line None = by_type t (grammar_in d) (event_of d line)
+by_kind t d line (Some kind) = Faulty kind
 
-abbrev pub read_line : Declarations → List ℕ → LineRead
-read_line d bytes = if passed_over bytes then Nothing else by_tokens d bytes (tokens_of bytes)
+abbrev pub by_form : Types → Declarations → Option Line → LineRead
+by_form t d None = Faulty Form
+by_form t d (Some line) = by_kind t d line (line_kind d line)
+
+abbrev pub by_tokens : Types → Declarations → List ℕ → Result (List Token) ℕ → LineRead
+by_tokens t d bytes (Ok tokens) = by_form t d (line_of (lexemes bytes tokens))
+by_tokens t d bytes (Err at) = Faulty BadToken
+
+abbrev pub read_line : Types → Declarations → List ℕ → LineRead
+read_line t d bytes = if passed_over bytes then Nothing else by_tokens t d bytes (tokens_of bytes)
 
 pub data Read : Type 0 where
   Events : (events : List Event) → Read
@@ -46,10 +61,10 @@ in_front n (Gives e) later = with_event e later
 in_front n (Faulty kind) later = FaultAt n kind
 
 -- the lines from number n on
-abbrev pub read_lines : Declarations → ℕ → List (List ℕ) → Read
-read_lines d n [] = Events []
-read_lines d n (line ∷ lines) = in_front n (read_line d line) (read_lines d (suc n) lines)
+abbrev pub read_lines : Types → Declarations → ℕ → List (List ℕ) → Read
+read_lines t d n [] = Events []
+read_lines t d n (line ∷ lines) = in_front n (read_line t d line) (read_lines t d (suc n) lines)
 
 -- a whole schedule, its lines counted from 1
-abbrev pub schedule_of : Declarations → List ℕ → Read
-schedule_of d text = read_lines d 1 (lines_of text)
+abbrev pub schedule_of : Types → Declarations → List ℕ → Read
+schedule_of t d text = read_lines t d 1 (lines_of text)

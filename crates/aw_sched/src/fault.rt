@@ -18,6 +18,8 @@ pub enum SchedKind {
     NotStart,
     /// The node name is not valid.
     Name,
+    /// An argument is not of the type of its parameter.
+    Misfit,
 }
 
 impl SchedKind {
@@ -36,6 +38,7 @@ impl SchedKind {
             SchedKind::Arity => b"arity",
             SchedKind::NotStart => b"notstart",
             SchedKind::Name => b"name",
+            SchedKind::Misfit => b"type",
         }
     }
 }

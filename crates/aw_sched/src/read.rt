@@ -1,65 +1,132 @@
 //! Reading a schedule, line by line.
-ghost use Rattle.std.specs.Prelude.{◌≡◌, IfOk, IfSome};
+ghost use Rattle.std.specs.Prelude.{◌≡◌, IfOk, IfSome, Some};
+ghost use Rattle.aw_typed.specs.Typing.{types_of, IsMadeFor};
 ghost use Rattle.aw_lex.specs.Tokens.{AreSlices};
 ghost use Rattle.aw_term.specs.WellFormed.{Each};
 ghost use Rattle.aw_grammar.specs.GrammarOf.{declarations_of, grammar_of};
 ghost use Rattle.aw_form.specs.Lexemes.{lexemes};
 ghost use Rattle.aw_sched.specs.Lines.{line_of};
-ghost use Rattle.aw_sched.specs.Schedules.{by_form, read_line, schedule_of};
-ghost use Rattle.aw_sched.specs.Answers.{Answers, MayCome};
+ghost use Rattle.aw_sched.specs.Events.{line_kind};
+ghost use Rattle.aw_sched.specs.LineSeen.{line_seen, HasContents};
+ghost use Rattle.aw_sched.specs.Schedules.{by_form, by_kind, by_type, event_fits, read_line, schedule_of};
+ghost use Rattle.aw_sched.specs.Answers.{Answers, HasTypes, MayCome, event_seen};
 ghost use Rattle.aw_sched.specs.LineEvents.{AddsLine, ReadsLine, fault_at};
 
 use crate::event::{Event, Events};
 use crate::fault::{LineFault, SchedFault, SchedKind};
+use crate::line::SchedLine;
 use crate::lookup::event_of;
 use crate::parse::parse_line;
 use aw_base::Grammar;
 use aw_form::Unread;
 use aw_lex::{LexFault, Token, is_passed_over, next_line, tokens};
+use aw_typed::{Typed, arg_ok};
 use std::alloc::Global;
+
+/// Whether the arguments of a choice fit the types of its rule's parameters.
+fn event_fits(g: &Grammar, t: &Typed, event: &Event) -> bool
+    requires { IsMadeFor (grammar_of g.now) t.now }
+    ensures { result ≡ event_fits (types_of t.now.types) (grammar_of g.now) (event_seen event.now) }
+{
+    match event {
+        Event::Choose(choice) => arg_ok(t, choice),
+        Event::Deliver(_) => true,
+        Event::Settle => true,
+        Event::List(_) => true,
+    }
+}
+
+/// An event whose arguments fit, or the fault that they do not.
+fn typed_event(g: &Grammar, t: &Typed, event: Event) -> Result<Option<Event>, LineFault>
+    requires { IsMadeFor (grammar_of g.now) t.now }
+    ensures reads { ReadsLine (by_type (types_of t.now.types) (grammar_of g.now) (event_seen event)) result }
+    ensures same { IfOk result (λ found. found ≡ Some event) }
+    ensures types { IfOk result (λ found. IfSome found (HasTypes (types_of t.now.types) (grammar_of g.now))) }
+{
+    if event_fits(g, t, &event) {
+        return Ok(Some(event));
+    }
+    drop(event);
+    Err(LineFault::Bad(SchedKind::Misfit))
+}
+
+/// The event that a line asks for, its arguments looked at, or the first kind of fault in it.
+fn said_event(
+    alloc: Global,
+    g: &Grammar,
+    t: &Typed,
+    line: &SchedLine,
+) -> Result<Option<Event>, LineFault>
+    requires contents { HasContents (line_seen line.now) }
+    requires made { IsMadeFor (grammar_of g.now) t.now }
+    ensures reads { ReadsLine (by_kind (types_of t.now.types) (declarations_of g.now) (line_seen line.now) (line_kind (declarations_of g.now) (line_seen line.now))) result }
+    ensures fits { IfOk result (λ found. IfSome found (MayCome (grammar_of g.now))) }
+    ensures types { IfOk result (λ found. IfSome found (HasTypes (types_of t.now.types) (grammar_of g.now))) }
+{
+    match event_of(alloc, g, line) {
+        Ok(event) => typed_event(g, t, event),
+        Err(fault) => Err(fault),
+    }
+}
 
 fn event_said(
     alloc: Global,
     g: &Grammar,
+    t: &Typed,
     line: &[u8],
     tokens: &[Token],
 ) -> Result<Option<Event>, LineFault>
-    requires { AreSlices line.now 0 tokens.now }
-    ensures reads { ReadsLine (by_form (declarations_of g.now) (line_of (lexemes line.now tokens.now))) result }
+    requires slices { AreSlices line.now 0 tokens.now }
+    requires made { IsMadeFor (grammar_of g.now) t.now }
+    ensures reads { ReadsLine (by_form (types_of t.now.types) (declarations_of g.now) (line_of (lexemes line.now tokens.now))) result }
     ensures fits { IfOk result (λ found. IfSome found (MayCome (grammar_of g.now))) }
+    ensures types { IfOk result (λ found. IfSome found (HasTypes (types_of t.now.types) (grammar_of g.now))) }
 {
     match parse_line(alloc, line, tokens) {
-        Ok(said) => match event_of(alloc, g, &said) {
-            Ok(event) => Ok(Some(event)),
-            Err(fault) => Err(fault),
-        },
+        Ok(said) => said_event(alloc, g, t, &said),
         Err(Unread::Form) => Err(LineFault::Bad(SchedKind::Form)),
         Err(Unread::NoMemory) => Err(LineFault::NoMemory),
     }
 }
 
-fn line_event(alloc: Global, g: &Grammar, line: &[u8]) -> Result<Option<Event>, LineFault>
-    ensures reads { ReadsLine (read_line (declarations_of g.now) line.now) result }
+fn line_event(
+    alloc: Global,
+    g: &Grammar,
+    t: &Typed,
+    line: &[u8],
+) -> Result<Option<Event>, LineFault>
+    requires { IsMadeFor (grammar_of g.now) t.now }
+    ensures reads { ReadsLine (read_line (types_of t.now.types) (declarations_of g.now) line.now) result }
     ensures fits { IfOk result (λ found. IfSome found (MayCome (grammar_of g.now))) }
+    ensures types { IfOk result (λ found. IfSome found (HasTypes (types_of t.now.types) (grammar_of g.now))) }
 {
     if is_passed_over(line) {
         return Ok(None);
     }
     match tokens(alloc, line) {
-        Ok(tokens) => event_said(alloc, g, line, tokens.as_slice()),
+        Ok(tokens) => event_said(alloc, g, t, line, tokens.as_slice()),
         Err(LexFault::Bad { .. }) => Err(LineFault::Bad(SchedKind::Token)),
         Err(LexFault::NoMemory) => Err(LineFault::NoMemory),
     }
 }
 
 /// The events with that of a line behind them, where it gives one.
-fn with_line(alloc: Global, g: &Grammar, events: Events, line: &[u8]) -> Result<Events, LineFault>
-    requires { Each (MayCome (grammar_of g.now)) events }
-    ensures adds { AddsLine events (read_line (declarations_of g.now) line.now) result }
+fn with_line(
+    alloc: Global,
+    g: &Grammar,
+    t: &Typed,
+    events: Events,
+    line: &[u8],
+) -> Result<Events, LineFault>
+    requires made { IsMadeFor (grammar_of g.now) t.now }
+    requires come { Each (MayCome (grammar_of g.now)) events }
+    requires typed { Each (HasTypes (types_of t.now.types) (grammar_of g.now)) events }
+    ensures adds { AddsLine events (read_line (types_of t.now.types) (declarations_of g.now) line.now) result }
     ensures fits { IfOk result (Each (MayCome (grammar_of g.now))) }
+    ensures types { IfOk result (Each (HasTypes (types_of t.now.types) (grammar_of g.now))) }
 {
     let mut events = events;
-    match line_event(alloc, g, line)? {
+    match line_event(alloc, g, t, line)? {
         Some(event) => {
             events.push(event)?;
             Ok(events)
@@ -77,17 +144,25 @@ fn fault_at(line: u64, fault: LineFault) -> SchedFault
     }
 }
 
-/// The events of a schedule; or its first faulty line, counted from 1, and the first kind of fault there.
-pub fn read_schedule(alloc: Global, g: &Grammar, text: &[u8]) -> Result<Events, SchedFault>
-    ensures answer { Answers (schedule_of (declarations_of g.now) text.now) result }
+/// The events of a schedule, whose choices have arguments of these types; or its first faulty line, counted from 1, and the first
+/// kind of fault there.
+pub fn read_schedule(
+    alloc: Global,
+    g: &Grammar,
+    t: &Typed,
+    text: &[u8],
+) -> Result<Events, SchedFault>
+    requires { IsMadeFor (grammar_of g.now) t.now }
+    ensures answer { Answers (schedule_of (types_of t.now.types) (declarations_of g.now) text.now) result }
     ensures fits { IfOk result (λ events. Each (MayCome (grammar_of g.now)) events) }
+    ensures types { IfOk result (λ events. Each (HasTypes (types_of t.now.types) (grammar_of g.now)) events) }
 {
     let mut events = Events::new(alloc);
     let mut rest = text;
     let mut number = 0;
     while let Some((line, behind)) = next_line(rest) {
         number += 1;
-        match with_line(alloc, g, events, line) {
+        match with_line(alloc, g, t, events, line) {
             Ok(more) => events = more,
             Err(fault) => return Err(fault_at(number, fault)),
         }

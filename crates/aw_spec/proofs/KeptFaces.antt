@@ -15,7 +15,7 @@ use Rattle.aw_face.specs.Faces.{rule_fault, at_rule, rules_fault, face_fault}
 use Rattle.aw_spec.specs.declared.fault.SpecFault.{SpecFault}
 use Rattle.aw_spec.specs.declared.spec_text.SpecText.{SpecText}
 use Rattle.aw_spec.specs.Answers.{Spells}
-use Rattle.aw_spec.specs.Lines.{Line, RoleLine, ConLine, SortLine, StartLine, OfferLine, UseLine, FreeLine, RuleLine, ScheduleLine}
+use Rattle.aw_spec.specs.Lines.{Line, RoleLine, ConLine, SortLine, StartLine, OfferLine, UseLine, TypeLine, ShapeLine, CarryLine, DependsLine, FreeLine, RuleLine, ScheduleLine}
 use Rattle.aw_spec.specs.Reading.{Spec, Draft, On, declaring, if_kept, keeping, says, stage_of, no_draft, specification}
 use Rattle.aw_spec.specs.Stages.{rules_stage}
 use Rattle.aw_spec.proofs.KeptLines.{reading_keeps}
@@ -67,6 +67,10 @@ said_good s after (SortLine name role takes gives) before e le good = early s af
 said_good s after (StartLine sort) before e le good = early s after (StartLine sort) before e (omega arith) le good.1
 said_good s after (OfferLine sort) before e le good = early s after (OfferLine sort) before e (omega arith) le good.1
 said_good s after (UseLine role sort) before e le good = early s after (UseLine role sort) before e (omega arith) le good.1
+said_good s after (TypeLine name) before e le good = early s after (TypeLine name) before e (omega arith) le good.1
+said_good s after (ShapeLine con parts own) before e le good = early s after (ShapeLine con parts own) before e (omega arith) le good.1
+said_good s after (CarryLine sort takes gives) before e le good = early s after (CarryLine sort takes gives) before e (omega arith) le good.1
+said_good s after (DependsLine sort i j) before e le good = early s after (DependsLine sort i j) before e (omega arith) le good.1
 said_good s after FreeLine before e le good = early s after FreeLine before e (omega arith) le good.1
 said_good s after (RuleLine rule) before e le good = (rule_kept s after rule (rule_kind s.declared rule) _ good.0 refl e, λ k. absurd (omega arith))
 said_good s after (ScheduleLine loads) before e le good = cc
@@ -74,5 +78,5 @@ said_good s after (ScheduleLine loads) before e le good = cc
 pub read_faces : (r : Result SpecText SpecFault) (lines : List (List ℕ)) → Spells r (specification lines) → IfOk r (λ s. face_fault (grammar_of s.grammar) s.faces.offers s.faces.uses ≡ None)
 read_faces (Ok s) lines e =
     ap (rules_fault (sorts_of s.grammar.sorts) s.faces.offers s.faces.uses 0) (rules_of_entries s.grammar.sorts s.grammar.rules)
-    ∙ reading_keeps IsGood IsKept (λ d after line h le good. said_good d.spec after line d.stage h le good) (λ d good. good.0) no_draft 0 s.lines _ s.loads lines (refl, λ k. refl) e
+    ∙ reading_keeps IsGood IsKept (λ d after line named h le good. said_good d.spec after line d.stage h le good) (λ d good. good.0) no_draft 0 s.lines _ s.loads lines (refl, λ k. refl) e
 read_faces (Err f) lines e = tt

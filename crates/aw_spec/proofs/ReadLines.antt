@@ -10,7 +10,7 @@ use Rattle.aw_form.specs.Terms.{spelling, spellings, spellings_behind, names_of}
 use Rattle.aw_form.specs.Forms.{◌>>=◌, name, terms_between, names_between, terms_in_braces, names_in_braces}
 use Rattle.aw_form.proofs.ReadsSpelled.{reads_spelled}
 use Rattle.aw_spec.specs.Laws.{IsWrittenChild, IsWrittenLine}
-use Rattle.aw_spec.specs.Lines.{Line, RoleLine, ConLine, SortLine, StartLine, OfferLine, UseLine, FreeLine, RuleLine, ScheduleLine, as_words, in_parentheses, in_angles, params_spelling, child_spelling, behind_child, children_spelling, rule_spelling, line_spelling}
+use Rattle.aw_spec.specs.Lines.{Line, RoleLine, ConLine, SortLine, StartLine, OfferLine, UseLine, TypeLine, ShapeLine, CarryLine, DependsLine, FreeLine, RuleLine, ScheduleLine, as_words, in_parentheses, in_angles, params_spelling, child_spelling, behind_child, children_spelling, rule_spelling, line_spelling}
 use Rattle.aw_spec.specs.ReadLine.{child_of, is_semicolon, in_front, pieces, children_of, rest_of_rule, line_of}
 use Rattle.aw_spec.proofs.SpelledLines.{parenthesised, angled}
 
@@ -118,6 +118,21 @@ rule_reads r w =
     (then (terms_between 60 62 behind_patterns) (r.results, children) _ (Some (RuleLine r)) (terms_in_angles r.results children w.1)
     (then (rest_of_rule children) r.children _ (Some (RuleLine r)) (rest_reads r.children w.2) refl)))
 
+names_in_parentheses : (ns : List (List ℕ)) (rest : List Lexeme) → names_between 40 41 (in_parentheses (as_words ns) ++ rest) ≡ Some (ns, rest)
+names_in_parentheses ns rest =
+    then (terms_between 40 41 (in_parentheses (as_words ns) ++ rest)) (as_words ns, rest) (λ terms. names_of terms.0 >>= λ names. Some (names, terms.1)) (Some (ns, rest)) (terms_in_parentheses (as_words ns) rest (words_written ns))
+    (then (names_of (as_words ns)) ns (λ names. Some (names, rest)) (Some (ns, rest)) (names_of_words ns) refl)
+
+shape_reads : (con : List ℕ) (parts : List (List ℕ)) (own : List ℕ) → line_of (line_spelling (ShapeLine con parts own)) ≡ Some (ShapeLine con parts own)
+shape_reads con parts own =
+    then (names_between 40 41 (in_parentheses (as_words parts) ++ Name own ∷ [])) (parts, Name own ∷ []) _ (Some (ShapeLine con parts own)) (names_in_parentheses parts (Name own ∷ [])) refl
+
+carry_reads : (sort : List ℕ) (takes gives : List (List ℕ)) → line_of (line_spelling (CarryLine sort takes gives)) ≡ Some (CarryLine sort takes gives)
+carry_reads sort takes gives =
+    let angles = in_angles (as_words gives) in
+    then (names_between 40 41 (in_parentheses (as_words takes) ++ angles)) (takes, angles) _ (Some (CarryLine sort takes gives)) (names_in_parentheses takes angles)
+    (then (names_between 60 62 angles) (gives, []) _ (Some (CarryLine sort takes gives)) (ap (names_between 60 62) (sym (append-nil angles)) ∙ names_in_angles gives []) refl)
+
 pub line_reads : (l : Line) → IsWrittenLine l → line_of (line_spelling l) ≡ Some l
 line_reads (RoleLine name) w = refl
 line_reads (ConLine name arity) w = refl
@@ -125,6 +140,10 @@ line_reads (SortLine name role takes gives) w = refl
 line_reads (StartLine sort) w = refl
 line_reads (OfferLine sort) w = refl
 line_reads (UseLine role sort) w = refl
+line_reads (TypeLine name) w = refl
+line_reads (ShapeLine con parts own) w = shape_reads con parts own
+line_reads (CarryLine sort takes gives) w = carry_reads sort takes gives
+line_reads (DependsLine sort i j) w = refl
 line_reads FreeLine w = refl
 line_reads (RuleLine rule) w = rule_reads rule w
 line_reads (ScheduleLine false) w = refl

@@ -13,9 +13,9 @@ use Rattle.aw_form.specs.Forms.{◌>>=◌, name, number, mark, end, only, terms_
 use Rattle.aw_form.specs.Sound.{IsSound}
 use Rattle.aw_form.proofs.SoundForms.{AreSound, name_sound, mark_sound, TermsSound, between_sound, braces_sound}
 use Rattle.aw_form.proofs.Steps.{bound, chosen}
-use Rattle.aw_spec.specs.Lines.{Line, RoleLine, ConLine, SortLine, StartLine, OfferLine, UseLine, FreeLine, RuleLine, ScheduleLine}
+use Rattle.aw_spec.specs.Lines.{Line, RoleLine, ConLine, SortLine, StartLine, OfferLine, UseLine, TypeLine, ShapeLine, CarryLine, DependsLine, FreeLine, RuleLine, ScheduleLine}
 use Rattle.aw_spec.specs.Declares.{IsDeclared}
-use Rattle.aw_spec.specs.ReadLine.{child_of, is_semicolon, in_front, pieces, children_of, rest_of_rule, role_line, con_line, sort_line, start_line, offer_line, use_line, rule_line, versioned, schedule_line, by_word, line_of}
+use Rattle.aw_spec.specs.ReadLine.{child_of, is_semicolon, in_front, pieces, children_of, rest_of_rule, role_line, con_line, sort_line, start_line, offer_line, use_line, type_line, shape_line, carry_line, depends_line, rule_line, versioned, schedule_line, by_word, line_of}
 
 with_name : (n : List ℕ) (ts : List Written) (o : Option (List (List ℕ))) (xs : List (List ℕ)) → names_of ts ≡ o → is_name n ≡ true
     → ((ns : List (List ℕ)) → names_of ts ≡ Some ns → are_names ns ≡ true) → option_map (λ ns. n ∷ ns) o ≡ Some xs → are_names xs ≡ true
@@ -121,6 +121,21 @@ offer_declared ls l e = bound (name ls) _ l e (λ n found e1. at_end (OfferLine 
 use_declared : (ls : List Lexeme) (l : Line) → use_line ls ≡ Some l → IsDeclared l
 use_declared ls l e = bound (name ls) _ l e (λ n found e1. bound (name n.1) _ l e1 (λ sort f2 e2. at_end (UseLine n.0 sort.0) l sort.1 tt e2))
 
+type_declared : (ls : List Lexeme) (l : Line) → AreSound ls → type_line ls ≡ Some l → IsDeclared l
+type_declared ls l s e = bound (name ls) _ l e (λ n found e1. at_end (TypeLine n.0) l n.1 (name_sound ls n s found).0 e1)
+
+shape_declared : (ls : List Lexeme) (l : Line) → shape_line ls ≡ Some l → IsDeclared l
+shape_declared ls l e =
+    bound (name ls) _ l e (λ con f1 e1. bound (names_between 40 41 con.1) _ l e1 (λ parts f2 e2. bound (name parts.1) _ l e2 (λ own f3 e3. at_end (ShapeLine con.0 parts.0 own.0) l own.1 tt e3)))
+
+carry_declared : (ls : List Lexeme) (l : Line) → carry_line ls ≡ Some l → IsDeclared l
+carry_declared ls l e =
+    bound (name ls) _ l e (λ sort f1 e1. bound (names_between 40 41 sort.1) _ l e1 (λ takes f2 e2. bound (names_between 60 62 takes.1) _ l e2 (λ gives f3 e3. at_end (CarryLine sort.0 takes.0 gives.0) l gives.1 tt e3)))
+
+depends_declared : (ls : List Lexeme) (l : Line) → depends_line ls ≡ Some l → IsDeclared l
+depends_declared ls l e =
+    bound (name ls) _ l e (λ sort f1 e1. bound (number sort.1) _ l e1 (λ i f2 e2. bound (number i.1) _ l e2 (λ j f3 e3. at_end (DependsLine sort.0 i.0 j.0) l j.1 tt e3)))
+
 rule_declared : (ls : List Lexeme) (l : Line) → AreSound ls → rule_line ls ≡ Some l → IsDeclared l
 rule_declared ls l s e =
     bound (name ls) _ l e (λ n f1 e1.
@@ -153,9 +168,13 @@ word_declared w ls l s =
     (chosen _ (start_line ls) _ l (start_declared ls l)
     (chosen _ (offer_line ls) _ l (offer_declared ls l)
     (chosen _ (use_line ls) _ l (use_declared ls l)
+    (chosen _ (type_line ls) _ l (type_declared ls l s)
+    (chosen _ (shape_line ls) _ l (shape_declared ls l)
+    (chosen _ (carry_line ls) _ l (carry_declared ls l)
+    (chosen _ (depends_line ls) _ l (depends_declared ls l)
     (chosen _ (only FreeLine ls) _ l (at_end FreeLine l ls tt)
     (chosen _ (rule_line ls) _ l (rule_declared ls l s)
-    (chosen _ (schedule_line ls) None l (schedule_declared ls l) (λ e. cc)))))))))
+    (chosen _ (schedule_line ls) None l (schedule_declared ls l) (λ e. cc)))))))))))))
 
 pub line_declared : (ls : List Lexeme) (l : Line) → Each IsSound ls → line_of ls ≡ Some l → IsDeclared l
 line_declared ls l s e = bound (name ls) _ l e (λ w found e1. word_declared w.0 w.1 l (name_sound ls w s found).1 e1)

@@ -10,8 +10,8 @@ use Rattle.aw_form.specs.Forms.{◌>>=◌, name, number, mark, end, only, terms_
 use Rattle.aw_form.proofs.SpelledIfRead.{spelled_if_read, some_spelled_if_read}
 use Rattle.aw_form.proofs.SomeTerms.{IsNonempty, some_terms}
 use Rattle.aw_form.proofs.Steps.{bound}
-use Rattle.aw_spec.specs.Lines.{Line, RoleLine, ConLine, SortLine, StartLine, OfferLine, UseLine, FreeLine, RuleLine, ScheduleLine, as_words, in_parentheses, in_angles, params_spelling, child_spelling, behind_child, children_spelling, line_spelling}
-use Rattle.aw_spec.specs.ReadLine.{child_of, is_semicolon, in_front, pieces, children_of, rest_of_rule, role_line, con_line, sort_line, start_line, offer_line, use_line, rule_line, versioned, schedule_line, by_word, line_of}
+use Rattle.aw_spec.specs.Lines.{Line, RoleLine, ConLine, SortLine, StartLine, OfferLine, UseLine, TypeLine, ShapeLine, CarryLine, DependsLine, FreeLine, RuleLine, ScheduleLine, as_words, in_parentheses, in_angles, params_spelling, child_spelling, behind_child, children_spelling, line_spelling}
+use Rattle.aw_spec.specs.ReadLine.{child_of, is_semicolon, in_front, pieces, children_of, rest_of_rule, role_line, con_line, sort_line, start_line, offer_line, use_line, type_line, shape_line, carry_line, depends_line, rule_line, versioned, schedule_line, by_word, line_of}
 
 name_is : (ls : List Lexeme) (x : List ℕ × List Lexeme) → name ls ≡ Some x → ls ≡ Name x.0 ∷ x.1
 name_is [] x e = cc
@@ -199,6 +199,38 @@ use_is ls l e =
     bound (name ls) _ l e (λ n f1 e1. bound (name n.1) _ l e1 (λ sort f2 e2.
     ap (λ k. Name (codes "use") ∷ k) (name_is ls n f1 ∙ ap (λ k. Name n.0 ∷ k) (name_is n.1 sort f2)) ∙ at_end (UseLine n.0 sort.0) l (Name (codes "use") ∷ Name n.0 ∷ Name sort.0 ∷ []) sort.1 refl e2))
 
+type_is : (ls : List Lexeme) (l : Line) → type_line ls ≡ Some l → Name (codes "type") ∷ ls ≡ line_spelling l
+type_is ls l e = bound (name ls) _ l e (λ n found e1. ap (λ k. Name (codes "type") ∷ k) (name_is ls n found) ∙ at_end (TypeLine n.0) l (Name (codes "type") ∷ Name n.0 ∷ []) n.1 refl e1)
+
+-- names in parentheses, and in angles, before what is left
+words_in_parentheses : (ls : List Lexeme) (x : NamesRead) → names_between 40 41 ls ≡ Some x → ls ≡ in_parentheses (as_words x.0) ++ x.1
+words_in_parentheses ls x e = names_between_is 40 41 ls x e ∙ parenthesised (as_words x.0) x.1
+
+words_in_angles : (ls : List Lexeme) (x : NamesRead) → names_between 60 62 ls ≡ Some x → ls ≡ in_angles (as_words x.0) ++ x.1
+words_in_angles ls x e = names_between_is 60 62 ls x e ∙ angled (as_words x.0) x.1
+
+shape_is : (ls : List Lexeme) (l : Line) → shape_line ls ≡ Some l → Name (codes "shape") ∷ ls ≡ line_spelling l
+shape_is ls l e =
+    bound (name ls) _ l e (λ con f1 e1. bound (names_between 40 41 con.1) _ l e1 (λ parts f2 e2. bound (name parts.1) _ l e2 (λ own f3 e3.
+    bound (end own.1) _ l e3 (λ done ended e4.
+    let same : ShapeLine con.0 parts.0 own.0 ≡ l = cc in
+    let last = name_is parts.1 own f3 ∙ ap (λ k. Name own.0 ∷ k) (end_is own.1 done ended) in
+    ap (λ k. Name (codes "shape") ∷ k) (name_is ls con f1 ∙ ap (λ k. Name con.0 ∷ k) (words_in_parentheses con.1 parts f2 ∙ ap (λ k. in_parentheses (as_words parts.0) ++ k) last)) ∙ ap line_spelling same))))
+
+carry_is : (ls : List Lexeme) (l : Line) → carry_line ls ≡ Some l → Name (codes "carry") ∷ ls ≡ line_spelling l
+carry_is ls l e =
+    bound (name ls) _ l e (λ sort f1 e1. bound (names_between 40 41 sort.1) _ l e1 (λ takes f2 e2. bound (names_between 60 62 takes.1) _ l e2 (λ gives f3 e3.
+    bound (end gives.1) _ l e3 (λ done ended e4.
+    let same : CarryLine sort.0 takes.0 gives.0 ≡ l = cc in
+    let last = words_in_angles takes.1 gives f3 ∙ ap (λ k. in_angles (as_words gives.0) ++ k) (end_is gives.1 done ended) ∙ append-nil (in_angles (as_words gives.0)) in
+    ap (λ k. Name (codes "carry") ∷ k) (name_is ls sort f1 ∙ ap (λ k. Name sort.0 ∷ k) (words_in_parentheses sort.1 takes f2 ∙ ap (λ k. in_parentheses (as_words takes.0) ++ k) last)) ∙ ap line_spelling same))))
+
+depends_is : (ls : List Lexeme) (l : Line) → depends_line ls ≡ Some l → Name (codes "depends") ∷ ls ≡ line_spelling l
+depends_is ls l e =
+    bound (name ls) _ l e (λ sort f1 e1. bound (number sort.1) _ l e1 (λ i f2 e2. bound (number i.1) _ l e2 (λ j f3 e3.
+    ap (λ k. Name (codes "depends") ∷ k) (name_is ls sort f1 ∙ ap (λ k. Name sort.0 ∷ k) (number_is sort.1 i f2 ∙ ap (λ k. Number i.0 ∷ k) (number_is i.1 j f3)))
+    ∙ at_end (DependsLine sort.0 i.0 j.0) l (Name (codes "depends") ∷ Name sort.0 ∷ Number i.0 ∷ Number j.0 ∷ []) j.1 refl e3)))
+
 rule_is : (ls : List Lexeme) (l : Line) → rule_line ls ≡ Some l → Name (codes "rule") ∷ ls ≡ line_spelling l
 rule_is ls l e =
     bound (name ls) _ l e (λ n f1 e1.
@@ -248,9 +280,13 @@ word_is w ls l =
     (chosen w (codes "start") ls (start_line ls) _ l (start_is ls l)
     (chosen w (codes "offer") ls (offer_line ls) _ l (offer_is ls l)
     (chosen w (codes "use") ls (use_line ls) _ l (use_is ls l)
+    (chosen w (codes "type") ls (type_line ls) _ l (type_is ls l)
+    (chosen w (codes "shape") ls (shape_line ls) _ l (shape_is ls l)
+    (chosen w (codes "carry") ls (carry_line ls) _ l (carry_is ls l)
+    (chosen w (codes "depends") ls (depends_line ls) _ l (depends_is ls l)
     (chosen w (codes "free") ls (only FreeLine ls) _ l (at_end FreeLine l (Name (codes "free") ∷ []) ls refl)
     (chosen w (codes "rule") ls (rule_line ls) _ l (rule_is ls l)
-    (chosen w (codes "schedule") ls (schedule_line ls) None l (schedule_is ls l) (λ e. cc)))))))))
+    (chosen w (codes "schedule") ls (schedule_line ls) None l (schedule_is ls l) (λ e. cc)))))))))))))
 
 pub line_spelled : (ls : List Lexeme) (l : Line) → line_of ls ≡ Some l → ls ≡ line_spelling l
 line_spelled ls l e = bound (name ls) _ l e (λ w found e1. name_is ls w found ∙ word_is w.0 w.1 l e1)

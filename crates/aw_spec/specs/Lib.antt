@@ -10,4 +10,7 @@ pub mod ReaderAnswers
 pub mod Stages
 pub mod Reading
 pub mod Placed
+pub mod TypeLines
+pub mod TypePlaces
+pub mod TypesFit
 pub mod Views

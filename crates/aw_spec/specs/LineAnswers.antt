@@ -30,7 +30,7 @@ of_unread unread.NoMemory = NoMemory
 
 -- what the lines so far say
 abbrev pub spec_so_far : Draft → Spec
-spec_so_far d = record { declared = declarations_of d.grammar; offers = d.faces.offers; uses = d.faces.uses; free = d.free }
+spec_so_far d = record { declared = declarations_of d.grammar; offers = d.faces.offers; uses = d.faces.uses; types = d.types; depends = d.depends; free = d.free }
 
 -- The answer is what the line adds, unless memory ran out.
 abbrev pub Adds : Result Draft LineFault → Step → Type 0

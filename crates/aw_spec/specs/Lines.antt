@@ -11,6 +11,10 @@ pub data Line : Type 0 where
   StartLine : (sort : List ℕ) → Line
   OfferLine : (sort : List ℕ) → Line
   UseLine : (role sort : List ℕ) → Line
+  TypeLine : (name : List ℕ) → Line
+  ShapeLine : (con : List ℕ) → (parts : List (List ℕ)) → (own : List ℕ) → Line
+  CarryLine : (sort : List ℕ) → (takes gives : List (List ℕ)) → Line
+  DependsLine : (sort : List ℕ) → (inherited result : ℕ) → Line
   FreeLine : Line
   RuleLine : (rule : WrittenRule) → Line
   ScheduleLine : (loads : Bool) → Line
@@ -58,6 +62,10 @@ line_spelling (SortLine name role takes gives) = Name (codes "sort") ∷ Name na
 line_spelling (StartLine sort) = Name (codes "start") ∷ Name sort ∷ []
 line_spelling (OfferLine sort) = Name (codes "offer") ∷ Name sort ∷ []
 line_spelling (UseLine role sort) = Name (codes "use") ∷ Name role ∷ Name sort ∷ []
+line_spelling (TypeLine name) = Name (codes "type") ∷ Name name ∷ []
+line_spelling (ShapeLine con parts own) = Name (codes "shape") ∷ Name con ∷ (in_parentheses (as_words parts) ++ Name own ∷ [])
+line_spelling (CarryLine sort takes gives) = Name (codes "carry") ∷ Name sort ∷ (in_parentheses (as_words takes) ++ in_angles (as_words gives))
+line_spelling (DependsLine sort i j) = Name (codes "depends") ∷ Name sort ∷ Number i ∷ Number j ∷ []
 line_spelling FreeLine = Name (codes "free") ∷ []
 line_spelling (RuleLine rule) = rule_spelling rule
 line_spelling (ScheduleLine false) = Name (codes "schedule") ∷ []

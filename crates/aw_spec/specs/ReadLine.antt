@@ -4,7 +4,7 @@ use Rattle.aw_term.specs.Trees.{nats_eq}
 use Rattle.aw_grammar.specs.Written.{WrittenChild}
 use Rattle.aw_form.specs.Lexemes.{Lexeme, Mark}
 use Rattle.aw_form.specs.Forms.{◌>>=◌, name, number, mark, only, terms_between, names_between, names_in_braces}
-use Rattle.aw_spec.specs.Lines.{Line, RoleLine, ConLine, SortLine, StartLine, OfferLine, UseLine, FreeLine, RuleLine, ScheduleLine}
+use Rattle.aw_spec.specs.Lines.{Line, RoleLine, ConLine, SortLine, StartLine, OfferLine, UseLine, TypeLine, ShapeLine, CarryLine, DependsLine, FreeLine, RuleLine, ScheduleLine}
 
 -- a subtask, and nothing behind it
 abbrev pub child_of : List Lexeme → Option WrittenChild
@@ -76,6 +76,34 @@ use_line ls = do
   sort ← name role.1
   only (UseLine role.0 sort.0) sort.1
 
+abbrev pub type_line : List Lexeme → Option Line
+type_line ls = do
+  n ← name ls
+  only (TypeLine n.0) n.1
+
+-- `CON (TYPES) TYPE`
+abbrev pub shape_line : List Lexeme → Option Line
+shape_line ls = do
+  con ← name ls
+  parts ← names_between 40 41 con.1
+  own ← name parts.1
+  only (ShapeLine con.0 parts.0 own.0) own.1
+
+-- `SORT (TYPES)<TYPES>`
+abbrev pub carry_line : List Lexeme → Option Line
+carry_line ls = do
+  sort ← name ls
+  takes ← names_between 40 41 sort.1
+  gives ← names_between 60 62 takes.1
+  only (CarryLine sort.0 takes.0 gives.0) gives.1
+
+abbrev pub depends_line : List Lexeme → Option Line
+depends_line ls = do
+  sort ← name ls
+  i ← number sort.1
+  j ← number i.1
+  only (DependsLine sort.0 i.0 j.0) j.1
+
 abbrev pub rule_line : List Lexeme → Option Line
 rule_line ls = do
   n ← name ls
@@ -109,6 +137,10 @@ by_word w ls =
     if nats_eq w (codes "start") then start_line ls else
     if nats_eq w (codes "offer") then offer_line ls else
     if nats_eq w (codes "use") then use_line ls else
+    if nats_eq w (codes "type") then type_line ls else
+    if nats_eq w (codes "shape") then shape_line ls else
+    if nats_eq w (codes "carry") then carry_line ls else
+    if nats_eq w (codes "depends") then depends_line ls else
     if nats_eq w (codes "free") then only FreeLine ls else
     if nats_eq w (codes "rule") then rule_line ls else
     if nats_eq w (codes "schedule") then schedule_line ls else None

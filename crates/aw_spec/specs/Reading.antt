@@ -1,5 +1,5 @@
 -- Which specification a text spells, line by line, or the first line at fault.
-use Rattle.std.specs.Prelude.{ℕ, suc, Bool, true, false, ◌&&◌, not, List, [], ◌∷◌, ◌++◌, Option, None, Some, Result, Ok, Err, nat_lt, if◌then◌else◌}
+use Rattle.std.specs.Prelude.{ℕ, suc, Bool, true, false, ◌&&◌, not, List, [], ◌∷◌, ◌++◌, length, Option, None, Some, is_some, Result, Ok, Err, nat_lt, nat_le, if◌then◌else◌}
 use Rattle.aw_lex.specs.declared.token.Token.{Token}
 use Rattle.aw_lex.specs.Tokens.{tokens_of}
 use Rattle.aw_lex.specs.Lines.{passed_over}
@@ -9,9 +9,13 @@ use Rattle.aw_grammar.specs.declared.fault.DeclKind.{DeclKind}
 use Rattle.aw_grammar.specs.declared.fault.DeclKind.TheVariants as decl
 use Rattle.aw_grammar.specs.Written.{WrittenRule}
 use Rattle.aw_grammar.specs.GrammarView.{sorts_of}
-use Rattle.aw_index.specs.Places.{stands, number_of, first_told}
-use Rattle.aw_grammar.specs.Declarations.{Declarations, no_declarations, sort_names, entry_of, with_role, with_con, with_sort, with_start, with_rule}
+use Rattle.aw_index.specs.Places.{stands, number_of, place_of, first_told}
+use Rattle.aw_grammar.specs.Declarations.{Declarations, no_declarations, con_names, sort_names, entry_of, with_role, with_con, with_sort, with_start, with_rule}
 use Rattle.aw_grammar.specs.Kinds.{role_kind, con_kind, sort_kind, start_kind, rule_kind}
+use Rattle.aw_base.specs.declared.declared.Triple.{Triple}
+use Rattle.aw_typed.specs.declared.data.Shape.{Shape}
+use Rattle.aw_typed.specs.declared.data.Carry.{Carry}
+use Rattle.aw_typed.specs.declared.data.Types.{Types}
 use Rattle.aw_form.specs.Lexemes.{lexemes}
 use Rattle.aw_face.specs.declared.faces.Using.{Using}
 use Rattle.aw_face.specs.declared.faces.FaceKind.{FaceKind}
@@ -20,19 +24,22 @@ use Rattle.aw_face.specs.Faces.{is_offered, is_used, rule_fault}
 use Rattle.aw_spec.specs.declared.fault.SpecKind.{SpecKind}
 use Rattle.aw_spec.specs.declared.fault.SpecKind.TheVariants as kind
 use Rattle.aw_spec.specs.declared.fault.SpecKind.TheVariants.{Form, Order, Limit, Double, Clash, Unknown, Arity, Twice, Never, Inherits, NotUsed, NotOffered}
-use Rattle.aw_spec.specs.Lines.{Line, RoleLine, ConLine, SortLine, StartLine, OfferLine, UseLine, FreeLine, RuleLine, ScheduleLine}
+use Rattle.aw_spec.specs.Lines.{Line, RoleLine, ConLine, SortLine, StartLine, OfferLine, UseLine, TypeLine, ShapeLine, CarryLine, DependsLine, FreeLine, RuleLine, ScheduleLine}
 use Rattle.aw_spec.specs.ReadLine.{line_of}
-use Rattle.aw_spec.specs.Stages.{roles_stage, cons_stage, sorts_stage, starts_stage, offers_stage, uses_stage, free_stage, rules_stage, end_stage}
+use Rattle.aw_spec.specs.TypeLines.{no_types, type_names, shape_named, carry_named, declared_at, with_at, item_at, is_other_arity, are_other_counts, are_no_positions, is_dependence, with_dependence}
+use Rattle.aw_spec.specs.Stages.{roles_stage, cons_stage, sorts_stage, starts_stage, offers_stage, uses_stage, types_stage, shapes_stage, carries_stage, depends_stage, free_stage, rules_stage, end_stage}
 
--- what a specification says: its declarations, the sorts that are offered, which role uses which sort, and whether no tasks may wait for each other
+-- what a specification says: its declarations, the sorts that are offered, which role uses which sort, the types, which results may depend on which inherited values, and whether no tasks may wait for each other
 pub record Spec : Type 0 where
   pub declared : Declarations
   pub offers : List ℕ
   pub uses : List Using
+  pub types : Types
+  pub depends : List Triple
   pub free : Bool
 
 abbrev pub no_spec : Spec
-no_spec = record { declared = no_declarations; offers = []; uses = []; free = false }
+no_spec = record { declared = no_declarations; offers = []; uses = []; types = no_types; depends = []; free = false }
 
 -- the fault of a declaration, and of a child, as the kind of its line
 abbrev pub decl_kind : DeclKind → SpecKind
@@ -90,6 +97,70 @@ use_tests s role sort =
 abbrev pub with_use : Spec → List ℕ → List ℕ → Spec
 with_use s role sort = record s { uses = s.uses ++ record { role = number_of role s.declared.roles; sort = sort_number s sort } ∷ [] }
 
+-- a constructor or a sort more, of whose types nothing is declared
+abbrev pub with_no_shape : Spec → Spec
+with_no_shape s = record s { types = record s.types { shapes = s.types.shapes ++ None ∷ [] } }
+
+abbrev pub with_no_carry : Spec → Spec
+with_no_carry s = record s { types = record s.types { carries = s.types.carries ++ None ∷ [] } }
+
+-- a type: 256 are declared, or one of that name stands already
+abbrev pub type_tests : Spec → List ℕ → List (Bool × SpecKind)
+type_tests s name = (nat_le 256 (length s.types.names), Limit) ∷ (stands name (type_names s.types), Double) ∷ []
+
+abbrev pub with_type : Spec → List ℕ → Spec
+with_type s name = record s { types = record s.types { typed = true; names = s.types.names ++ name ∷ [] } }
+
+-- the place of a constructor, and that of a sort
+abbrev pub con_place : Spec → List ℕ → Option ℕ
+con_place s name = place_of name (con_names s.declared)
+
+abbrev pub sort_place : Spec → List ℕ → Option ℕ
+sort_place s name = place_of name (sort_names s.declared)
+
+-- a shape of the constructor at a place: it has one already, the constructor or a type is not declared, or it has another number of parts
+abbrev pub shape_tests : Spec → Option ℕ → Option Shape → List (Bool × SpecKind)
+shape_tests s at shape =
+    (is_some (declared_at s.types.shapes at), Double)
+    ∷ (not (is_some at && is_some shape), Unknown)
+    ∷ (is_other_arity (item_at s.declared.cons at) shape, Arity)
+    ∷ []
+
+abbrev pub with_shape : Spec → Option ℕ → Option Shape → Spec
+with_shape s at shape = record s { types = record s.types { typed = true; shapes = with_at s.types.shapes at shape } }
+
+-- a carry of the sort at a place: it has one already, the sort or a type is not declared, or it has another number of inherited values or results
+abbrev pub carry_tests : Spec → Option ℕ → Option Carry → List (Bool × SpecKind)
+carry_tests s at carry =
+    (is_some (declared_at s.types.carries at), Double)
+    ∷ (not (is_some at && is_some carry), Unknown)
+    ∷ (are_other_counts (item_at s.declared.sorts at) carry, Arity)
+    ∷ []
+
+abbrev pub with_carry : Spec → Option ℕ → Option Carry → Spec
+with_carry s at carry = record s { types = record s.types { typed = true; carries = with_at s.types.carries at carry } }
+
+-- a dependence of the sort at a place: it stands already, the sort is not declared, or it has no such inherited value or result
+abbrev pub depends_tests : Spec → Option ℕ → ℕ → ℕ → List (Bool × SpecKind)
+depends_tests s at i j =
+    (is_dependence s.depends at i j, Double)
+    ∷ (not (is_some at), Unknown)
+    ∷ (are_no_positions (item_at s.declared.sorts at) i j, Arity)
+    ∷ []
+
+abbrev pub with_depends : Spec → Option ℕ → ℕ → ℕ → Spec
+with_depends s at i j = record s { depends = with_dependence s.depends at i j }
+
+-- a shape, a carry and a dependence, by places
+abbrev pub shaping : Spec → Option ℕ → Option Shape → Step
+shaping s at shape = tested (shape_tests s at shape) (with_shape s at shape)
+
+abbrev pub carrying : Spec → Option ℕ → Option Carry → Step
+carrying s at carry = tested (carry_tests s at carry) (with_carry s at carry)
+
+abbrev pub depending : Spec → Option ℕ → ℕ → ℕ → Step
+depending s at i j = tested (depends_tests s at i j) (with_depends s at i j)
+
 -- a line `free`: it stands already
 abbrev pub free_tests : Spec → List (Bool × SpecKind)
 free_tests s = (s.free, Double) ∷ []
@@ -111,12 +182,16 @@ keeping s r (Stop loads) = Stop loads
 abbrev pub says : Spec → Line → Step
 says s (RoleLine name) = declaring s (role_kind s.declared name) (with_role s.declared name)
 says s (ConLine name arity) =
-    let con : RawCon = record { name = name; arity = arity } in declaring s (con_kind s.declared con) (with_con s.declared con)
+    let con : RawCon = record { name = name; arity = arity } in declaring (with_no_shape s) (con_kind s.declared con) (with_con s.declared con)
 says s (SortLine name role takes gives) =
-    let sort : RawSort = record { name = name; role = role; takes = takes; gives = gives } in declaring s (sort_kind s.declared sort) (with_sort s.declared sort)
+    let sort : RawSort = record { name = name; role = role; takes = takes; gives = gives } in declaring (with_no_carry s) (sort_kind s.declared sort) (with_sort s.declared sort)
 says s (StartLine sort) = declaring s (start_kind s.declared sort) (with_start s.declared sort)
 says s (OfferLine sort) = tested (offer_tests s sort) (with_offer s sort)
 says s (UseLine role sort) = tested (use_tests s role sort) (with_use s role sort)
+says s (TypeLine name) = tested (type_tests s name) (with_type s name)
+says s (ShapeLine con parts own) = shaping s (con_place s con) (shape_named (type_names s.types) parts own)
+says s (CarryLine sort takes gives) = carrying s (sort_place s sort) (carry_named (type_names s.types) takes gives)
+says s (DependsLine sort i j) = depending s (sort_place s sort) i j
 says s FreeLine = tested (free_tests s) (with_free s)
 says s (RuleLine rule) = keeping s rule (declaring s (rule_kind s.declared rule) (with_rule s.declared rule))
 says s (ScheduleLine loads) = Stop loads
@@ -129,6 +204,10 @@ stage_of (SortLine name role takes gives) = sorts_stage
 stage_of (StartLine sort) = starts_stage
 stage_of (OfferLine sort) = offers_stage
 stage_of (UseLine role sort) = uses_stage
+stage_of (TypeLine name) = types_stage
+stage_of (ShapeLine con parts own) = shapes_stage
+stage_of (CarryLine sort takes gives) = carries_stage
+stage_of (DependsLine sort i j) = depends_stage
 stage_of FreeLine = free_stage
 stage_of (RuleLine rule) = rules_stage
 stage_of (ScheduleLine loads) = end_stage

@@ -1,4 +1,4 @@
--- The order of the kinds of line. Between uses and `free` there is room for four kinds more; no text shows these numbers.
+-- The order of the kinds of line; no text shows these numbers.
 use Rattle.std.specs.Prelude.{ℕ}
 
 abbrev pub roles_stage : ℕ
@@ -19,6 +19,20 @@ offers_stage = 5
 
 abbrev pub uses_stage : ℕ
 uses_stage = 6
+
+-- types, the shapes of constructors, and the carries of sorts
+abbrev pub types_stage : ℕ
+types_stage = 7
+
+abbrev pub shapes_stage : ℕ
+shapes_stage = 8
+
+abbrev pub carries_stage : ℕ
+carries_stage = 9
+
+-- which results may depend on which inherited values
+abbrev pub depends_stage : ℕ
+depends_stage = 10
 
 -- the line that asks for a check of waiting
 abbrev pub free_stage : ℕ

@@ -14,10 +14,14 @@ line_seen (line.Sort sort) = L.SortLine sort.name sort.role sort.takes sort.give
 line_seen (line.Start sort) = L.StartLine sort
 line_seen (line.Offer sort) = L.OfferLine sort
 line_seen (line.Use role sort) = L.UseLine role sort
+line_seen (line.NewType name) = L.TypeLine name
+line_seen (line.Shape con parts own) = L.ShapeLine con parts own
+line_seen (line.Carry sort takes gives) = L.CarryLine sort takes gives
+line_seen (line.Depends sort i j) = L.DependsLine sort i j
 line_seen line.Free = L.FreeLine
 line_seen (line.Rule rule) = L.RuleLine (rule_of_raw rule)
 line_seen (line.Schedule loads) = L.ScheduleLine loads
 
 -- what a specification that was read says
 abbrev pub spec_seen : SpecText → Spec
-spec_seen s = record { declared = declarations_of s.grammar; offers = s.faces.offers; uses = s.faces.uses; free = s.free }
+spec_seen s = record { declared = declarations_of s.grammar; offers = s.faces.offers; uses = s.faces.uses; types = s.types; depends = s.depends; free = s.free }

@@ -20,12 +20,14 @@ ghost use Rattle.aw_spec.specs.Declares.{IsDeclared};
 
 use crate::fault::SpecKind;
 use crate::line::SpecLine;
-use aw_base::{AddFault, DeclKind, Grammar, RawCon, RawRule, RawSort, Rule};
+use crate::type_lines::{with_no_carry, with_no_shape};
+use aw_base::{AddFault, DeclKind, Declared, Grammar, RawCon, RawRule, RawSort, Rule};
 use aw_face::{FaceKind, Faces, Using, is_offered, is_used, rule_fault};
 use aw_form::Unread;
 use aw_lex::LexFault;
 use aw_list::Text;
-use std::alloc::AllocFailed;
+use aw_typed::Types;
+use std::alloc::{AllocError, AllocFailed};
 
 /// Why a line is at fault.
 #[derive(Clone, Copy, Debug, PartialEq, Eq)]
@@ -76,6 +78,17 @@ impl From<Unread> for LineFault {
     }
 }
 
+impl From<AllocError> for LineFault {
+    ghost use Rattle.std.specs.Prelude.{◌≡◌};
+    ghost use Rattle.aw_spec.specs.declared.draft.LineFault.TheVariants.{NoMemory};
+
+    ghost from_gives = { λ _ e. e ≡ NoMemory };
+
+    fn from(_failed: AllocError) -> LineFault {
+        LineFault::NoMemory
+    }
+}
+
 impl<T: Drop> From<AllocFailed<T>> for LineFault {
     ghost use Rattle.std.specs.Prelude.{◌≡◌};
     ghost use Rattle.aw_spec.specs.declared.draft.LineFault.TheVariants.{NoMemory};
@@ -116,6 +129,8 @@ fn face_kind(kind: FaceKind) -> SpecKind
 pub struct Draft {
     pub grammar: Grammar,
     pub faces: Faces,
+    pub types: Types,
+    pub depends: Declared,
     pub free: bool,
 }
 
@@ -153,12 +168,16 @@ impl Draft {
         let Draft {
             grammar,
             faces,
+            types,
+            depends,
             free,
         } = self;
         let grammar = grammar.add_role(name)?;
         Ok(Draft {
             grammar,
             faces,
+            types,
+            depends,
             free,
         })
     }
@@ -171,14 +190,24 @@ impl Draft {
         let Draft {
             grammar,
             faces,
+            types,
+            depends,
             free,
         } = self;
         let grammar = grammar.add_con(con)?;
-        Ok(Draft {
-            grammar,
-            faces,
-            free,
-        })
+        match with_no_shape(types) {
+            Ok(types) => Ok(Draft {
+                grammar,
+                faces,
+                types,
+                depends,
+                free,
+            }),
+            Err(_) => {
+                drop(grammar);
+                Err(LineFault::NoMemory)
+            }
+        }
     }
 
     fn add_sort(self, sort: RawSort) -> Result<Draft, LineFault>
@@ -189,14 +218,24 @@ impl Draft {
         let Draft {
             grammar,
             faces,
+            types,
+            depends,
             free,
         } = self;
         let grammar = grammar.add_sort(sort)?;
-        Ok(Draft {
-            grammar,
-            faces,
-            free,
-        })
+        match with_no_carry(types) {
+            Ok(types) => Ok(Draft {
+                grammar,
+                faces,
+                types,
+                depends,
+                free,
+            }),
+            Err(_) => {
+                drop(grammar);
+                Err(LineFault::NoMemory)
+            }
+        }
     }
 
     fn add_start(self, sort: Text) -> Result<Draft, LineFault>
@@ -206,12 +245,16 @@ impl Draft {
         let Draft {
             grammar,
             faces,
+            types,
+            depends,
             free,
         } = self;
         let grammar = grammar.add_start(&sort)?;
         Ok(Draft {
             grammar,
             faces,
+            types,
+            depends,
             free,
         })
     }
@@ -283,12 +326,7 @@ impl Draft {
             drop(self);
             return Err(LineFault::Bad(SpecKind::Double));
         }
-        let Draft { grammar, faces, .. } = self;
-        Ok(Draft {
-            grammar,
-            faces,
-            free: true,
-        })
+        Ok(Draft { free: true, ..self })
     }
 
     fn add_rule(self, rule: RawRule) -> Result<Draft, LineFault>
@@ -300,6 +338,8 @@ impl Draft {
         let Draft {
             grammar,
             faces,
+            types,
+            depends,
             free,
         } = self;
         let grammar = grammar.add_rule(rule)?;
@@ -307,6 +347,8 @@ impl Draft {
             None => Ok(Draft {
                 grammar,
                 faces,
+                types,
+                depends,
                 free,
             }),
             Some((_, kind)) => {
@@ -321,6 +363,7 @@ impl Draft {
         requires declared { IsDeclared (line_seen line) }
         requires no_sorts { stage_of (line_seen line) < sorts_stage → self.grammar.sorts ≡ [] }
         requires no_rules { stage_of (line_seen line) < rules_stage → self.grammar.rules ≡ [] }
+        requires few_types { length self.types.names ≤ 256 }
         ensures { Says (spec_so_far self) result (says (spec_so_far self) (line_seen line)) }
     {
         match line {
@@ -330,6 +373,12 @@ impl Draft {
             SpecLine::Start(sort) => Ok(Said::On(self.add_start(sort)?)),
             SpecLine::Offer(sort) => Ok(Said::On(self.add_offer(sort)?)),
             SpecLine::Use { role, sort } => Ok(Said::On(self.add_use(role, sort)?)),
+            SpecLine::NewType(name) => Ok(Said::On(self.add_type(name)?)),
+            SpecLine::Shape { con, parts, own } => Ok(Said::On(self.add_shape(con, parts, own)?)),
+            SpecLine::Carry { sort, takes, gives } => Ok(Said::On(self.add_carry(
+                sort, takes, gives,
+            )?)),
+            SpecLine::Depends { sort, i, j } => Ok(Said::On(self.add_depends(sort, i, j)?)),
             SpecLine::Free => Ok(Said::On(self.add_free()?)),
             SpecLine::Rule(rule) => Ok(Said::On(self.add_rule(rule)?)),
             SpecLine::Schedule { loads } => Ok(Said::Stop { draft: self, loads }),

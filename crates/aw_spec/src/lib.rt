@@ -10,6 +10,8 @@ pub mod read;
 pub mod reader;
 pub mod spec_text;
 pub mod spelled;
+pub mod type_draft;
+pub mod type_lines;
 
 pub use fault::{SpecFault, SpecKind};
 pub use line::SpecLine;

@@ -1,8 +1,8 @@
 //! One line of a specification.
-use aw_base::{RawCon, RawRule, RawSort};
+use aw_base::{Names, RawCon, RawRule, RawSort};
 use aw_list::Text;
 
-/// The order of the kinds of line. Between uses and `free` there is room for four kinds more.
+/// The order of the kinds of line.
 const ROLES_STAGE: u8 = 1;
 
 const CONS_STAGE: u8 = 2;
@@ -14,6 +14,14 @@ const STARTS_STAGE: u8 = 4;
 const OFFERS_STAGE: u8 = 5;
 
 const USES_STAGE: u8 = 6;
+
+const TYPES_STAGE: u8 = 7;
+
+const SHAPES_STAGE: u8 = 8;
+
+const CARRIES_STAGE: u8 = 9;
+
+const DEPENDS_STAGE: u8 = 10;
 
 const FREE_STAGE: u8 = 11;
 
@@ -29,12 +37,37 @@ pub enum SpecLine {
     Sort(RawSort),
     Start(Text),
     Offer(Text),
-    Use { role: Text, sort: Text },
+    Use {
+        role: Text,
+        sort: Text,
+    },
+    /// A type of its own.
+    NewType(Text),
+    /// The types of a constructor's parts, and its own.
+    Shape {
+        con: Text,
+        parts: Names,
+        own: Text,
+    },
+    /// The types of a sort's inherited values, and of its results.
+    Carry {
+        sort: Text,
+        takes: Names,
+        gives: Names,
+    },
+    /// Result `j` of the sort may depend on its inherited value `i`, both counted from 1.
+    Depends {
+        sort: Text,
+        i: u64,
+        j: u64,
+    },
     /// No tasks may wait for each other.
     Free,
     Rule(RawRule),
     /// The line behind which the schedule stands, and whether it asks for loads.
-    Schedule { loads: bool },
+    Schedule {
+        loads: bool,
+    },
 }
 
 impl SpecLine {
@@ -53,6 +86,10 @@ impl SpecLine {
             SpecLine::Start(_) => STARTS_STAGE,
             SpecLine::Offer(_) => OFFERS_STAGE,
             SpecLine::Use { .. } => USES_STAGE,
+            SpecLine::NewType(_) => TYPES_STAGE,
+            SpecLine::Shape { .. } => SHAPES_STAGE,
+            SpecLine::Carry { .. } => CARRIES_STAGE,
+            SpecLine::Depends { .. } => DEPENDS_STAGE,
             SpecLine::Free => FREE_STAGE,
             SpecLine::Rule(_) => RULES_STAGE,
             SpecLine::Schedule { .. } => END_STAGE,

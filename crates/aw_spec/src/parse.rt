@@ -158,6 +158,56 @@ fn use_line(alloc: Global, line: &[u8], tokens: &[Token]) -> Result<SpecLine, Un
     })
 }
 
+fn type_line(alloc: Global, line: &[u8], tokens: &[Token]) -> Result<SpecLine, Unread>
+    ensures { Gives line_seen result (read.type_line (lexemes line.now tokens.now)) }
+{
+    let (declared, rest) = name(line, tokens)?;
+    end(line, rest)?;
+    Ok(SpecLine::NewType(Text::from_bytes(alloc, declared)?))
+}
+
+fn shape_line(alloc: Global, line: &[u8], tokens: &[Token]) -> Result<SpecLine, Unread>
+    ensures { Gives line_seen result (read.shape_line (lexemes line.now tokens.now)) }
+{
+    let (con, rest) = name(line, tokens)?;
+    let (parts, rest) = names_between(alloc, b'(', b')', line, rest)?;
+    let (own, rest) = name(line, rest)?;
+    end(line, rest)?;
+    Ok(SpecLine::Shape {
+        con: Text::from_bytes(alloc, con)?,
+        parts,
+        own: Text::from_bytes(alloc, own)?,
+    })
+}
+
+fn carry_line(alloc: Global, line: &[u8], tokens: &[Token]) -> Result<SpecLine, Unread>
+    ensures { Gives line_seen result (read.carry_line (lexemes line.now tokens.now)) }
+{
+    let (sort, rest) = name(line, tokens)?;
+    let (takes, rest) = names_between(alloc, b'(', b')', line, rest)?;
+    let (gives, rest) = names_between(alloc, b'<', b'>', line, rest)?;
+    end(line, rest)?;
+    Ok(SpecLine::Carry {
+        sort: Text::from_bytes(alloc, sort)?,
+        takes,
+        gives,
+    })
+}
+
+fn depends_line(alloc: Global, line: &[u8], tokens: &[Token]) -> Result<SpecLine, Unread>
+    ensures { Gives line_seen result (read.depends_line (lexemes line.now tokens.now)) }
+{
+    let (sort, rest) = name(line, tokens)?;
+    let (i, rest) = number(line, rest)?;
+    let (j, rest) = number(line, rest)?;
+    end(line, rest)?;
+    Ok(SpecLine::Depends {
+        sort: Text::from_bytes(alloc, sort)?,
+        i,
+        j,
+    })
+}
+
 fn free_line(line: &[u8], tokens: &[Token]) -> Result<SpecLine, Unread>
     ensures { Gives line_seen result (only lines.FreeLine (lexemes line.now tokens.now)) }
 {
@@ -230,6 +280,14 @@ pub fn parse_line(alloc: Global, line: &[u8], tokens: &[Token]) -> Result<SpecLi
         offer_line(alloc, line, rest)
     } else if is_word(word, b"use") {
         use_line(alloc, line, rest)
+    } else if is_word(word, b"type") {
+        type_line(alloc, line, rest)
+    } else if is_word(word, b"shape") {
+        shape_line(alloc, line, rest)
+    } else if is_word(word, b"carry") {
+        carry_line(alloc, line, rest)
+    } else if is_word(word, b"depends") {
+        depends_line(alloc, line, rest)
     } else if is_word(word, b"free") {
         free_line(line, rest)
     } else if is_word(word, b"rule") {

@@ -6,6 +6,10 @@ ghost use Rattle.aw_grammar.specs.GrammarOf.{grammar_of, words_of, declarations_
 ghost use Rattle.aw_face.specs.Faces.{face_fault};
 ghost use Rattle.aw_spec.specs.Reading.{specification};
 ghost use Rattle.aw_spec.specs.Answers.{Spells, at_line};
+ghost use Rattle.aw_spec.specs.TypesFit.{TypesFit};
+ghost use Rattle.aw_spec.specs.Views.{spec_seen};
+ghost use Rattle.aw_typed.specs.Types.{AreFor};
+ghost use Rattle.aw_typed.specs.Typing.{types_of, NumbersInRange};
 
 use crate::draft::{Draft, LineFault};
 use crate::fault::SpecFault;
@@ -24,22 +28,26 @@ fn at_line(fault: LineFault, line: u64) -> SpecFault
 }
 
 fn text_of(draft: Draft, loads: bool, lines: u64, rest: usize) -> SpecText
-    ensures value { result ≡ record { grammar = draft.grammar; faces = draft.faces; free = draft.free; loads = loads; lines = lines; rest = rest } }
+    ensures value { result ≡ record { grammar = draft.grammar; faces = draft.faces; lines = lines; rest = rest; loads = loads; types = draft.types; depends = draft.depends; free = draft.free } }
     ensures grammar { grammar_of result.grammar ≡ grammar_in (declarations_of result.grammar) }
     ensures words { words_of result.grammar ≡ words_in (declarations_of result.grammar) }
 {
     let Draft {
         grammar,
         faces,
+        types,
+        depends,
         free,
     } = draft;
     SpecText {
         grammar,
         faces,
-        free,
-        loads,
         lines,
         rest,
+        loads,
+        types,
+        depends,
+        free,
     }
 }
 
@@ -77,6 +85,10 @@ pub fn read_spec(alloc: Global, text: &[u8]) -> Result<SpecText, SpecFault>
     ensures words { IfOk result (λ s. words_of s.grammar ≡ words_in (declarations_of s.grammar)) }
     // The rules keep to the faces of the roles.
     ensures faces { IfOk result (λ s. face_fault (grammar_of s.grammar) s.faces.offers s.faces.uses ≡ None) }
+    // The types are for the grammar, and the dependences are of its sorts.
+    ensures fits { IfOk result (λ s. TypesFit (spec_seen s)) }
+    ensures types { IfOk result (λ s. AreFor (grammar_of s.grammar) (types_of s.types)) }
+    ensures numbers { IfOk result (λ s. NumbersInRange (types_of s.types)) }
 {
     read_lines(alloc, text)
 }

@@ -1,14 +1,15 @@
 //! Reading a specification line by line.
-ghost use Rattle.std.specs.Prelude.{◌≡◌, ◌<◌, length};
+ghost use Rattle.std.specs.Prelude.{◌≡◌, ◌<◌, ◌≤◌, length};
 ghost use Rattle.aw_spec.specs.Stages.{sorts_stage, rules_stage};
 
 use crate::draft::{Draft, LineFault, Said};
 use crate::fault::SpecKind;
 use crate::line::SpecLine;
 use crate::spelled::spelled_line;
-use aw_base::{Grammar, Numbers};
+use aw_base::{Declared, Grammar, Names, Numbers};
 use aw_face::{Faces, Usings};
 use aw_lex::is_passed_over;
+use aw_typed::{Carries, Shapes, Types};
 use std::alloc::Global;
 
 /// The lines so far: what they say, and the stage of the last, or 0.
@@ -17,6 +18,7 @@ pub struct Reader {
     pub draft: Draft,
     pub stage: u8,
     ghost no_sorts: { stage < sorts_stage → length draft.grammar.sorts ≡ 0 },
+    ghost few_types: { length draft.types.names ≤ 256 },
     ghost no_rules: { stage < rules_stage → length draft.grammar.rules ≡ 0 },
 }
 
@@ -42,10 +44,18 @@ impl Reader {
             offers: Numbers::new(alloc),
             uses: Usings::new(alloc),
         };
+        let types = Types {
+            typed: false,
+            names: Names::new(alloc),
+            shapes: Shapes::new(alloc),
+            carries: Carries::new(alloc),
+        };
         Reader {
             draft: Draft {
                 grammar: Grammar::new(alloc),
                 faces,
+                types,
+                depends: Declared::new(alloc),
                 free: false,
             },
             stage: 0,

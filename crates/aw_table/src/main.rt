@@ -4,6 +4,10 @@
 //! what has to be told; nothing in them comes from the program.
 #![tactic(auto)]
 
+ghost use Rattle.aw_grammar.specs.GrammarOf.{grammar_of};
+ghost use Rattle.aw_typed.specs.Types.{AreFor};
+ghost use Rattle.aw_typed.specs.Typing.{types_of, IsMadeFor, NumbersInRange};
+ghost use Rattle.aw_spec.specs.TypesFit.{TypesFit};
 ghost use Rattle.aw_spec.specs.Views.{spec_seen};
 ghost use Rattle.aw_write.specs.Writable.{FacesFit};
 
@@ -14,6 +18,7 @@ use aw_out::{StdSink, StdSource, read_all, write_all};
 use aw_sched::{Event, SchedFault, read_schedule};
 use aw_spec::{SpecFault, SpecText, read_spec};
 use aw_text::push_number;
+use aw_typed::{TypeFault, Typed, type_check};
 use aw_write::{read_fits, write_spec};
 use bstr::ByteSlice;
 use std::alloc::{AllocError, Global};
@@ -34,19 +39,22 @@ fn push_place(told: &mut Text, what: &[u8], line: u64, kind: &[u8]) -> Result<()
     told.push_bytes(kind)
 }
 
-/// Whether two specifications have the same declarations and the same offers, uses and wish.
+/// Whether two specifications have the same declarations, faces, types, dependences and wish.
 fn is_same(a: &SpecText, b: &SpecText) -> bool {
     a.grammar.roles == b.grammar.roles
         && a.grammar.cons == b.grammar.cons
         && a.grammar.sorts == b.grammar.sorts
         && a.grammar.rules == b.grammar.rules
         && a.faces == b.faces
+        && a.types == b.types
+        && a.depends == b.depends
         && a.free == b.free
 }
 
 /// Whether a specification is read as the same from the text that is written of it.
 fn is_read_again(alloc: Global, spec: &SpecText) -> Result<bool, AllocError>
-    requires { FacesFit (spec_seen spec.now) }
+    requires faces { FacesFit (spec_seen spec.now) }
+    requires types { TypesFit (spec_seen spec.now) }
 {
     match aw_write::read_again(alloc, spec) {
         Ok(again) => Ok(is_same(spec, &again)),
@@ -82,9 +90,12 @@ fn push_schedule_verdict(
     alloc: Global,
     told: &mut Text,
     spec: &SpecText,
+    typed: &Typed,
     schedule: &[u8],
-) -> Result<(), AllocError> {
-    match read_schedule(alloc, &spec.grammar, schedule) {
+) -> Result<(), AllocError>
+    requires { IsMadeFor (grammar_of spec.now.grammar) typed.now }
+{
+    match read_schedule(alloc, &spec.grammar, typed, schedule) {
         Ok(events) => {
             if are_named_again(alloc, &spec.grammar, events.as_slice())? {
                 return told.push_bytes(b"good");
@@ -101,6 +112,23 @@ fn push_schedule_verdict(
     }
 }
 
+/// Adds what is told of the types of a good specification, and of the schedule behind it.
+fn push_typed_verdict(
+    alloc: Global,
+    told: &mut Text,
+    spec: &SpecText,
+    schedule: &[u8],
+) -> Result<(), AllocError>
+    requires sizes { AreFor (grammar_of spec.now.grammar) (types_of spec.now.types) }
+    requires numbers { NumbersInRange (types_of spec.now.types) }
+{
+    match type_check(alloc, &spec.grammar, &spec.types) {
+        Ok(typed) => push_schedule_verdict(alloc, told, spec, &typed, schedule),
+        Err(TypeFault::NoMemory) => Err(AllocError),
+        Err(_) => told.push_bytes(b"types"),
+    }
+}
+
 /// Adds what is told of a good specification, and of the schedule behind it.
 fn push_spec_verdict(
     alloc: Global,
@@ -108,10 +136,13 @@ fn push_spec_verdict(
     spec: &SpecText,
     schedule: &[u8],
 ) -> Result<(), AllocError>
-    requires { FacesFit (spec_seen spec.now) }
+    requires faces { FacesFit (spec_seen spec.now) }
+    requires types { TypesFit (spec_seen spec.now) }
+    requires sizes { AreFor (grammar_of spec.now.grammar) (types_of spec.now.types) }
+    requires numbers { NumbersInRange (types_of spec.now.types) }
 {
     if is_read_again(alloc, spec)? {
-        return push_schedule_verdict(alloc, told, spec, schedule);
+        return push_typed_verdict(alloc, told, spec, schedule);
     }
     told.push_bytes(b"specification read otherwise")
 }

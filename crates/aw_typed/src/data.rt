@@ -5,14 +5,14 @@ use aw_list::Items;
 use std::alloc::AllocError;
 
 /// The types of a constructor's parts, and its own.
-#[derive(Debug, Drop)]
+#[derive(Debug, PartialEq, Eq, Drop)]
 pub struct Shape {
     pub parts: Numbers,
     pub own: u16,
 }
 
 /// The types of a sort's inherited values, and of its results.
-#[derive(Debug, Drop)]
+#[derive(Debug, PartialEq, Eq, Drop)]
 pub struct Carry {
     pub takes: Numbers,
     pub gives: Numbers,
@@ -25,7 +25,7 @@ pub type Shapes = Items<Option<Shape>>;
 pub type Carries = Items<Option<Carry>>;
 
 /// Type 0 is that of numbers, type 1 that of texts; then come the declared ones, which alone `names` lists.
-#[derive(Debug, Drop)]
+#[derive(Debug, PartialEq, Eq, Drop)]
 pub struct Types {
     pub typed: bool,
     pub names: Names,

@@ -2,6 +2,7 @@
 #![tactic(auto)]
 
 pub mod args;
+pub mod bare;
 pub mod checking;
 pub mod copies;
 pub mod data;
@@ -15,5 +16,6 @@ pub mod terms;
 pub mod worked;
 
 pub use args::arg_ok;
+pub use bare::untyped;
 pub use checking::type_check;
 pub use data::{Carries, Carry, Shape, Shapes, TypeFault, Typed, Types, VariableTypes};

@@ -1,9 +1,9 @@
 -- The lines of a well-formed specification lead from nothing to the specification.
-use Rattle.std.proofs.Common.{◌≡◌, ℕ, suc, ◌<◌, ◌≤◌, nat_eq, nat_lt, refl, sym, ap, ◌∙◌, subst, Bool, true, false, cond, not, ◌&&◌, ◌||◌, List, [], ◌∷◌, ◌++◌, length, map, Option, Some, None, option_and_then, slice_get, arith, append_assoc, length-append}
+use Rattle.std.proofs.Common.{◌≡◌, ℕ, zero, suc, ◌<◌, ◌≤◌, nat_eq, nat_lt, refl, sym, ap, ◌∙◌, subst, Bool, true, false, cond, not, ◌&&◌, ◌||◌, List, [], ◌∷◌, ◌++◌, length, map, Option, Some, None, option_and_then, slice_get, arith, append_assoc, length-append}
 use Rattle.std.proofs.lemmas.List.{map-append, length-map}
 use Rattle.std.proofs.lemmas.Bool.{eqb-true, ne_eqb, lt-leb, le-ltb, or_from}
 use Rattle.std.specs.List.{list_any}
-use Rattle.aw_index.specs.Places.{place_of, or_else, stands}
+use Rattle.aw_index.specs.Places.{place_of, or_else, number_of, stands}
 use Rattle.aw_term.specs.Rules as P
 use Rattle.aw_term.specs.Rules.{get}
 use Rattle.aw_term.specs.WellFormed.{Each, Later, Differ, RuleFits, SortFits}
@@ -14,7 +14,7 @@ use Rattle.aw_grammar.specs.declared.raw.RawCon.{RawCon}
 use Rattle.aw_grammar.specs.declared.raw.RawSort.{RawSort}
 use Rattle.aw_grammar.specs.declared.fault.DeclKind.TheVariants.{Inherits}
 use Rattle.aw_grammar.specs.GrammarView.{sort_of, sorts_of}
-use Rattle.aw_grammar.specs.Declarations.{Entry, Declarations, con_names, sort_names, rule_names, grammar_in, with_role, with_con, with_sort, with_start, with_start_at, with_rule, entry_of}
+use Rattle.aw_grammar.specs.Declarations.{Entry, Declarations, con_names, sort_names, rule_names, grammar_in, with_role, with_con, sort_declared, with_sort, with_start, with_start_at, with_rule, entry_of}
 use Rattle.aw_grammar.specs.Kinds.{start_kind, start_kind_of, role_tests, con_tests, sort_tests}
 use Rattle.aw_grammar.proofs.PlacedNames.{place_again}
 use Rattle.aw_face.specs.declared.faces.Using.{Using}
@@ -25,7 +25,11 @@ use Rattle.aw_spec.specs.Lines.{RoleLine, StartLine, FreeLine, RuleLine}
 use Rattle.aw_spec.proofs.Tested.{offer_by, use_by}
 use Rattle.aw_spec.specs.Placed.{offering, using_sort, using_by}
 use Rattle.aw_spec.specs.Stages.{roles_stage, cons_stage, sorts_stage, starts_stage, offers_stage, uses_stage, free_stage, rules_stage}
-use Rattle.aw_spec.specs.Reading.{Spec, no_spec, On, Wrong, declaring, if_kept, keeping, says}
+use Rattle.aw_base.specs.declared.declared.Triple.{Triple}
+use Rattle.aw_typed.specs.declared.data.Shape.{Shape}
+use Rattle.aw_typed.specs.declared.data.Carry.{Carry}
+use Rattle.aw_typed.specs.declared.data.Types.{Types}
+use Rattle.aw_spec.specs.Reading.{Spec, no_spec, On, Wrong, with_no_shape, with_no_carry, declaring, if_kept, keeping, says}
 use Rattle.aw_write.specs.SpecLines.{named_rule, con_line, sort_line, start_line, start_lines, offer_line, use_line}
 use Rattle.aw_grammar.specs.Variables.{VariablesFit}
 use Rattle.aw_write.specs.Writable.{VariablesNamed, AreApart}
@@ -56,10 +60,20 @@ below_all all pre x post n e h = omega (arith, ap length e, length-append pre (x
 split_names : {A : Type 0} (name : A → List ℕ) (all pre : List A) (x : A) (post : List A) → all ≡ pre ++ x ∷ post → Differ (map name all) → stands (name x) (map name pre) ≡ false
 split_names name all pre x post e differ = new_name (map name pre) (name x) (map name post) (subst Differ (ap (map name) e ∙ map-append name pre (x ∷ post)) differ)
 
+-- nothing is typed: no shape of a constructor is declared, and no carry of a sort
+abbrev pub no_shape : decl.Con → Option Shape
+no_shape c = None
+
+abbrev pub no_carry : Sort → Option Carry
+no_carry s = None
+
+abbrev pub untyped : List decl.Con → List Sort → Types
+untyped cons sorts = record { typed = false; names = []; shapes = map no_shape cons; carries = map no_carry sorts }
+
 -- roles
 
 abbrev pub with_roles : List (List ℕ) → Spec
-with_roles roles = record { declared = record { roles = roles; cons = []; sorts = []; rules = [] }; offers = []; uses = []; free = false }
+with_roles roles = record { declared = record { roles = roles; cons = []; sorts = []; rules = [] }; offers = []; uses = []; types = untyped [] []; depends = []; free = false }
 
 role_said : (all pre : List (List ℕ)) (x : List ℕ) (post : List (List ℕ)) → length all ≤ 64 → Differ all → all ≡ pre ++ x ∷ post → says (with_roles pre) (RoleLine x) ≡ On (with_roles (pre ++ x ∷ []))
 role_said all pre x post few differ e =
@@ -73,18 +87,19 @@ roles_lead roles few differ = all_through roles_stage (λ name. RoleLine name) w
 -- constructors
 
 abbrev pub with_cons : List (List ℕ) → List decl.Con → Spec
-with_cons roles cons = record { declared = record { roles = roles; cons = cons; sorts = []; rules = [] }; offers = []; uses = []; free = false }
+with_cons roles cons = record { declared = record { roles = roles; cons = cons; sorts = []; rules = [] }; offers = []; uses = []; types = untyped cons []; depends = []; free = false }
 
 con_said : (roles : List (List ℕ)) (all pre : List decl.Con) (c : decl.Con) (post : List decl.Con) → length all ≤ 1024 → Differ (map (λ (k : decl.Con). k.name) all) → Each (λ (k : decl.Con). k.arity ≤ 8) all → all ≡ pre ++ c ∷ post →
     says (with_cons roles pre) (con_line c) ≡ On (with_cons roles (pre ++ c ∷ []))
 con_said roles all pre c post few differ small e =
     let s = with_cons roles pre in
     let raw : RawCon = record { name = c.name; arity = c.arity } in
-    ap (λ k. declaring s k (with_con s.declared raw))
+    ap (λ k. declaring (with_no_shape s) k (with_con s.declared raw))
     (none_told (con_tests s.declared raw) (
       or_from _ _ (lt-leb 1024 (length pre) (below_all all pre c post 1024 e few)) (le-ltb 8 c.arity (each_mid (λ (k : decl.Con). k.arity ≤ 8) pre c post (subst (Each (λ (k : decl.Con). k.arity ≤ 8)) e small))),
       (split_names (λ (k : decl.Con). k.name) all pre c post e differ, tt),
     ))
+    ∙ ap (λ os. On (record (with_cons roles (pre ++ c ∷ [])) { types = record (untyped [] []) { shapes = os } })) (sym (map-append no_shape pre (c ∷ [])))
 
 pub cons_lead : (roles : List (List ℕ)) (cons : List decl.Con) → length cons ≤ 1024 → Differ (map (λ (k : decl.Con). k.name) cons) → Each (λ (k : decl.Con). k.arity ≤ 8) cons → Through cons_stage (with_roles roles) (map con_line cons) (with_cons roles cons)
 cons_lead roles cons few differ small = all_through cons_stage con_line (with_cons roles) cons (λ c. refl) (λ pre c post e. con_said roles cons pre c post few differ small e)
@@ -95,7 +110,7 @@ abbrev pub unstarted : Sort → Sort
 unstarted s = record s { start = false }
 
 abbrev pub with_sorts : List (List ℕ) → List decl.Con → List Sort → Spec
-with_sorts roles cons sorts = record { declared = record { roles = roles; cons = cons; sorts = sorts; rules = [] }; offers = []; uses = []; free = false }
+with_sorts roles cons sorts = record { declared = record { roles = roles; cons = cons; sorts = sorts; rules = [] }; offers = []; uses = []; types = untyped cons sorts; depends = []; free = false }
 
 names_unstarted : (sorts : List Sort) → map (λ (s : Sort). s.name) (map unstarted sorts) ≡ map (λ (s : Sort). s.name) sorts
 names_unstarted [] = refl
@@ -108,7 +123,7 @@ sort_said roles cons all pre s post roles_differ few differ fit e =
     let raw : RawSort = record { name = s.name; role = get [] roles s.role; takes = s.takes; gives = s.gives } in
     let fits = each_mid (λ (t : Sort). SortFits (length roles) (sort_of t)) pre s post (subst (Each (λ (t : Sort). SortFits (length roles) (sort_of t))) e fit) in
     let few_before : length (map unstarted pre) < 256 = omega (arith, length-map pre unstarted, below_all all pre s post 256 e few) in
-    ap (λ k. declaring at k (with_sort at.declared raw))
+    ap (λ k. declaring (with_no_carry at) k (with_sort at.declared raw))
     (none_told (sort_tests at.declared raw) (
       or_from _ _ (lt-leb 256 (length (map unstarted pre)) few_before) (or_from _ _ (le-ltb 8 s.takes fits.few_takes) (le-ltb 8 s.gives fits.few_gives)),
       (
@@ -116,6 +131,7 @@ sort_said roles cons all pre s post roles_differ few differ fit e =
         (ap not (stands_at roles s.role roles_differ fits.declared), tt),
       ),
     ))
+    ∙ ap (λ ks. On (record (with_sorts roles cons (map unstarted pre ++ sort_declared at.declared raw ∷ [])) { types = record (untyped cons []) { carries = ks } })) (sym (map-append no_carry (map unstarted pre) (sort_declared at.declared raw ∷ [])))
     ∙ ap (λ r. On (with_sorts roles cons (map unstarted pre ++ record { name = s.name; role = r; takes = s.takes; gives = s.gives; start = false } ∷ []))) (number_again roles s.role roles_differ fits.declared)
     ∙ ap (λ ss. On (with_sorts roles cons ss)) (sym (map-append unstarted pre (s ∷ [])))
 
@@ -137,6 +153,12 @@ started_mid : (pre : List Sort) (s : Sort) (post : List Sort) → with_start_at 
 started_mid [] s post = refl
 started_mid (t ∷ pre) s post = ap (λ ss. t ∷ ss) (started_mid pre s post)
 
+-- which sorts are start sorts does not matter to carries
+uncarried : (sorts : List Sort) (i : ℕ) → map no_carry (with_start_at sorts i) ≡ map no_carry sorts
+uncarried [] i = refl
+uncarried (s ∷ sorts) zero = refl
+uncarried (s ∷ sorts) (suc i) = ap (λ ks. None ∷ ks) (uncarried sorts i)
+
 start_said : (roles : List (List ℕ)) (cons : List decl.Con) (done : List Sort) (s : Sort) (left : List Sort) → stands s.name (map (λ (t : Sort). t.name) done) ≡ false → s.takes ≡ 0 → s.start ≡ true →
     says (partly roles cons done (s ∷ left)) (StartLine s.name) ≡ On (partly roles cons (done ++ s ∷ []) left)
 start_said roles cons done s left new none started =
@@ -149,6 +171,7 @@ start_said roles cons done s left new none started =
     let kept : start_kind at.declared s.name ≡ None =
     ap (λ o. start_kind_of (option_and_then (λ i. slice_get sorts i) o)) placed ∙ ap start_kind_of (get_mid done (unstarted s) rest) ∙ ap (λ n. cond (nat_lt 0 n) (Some Inherits) None) none in
     ap (λ k. declaring at k (with_start at.declared s.name)) kept
+    ∙ ap (λ ks. On (record (with_sorts roles cons (with_start at.declared s.name).sorts) { types = record (untyped cons []) { carries = ks } })) (sym (uncarried sorts (number_of s.name (map name sorts))))
     ∙ ap (λ i. On (with_sorts roles cons (with_start_at sorts i))) (ap (or_else (length (map name sorts))) placed)
     ∙ ap (λ ss. On (with_sorts roles cons ss)) (started_mid done (unstarted s) rest)
     ∙ ap (λ b. On (with_sorts roles cons (done ++ record s { start = b } ∷ rest))) (sym started)
@@ -180,15 +203,15 @@ starts_lead roles cons sorts differ fit = go [] sorts refl
 -- offers
 
 abbrev pub with_offers : Declarations → List ℕ → Spec
-with_offers d offers = record { declared = record d { rules = [] }; offers = offers; uses = []; free = false }
+with_offers d offers = record { declared = record d { rules = [] }; offers = offers; uses = []; types = untyped d.cons d.sorts; depends = []; free = false }
 
 -- a test that fails for each
-none_any : {A : Type 0} (p : A → Bool) (xs : List A) → Each (λ x. p x ≡ false) xs → list_any p xs ≡ false
+pub none_any : {A : Type 0} (p : A → Bool) (xs : List A) → Each (λ x. p x ≡ false) xs → list_any p xs ≡ false
 none_any p [] each = refl
 none_any p (x ∷ xs) each = ap (λ b. b || list_any p xs) each.0 ∙ none_any p xs each.1
 
 -- those before one are related to it
-before_mid : {A : Type 0} (R : A → A → Type 0) (pre : List A) (x : A) (post : List A) → Later R (pre ++ x ∷ post) → Each (λ a. R a x) pre
+pub before_mid : {A : Type 0} (R : A → A → Type 0) (pre : List A) (x : A) (post : List A) → Later R (pre ++ x ∷ post) → Each (λ a. R a x) pre
 before_mid R [] x post later = tt
 before_mid R (y ∷ pre) x post later = (each_mid (R y) pre x post later.0, before_mid R pre x post later.1)
 
@@ -212,7 +235,7 @@ offers_lead d offers differ declared once = all_through offers_stage (offer_line
 -- uses
 
 abbrev pub with_uses : Declarations → List ℕ → List Using → Spec
-with_uses d offers uses = record { declared = record d { rules = [] }; offers = offers; uses = uses; free = false }
+with_uses d offers uses = record { declared = record d { rules = [] }; offers = offers; uses = uses; types = untyped d.cons d.sorts; depends = []; free = false }
 
 abbrev IsDeclaredUse : Declarations → Using → Type 0
 IsDeclaredUse d u = (u.role < length d.roles) × (u.sort < length d.sorts)
@@ -241,19 +264,23 @@ pub uses_lead : (d : Declarations) (offers : List ℕ) (uses : List Using) → D
     Through uses_stage (with_offers d offers) (map (use_line d.roles (sort_names d)) uses) (with_uses d offers uses)
 uses_lead d offers uses roles_differ differ declared once = all_through uses_stage (use_line d.roles (sort_names d)) (with_uses d offers) uses (λ u. refl) (λ pre u post e. use_said d offers uses pre u post roles_differ differ declared once e)
 
--- the line `free`
+-- types and dependences, and then the line `free`
 
-abbrev pub with_wish : Declarations → List ℕ → List Using → Bool → Spec
-with_wish d offers uses free = record { declared = record d { rules = [] }; offers = offers; uses = uses; free = free }
-
-pub free_leads : (d : Declarations) (offers : List ℕ) (uses : List Using) (free : Bool) → Through free_stage (with_uses d offers uses) (cond free (FreeLine ∷ []) []) (with_wish d offers uses free)
-free_leads d offers uses true = through_line free_stage (with_uses d offers uses) (with_wish d offers uses true) FreeLine refl refl
-free_leads d offers uses false = through_none free_stage (with_uses d offers uses)
-
--- rules
+abbrev pub with_typing : Declarations → List ℕ → List Using → Types → List Triple → Spec
+with_typing d offers uses types depends = record { declared = record d { rules = [] }; offers = offers; uses = uses; types = types; depends = depends; free = false }
 
 abbrev pub with_rules : Spec → List Entry → Spec
 with_rules s rules = record s { declared = record s.declared { rules = rules } }
+
+pub free_leads : (s : Spec) (free : Bool) → s.free ≡ free → Through free_stage (with_typing s.declared s.offers s.uses s.types s.depends) (cond free (FreeLine ∷ []) []) (with_rules s [])
+free_leads s true e =
+    let from = with_typing s.declared s.offers s.uses s.types s.depends in
+    through_line free_stage from (with_rules s []) FreeLine refl (ap (λ b. On (record from { free = b })) (sym e))
+free_leads s false e =
+    let from = with_typing s.declared s.offers s.uses s.types s.depends in
+    subst (λ b. Through free_stage from [] (record from { free = b })) (sym e) (through_none free_stage from)
+
+-- rules
 
 -- no rule is at fault where none of all is
 no_rule_fault : (sorts : List P.Sort) (offers : List ℕ) (uses : List Using) (i : ℕ) (pre : List Entry) (e : Entry) (post : List Entry) → rules_fault sorts offers uses i (map (λ (x : Entry). x.rule) (pre ++ e ∷ post)) ≡ None → rule_fault sorts offers uses e.rule ≡ None

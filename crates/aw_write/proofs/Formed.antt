@@ -42,4 +42,4 @@ spelled_if_formed d w numbers =
     record { roles = names.roles_fit; cons = names.cons_fit; sorts = names.sorts_fit; rules = names.rules_fit; numbers = numbers }
 
 pub law : (s : Spec) → IsWritable s → specification (lines_of (written s)) ≡ Good s (length (spec_lines s)) false
-law s w = written_again s (fine_if_formed s.declared w.formed w.variables) (spelled_if_formed s.declared w.formed w.numbers) w.faces
+law s w = written_again s (fine_if_formed s.declared w.formed w.variables) (spelled_if_formed s.declared w.formed w.numbers) w.faces w.types

@@ -11,7 +11,7 @@ use Rattle.aw_term.specs.WellFormed.{Each}
 use Rattle.aw_grammar.specs.Written.{Written, Word, Apply, Literal, Writtens, Empty, Then, WrittenChild, side_by_side}
 use Rattle.aw_form.specs.Laws.{IsWritten, AreWritten}
 use Rattle.aw_spec.specs.Laws.{IsWrittenChild, IsWrittenLine}
-use Rattle.aw_spec.specs.Lines.{Line, RoleLine, ConLine, SortLine, StartLine, OfferLine, UseLine, FreeLine, RuleLine, ScheduleLine}
+use Rattle.aw_spec.specs.Lines.{Line, RoleLine, ConLine, SortLine, StartLine, OfferLine, UseLine, TypeLine, ShapeLine, CarryLine, DependsLine, FreeLine, RuleLine, ScheduleLine}
 use Rattle.aw_spec.specs.ReadLine.{line_of}
 use Rattle.aw_spec.specs.declared.fault.SpecKind.TheVariants.{Order}
 use Rattle.aw_spec.specs.Reading.{Spec, On, says, stage_of, Draft, Next, Fault, at_stage, in_order, if_line, if_tokens, read_line, Good, after_line, read_lines}
@@ -43,6 +43,10 @@ not_passed (SortLine name role takes gives) = refl
 not_passed (StartLine sort) = refl
 not_passed (OfferLine sort) = refl
 not_passed (UseLine role sort) = refl
+not_passed (TypeLine name) = refl
+not_passed (ShapeLine con parts own) = refl
+not_passed (CarryLine sort takes gives) = refl
+not_passed (DependsLine sort i j) = refl
 not_passed FreeLine = refl
 not_passed (RuleLine rule) = refl
 not_passed (ScheduleLine false) = refl
@@ -71,6 +75,10 @@ line_written (SortLine name role takes gives) h = tt
 line_written (StartLine sort) h = tt
 line_written (OfferLine sort) h = tt
 line_written (UseLine role sort) h = tt
+line_written (TypeLine name) h = tt
+line_written (ShapeLine con parts own) h = tt
+line_written (CarryLine sort takes gives) h = tt
+line_written (DependsLine sort i j) h = tt
 line_written FreeLine h = tt
 line_written (RuleLine rule) h = (parts_written (side_by_side rule.patterns) h.patterns, parts_written (side_by_side rule.results) h.results, children_written rule.children h.children)
 line_written (ScheduleLine loads) h = tt

@@ -14,4 +14,7 @@ pub mod ReadFaces
 pub mod SaysTerms
 pub mod SaysTokens
 pub mod SpelledSpecs
+pub mod SpelledTypes
+pub mod Typing
 pub mod WrittenAgain
+pub mod TypeTexts

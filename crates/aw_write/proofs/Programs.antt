@@ -19,6 +19,7 @@ use Rattle.aw_spec.specs.declared.spec_text.SpecText.{SpecText}
 use Rattle.aw_spec.specs.Answers.{Spells}
 use Rattle.aw_spec.specs.Lines.{Line}
 use Rattle.aw_spec.specs.Reading.{Spec, Reading, Good, specification}
+use Rattle.aw_spec.specs.TypesFit.{TypesFit}
 use Rattle.aw_spec.specs.Views.{spec_seen}
 use Rattle.aw_write.specs.LineTexts.{text_of_lines}
 use Rattle.aw_write.specs.SpecLines.{spec_lines, written}
@@ -42,20 +43,20 @@ variables_of : (g : Grammar) → VariablesNamed (declarations_of g)
 variables_of g =
     each_named (map (λ (c : Con). c.name) g.cons) g.sorts g.rules (∥∥₁_elim g.variables_fit (named_prop g.cons g.sorts g.rules) (λ x. x))
 
-pub again : (s : SpecText) → Each (λ (e : Entry). SmallNumbers e.rule) (declarations_of s.grammar).rules → FacesFit (spec_seen s) →
+pub again : (s : SpecText) → Each (λ (e : Entry). SmallNumbers e.rule) (declarations_of s.grammar).rules → FacesFit (spec_seen s) → TypesFit (spec_seen s) →
     specification (lines_of (written (spec_seen s))) ≡ Good (spec_seen s) (length (spec_lines (spec_seen s))) false
-again s numbers faces = law (spec_seen s) (record { formed = formed_of s.grammar; numbers = numbers; variables = variables_of s.grammar; faces = faces })
+again s numbers faces types = law (spec_seen s) (record { formed = formed_of s.grammar; numbers = numbers; variables = variables_of s.grammar; faces = faces; types = types })
 
 -- what is added last joins what was added before it
 joined : (xs ys : List Line) (t u v : List ℕ) → u ≡ t ++ text_of_lines xs → v ≡ u ++ text_of_lines ys → v ≡ t ++ text_of_lines (xs ++ ys)
 joined xs ys t u v e f =
     f ∙ ap (λ w. w ++ text_of_lines ys) e ∙ append_assoc t (text_of_lines xs) (text_of_lines ys) ∙ ap (λ w. t ++ w) (sym (lines_both xs ys))
 
-pub whole_text : (declared faces wish rules : List Line) (t0 t1 t2 t3 t4 : List ℕ) → t0 ≡ [] → t1 ≡ t0 ++ text_of_lines declared → t2 ≡ t1 ++ text_of_lines faces → t3 ≡ t2 ++ text_of_lines wish → t4 ≡ t3 ++ text_of_lines rules →
-    t4 ≡ text_of_lines (declared ++ (faces ++ (wish ++ rules)))
-whole_text declared faces wish rules t0 t1 t2 t3 t4 e0 e1 e2 e3 e4 =
-    joined declared (faces ++ (wish ++ rules)) t0 t1 t4 e1 (joined faces (wish ++ rules) t1 t2 t4 e2 (joined wish rules t2 t3 t4 e3 e4))
-    ∙ ap (λ u. u ++ text_of_lines (declared ++ (faces ++ (wish ++ rules)))) e0
+pub whole_text : (declared faces typing wish rules : List Line) (t0 t1 t2 t3 t4 t5 : List ℕ) → t0 ≡ [] → t1 ≡ t0 ++ text_of_lines declared → t2 ≡ t1 ++ text_of_lines faces → t3 ≡ t2 ++ text_of_lines typing → t4 ≡ t3 ++ text_of_lines wish → t5 ≡ t4 ++ text_of_lines rules →
+    t5 ≡ text_of_lines (declared ++ (faces ++ (typing ++ (wish ++ rules))))
+whole_text declared faces typing wish rules t0 t1 t2 t3 t4 t5 e0 e1 e2 e3 e4 e5 =
+    joined declared (faces ++ (typing ++ (wish ++ rules))) t0 t1 t5 e1 (joined faces (typing ++ (wish ++ rules)) t1 t2 t5 e2 (joined typing (wish ++ rules) t2 t3 t5 e3 (joined wish rules t3 t4 t5 e4 e5)))
+    ∙ ap (λ u. u ++ text_of_lines (declared ++ (faces ++ (typing ++ (wish ++ rules))))) e0
 
 -- what reading answers where the text spells a specification
 pub ok_read : (r : Result SpecText SpecFault) (reading : Reading) (s : Spec) (n : ℕ) → reading ≡ Good s n false → Spells r reading → IfOk r (λ t. spec_seen t ≡ s)

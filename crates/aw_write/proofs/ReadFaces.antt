@@ -16,10 +16,13 @@ use Rattle.aw_face.specs.declared.faces.Using.{Using}
 use Rattle.aw_face.specs.declared.faces.FaceKind.{FaceKind}
 use Rattle.aw_face.specs.Faces.{is_offered, is_used, face_fault}
 use Rattle.aw_spec.specs.declared.fault.SpecKind.TheVariants as kind
-use Rattle.aw_spec.specs.Lines.{Line, RoleLine, ConLine, SortLine, StartLine, OfferLine, UseLine, FreeLine, RuleLine, ScheduleLine}
-use Rattle.aw_spec.proofs.Tested.{offer_by, use_by}
+use Rattle.aw_spec.specs.Lines.{Line, RoleLine, ConLine, SortLine, StartLine, OfferLine, UseLine, TypeLine, ShapeLine, CarryLine, DependsLine, FreeLine, RuleLine, ScheduleLine}
+use Rattle.aw_spec.proofs.Tested.{offer_by, use_by, tested_on}
 use Rattle.aw_spec.specs.Placed.{offering, using_by}
-use Rattle.aw_spec.specs.Reading.{Spec, Draft, On, Wrong, told_or, with_free, declaring, if_kept, keeping, says, Good, no_draft, specification}
+use Rattle.aw_spec.specs.TypeLines.{type_names, shape_named, carry_named}
+use Rattle.aw_spec.specs.TypesFit.{TypesFit}
+use Rattle.aw_spec.proofs.KeptTypes.{reading_fits}
+use Rattle.aw_spec.specs.Reading.{Spec, Draft, On, Wrong, told_or, with_free, with_no_shape, with_no_carry, type_tests, with_type, con_place, sort_place, shape_tests, with_shape, carry_tests, with_carry, depends_tests, with_depends, declaring, if_kept, keeping, says, Good, no_draft, specification}
 use Rattle.aw_spec.proofs.KeptLines.{reading_keeps}
 use Rattle.aw_write.specs.Writable.{AreApart, FacesFit}
 
@@ -120,16 +123,22 @@ free_sound s after false e sound = subst IsSound (on_is (with_free s) after e) s
 
 said_sound : (s after : Spec) (line : Line) → says s line ≡ On after → IsSound s → IsSound after
 said_sound s after (RoleLine name) e sound = declared_sound s after _ _ e (longer s.declared.roles name) (omega arith) sound
-said_sound s after (ConLine name arity) e sound = declared_sound s after _ _ e (omega arith) (omega arith) sound
-said_sound s after (SortLine name role takes gives) e sound = declared_sound s after _ _ e (omega arith) (longer s.declared.sorts _) sound
+said_sound s after (ConLine name arity) e sound = declared_sound (with_no_shape s) after _ _ e (omega arith) (omega arith) sound
+said_sound s after (SortLine name role takes gives) e sound = declared_sound (with_no_carry s) after _ _ e (omega arith) (longer s.declared.sorts _) sound
 said_sound s after (StartLine sort) e sound = declared_sound s after _ _ e (omega arith) (omega (arith, length_start s.declared.sorts (number_of sort (sort_names s.declared)))) sound
 said_sound s after (OfferLine sort) e sound = offer_sound s after sort (number_named (sort_names s.declared) sort) refl (sym (offer_by s sort) ∙ e) sound
 said_sound s after (UseLine role sort) e sound = use_sound s after role sort (number_named s.declared.roles role) (number_named (sort_names s.declared) sort) refl refl (sym (use_by s role sort) ∙ e) sound
+said_sound s after (TypeLine name) e sound = subst IsSound (tested_on (type_tests s name) (with_type s name) after e).1 sound
+said_sound s after (ShapeLine con parts own) e sound =
+    let shape = shape_named (type_names s.types) parts own in subst IsSound (tested_on (shape_tests s (con_place s con) shape) (with_shape s (con_place s con) shape) after e).1 sound
+said_sound s after (CarryLine sort takes gives) e sound =
+    let carry = carry_named (type_names s.types) takes gives in subst IsSound (tested_on (carry_tests s (sort_place s sort) carry) (with_carry s (sort_place s sort) carry) after e).1 sound
+said_sound s after (DependsLine sort i j) e sound = subst IsSound (tested_on (depends_tests s (sort_place s sort) i j) (with_depends s (sort_place s sort) i j) after e).1 sound
 said_sound s after FreeLine e sound = free_sound s after s.free e sound
 said_sound s after (RuleLine rule) e sound = rule_sound s after rule _ e sound
 said_sound s after (ScheduleLine loads) e sound = cc
 
-pub read_fits : (lines : List (List ℕ)) (s : Spec) (n : ℕ) (loads : Bool) → specification lines ≡ Good s n loads → face_fault (grammar_in s.declared) s.offers s.uses ≡ None → FacesFit s
+pub read_fits : (lines : List (List ℕ)) (s : Spec) (n : ℕ) (loads : Bool) → specification lines ≡ Good s n loads → face_fault (grammar_in s.declared) s.offers s.uses ≡ None → FacesFit s × TypesFit s
 read_fits lines s n loads e kept =
-    let sound = reading_keeps (λ (d : Draft). IsSound d.spec) IsSound (λ d after line h le sound. said_sound d.spec after line h sound) (λ d sound. sound) no_draft 0 n s loads lines (record { offers = tt; offered_once = tt; uses = tt; used_once = tt }) e in
-    record { kept = kept; offers = sound.offers; offered_once = sound.offered_once; uses = sound.uses; used_once = sound.used_once }
+    let sound = reading_keeps (λ (d : Draft). IsSound d.spec) IsSound (λ d after line named h le sound. said_sound d.spec after line h sound) (λ d sound. sound) no_draft 0 n s loads lines (record { offers = tt; offered_once = tt; uses = tt; used_once = tt }) e in
+    (record { kept = kept; offers = sound.offers; offered_once = sound.offered_once; uses = sound.uses; used_once = sound.used_once }, reading_fits lines s n loads e)

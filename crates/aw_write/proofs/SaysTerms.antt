@@ -1,5 +1,5 @@
 -- Written terms and lines say the lexemes that spell them.
-use Rattle.std.proofs.Common.{◌≡◌, ℕ, ◌<◌, ◌^◌, refl, ◌∙◌, ap, true, false, codes, List, [], ◌∷◌, ◌++◌, append_assoc, arith}
+use Rattle.std.proofs.Common.{◌≡◌, ℕ, ◌<◌, ◌^◌, refl, sym, ◌∙◌, ap, true, false, codes, List, [], ◌∷◌, ◌++◌, append_assoc, append-nil, arith}
 use Rattle.std.specs.Fmt.{decimal}
 use Rattle.aw_text.specs.Spelling.{is_name, is_content}
 use Rattle.aw_term.specs.Trees.{Never, Head, Con, Num, Text}
@@ -7,7 +7,7 @@ use Rattle.aw_term.specs.WellFormed.{Each}
 use Rattle.aw_grammar.specs.Written.{Written, Word, Apply, Literal, Writtens, Empty, Then, WrittenChild, WrittenRule, side_by_side}
 use Rattle.aw_form.specs.Lexemes.{Lexeme, Name, Number, Mark}
 use Rattle.aw_form.specs.Terms.{spelling, spellings, spellings_behind}
-use Rattle.aw_spec.specs.Lines.{Line, RoleLine, ConLine, SortLine, StartLine, OfferLine, UseLine, FreeLine, RuleLine, ScheduleLine, as_words, in_parentheses, in_angles, params_spelling, child_spelling, behind_child, children_spelling, rule_spelling, line_spelling}
+use Rattle.aw_spec.specs.Lines.{Line, RoleLine, ConLine, SortLine, StartLine, OfferLine, UseLine, TypeLine, ShapeLine, CarryLine, DependsLine, FreeLine, RuleLine, ScheduleLine, as_words, in_parentheses, in_angles, params_spelling, child_spelling, behind_child, children_spelling, rule_spelling, line_spelling}
 use Rattle.aw_write.specs.LineTexts.{term_text, parts_text, parts_behind, terms_text, names_text, params_text, child_text, children_behind, children_text, rule_text, line_text}
 use Rattle.aw_write.proofs.Lexing.{Ends}
 use Rattle.aw_write.proofs.SaysTokens.{Says, moved, says_nothing, says_blank, says_name, says_number, says_text, says_mark, says_last_name, says_last_number}
@@ -170,6 +170,10 @@ IsSpelledLine (SortLine name role takes gives) = IsName name × IsName role × (
 IsSpelledLine (StartLine sort) = IsName sort
 IsSpelledLine (OfferLine sort) = IsName sort
 IsSpelledLine (UseLine role sort) = IsName role × IsName sort
+IsSpelledLine (TypeLine name) = IsName name
+IsSpelledLine (ShapeLine con parts own) = IsName con × Each IsName parts × IsName own
+IsSpelledLine (CarryLine sort takes gives) = IsName sort × Each IsName takes × Each IsName gives
+IsSpelledLine (DependsLine sort i j) = IsName sort × (i < 2 ^ 64) × (j < 2 ^ 64)
 IsSpelledLine FreeLine = Unit {0}
 IsSpelledLine (RuleLine rule) = IsSpelledRule rule
 IsSpelledLine (ScheduleLine loads) = Unit {0}
@@ -198,6 +202,32 @@ line_says (OfferLine sort) h = two_words (codes "offer") sort refl h
 line_says (UseLine role sort) h =
     says_name (codes "use") (32 ∷ (role ++ 32 ∷ sort)) (Name role ∷ Name sort ∷ []) refl refl
     (says_blank (role ++ 32 ∷ sort) (Name role ∷ Name sort ∷ []) (two_words role sort h.0 h.1))
+line_says (TypeLine name) h = two_words (codes "type") name refl h
+line_says (ShapeLine con parts own) h =
+    let last = 40 ∷ (names_text parts ++ 41 ∷ 32 ∷ own) in
+    let words = in_parentheses (as_words parts) ++ Name own ∷ [] in
+    says_name (codes "shape") (32 ∷ (con ++ 32 ∷ last)) (Name con ∷ words) refl refl
+    (says_blank (con ++ 32 ∷ last) (Name con ∷ words)
+    (says_name con (32 ∷ last) words h.0 refl
+    (says_blank last words
+    (in_parentheses_say (as_words parts) (32 ∷ own) (Name own ∷ []) (words_spelled parts h.1) (says_blank own (Name own ∷ []) (says_last_name own h.2))))))
+line_says (CarryLine sort takes gives) h =
+    let angles = 60 ∷ (names_text gives ++ 62 ∷ []) in
+    let last = 40 ∷ (names_text takes ++ 41 ∷ angles) in
+    let words = in_parentheses (as_words takes) ++ in_angles (as_words gives) in
+    says_name (codes "carry") (32 ∷ (sort ++ 32 ∷ last)) (Name sort ∷ words) refl refl
+    (says_blank (sort ++ 32 ∷ last) (Name sort ∷ words)
+    (says_name sort (32 ∷ last) words h.0 refl
+    (says_blank last words
+    (in_parentheses_say (as_words takes) angles (in_angles (as_words gives)) (words_spelled takes h.1)
+    (moved angles angles (in_angles (as_words gives)) (in_angles (as_words gives) ++ []) refl (sym (append-nil (in_angles (as_words gives)))) (in_angles_say (as_words gives) [] [] (words_spelled gives h.2) says_nothing))))))
+line_says (DependsLine sort i j) h =
+    let last = decimal i ++ 32 ∷ decimal j in
+    says_name (codes "depends") (32 ∷ (sort ++ 32 ∷ last)) (Name sort ∷ Number i ∷ Number j ∷ []) refl refl
+    (says_blank (sort ++ 32 ∷ last) (Name sort ∷ Number i ∷ Number j ∷ [])
+    (says_name sort (32 ∷ last) (Number i ∷ Number j ∷ []) h.0 refl
+    (says_blank last (Number i ∷ Number j ∷ [])
+    (says_number i (32 ∷ decimal j) (Number j ∷ []) h.1 refl (says_blank (decimal j) (Number j ∷ []) (says_last_number j h.2))))))
 line_says FreeLine h = says_last_name (codes "free") refl
 line_says (RuleLine rule) h = rule_says rule h
 line_says (ScheduleLine false) h = says_last_name (codes "schedule") refl

@@ -15,13 +15,15 @@ use Rattle.aw_grammar.specs.Declarations.{Entry, Declarations, con_names, sort_n
 use Rattle.aw_face.specs.declared.faces.Using.{Using}
 use Rattle.aw_spec.specs.Lines.{RoleLine, StartLine, FreeLine, RuleLine}
 use Rattle.aw_spec.specs.Reading.{Spec}
-use Rattle.aw_write.specs.SpecLines.{named, named_parts, named_children, later_variables, named_rule, con_line, sort_line, start_line, start_lines, offer_line, use_line, declaration_lines, face_lines, free_lines, rule_lines, spec_lines}
+use Rattle.aw_write.specs.SpecLines.{named, named_parts, named_children, later_variables, named_rule, con_line, sort_line, start_line, start_lines, offer_line, use_line, declaration_lines, face_lines, typing_lines, free_lines, rule_lines, spec_lines}
 use Rattle.aw_grammar.specs.Variables.{VariablesFit}
 use Rattle.aw_write.specs.Writable.{IsSmall, NumbersFit, PartsFit, SmallNumbers, FacesFit}
 use Rattle.aw_write.proofs.Placed.{each_take, each_drop, each_upto}
 use Rattle.aw_write.proofs.SaysTerms.{IsName, IsSpelledTerm, AreSpelledParts, AreSpelled, IsSpelledChild, IsSpelledRule, IsSpelledLine}
 use Rattle.aw_write.proofs.NamedTerms.{names_in, arities_in, found}
 use Rattle.aw_write.proofs.Declaring.{Fine, named_below}
+use Rattle.aw_spec.specs.TypesFit.{TypesFit}
+use Rattle.aw_write.proofs.SpelledTypes.{typing_spelled}
 
 made_spelled : (cons : List decl.Con) (vars : List (List ℕ)) → Each IsName (names_in cons) → (h : Head) (ts : Trees ℕ) → head_fits (arities_in cons) h (count ts) ≡ true → IsSmall h → AreSpelledParts (named_parts (names_in cons) vars ts) → IsSpelledTerm (named (names_in cons) vars (Made h ts))
 made_spelled cons vars names (Con c) Nil fits small parts = each_get IsName [] (names_in cons) c names (found cons c 0 fits).below
@@ -128,13 +130,14 @@ free_spelled : (free : Bool) → Each IsSpelledLine (cond free (FreeLine ∷ [])
 free_spelled true = (tt, tt)
 free_spelled false = tt
 
-pub spec_spelled : (s : Spec) → Fine s.declared → Spelled s.declared → FacesFit s → Each IsSpelledLine (spec_lines s)
-spec_spelled s fine spelled faces =
+pub spec_spelled : (s : Spec) → Fine s.declared → Spelled s.declared → FacesFit s → TypesFit s → Each IsSpelledLine (spec_lines s)
+spec_spelled s fine spelled faces types =
     let d = s.declared in
-    each_append IsSpelledLine (declaration_lines d) (face_lines s ++ (free_lines s ++ rule_lines d))
+    each_append IsSpelledLine (declaration_lines d) (face_lines s ++ (typing_lines s ++ (free_lines s ++ rule_lines d)))
     (each_append IsSpelledLine (map (λ name. RoleLine name) d.roles) (map con_line d.cons ++ (map (sort_line d.roles) d.sorts ++ start_lines d.sorts)) (roles_spelled d.roles spelled.roles)
     (each_append IsSpelledLine (map con_line d.cons) (map (sort_line d.roles) d.sorts ++ start_lines d.sorts) (cons_spelled d.cons spelled.cons fine.arities)
     (each_append IsSpelledLine (map (sort_line d.roles) d.sorts) (start_lines d.sorts) (sorts_spelled d.roles d.sorts spelled.roles spelled.sorts fine.sorts) (starts_spelled d.sorts spelled.sorts))))
-    (each_append IsSpelledLine (face_lines s) (free_lines s ++ rule_lines d)
+    (each_append IsSpelledLine (face_lines s) (typing_lines s ++ (free_lines s ++ rule_lines d))
     (each_append IsSpelledLine (map (offer_line (sort_names d)) s.offers) (map (use_line d.roles (sort_names d)) s.uses) (offers_spelled d s.offers spelled.sorts faces.offers) (uses_spelled d s.uses spelled.roles spelled.sorts faces.uses))
-    (each_append IsSpelledLine (free_lines s) (rule_lines d) (free_spelled s.free) (rules_spelled d d.rules spelled spelled.rules fine.rules fine.variables spelled.numbers)))
+    (each_append IsSpelledLine (typing_lines s) (free_lines s ++ rule_lines d) (typing_spelled s spelled.cons spelled.sorts fine.sorts types)
+    (each_append IsSpelledLine (free_lines s) (rule_lines d) (free_spelled s.free) (rules_spelled d d.rules spelled spelled.rules fine.rules fine.variables spelled.numbers))))

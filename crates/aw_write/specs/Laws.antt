@@ -3,6 +3,7 @@ use Rattle.std.specs.Prelude.{◌≡◌, ℕ, Bool, false, List, length, None}
 use Rattle.aw_lex.specs.Lines.{lines_of}
 use Rattle.aw_grammar.specs.Declarations.{grammar_in}
 use Rattle.aw_face.specs.Faces.{face_fault}
+use Rattle.aw_spec.specs.TypesFit.{TypesFit}
 use Rattle.aw_spec.specs.Reading.{Spec, Good, specification}
 use Rattle.aw_write.specs.SpecLines.{spec_lines, written}
 use Rattle.aw_write.specs.Writable.{FacesFit, IsWritable}
@@ -11,6 +12,6 @@ use Rattle.aw_write.specs.Writable.{FacesFit, IsWritable}
 abbrev pub WrittenIsRead : Type 0
 WrittenIsRead = (s : Spec) → IsWritable s → specification (lines_of (written s)) ≡ Good s (length (spec_lines s)) false
 
--- the faces of a specification that was read fit it, where its rules keep to them
+-- the types of a specification that was read fit it, and so do its faces, where its rules keep to them
 abbrev pub ReadFits : Type 0
-ReadFits = (lines : List (List ℕ)) (s : Spec) (n : ℕ) (loads : Bool) → specification lines ≡ Good s n loads → face_fault (grammar_in s.declared) s.offers s.uses ≡ None → FacesFit s
+ReadFits = (lines : List (List ℕ)) (s : Spec) (n : ℕ) (loads : Bool) → specification lines ≡ Good s n loads → face_fault (grammar_in s.declared) s.offers s.uses ≡ None → FacesFit s × TypesFit s

@@ -4,7 +4,7 @@ use Rattle.std.specs.Fmt.{decimal}
 use Rattle.aw_text.specs.Spelling.{quoted}
 use Rattle.aw_term.specs.Trees.{Head, Con, Num, Text}
 use Rattle.aw_grammar.specs.Written.{Written, Word, Apply, Literal, Writtens, Empty, Then, WrittenChild, WrittenRule, side_by_side}
-use Rattle.aw_spec.specs.Lines.{Line, RoleLine, ConLine, SortLine, StartLine, OfferLine, UseLine, FreeLine, RuleLine, ScheduleLine, as_words}
+use Rattle.aw_spec.specs.Lines.{Line, RoleLine, ConLine, SortLine, StartLine, OfferLine, UseLine, TypeLine, ShapeLine, CarryLine, DependsLine, FreeLine, RuleLine, ScheduleLine, as_words}
 
 -- a number or a text; a constructor is not written so
 abbrev pub literal_text : Head → List ℕ
@@ -66,6 +66,10 @@ line_text (SortLine name role takes gives) =
 line_text (StartLine sort) = codes "start " ++ sort
 line_text (OfferLine sort) = codes "offer " ++ sort
 line_text (UseLine role sort) = codes "use " ++ (role ++ (codes " " ++ sort))
+line_text (TypeLine name) = codes "type " ++ name
+line_text (ShapeLine con parts own) = codes "shape " ++ (con ++ (codes " (" ++ (names_text parts ++ (codes ") " ++ own))))
+line_text (CarryLine sort takes gives) = codes "carry " ++ (sort ++ (codes " (" ++ (names_text takes ++ (codes ")<" ++ (names_text gives ++ codes ">")))))
+line_text (DependsLine sort i j) = codes "depends " ++ (sort ++ (codes " " ++ (decimal i ++ (codes " " ++ decimal j))))
 line_text FreeLine = codes "free"
 line_text (RuleLine rule) = rule_text rule
 line_text (ScheduleLine false) = codes "schedule"

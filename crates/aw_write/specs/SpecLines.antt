@@ -1,5 +1,5 @@
--- The lines of a specification: its roles, its constructors, its sorts, the starts by order of sorts, its offers, its uses, the line `free` where it asks for it, and its rules, each list in its order.
-use Rattle.std.specs.Prelude.{ℕ, List, [], ◌∷◌, ◌++◌, ◌+◌, ◌-◌, map, length, take, drop, if◌then◌else◌}
+-- The lines of a specification: its roles, its constructors, its sorts, the starts by order of sorts, its offers, its uses, its types, the shapes by order of constructors, the carries by order of sorts, its dependences, the line `free` where it asks for it, and its rules, each list in its order.
+use Rattle.std.specs.Prelude.{ℕ, List, [], ◌∷◌, ◌++◌, ◌+◌, ◌-◌, map, length, take, drop, Option, None, Some, if◌then◌else◌}
 use Rattle.aw_term.specs.Trees.{Head, Con, Num, Text, Leaf, Made, Trees, Nil, More}
 use Rattle.aw_term.specs.Rules.{Term, get}
 use Rattle.aw_term.specs.Rules as P
@@ -9,7 +9,12 @@ use Rattle.aw_grammar.specs.declared.rule.Sort.{Sort}
 use Rattle.aw_grammar.specs.Written.{Written, Word, Apply, Literal, Writtens, Empty, Then, WrittenChild, WrittenRule}
 use Rattle.aw_grammar.specs.Declarations.{Entry, Declarations, con_names, sort_names}
 use Rattle.aw_face.specs.declared.faces.Using.{Using}
-use Rattle.aw_spec.specs.Lines.{Line, RoleLine, ConLine, SortLine, StartLine, OfferLine, UseLine, FreeLine, RuleLine}
+use Rattle.aw_spec.specs.Lines.{Line, RoleLine, ConLine, SortLine, StartLine, OfferLine, UseLine, TypeLine, ShapeLine, CarryLine, DependsLine, FreeLine, RuleLine}
+use Rattle.aw_base.specs.declared.declared.Triple.{Triple}
+use Rattle.aw_typed.specs.declared.data.Shape.{Shape}
+use Rattle.aw_typed.specs.declared.data.Carry.{Carry}
+use Rattle.aw_typed.specs.declared.data.Types.{Types}
+use Rattle.aw_spec.specs.TypeLines.{type_names}
 use Rattle.aw_spec.specs.Reading.{Spec}
 use Rattle.aw_write.specs.LineTexts.{text_of_lines}
 
@@ -80,6 +85,38 @@ declaration_lines d = map (λ name. RoleLine name) d.roles ++ (map con_line d.co
 abbrev pub face_lines : Spec → List Line
 face_lines s = map (offer_line (sort_names s.declared)) s.offers ++ map (use_line s.declared.roles (sort_names s.declared)) s.uses
 
+abbrev pub type_lines : Types → List Line
+type_lines t = map (λ name. TypeLine name) t.names
+
+-- the line of a shape of the constructor of this name, where these are the names of all types; none where it has no shape
+abbrev pub shape_line : List (List ℕ) → List ℕ → Option Shape → List Line
+shape_line all con None = []
+shape_line all con (Some x) = ShapeLine con (map (get [] all) x.parts) (get [] all x.own) ∷ []
+
+abbrev pub shape_lines : List (List ℕ) → List (Option Shape) → List decl_con.Con → List Line
+shape_lines all [] cons = []
+shape_lines all (o ∷ os) [] = []
+shape_lines all (o ∷ os) (c ∷ cons) = shape_line all c.name o ++ shape_lines all os cons
+
+-- the line of a carry of the sort of this name; none where it has no carry
+abbrev pub carry_line : List (List ℕ) → List ℕ → Option Carry → List Line
+carry_line all sort None = []
+carry_line all sort (Some k) = CarryLine sort (map (get [] all) k.takes) (map (get [] all) k.gives) ∷ []
+
+abbrev pub carry_lines : List (List ℕ) → List (Option Carry) → List Sort → List Line
+carry_lines all [] sorts = []
+carry_lines all (o ∷ os) [] = []
+carry_lines all (o ∷ os) (s ∷ sorts) = carry_line all s.name o ++ carry_lines all os sorts
+
+abbrev pub depends_line : List (List ℕ) → Triple → Line
+depends_line sorts d = DependsLine (get [] sorts d.sort) d.i d.j
+
+-- the lines of types, shapes, carries and dependences
+abbrev pub typing_lines : Spec → List Line
+typing_lines s =
+    let all = type_names s.types in
+    type_lines s.types ++ (shape_lines all s.types.shapes s.declared.cons ++ (carry_lines all s.types.carries s.declared.sorts ++ map (depends_line (sort_names s.declared)) s.depends))
+
 -- the line `free`, or none
 abbrev pub free_lines : Spec → List Line
 free_lines s = if s.free then FreeLine ∷ [] else []
@@ -88,7 +125,7 @@ abbrev pub rule_lines : Declarations → List Line
 rule_lines d = map (λ (e : Entry). RuleLine (named_rule (con_names d) (sort_names d) e)) d.rules
 
 abbrev pub spec_lines : Spec → List Line
-spec_lines s = declaration_lines s.declared ++ (face_lines s ++ (free_lines s ++ rule_lines s.declared))
+spec_lines s = declaration_lines s.declared ++ (face_lines s ++ (typing_lines s ++ (free_lines s ++ rule_lines s.declared)))
 
 -- the text of a specification
 abbrev pub written : Spec → List ℕ

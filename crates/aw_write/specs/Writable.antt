@@ -8,6 +8,7 @@ use Rattle.aw_grammar.specs.Declarations.{Entry, Declarations, con_names, gramma
 use Rattle.aw_face.specs.declared.faces.Using.{Using}
 use Rattle.aw_face.specs.Faces.{face_fault}
 use Rattle.aw_spec.specs.Reading.{Spec}
+use Rattle.aw_spec.specs.TypesFit.{TypesFit}
 
 -- a number of 64 bits
 abbrev pub IsSmall : Head → Type 0
@@ -47,9 +48,10 @@ pub record FacesFit (s : Spec) : Type 0 where
   pub uses : Each (λ (u : Using). (u.role < length s.declared.roles) × (u.sort < length s.declared.sorts)) s.uses
   pub used_once : Later AreApart s.uses
 
--- A specification that can be written: it is well formed, its numbers have 64 bits, its variables have names, and its faces fit it.
+-- A specification that can be written: it is well formed, its numbers have 64 bits, its variables have names, and its faces and its types fit it.
 pub record IsWritable (s : Spec) : Type 0 where
   pub formed : IsWellFormed (words_in s.declared) (grammar_in s.declared)
   pub numbers : Each (λ (e : Entry). SmallNumbers e.rule) s.declared.rules
   pub variables : VariablesNamed s.declared
   pub faces : FacesFit s
+  pub types : TypesFit s

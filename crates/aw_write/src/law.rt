@@ -1,6 +1,7 @@
 //! What is written is read again.
 ghost use Rattle.std.specs.Prelude.{◌≡◌, IfOk, IfErr, length, false};
 ghost use Rattle.aw_spec.specs.declared.fault.SpecFault.TheVariants.{NoMemory};
+ghost use Rattle.aw_spec.specs.TypesFit.{TypesFit};
 ghost use Rattle.aw_spec.specs.Views.{spec_seen};
 ghost use Rattle.aw_write.specs.Laws.{ReadFits, WrittenIsRead};
 ghost use Rattle.aw_write.specs.SpecLines.{spec_lines};
@@ -15,14 +16,15 @@ pub fn written_is_read()
     ensures { WrittenIsRead }
 {}
 
-/// What was read can be written: the faces of a specification that was read fit it.
+/// What was read can be written: the faces and the types of a specification that was read fit it.
 pub fn read_fits()
     ensures { ReadFits }
 {}
 
-/// The specification that its own text spells: the same declarations and the same faces, on as many lines as it has.
+/// The specification that its own text spells: the same declarations, faces and types, on as many lines as it has.
 pub fn read_again(alloc: Global, s: &SpecText) -> Result<SpecText, SpecFault>
-    requires { FacesFit (spec_seen s.now) }
+    requires faces { FacesFit (spec_seen s.now) }
+    requires types { TypesFit (spec_seen s.now) }
     ensures ok { IfOk result (λ again. spec_seen again ≡ spec_seen s.now) }
     ensures lines { IfOk result (λ again. again.lines ≡ length (spec_lines (spec_seen s.now))) }
     ensures loads { IfOk result (λ again. again.loads ≡ false) }

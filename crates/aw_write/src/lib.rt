@@ -6,6 +6,7 @@ pub mod lines;
 pub mod names;
 pub mod rules;
 pub mod terms;
+pub mod types;
 pub mod write;
 
 pub use law::{read_again, read_fits, written_is_read};

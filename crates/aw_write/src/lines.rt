@@ -16,7 +16,7 @@ use aw_text::push_number;
 use std::alloc::AllocError;
 
 /// Adds a line of a word and a name.
-fn push_line(text: &mut Text, word: &[u8], name: &[u8]) -> Result<(), AllocError>
+pub(crate) fn push_line(text: &mut Text, word: &[u8], name: &[u8]) -> Result<(), AllocError>
     ensures { OnOk result (text.new ≡ text.old ++ (word.now ++ (name.now ++ codes "\n"))) }
 {
     text.push_bytes(word)?;

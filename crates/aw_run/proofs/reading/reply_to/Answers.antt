@@ -10,8 +10,8 @@ use Rattle.aw_run.proofs.Outputs.{output-read}
 use Rattle.aw_run.proofs.Verdicts.{reply-map, reply-same, bad-line}
 use Rattle.aw_run.proofs.reading.reply_to.Goals as goal
 
-pub reply_to_specification-requires : goal.reply_to_specification-requires
-reply_to_specification-requires c =
+pub reply_to_specification-requires-clause-lines : goal.reply_to_specification-requires-clause-lines
+reply_to_specification-requires-clause-lines c =
     let behind : lines_of c.split_at.result.1.now ≡ drop c.in-Ok.spec.lines (lines_of c.args.input.now) = ap lines_of c.split_at.ensures.back ∙ c.in-Ok.ensures.rest in
     omega (arith, c.requires, lines-behind c.args.input.now c.split_at.result.1.now _ _ _ c.in-Ok.ensures.exact behind)
 

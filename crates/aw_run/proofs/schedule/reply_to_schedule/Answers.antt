@@ -4,6 +4,7 @@ use Rattle.aw_lex.specs.Lines.{lines_of}
 use Rattle.aw_grammar.specs.GrammarOf.{declarations_of}
 use Rattle.aw_sched.specs.Answers.{event_seen}
 use Rattle.aw_sched.specs.Schedules.{Events, FaultAt, read_lines}
+use Rattle.aw_typed.specs.Typing.{types_of}
 use Rattle.aw_run.specs.Replies.{reply_with}
 use Rattle.aw_run.specs.declared.reply.Reply.{Reply}
 use Rattle.aw_run.proofs.LineCounts.{schedule-within}
@@ -13,21 +14,21 @@ use Rattle.aw_run.proofs.schedule.reply_to_schedule.Goals as goal
 
 pub overflow_add-before : goal.overflow_add-before
 overflow_add-before c =
-    let told : read_lines (declarations_of c.grammar-g.result.now) 1 (lines_of c.args.schedule.now) ≡ FaultAt c.in-Err-Bad.line c.in-Err-Bad.kind = rw c.in-Err-Bad.field-0-is at c.in-Err-Bad.ensures.answer in
-    omega (arith, c.requires, schedule-within (declarations_of c.grammar-g.result.now) 1 c.in-Err-Bad.line c.in-Err-Bad.kind (lines_of c.args.schedule.now) told)
+    let told : read_lines (types_of c.args.typed.now.types) (declarations_of c.grammar-g.result.now) 1 (lines_of c.args.schedule.now) ≡ FaultAt c.in-Err-Bad.line c.in-Err-Bad.kind = rw c.in-Err-Bad.field-0-is at c.in-Err-Bad.ensures.answer in
+    omega (arith, c.requires.lines, schedule-within (types_of c.args.typed.now.types) (declarations_of c.grammar-g.result.now) 1 c.in-Err-Bad.line c.in-Err-Bad.kind (lines_of c.args.schedule.now) told)
 
 pub returns-in-Ok : goal.returns-in-Ok
 returns-in-Ok c =
     let g = c.args.accepted.now.grammar in
-    let read : read_lines (declarations_of g) 1 (lines_of c.args.schedule.now) ≡ Events (map event_seen c.in-Ok.events) = rw c.grammar-g.ensures.value at c.in-Ok.ensures.answer in
-    let good : read_lines (declarations_of g) 1 (lines_of c.args.schedule.now) ≡ Events (map event_seen c.as_slice.result.now) = read ∙ ap (λ es. Events (map event_seen es)) (sym c.as_slice.ensures) in
-    IfOk-weaker c.reply_to_events.result _ _ (λ (said : Reply) w s same. w ∙ sym (ap reply_with (schedule-good c.args.telling s g c.args.before (lines_of c.args.schedule.now) _ same good))) c.reply_to_events.ensures
+    let read : read_lines (types_of c.args.typed.now.types) (declarations_of g) 1 (lines_of c.args.schedule.now) ≡ Events (map event_seen c.in-Ok.events) = rw c.grammar-g.ensures.value at c.in-Ok.ensures.answer in
+    let good : read_lines (types_of c.args.typed.now.types) (declarations_of g) 1 (lines_of c.args.schedule.now) ≡ Events (map event_seen c.as_slice.result.now) = read ∙ ap (λ es. Events (map event_seen es)) (sym c.as_slice.ensures) in
+    IfOk-weaker c.reply_to_events.result _ _ (λ (said : Reply) w s same typed. w ∙ sym (ap reply_with (schedule-good c.args.telling s g c.args.before (lines_of c.args.schedule.now) _ c.args.typed.now.types same typed good))) c.reply_to_events.ensures
 
 pub returns-in-Err-Bad : goal.returns-in-Err-Bad
 returns-in-Err-Bad c =
     let g = c.args.accepted.now.grammar in
-    let at_g : read_lines (declarations_of c.grammar-g.result.now) 1 (lines_of c.args.schedule.now) ≡ FaultAt c.in-Err-Bad.line c.in-Err-Bad.kind = rw c.in-Err-Bad.field-0-is at c.in-Err-Bad.ensures.answer in
-    let faulty : read_lines (declarations_of g) 1 (lines_of c.args.schedule.now) ≡ FaultAt c.in-Err-Bad.line c.in-Err-Bad.kind = rw c.grammar-g.ensures.value at at_g in
+    let at_g : read_lines (types_of c.args.typed.now.types) (declarations_of c.grammar-g.result.now) 1 (lines_of c.args.schedule.now) ≡ FaultAt c.in-Err-Bad.line c.in-Err-Bad.kind = rw c.in-Err-Bad.field-0-is at c.in-Err-Bad.ensures.answer in
+    let faulty : read_lines (types_of c.args.typed.now.types) (declarations_of g) 1 (lines_of c.args.schedule.now) ≡ FaultAt c.in-Err-Bad.line c.in-Err-Bad.kind = rw c.grammar-g.ensures.value at at_g in
     IfOk-weaker c.bad_schedule.result _ _
-    (λ (said : Reply) w s same. w ∙ sym (schedule-bad c.args.telling s (declarations_of g) c.args.before c.in-Err-Bad.line c.in-Err-Bad.kind (lines_of c.args.schedule.now) same faulty))
+    (λ (said : Reply) w s same typed. w ∙ sym (schedule-bad c.args.telling s (declarations_of g) c.args.before c.in-Err-Bad.line c.in-Err-Bad.kind (lines_of c.args.schedule.now) c.args.typed.now.types same typed faulty))
     (bad-event c.bad_schedule.result c.in-Err-Bad.line _ c.args.before c.in-Err-Bad.kind _ c.in-Err-Bad.line-is c.in-Err-Bad.kind-is c.bad_schedule.ensures)

@@ -4,8 +4,8 @@ use Rattle.aw_sched.specs.LineSeen.{line_seen}
 use Rattle.aw_sched.proofs.SoundLines.{sound_line}
 use Rattle.aw_sched.proofs.read.event_said.Goals as goal
 
-pub event_of-requires : goal.event_of-requires
-event_of-requires c =
+pub said_event-requires-clause-contents : goal.said_event-requires-clause-contents
+said_event-requires-clause-contents c =
     let line = c.args.line.now in
     let tokens = c.args.tokens.now in
-    sound_line (lexemes line tokens) (line_seen c.in-Ok.said) (tokens_are_sound line 0 tokens c.requires) c.in-Ok.ensures
+    sound_line (lexemes line tokens) (line_seen c.in-Ok.said) (tokens_are_sound line 0 tokens c.requires.slices) c.in-Ok.ensures

@@ -6,16 +6,16 @@ use Rattle.aw_write.proofs.law.read_again.Goals as goal
 
 pub returns-clause-ok : goal.returns-clause-ok
 returns-clause-ok c =
-    ok_read c.read_spec.result _ _ _ (ap (λ text. specification (lines_of text)) c.as_slice.ensures ∙ c.in_ok-text.ensures.again c.requires) c.read_spec.ensures.exact
+    ok_read c.read_spec.result _ _ _ (ap (λ text. specification (lines_of text)) c.as_slice.ensures ∙ c.in_ok-text.ensures.again c.requires.faces c.requires.types) c.read_spec.ensures.exact
 
 pub returns-clause-lines : goal.returns-clause-lines
 returns-clause-lines c =
-    lines_read c.read_spec.result _ _ _ (ap (λ text. specification (lines_of text)) c.as_slice.ensures ∙ c.in_ok-text.ensures.again c.requires) c.read_spec.ensures.exact
+    lines_read c.read_spec.result _ _ _ (ap (λ text. specification (lines_of text)) c.as_slice.ensures ∙ c.in_ok-text.ensures.again c.requires.faces c.requires.types) c.read_spec.ensures.exact
 
 pub returns-clause-loads : goal.returns-clause-loads
 returns-clause-loads c =
-    loads_read c.read_spec.result _ _ _ (ap (λ text. specification (lines_of text)) c.as_slice.ensures ∙ c.in_ok-text.ensures.again c.requires) c.read_spec.ensures.exact
+    loads_read c.read_spec.result _ _ _ (ap (λ text. specification (lines_of text)) c.as_slice.ensures ∙ c.in_ok-text.ensures.again c.requires.faces c.requires.types) c.read_spec.ensures.exact
 
 pub returns-clause-err : goal.returns-clause-err
 returns-clause-err c =
-    err_read c.read_spec.result _ _ _ (ap (λ text. specification (lines_of text)) c.as_slice.ensures ∙ c.in_ok-text.ensures.again c.requires) c.read_spec.ensures.exact
+    err_read c.read_spec.result _ _ _ (ap (λ text. specification (lines_of text)) c.as_slice.ensures ∙ c.in_ok-text.ensures.again c.requires.faces c.requires.types) c.read_spec.ensures.exact

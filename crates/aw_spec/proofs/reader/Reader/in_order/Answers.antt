@@ -6,7 +6,7 @@ use Rattle.aw_spec.specs.Reading.{says, stage_of}
 use Rattle.aw_spec.specs.Stages.{sorts_stage, rules_stage}
 use Rattle.aw_spec.specs.LineAnswers.{Says, spec_so_far}
 use Rattle.aw_spec.specs.Views.{line_seen}
-use Rattle.aw_spec.proofs.Stages.{keeps_no_sorts, keeps_no_rules}
+use Rattle.aw_spec.proofs.Stages.{keeps_no_sorts, keeps_no_rules, keeps_few_types}
 use Rattle.aw_spec.proofs.reader.Reader.in_order.Goals as goal
 
 pub invariant_of-result : goal.invariant_of-result
@@ -17,6 +17,7 @@ invariant_of-result c =
     let after = c.in-On.draft.grammar in
     let said = subst (λ (x : Said). Says s (Ok x) (says s line)) c.in-On.is c.in_ok-draft.ensures in
     record {
+      few_types = keeps_few_types s (spec_so_far c.in-On.draft) line said c.args.self.few_types;
       no_sorts = λ h.
           let here : stage_of line < sorts_stage = omega (arith, h, c.stage-stage.ensures) in
           let before : c.args.self.stage < sorts_stage = omega (arith, h, c.if-stage-last.false) in

@@ -1,0 +1,6 @@
+role desk
+con memo 1
+sort task desk 0 1
+sort call desk 1 1
+carry task ()<text>
+carry task ()<num>

@@ -1,0 +1,6 @@
+role desk
+con memo 1
+sort task desk 0 1
+sort call desk 1 1
+type note
+shape memo (text)
