@@ -66,7 +66,7 @@ pub(crate) fn answer_frames<W: Wire, H: Handles>(
     requires room { count.old + length reader.old.bytes < 2 ^ 64 }
     ensures counted { OnOk result (count.old ≤ count.new) }
     ensures ok { IfOk result (λ why. IsStoppedStretch H.answers (λ (w : List ℕ) (b : Bool). Talks W.content W.is_open W.faults W.failed_openings wire.old wire.new [] w b) node.old node.new reader.old.bytes reader.new.bytes (count.new - count.old) why) }
-    ensures sound { OnOk result (reader.new.failed ≡ false) }
+    ensures sound { IfOk result (λ why. why ≡ Stop.Waits → reader.new.failed ≡ false) }
     ensures err { IfErr result (λ fault. IsHaltedStretch H.answers H.breaks (λ (w : List ℕ) (b : Bool). Talks W.content W.is_open W.faults W.failed_openings wire.old wire.new [] w b) node.old node.new reader.old.bytes fault) }
 {
     loop {

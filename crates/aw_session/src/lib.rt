@@ -1,12 +1,11 @@
 //! Sessions of a workspace over a wire: its requests are taken one by one, and each reply is written before the next one is looked at.
 #![tactic(auto)]
 
+mod answering;
 pub mod handles;
 pub mod log;
 pub mod serving;
 pub mod session;
-
-mod answering;
 mod writing;
 
 pub use handles::Handles;

@@ -1,5 +1,5 @@
 //! Sessions one after the other.
-ghost use Rattle.std.specs.Prelude.{◌≡◌, ◌⊎◌, ◌<◌, ◌≤◌, List, [], ◌++◌, length, IfOk, IfErr};
+ghost use Rattle.std.specs.Prelude.{◌≡◌, ◌⊎◌, ◌<◌, ◌≤◌, List, [], ◌∷◌, ◌++◌, length, vec_len, vec_capacity, IfOk, IfErr};
 ghost use Rattle.aw_session.specs.Sessions.{IsServing, NoneComes, StopsServing, ServesNext, StopsNext};
 
 use crate::handles::Handles;
@@ -15,6 +15,14 @@ pub enum Stopped<X> {
     NetFault,
     /// A frame got no reply, or there was no memory to note one more session.
     Node(X),
+}
+
+/// Notes a session, for which there is memory.
+fn note(log: &mut Vec<SessionLog>, entry: SessionLog)
+    requires { vec_len log.old < vec_capacity log.old }
+    ensures { log.new.items ≡ log.old.items ++ entry ∷ [] }
+{
+    log.push(entry).unwrap();
 }
 
 /// Serves the next session and notes it, if one comes.
@@ -35,7 +43,7 @@ fn serve_next<W: Wire, H: Handles>(
     match wire.next_session(role) {
         Arrival::Session => match serve_session(alloc, node, wire) {
             Ok(entry) => {
-                log.push(entry).unwrap();
+                note(log, entry);
                 Ok(true)
             }
             Err(fault) => Err(Stopped::Node(fault)),
