@@ -42,10 +42,10 @@ module _
       let others = all-served-as role h.0 m one.0 xs ls h.4 one.2 in
       (others.0, (one.0, h.1, h.2, one.1, others.1), others.2)
 
-  -- a session that stopped
-  stopped-as : {F : Type 0} (breaks : S → Frame → F → S → Type 0) (n m : S) (s : P) (read written : List ℕ) (fault : F) → IsStopped A breaks n m read written fault → R n s →
-      (t : P) × IsStopped B Anyhow s t read written fault
-  stopped-as {F} breaks n m s read written fault h r =
+  -- a session that stopped, with whatever error
+  stopped-as : {F : Type 0} (breaks : S → Frame → F → S → Type 0) (n m : S) (s : P) (read written : List ℕ) (fault : F) (G : Type 0) (other : G) → IsStopped A breaks n m read written fault → R n s →
+      (t : P) × IsStopped {F = G} B Anyhow s t read written other
+  stopped-as {F} breaks n m s read written fault G other h r =
       let them = answered-as n h.between s h.frames h.replies h.answered r in
       (them.0, record { frames = h.frames; replies = h.replies; between = them.0; rest = h.rest; answered = them.1; yields = h.yields; written_is = h.written_is; stops = Reading refl })
 
@@ -63,14 +63,15 @@ module _
       let all = all-served-as role n m s h.sessions h.log h.served r in
       (all.0, record { log = h.log; sessions = h.sessions; served = all.1; told = h.told; rose = h.rose })
 
-  last-as : {F : Type 0} (breaks : S → Frame → F → S → Type 0) (role : ℕ) (n m : S) (s : P) (fault : F) (last : Option Session) → LastStops A breaks role n m fault last → R n s → (t : P) × LastStops B Anyhow role s t fault last
-  last-as {F} breaks role n m s fault None h r = (s, refl)
-  last-as {F} breaks role n m s fault (Some x) h r = let them = stopped-as breaks n m s x.read x.written fault h.3 r in (them.0, (h.0, h.1, h.2, them.1))
+  last-as : {F : Type 0} (breaks : S → Frame → F → S → Type 0) (role : ℕ) (n m : S) (s : P) (fault : F) (G : Type 0) (other : G) (last : Option Session) → LastStops A breaks role n m fault last → R n s →
+      (t : P) × LastStops {F = G} B Anyhow role s t other last
+  last-as {F} breaks role n m s fault G other None h r = (s, refl)
+  last-as {F} breaks role n m s fault G other (Some x) h r = let them = stopped-as breaks n m s x.read x.written fault G other h.3 r in (them.0, (h.0, h.1, h.2, them.1))
 
   -- before a frame got no reply
-  pub cut-off-as : {F : Type 0} (breaks : S → Frame → F → S → Type 0) (W : Type 0) (content : W → Option Content) (role : ℕ) (n m : S) (s : P) (u v : W) (fault : F) → IsCutOff A breaks content role n m u v fault → R n s →
-      (t : P) × IsCutOff B Anyhow content role s t u v fault
-  cut-off-as {F} breaks W content role n m s u v fault h r =
+  pub cut-off-as : {F : Type 0} (breaks : S → Frame → F → S → Type 0) (W : Type 0) (content : W → Option Content) (role : ℕ) (n m : S) (s : P) (u v : W) (fault : F) (G : Type 0) (other : G) →
+      IsCutOff A breaks content role n m u v fault → R n s → (t : P) × IsCutOff {F = G} B Anyhow content role s t u v other
+  cut-off-as {F} breaks W content role n m s u v fault G other h r =
       let all = all-served-as role n h.between s h.sessions h.log h.served r in
-      let last = last-as breaks role h.between m all.0 fault h.last h.stops all.2 in
+      let last = last-as breaks role h.between m all.0 fault G other h.last h.stops all.2 in
       (last.0, record { log = h.log; sessions = h.sessions; last = h.last; between = all.0; served = all.1; stops = last.1; told = h.told })

@@ -9,6 +9,7 @@ use Rattle.aw_session.proofs.answering.answer_frames.Goals as goal
 
 pub loop-count-init : goal.loop-count-init
 loop-count-init g c = record {
+  ready = c.requires.ready;
   sound = c.requires.sound;
   rises = omega arith;
   room = omega arith;
@@ -40,6 +41,7 @@ loop-count-preserved g c =
     let one = frame_shorter c.loop-count.reader.bytes step.request c.answer_next.new.reader.bytes step.taken in
     let count : (c.loop-count.count + 1) - c.args.count.now ≡ (c.loop-count.count - c.args.count.now) + 1 = omega (arith, c.loop-count.invariant.rises) in
     record {
+      ready = c.in_ok-answer_next.ensures.ready;
       sound = step.sound;
       rises = omega (arith, c.loop-count.invariant.rises);
       room = omega (arith, one, c.loop-count.invariant.room);

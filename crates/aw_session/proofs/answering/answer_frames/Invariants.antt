@@ -5,6 +5,7 @@ use Rattle.aw_session.proofs.answering.answer_frames.Given as goal
 
 abbrev pub invariant-loop-count : goal.invariant-loop-count
 invariant-loop-count g l = record {
+  ready : g.H.Handles.ready l.node;
   sound : l.reader.failed ≡ false;
   rises : l.fn.count ≤ l.count;
   room : l.count + length l.reader.bytes ≤ l.fn.count + length l.fn.reader.bytes;

@@ -4,7 +4,7 @@ use Rattle.aw_session.proofs.TalkLemmas.{talks-none}
 use Rattle.aw_session.proofs.session.serve_session.Goals as goal
 
 pub loop-session-init : goal.loop-session-init
-loop-session-init g c = record { going = rw c.new-session.ensures (going-none _ _ c.args.node.now c.args.wire.now (talks-none _ _ _ _ c.args.wire.now c.requires)) }
+loop-session-init g c = record { ready = c.requires.ready; going = rw c.new-session.ensures (going-none _ _ c.args.node.now c.args.wire.now (talks-none _ _ _ _ c.args.wire.now c.requires.«open»)) }
 
 pub next_piece-requires-clause-room : goal.next_piece-requires-clause-room
 next_piece-requires-clause-room g c = going-room _ _ _ _ _ _ _ _ _ c.loop-session.invariant.going
