@@ -1,20 +1,19 @@
 -- One piece more in the course of a session.
-use Rattle.std.proofs.Common.{◌≡◌, ◌≢◌, ℕ, zero, suc, ◌+◌, ◌-◌, ◌<◌, ◌≤◌, List, [], ◌∷◌, ◌++◌, length, take, min, Bool, true, false, Option, None, Some, Ok, Err, refl, ap, sym, subst, ◌∙◌, arith, append_assoc, append-nil, length-append}
+use Rattle.std.proofs.Common.{◌≡◌, ◌≢◌, ℕ, zero, suc, ◌+◌, ◌-◌, ◌≤◌, List, [], ◌∷◌, ◌++◌, length, take, min, Bool, true, false, Option, Err, refl, ap, sym, subst, ◌∙◌, arith, append_assoc, append-nil, length-append}
 use Rattle.std.proofs.Math.Seq.{take-append-add, take-length}
-use Rattle.std.proofs.lemmas.List.{length-take-le}
 use Rattle.aw_out.specs.Wires.{Content}
 use Rattle.aw_wire.specs.Reading.{Short}
 use Rattle.aw_msg.specs.Frames.{Frame, frame}
 use Rattle.aw_msg.specs.Pieces.{Yields, IsBad}
 use Rattle.aw_msg.specs.Streams.{Stream}
 use Rattle.aw_msg.proofs.Extensions.{yields_more}
-use Rattle.aw_session.specs.Broken.{StopsAt, IsStopped}
-use Rattle.aw_session.specs.Course.{IsGoing, IsDone, IsHalted, GoesOn, EndsWith}
+use Rattle.aw_session.specs.Broken.{StopsAt}
+use Rattle.aw_session.specs.Course.{IsGoing, IsDone, IsHalted, EndsWith}
 use Rattle.aw_session.specs.Frames.{joined, AreAnswered, IsCutShort}
-use Rattle.aw_session.specs.Served.{limit, closing, EndsSo, BreaksOff, Replying, Ending, Reading, Ends, IsServed, LeavesNone}
+use Rattle.aw_session.specs.Served.{limit, closing, EndsSo, Replying, Ending, Ends, IsServed}
 use Rattle.aw_session.specs.declared.log.How.{How}
 use Rattle.aw_session.specs.declared.log.How.TheVariants.{End, Cut, Bad, Long, Fault}
-use Rattle.aw_session.proofs.Stretches.{answered-then, joined-append, joined-one, yields-then, yields-count}
+use Rattle.aw_session.proofs.Stretches.{answered-then, joined-append, joined-one, yields-then}
 
 -- what goes over the wire is added up
 abbrev pub Adds-up : {W : Type 0} → (W → W → List ℕ → List ℕ → Bool → Type 0) → Type 0
@@ -39,7 +38,7 @@ take-behind read piece lim h =
     let split : lim ≡ length read + (lim - length read) = omega arith in
     ap (λ (n : ℕ). take n (read ++ piece)) split ∙ take-append-add read piece (lim - length read)
 
-take-none : (m : ℕ) → take m [] ≡ []
+take-none : (m : ℕ) → take {A = ℕ} m [] ≡ []
 take-none zero = refl
 take-none (suc m) = refl
 
@@ -66,152 +65,151 @@ cut-behind xs ys written c = record {
 }
 
 module _
-  (S W : Type 0)
-  (answers : S → Frame → List ℕ → S → Type 0)
-  (talks : W → W → List ℕ → List ℕ → Bool → Type 0)
-  (content : W → Option Content)
-  (adds : Adds-up talks)
-  (s t t' : S)
-  (u v v' v'' : W)
-  (kept piece front kept' : List ℕ)
-  (total count count' : ℕ)
-  (read : List ℕ)
-  (frames frames' : List Frame)
-  (replies replies' : List (List ℕ))
-  (fed : Fed answers talks s t t' u v kept piece front kept' total count count' read frames frames' replies replies')
+    (S W : Type 0)
+    (answers : S → Frame → List ℕ → S → Type 0)
+    (talks : W → W → List ℕ → List ℕ → Bool → Type 0)
+    (content : W → Option Content)
+    (adds : Adds-up talks)
+    (s t t' : S)
+    (u v v' v'' : W)
+    (kept piece front kept' : List ℕ)
+    (total count count' : ℕ)
+    (read : List ℕ)
+    (frames frames' : List Frame)
+    (replies replies' : List (List ℕ))
+    (fed : Fed answers talks s t t' u v kept piece front kept' total count count' read frames frames' replies replies')
   where
+    -- the frames of what was taken in
+    fed-front : Yields (read ++ front) (frames ++ frames') kept'
+    fed-front = yields-then (read ++ front) frames frames' (kept ++ front) kept' (yields_more read frames kept front fed.yields) fed.yields_more
 
-  -- the frames of what was taken in
-  fed-front : Yields (read ++ front) (frames ++ frames') kept'
-  fed-front = yields-then (read ++ front) frames frames' (kept ++ front) kept' (yields_more read frames kept front fed.yields) fed.yields_more
+    -- the frames of what was read, up to the limit
+    fed-yields : Yields (take limit (read ++ piece)) (frames ++ frames') kept'
+    fed-yields = subst (λ (b : List ℕ). Yields b (frames ++ frames') kept') (ap (λ (b : List ℕ). read ++ b) fed.front_is ∙ taken-in read piece total fed.sized fed.within) fed-front
 
-  -- the frames of what was read, up to the limit
-  fed-yields : Yields (take limit (read ++ piece)) (frames ++ frames') kept'
-  fed-yields = subst (λ (b : List ℕ). Yields b (frames ++ frames') kept') (ap (λ (b : List ℕ). read ++ b) fed.front_is ∙ taken-in read piece total fed.sized fed.within) fed-front
+    -- their replies
+    fed-answered : AreAnswered answers s (frames ++ frames') (replies ++ replies') t'
+    fed-answered = answered-then answers s t t' frames frames' replies replies' fed.answered fed.answered_more
 
-  -- their replies
-  fed-answered : AreAnswered answers s (frames ++ frames') (replies ++ replies') t'
-  fed-answered = answered-then answers s t t' frames frames' replies replies' fed.answered fed.answered_more
+    -- their number
+    fed-counted : count' ≡ length (frames ++ frames')
+    fed-counted = omega (arith, fed.counted, fed.counted_more, fed.rises, length-append frames frames')
 
-  -- their number
-  fed-counted : count' ≡ length (frames ++ frames')
-  fed-counted = omega (arith, fed.counted, fed.counted_more, fed.rises, length-append frames frames')
+    -- what went over the wire
+    fed-talked : (w : List ℕ) (f : Bool) → talks v v' [] w f → talks u v' (read ++ piece) (joined replies ++ w) f
+    fed-talked w f h = subst (λ (r : List ℕ). talks u v' r (joined replies ++ w) f) (append-nil (read ++ piece)) (adds u v v' (read ++ piece) (joined replies) [] w f fed.talked h)
 
-  -- what went over the wire
-  fed-talked : (w : List ℕ) (f : Bool) → talks v v' [] w f → talks u v' (read ++ piece) (joined replies ++ w) f
-  fed-talked w f h = subst (λ (r : List ℕ). talks u v' r (joined replies ++ w) f) (append-nil (read ++ piece)) (adds u v v' (read ++ piece) (joined replies) [] w f fed.talked h)
+    -- all replies were written
+    fed-written : talks v v' [] (joined replies') false → talks u v' (read ++ piece) (joined (replies ++ replies')) false
+    fed-written h = subst (λ (w : List ℕ). talks u v' (read ++ piece) w false) (sym (joined-append replies replies')) (fed-talked (joined replies') false h)
 
-  -- all replies were written
-  fed-written : talks v v' [] (joined replies') false → talks u v' (read ++ piece) (joined (replies ++ replies')) false
-  fed-written h = subst (λ (w : List ℕ). talks u v' (read ++ piece) w false) (sym (joined-append replies replies')) (fed-talked (joined replies') false h)
-
-  -- less than a frame is left, and the session goes on
-  pub fed-goes-on : (rest : Stream) → rest.bytes ≡ kept' → rest.failed ≡ false → min (length piece) (limit - total) ≡ length piece → frame kept' ≡ Err Short → talks v v' [] (joined replies') false →
-      IsGoing answers talks s t' u v' rest (total + min (length piece) (limit - total)) count'
-  fed-goes-on rest same sound all short h = record {
-    read = read ++ piece;
-    frames = frames ++ frames';
-    replies = replies ++ replies';
-    answered = fed-answered;
-    yields = subst (λ (b : List ℕ). Yields (read ++ piece) (frames ++ frames') b) (sym same) (subst (λ (b : List ℕ). Yields (read ++ b) (frames ++ frames') kept') (fed.front_is ∙ ap (λ (n : ℕ). take n piece) all ∙ take-length piece) fed-front);
-    short = ap frame same ∙ short;
-    sound = sound;
-    counted = fed-counted;
-    sized = omega (arith, fed.sized, all, length-append read piece);
-    within = omega (arith, fed.within);
-    talked = fed-written h;
-  }
-
-  -- the last reply was written in part
-  pub fed-broken : (w : List ℕ) → IsCutShort replies' w → talks v v' [] w true → IsDone answers talks content s t' u v' (record { frames = count'; how = Fault })
-  fed-broken w cut h = record {
-    read = read ++ piece;
-    written = joined replies ++ w;
-    failed = true;
-    talked = fed-talked w true h;
-    served = record {
+    -- less than a frame is left, and the session goes on
+    pub fed-goes-on : (rest : Stream) → rest.bytes ≡ kept' → rest.failed ≡ false → min (length piece) (limit - total) ≡ length piece → frame kept' ≡ Err Short → talks v v' [] (joined replies') false →
+        IsGoing answers talks s t' u v' rest (total + min (length piece) (limit - total)) count'
+    fed-goes-on rest same sound all short h = record {
+      read = read ++ piece;
       frames = frames ++ frames';
       replies = replies ++ replies';
       answered = fed-answered;
+      yields = subst (λ (b : List ℕ). Yields (read ++ piece) (frames ++ frames') b) (sym same) (subst (λ (b : List ℕ). Yields (read ++ b) (frames ++ frames') kept') (fed.front_is ∙ ap (λ (n : ℕ). take n piece) all ∙ take-length piece) fed-front);
+      short = ap frame same ∙ short;
+      sound = sound;
       counted = fed-counted;
-      ends = (refl, Replying kept' fed-yields (cut-behind replies replies' w cut));
-    };
-    left = tt;
-  }
+      sized = omega (arith, fed.sized, all, length-append read piece);
+      within = omega (arith, fed.within);
+      talked = fed-written h;
+    }
 
-  -- no frame can stand there
-  pub fed-bad : IsBad (frame kept') → EndsSo Bad (read ++ piece) (frames ++ frames')
-  fed-bad bad = (kept', fed-yields, bad)
+    -- the last reply was written in part
+    pub fed-broken : (w : List ℕ) → IsCutShort replies' w → talks v v' [] w true → IsDone answers talks content s t' u v' (record { frames = count'; how = Fault })
+    fed-broken w cut h = record {
+      read = read ++ piece;
+      written = joined replies ++ w;
+      failed = true;
+      talked = fed-talked w true h;
+      served = record {
+        frames = frames ++ frames';
+        replies = replies ++ replies';
+        answered = fed-answered;
+        counted = fed-counted;
+        ends = (refl, Replying kept' fed-yields (cut-behind replies replies' w cut));
+      };
+      left = tt;
+    }
 
-  -- the limit was passed
-  pub fed-long : min (length piece) (limit - total) ≢ length piece → frame kept' ≡ Err Short → EndsSo Long (read ++ piece) (frames ++ frames')
-  fed-long part short = (kept', fed-yields, short, omega (arith, fed.sized, fed.within, part, length-append read piece))
+    -- no frame can stand there
+    pub fed-bad : IsBad (frame kept') → EndsSo Bad (read ++ piece) (frames ++ frames')
+    fed-bad bad = (kept', fed-yields, bad)
 
-  -- the closing reply was written whole
-  closed-whole : (how : How) (reply : List ℕ) → closing how ≡ reply ∷ [] → talks v v' [] (joined replies') false → talks v' v'' [] reply false →
-      talks u v'' (read ++ piece) (joined ((replies ++ replies') ++ closing how)) false
-  closed-whole how reply e h k =
-      subst (λ (w : List ℕ). talks u v'' (read ++ piece) w false) (sym (ap (λ (xs : List (List ℕ)). joined ((replies ++ replies') ++ xs)) e ∙ joined-one (replies ++ replies') reply))
-      (subst (λ (r : List ℕ). talks u v'' r (joined (replies ++ replies') ++ reply) false) (append-nil (read ++ piece)) (adds u v' v'' (read ++ piece) (joined (replies ++ replies')) [] reply false (fed-written h) k))
+    -- the limit was passed
+    pub fed-long : min (length piece) (limit - total) ≢ length piece → frame kept' ≡ Err Short → EndsSo Long (read ++ piece) (frames ++ frames')
+    fed-long part short = (kept', fed-yields, short, omega (arith, fed.sized, fed.within, part, length-append read piece))
 
-  served-so : (how : How) (w : List ℕ) (failed : Bool) → Ends how (read ++ piece) w failed (frames ++ frames') (replies ++ replies') →
-      IsServed answers s t' (read ++ piece) w failed (record { frames = count'; how = how })
-  served-so how w failed ends = record { frames = frames ++ frames'; replies = replies ++ replies'; answered = fed-answered; counted = fed-counted; ends = ends }
+    -- the closing reply was written whole
+    closed-whole : (how : How) (reply : List ℕ) → closing how ≡ reply ∷ [] → talks v v' [] (joined replies') false → talks v' v'' [] reply false →
+        talks u v'' (read ++ piece) (joined ((replies ++ replies') ++ closing how)) false
+    closed-whole how reply e h k =
+        subst (λ (w : List ℕ). talks u v'' (read ++ piece) w false) (sym (ap (λ (xs : List (List ℕ)). joined ((replies ++ replies') ++ xs)) e ∙ joined-one (replies ++ replies') reply))
+        (subst (λ (r : List ℕ). talks u v'' r (joined (replies ++ replies') ++ reply) false) (append-nil (read ++ piece)) (adds u v' v'' (read ++ piece) (joined (replies ++ replies')) [] reply false (fed-written h) k))
 
-  -- the closing reply was written, whole or in part
-  pub fed-ends : (result how : How) (reply : List ℕ) → closing how ≡ reply ∷ [] → EndsSo how (read ++ piece) (frames ++ frames') → talks v v' [] (joined replies') false →
-      EndsWith result how reply (λ (w : List ℕ) (b : Bool). talks v' v'' [] w b) → IsDone answers talks content s t' u v'' (record { frames = count'; how = result })
-  fed-ends Fault how reply e so h k =
-      let part = take k.0 reply in
-      let all = joined (replies ++ replies') in
-      record {
-        read = read ++ piece;
-        written = all ++ part;
-        failed = true;
-        talked = subst (λ (r : List ℕ). talks u v'' r (all ++ part) true) (append-nil (read ++ piece)) (adds u v' v'' (read ++ piece) all [] part true (fed-written h) k.2);
-        served = served-so Fault (all ++ part) true (refl, Ending how (λ none. absurd (cc (e, none))) so (record { whole = replies ++ replies'; last = reply; count = k.0; are = ap (λ (xs : List (List ℕ)). (replies ++ replies') ++ xs) e; part = k.1; written_is = refl }));
-        left = tt;
-      }
-  fed-ends Bad how reply e so h k =
-      let same : Bad ≡ how = k.0 in
-      let w = joined ((replies ++ replies') ++ closing Bad) in
-      record {
-        read = read ++ piece;
-        written = w;
-        failed = false;
-        talked = closed-whole Bad reply (ap closing same ∙ e) h k.1;
-        served = served-so Bad w false (refl, subst (λ (x : How). EndsSo x (read ++ piece) (frames ++ frames')) (sym same) so, refl);
-        left = tt;
-      }
-  fed-ends Long how reply e so h k =
-      let same : Long ≡ how = k.0 in
-      let w = joined ((replies ++ replies') ++ closing Long) in
-      record {
-        read = read ++ piece;
-        written = w;
-        failed = false;
-        talked = closed-whole Long reply (ap closing same ∙ e) h k.1;
-        served = served-so Long w false (refl, subst (λ (x : How). EndsSo x (read ++ piece) (frames ++ frames')) (sym same) so, refl);
-        left = tt;
-      }
-  fed-ends End how reply e so h k = absurd (cc (ap closing k.0 ∙ e))
-  fed-ends Cut how reply e so h k = absurd (cc (ap closing k.0 ∙ e))
+    served-so : (how : How) (w : List ℕ) (failed : Bool) → Ends how (read ++ piece) w failed (frames ++ frames') (replies ++ replies') →
+        IsServed answers s t' (read ++ piece) w failed (record { frames = count'; how = how })
+    served-so how w failed ends = record { frames = frames ++ frames'; replies = replies ++ replies'; answered = fed-answered; counted = fed-counted; ends = ends }
 
-  -- a frame got no reply
-  pub fed-halts : {F : Type 0} (breaks : S → Frame → F → S → Type 0) (fault : F) (between : S) → t' ≡ between → (end : S) → StopsAt breaks kept' between fault end → talks v v' [] (joined replies') false →
-      IsHalted answers breaks talks s end u v' fault
-  fed-halts {F} breaks fault between same end stops h = record {
-    read = read ++ piece;
-    written = joined (replies ++ replies');
-    talked = fed-written h;
-    stopped = record {
-      frames = frames ++ frames';
-      replies = replies ++ replies';
-      between = between;
-      rest = kept';
-      answered = subst (λ (x : S). AreAnswered answers s (frames ++ frames') (replies ++ replies') x) same fed-answered;
-      yields = fed-yields;
-      written_is = refl;
-      stops = stops;
-    };
-  }
+    -- the closing reply was written, whole or in part
+    pub fed-ends : (result how : How) (reply : List ℕ) → closing how ≡ reply ∷ [] → EndsSo how (read ++ piece) (frames ++ frames') → talks v v' [] (joined replies') false →
+        EndsWith result how reply (λ (w : List ℕ) (b : Bool). talks v' v'' [] w b) → IsDone answers talks content s t' u v'' (record { frames = count'; how = result })
+    fed-ends Fault how reply e so h k =
+        let part = take k.0 reply in
+        let all = joined (replies ++ replies') in
+        record {
+          read = read ++ piece;
+          written = all ++ part;
+          failed = true;
+          talked = subst (λ (r : List ℕ). talks u v'' r (all ++ part) true) (append-nil (read ++ piece)) (adds u v' v'' (read ++ piece) all [] part true (fed-written h) k.2);
+          served = served-so Fault (all ++ part) true (refl, Ending how (λ none. absurd (cc (e, none))) so (record { whole = replies ++ replies'; last = reply; count = k.0; are = ap (λ (xs : List (List ℕ)). (replies ++ replies') ++ xs) e; part = k.1; written_is = refl }));
+          left = tt;
+        }
+    fed-ends Bad how reply e so h k =
+        let same : Bad ≡ how = k.0 in
+        let w = joined ((replies ++ replies') ++ closing Bad) in
+        record {
+          read = read ++ piece;
+          written = w;
+          failed = false;
+          talked = closed-whole Bad reply (ap closing same ∙ e) h k.1;
+          served = served-so Bad w false (refl, subst (λ (x : How). EndsSo x (read ++ piece) (frames ++ frames')) (sym same) so, refl);
+          left = tt;
+        }
+    fed-ends Long how reply e so h k =
+        let same : Long ≡ how = k.0 in
+        let w = joined ((replies ++ replies') ++ closing Long) in
+        record {
+          read = read ++ piece;
+          written = w;
+          failed = false;
+          talked = closed-whole Long reply (ap closing same ∙ e) h k.1;
+          served = served-so Long w false (refl, subst (λ (x : How). EndsSo x (read ++ piece) (frames ++ frames')) (sym same) so, refl);
+          left = tt;
+        }
+    fed-ends End how reply e so h k = absurd (cc (ap closing k.0 ∙ e))
+    fed-ends Cut how reply e so h k = absurd (cc (ap closing k.0 ∙ e))
+
+    -- a frame got no reply
+    pub fed-halts : {F : Type 0} (breaks : S → Frame → F → S → Type 0) (fault : F) (between : S) → t' ≡ between → (end : S) → StopsAt breaks kept' between fault end → talks v v' [] (joined replies') false →
+        IsHalted answers breaks talks s end u v' fault
+    fed-halts {F} breaks fault between same end stops h = record {
+      read = read ++ piece;
+      written = joined (replies ++ replies');
+      talked = fed-written h;
+      stopped = record {
+        frames = frames ++ frames';
+        replies = replies ++ replies';
+        between = between;
+        rest = kept';
+        answered = subst (λ (x : S). AreAnswered answers s (frames ++ frames') (replies ++ replies') x) same fed-answered;
+        yields = fed-yields;
+        written_is = refl;
+        stops = stops;
+      };
+    }

@@ -1,4 +1,11 @@
 pub mod Courses
+pub mod Ends
+pub mod Goings
+pub mod NextLemmas
+pub mod Pieces
+pub mod Refusals
 pub mod Servings
+pub mod Simulations
+pub mod StopLemmas
 pub mod Stretches
 pub mod TalkLemmas

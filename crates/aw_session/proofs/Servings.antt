@@ -1,13 +1,12 @@
 -- Several sessions, one after the other.
-use Rattle.std.proofs.Common.{◌≡◌, ℕ, ◌+◌, ◌-◌, ◌≤◌, ◌<◌, ◌^◌, min, List, [], ◌∷◌, ◌++◌, length, Bool, true, false, ◌||◌, Option, None, Some, option_to_list, refl, ap, sym, subst, ◌∙◌, arith, append_assoc, append-nil}
-use Rattle.aw_out.specs.Causes.{Rose, one_more}
+use Rattle.std.proofs.Common.{◌≡◌, ℕ, List, [], ◌∷◌, ◌++◌, Bool, true, false, ◌||◌, Option, None, Some, option_to_list, refl, ap, sym, subst, ◌∙◌, arith, append_assoc, append-nil}
+use Rattle.aw_out.specs.Causes.{Rose}
 use Rattle.aw_out.specs.Wires.{Session, Content, Both, with_last, fresh, Arrives}
 use Rattle.aw_out.specs.declared.edge.Arrival.TheVariants.{Session as Came, End as NoMore, Failed as NotArrived}
 use Rattle.aw_msg.specs.Frames.{Frame}
-use Rattle.aw_session.specs.Broken.{IsStopped}
 use Rattle.aw_session.specs.Course.{IsDone, IsHalted}
 use Rattle.aw_session.specs.Served.{AreServed, IsServed, Ends}
-use Rattle.aw_session.specs.Sessions.{is_fault, has_fault, Follow, IsServing, NoneComes, IsUnopened, LastStops, IsCutOff, IsNext, IsLast, ServesNext, StopsNext, StopsServing}
+use Rattle.aw_session.specs.Sessions.{is_fault, has_fault, Follow, IsServing, NoneComes, IsNext, IsLast, ServesNext, StopsNext, StopsServing}
 use Rattle.aw_session.specs.Talking.{grown, Grows, Counts, Talks}
 use Rattle.aw_session.specs.declared.log.How.{How}
 use Rattle.aw_session.specs.declared.log.How.TheVariants.{End, Cut, Bad, Long, Fault}
@@ -49,13 +48,13 @@ pub follow-end : (role : ℕ) (a b : Option Content) → Both (Arrives role NoMo
 follow-end role None None h = tt
 follow-end role None (Some b) h = absurd h
 follow-end role (Some a) None h = absurd h
-follow-end role (Some a) (Some b) h = h.1.0 ∙ sym (append-nil a.passed)
+follow-end role (Some a) (Some b) h = h.1 ∙ sym (append-nil a.passed)
 
 pub none-comes : (role : ℕ) (a b : Option Content) → Both (Arrives role NoMore) a b → NoneComes b
 none-comes role None None h = tt
 none-comes role None (Some b) h = absurd h
 none-comes role (Some a) None h = absurd h
-none-comes role (Some a) (Some b) h = h.1.1
+none-comes role (Some a) (Some b) h = h.2
 
 -- none could be opened
 pub follow-failed : (role : ℕ) (a b : Option Content) → Both (Arrives role NotArrived) a b → Both (Follow []) a b
@@ -172,3 +171,8 @@ next-halted {S} {W} {F} answers breaks content is_open faults failed_openings ro
   (refl, refl, refl, halted.stopped),
   follow-one role halted.read halted.written false (content u) (content v) (content w) came halted.talked.told,
 )
+
+-- what came of it, where that is known
+pub serves-at : {S W : Type 0} (answers : S → Frame → List ℕ → S → Type 0) (content : W → Option Content) (faults failed_openings : W → ℕ) (role : ℕ) (s t : S) (u v : W) (old new : List SessionLog) (b : Bool) → b ≡ true →
+    ServesNext answers content faults failed_openings role s t u v old new b → ServesNext answers content faults failed_openings role s t u v old new true
+serves-at {S} {W} answers content faults failed_openings role s t u v old new b e h = subst (λ (x : Bool). ServesNext answers content faults failed_openings role s t u v old new x) e h

@@ -1,14 +1,14 @@
 -- Frames that are answered one after the other, and their replies one behind the other.
-use Rattle.std.proofs.Common.{◌≡◌, ℕ, suc, ◌+◌, ◌-◌, ◌<◌, ◌≤◌, List, [], ◌∷◌, ◌++◌, length, take, drop, Bool, true, false, Ok, Err, refl, ap, sym, subst, ◌∙◌, arith, append_assoc, append-nil, length-append}
+use Rattle.std.proofs.Common.{◌≡◌, ℕ, ◌+◌, ◌≤◌, List, [], ◌∷◌, ◌++◌, length, take, Bool, true, false, Err, refl, ap, sym, subst, ◌∙◌, arith, append_assoc, append-nil, length-append}
 use Rattle.aw_wire.specs.Reading.{Short}
 use Rattle.aw_msg.specs.Frames.{Frame, frame}
 use Rattle.aw_msg.specs.Pieces.{Yields, IsBad}
 use Rattle.aw_msg.specs.Streams.{Stream}
-use Rattle.aw_msg.proofs.Extensions.{frame_shorter, yields_more, yields_one}
+use Rattle.aw_msg.proofs.Extensions.{frame_shorter, yields_one}
 use Rattle.aw_session.specs.Broken.{StopsAt}
-use Rattle.aw_session.specs.Frames.{joined, AreAnswered, IsCutShort}
+use Rattle.aw_session.specs.Frames.{joined, AreAnswered}
 use Rattle.aw_session.specs.declared.answering.Stop.TheVariants as stop
-use Rattle.aw_session.specs.Steps.{IsStep, IsBroken, IsStretch, IsStoppedStretch, IsHaltedStretch, StopsSo}
+use Rattle.aw_session.specs.Steps.{IsStep, IsBroken, IsStretch, IsStoppedStretch, IsHaltedStretch}
 
 -- one after the others
 pub answered-one : {S : Type 0} (answers : S → Frame → List ℕ → S → Type 0) (s t u : S) (fs : List Frame) (xs : List (List ℕ)) (f : Frame) (x : List ℕ) →
@@ -40,7 +40,7 @@ yields-then bytes (f ∷ fs) gs kept rest h k = (h.0, h.1, yields-then h.0 fs gs
 
 -- each frame has a byte
 pub yields-count : (bytes : List ℕ) (fs : List Frame) (rest : List ℕ) → Yields bytes fs rest → length fs + length rest ≤ length bytes
-yields-count bytes [] rest h = subst (λ (b : List ℕ). length b ≤ length bytes) h (omega arith)
+yields-count bytes [] rest h = let e : length bytes ≡ length rest = ap length h in omega (arith, e)
 yields-count bytes (f ∷ fs) rest h = let one = frame_shorter bytes f h.0 h.1 in let others = yields-count h.0 fs rest h.2 in omega arith
 
 -- nothing was answered yet

@@ -1,10 +1,10 @@
 -- What goes over a wire in one session, bit by bit.
-use Rattle.std.proofs.Common.{◌≡◌, ℕ, ◌<◌, ◌≤◌, List, [], ◌∷◌, ◌++◌, length, take, drop, Bool, true, false, ◌||◌, Option, None, Some, refl, ap, sym, ◌∙◌, append_assoc, append-nil}
+use Rattle.std.proofs.Common.{◌≡◌, ℕ, ◌≤◌, List, [], ◌∷◌, ◌++◌, take, Bool, true, false, ◌||◌, Option, None, Some, refl, ap, sym, ◌∙◌, append_assoc, append-nil}
 use Rattle.aw_out.specs.Causes.{Rose}
 use Rattle.aw_out.specs.Wires.{Session, Content, Both, with_last, after_read, after_write, after_fault, ReadsInSession, WritesInSession}
 use Rattle.aw_out.specs.declared.edge.Got.TheVariants.{Read, End, Failed}
 use Rattle.aw_out.specs.declared.edge.Put.TheVariants.{Took, Failed as NotTaken}
-use Rattle.aw_session.specs.Talking.{grown, Grows, Counts, Talks, TalksInPart}
+use Rattle.aw_session.specs.Talking.{grown, Grows, Counts, Talks}
 
 -- two changes that are one
 with_last-same : (f g : Session → Session) (xs : List Session) → ((s : Session) → f s ≡ g s) → with_last f xs ≡ with_last g xs
@@ -35,7 +35,9 @@ or-assoc false b c = refl
 
 -- nothing was read or written
 grown-none : (s : Session) → grown [] [] false s ≡ s
-grown-none s = let r = append-nil s.read in let w = append-nil s.written in let f = or-false s.failed in cc
+grown-none s =
+    ap (λ (r : List ℕ). record s { read = r; written = s.written ++ []; failed = s.failed || false }) (append-nil s.read)
+    ∙ ap (λ (w : List ℕ). record s { written = w; failed = s.failed || false }) (append-nil s.written) ∙ ap (λ (f : Bool). record s { failed = f }) (or-false s.failed)
 
 -- some was written
 grown-write : (bytes : List ℕ) (s : Session) → after_write bytes s ≡ grown [] bytes false s
@@ -71,7 +73,7 @@ grows-then r w r' w' b b' (Some x) None z g h = absurd g
 grows-then r w r' w' b b' (Some x) (Some y) None g h = absurd h
 grows-then r w r' w' b b' (Some x) (Some y) (Some z) g h = (
   h.0 ∙ ap (with_last (grown r' w' b')) g.0 ∙ with_last-twice (grown r w b) (grown r' w' b') x.passed
-  ∙ with_last-same (λ s. grown r' w' b' (grown r w b s)) (grown (r ++ r') (w ++ w') (b || b')) x.passed (grown-twice r w r' w' b b'),
+      ∙ with_last-same (λ s. grown r' w' b' (grown r w b s)) (grown (r ++ r') (w ++ w') (b || b')) x.passed (grown-twice r w r' w' b b'),
   h.1 ∙ g.1,
 )
 
@@ -80,7 +82,7 @@ grows-took : (n : ℕ) (bytes : List ℕ) (x y : Option Content) → Both (Write
 grows-took n bytes None None h = tt
 grows-took n bytes None (Some y) h = absurd h
 grows-took n bytes (Some x) None h = absurd h
-grows-took n bytes (Some x) (Some y) h = (h.0 ∙ with_last-same (after_write (take n bytes)) (grown [] (take n bytes) false) x.passed (grown-write (take n bytes)), h.1.1)
+grows-took n bytes (Some x) (Some y) h = (h.0 ∙ with_last-same (after_write (take n bytes)) (grown [] (take n bytes) false) x.passed (grown-write (take n bytes)), h.2)
 
 -- a write that failed
 grows-not_taken : (bytes : List ℕ) (x y : Option Content) → Both (WritesInSession NotTaken bytes) x y → Both (Grows [] [] true) x y
@@ -95,7 +97,7 @@ grows-read : (n : ℕ) (buf : List ℕ) (x y : Option Content) → Both (ReadsIn
 grows-read n buf None None h = tt
 grows-read n buf None (Some y) h = absurd h
 grows-read n buf (Some x) None h = absurd h
-grows-read n buf (Some x) (Some y) h = (h.0 ∙ with_last-same (after_read (take n buf)) (grown (take n buf) [] false) x.passed (grown-read (take n buf)), h.1.1)
+grows-read n buf (Some x) (Some y) h = (h.0 ∙ with_last-same (after_read (take n buf)) (grown (take n buf) [] false) x.passed (grown-read (take n buf)), h.2)
 
 -- a read that failed
 grows-not_read : (buf : List ℕ) (x y : Option Content) → Both (ReadsInSession Failed buf) x y → Both (Grows [] [] true) x y

@@ -1,5 +1,5 @@
 -- Sessions that ended because a frame got no reply, as where memory runs out.
-use Rattle.std.specs.Prelude.{◌≡◌, ℕ, List, [], ◌∷◌, ◌++◌, Bool, true, false, take, Ok}
+use Rattle.std.specs.Prelude.{◌≡◌, ℕ, List, take, Ok}
 use Rattle.aw_msg.specs.Frames.{Frame, frame}
 use Rattle.aw_msg.specs.Pieces.{Yields}
 use Rattle.aw_session.specs.Frames.{joined, AreAnswered}
@@ -20,3 +20,7 @@ pub record IsStopped {S F : Type 0} (answers : S → Frame → List ℕ → S �
   pub yields : Yields (take limit read) frames rest
   pub written_is : written ≡ joined replies
   pub stops : StopsAt breaks rest between fault t
+
+-- nothing is said of a frame that gets no reply
+abbrev pub Anyhow : {P F : Type 0} → P → Frame → F → P → Type 0
+Anyhow {P} {F} s f fault t = Unit {0}

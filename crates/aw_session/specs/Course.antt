@@ -1,5 +1,5 @@
 -- The course of one session. `answers` tells what a reply does, and `talks` what went over the wire from one moment to another.
-use Rattle.std.specs.Prelude.{◌≡◌, ℕ, ◌<◌, ◌≤◌, List, [], ◌∷◌, ◌++◌, Bool, true, false, length, take, Option, None, Some, Err}
+use Rattle.std.specs.Prelude.{◌≡◌, ℕ, ◌<◌, ◌≤◌, List, Bool, true, false, length, take, Option, None, Some, Err}
 use Rattle.aw_out.specs.Wires.{Content}
 use Rattle.aw_wire.specs.Reading.{Short}
 use Rattle.aw_msg.specs.Frames.{Frame, frame}

@@ -1,5 +1,5 @@
 -- What a session is: the bytes read and written in it, the frames that were answered, and how it ended.
-use Rattle.std.specs.Prelude.{◌≡◌, ◌≢◌, ℕ, ◌<◌, ◌≤◌, List, [], ◌∷◌, ◌++◌, Bool, true, false, length, take, Option, None, Some, Err}
+use Rattle.std.specs.Prelude.{◌≡◌, ◌≢◌, ℕ, ◌<◌, ◌≤◌, List, [], ◌∷◌, ◌++◌, Bool, true, false, length, take, Option, Some, Err}
 use Rattle.aw_out.specs.Wires.{Session, Content}
 use Rattle.aw_wire.specs.Reading.{Short}
 use Rattle.aw_msg.specs.Frames.{Frame, frame}

@@ -1,5 +1,5 @@
 -- Several sessions, one after the other.
-use Rattle.std.specs.Prelude.{◌≡◌, ℕ, ◌≤◌, List, [], ◌∷◌, ◌++◌, Bool, true, false, ◌||◌, length, Option, None, Some, option_to_list}
+use Rattle.std.specs.Prelude.{◌≡◌, ℕ, List, [], ◌∷◌, ◌++◌, Bool, true, false, ◌||◌, Option, None, Some, option_to_list}
 use Rattle.aw_out.specs.Causes.{Rose}
 use Rattle.aw_out.specs.Wires.{Session, Content, Both}
 use Rattle.aw_msg.specs.Frames.{Frame}

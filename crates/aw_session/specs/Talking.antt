@@ -1,5 +1,5 @@
 -- What goes over a wire while one session is open.
-use Rattle.std.specs.Prelude.{◌≡◌, ℕ, ◌<◌, ◌≤◌, List, length, take, [], ◌∷◌, ◌++◌, Bool, true, false, ◌||◌, Option, None, Some}
+use Rattle.std.specs.Prelude.{◌≡◌, ℕ, ◌<◌, ◌≤◌, List, length, take, [], ◌++◌, Bool, true, false, ◌||◌, Option}
 use Rattle.aw_out.specs.Causes.{Rose}
 use Rattle.aw_out.specs.Wires.{Session, Content, Both, with_last}
 

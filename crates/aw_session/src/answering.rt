@@ -36,8 +36,10 @@ fn answer_next<W: Wire, H: Handles>(
     node: &mut H,
     wire: &mut W,
 ) -> Result<Went, H::Fault>
+    requires ready { H.ready node.old }
     requires sound { reader.old.failed ≡ false }
     requires open { W.is_open wire.old ≡ true }
+    ensures ready { OnOk result (H.ready node.new) }
     ensures ok { IfOk result (λ went. Goes H.answers (λ (w : List ℕ) (b : Bool). Talks W.content W.is_open W.faults W.failed_openings wire.old wire.new [] w b) node.old node.new reader.old reader.new went) }
     ensures err { IfErr result (λ fault. StopsAt H.breaks reader.old.bytes node.old fault node.new × Talks W.content W.is_open W.faults W.failed_openings wire.old wire.new [] [] false) }
 {
@@ -61,12 +63,14 @@ pub(crate) fn answer_frames<W: Wire, H: Handles>(
     node: &mut H,
     wire: &mut W,
 ) -> Result<Stop, H::Fault>
+    requires ready { H.ready node.old }
     requires sound { reader.old.failed ≡ false }
     requires open { W.is_open wire.old ≡ true }
     requires room { count.old + length reader.old.bytes < 2 ^ 64 }
+    ensures ready { OnOk result (H.ready node.new) }
     ensures counted { OnOk result (count.old ≤ count.new) }
     ensures ok { IfOk result (λ why. IsStoppedStretch H.answers (λ (w : List ℕ) (b : Bool). Talks W.content W.is_open W.faults W.failed_openings wire.old wire.new [] w b) node.old node.new reader.old.bytes reader.new.bytes (count.new - count.old) why) }
-    ensures sound { OnOk result (reader.new.failed ≡ false) }
+    ensures sound { IfOk result (λ why. why ≡ Stop.Waits → reader.new.failed ≡ false) }
     ensures err { IfErr result (λ fault. IsHaltedStretch H.answers H.breaks (λ (w : List ℕ) (b : Bool). Talks W.content W.is_open W.faults W.failed_openings wire.old wire.new [] w b) node.old node.new reader.old.bytes fault) }
 {
     loop {

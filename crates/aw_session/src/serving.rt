@@ -1,5 +1,5 @@
 //! Sessions one after the other.
-ghost use Rattle.std.specs.Prelude.{◌≡◌, ◌⊎◌, ◌<◌, ◌≤◌, List, [], ◌++◌, length, IfOk, IfErr};
+ghost use Rattle.std.specs.Prelude.{◌≡◌, ◌⊎◌, ◌<◌, ◌≤◌, List, [], ◌∷◌, ◌++◌, length, vec_len, vec_capacity, IfOk, IfErr, OnOk};
 ghost use Rattle.aw_session.specs.Sessions.{IsServing, NoneComes, StopsServing, ServesNext, StopsNext};
 
 use crate::handles::Handles;
@@ -17,6 +17,14 @@ pub enum Stopped<X> {
     Node(X),
 }
 
+/// Notes a session, for which there is memory.
+fn note(log: &mut Vec<SessionLog>, entry: SessionLog)
+    requires { vec_len log.old < vec_capacity log.old }
+    ensures { log.new.items ≡ log.old.items ++ entry ∷ [] }
+{
+    log.push(entry).unwrap();
+}
+
 /// Serves the next session and notes it, if one comes.
 fn serve_next<W: Wire, H: Handles>(
     alloc: Global,
@@ -25,7 +33,9 @@ fn serve_next<W: Wire, H: Handles>(
     log: &mut Vec<SessionLog>,
     wire: &mut W,
 ) -> Result<bool, Stopped<H::Fault>>
-    requires { role < 64 }
+    requires ready { H.ready node.old }
+    requires role { role < 64 }
+    ensures ready { OnOk result (H.ready node.new) }
     ensures ok { IfOk result (ServesNext H.answers W.content W.faults W.failed_openings role node.old node.new wire.old wire.new log.old.items log.new.items) }
     ensures err { IfErr result (StopsNext H.answers H.breaks W.content W.failed_openings role node.old node.new wire.old wire.new) }
 {
@@ -35,7 +45,7 @@ fn serve_next<W: Wire, H: Handles>(
     match wire.next_session(role) {
         Arrival::Session => match serve_session(alloc, node, wire) {
             Ok(entry) => {
-                log.push(entry).unwrap();
+                note(log, entry);
                 Ok(true)
             }
             Err(fault) => Err(Stopped::Node(fault)),
@@ -53,7 +63,9 @@ pub fn serve_sessions<W: Wire, H: Handles>(
     sessions: u32,
     wire: &mut W,
 ) -> Result<Log, Stopped<H::Fault>>
-    requires { role < 64 }
+    requires ready { H.ready node.old }
+    requires role { role < 64 }
+    ensures ready { OnOk result (H.ready node.new) }
     ensures ok { IfOk result (IsServing H.answers W.content W.faults W.failed_openings role node.old node.new wire.old wire.new) }
     ensures most { IfOk result (λ log. length log ≤ sessions) }
     ensures all { IfOk result (λ log. (length log ≡ sessions) ⊎ NoneComes (W.content wire.new)) }

@@ -65,11 +65,13 @@ impl Session {
         node: &mut H,
         wire: &mut W,
     ) -> Result<Option<How>, H::Fault>
+        requires ready { H.ready node.old }
         requires open { W.is_open wire.old ≡ true }
         requires some { 0 < length piece.now }
         requires sound { self.old.reader.failed ≡ false }
         requires within { self.old.total ≤ limit }
         requires room { self.old.frames + length self.old.reader.bytes ≤ self.old.total }
+        ensures ready { OnOk result (H.ready node.new) }
         ensures ok { (s : _) (u : _) (read : List ℕ) (frames : List plain.Frame) (replies : List (List ℕ)) →
             Yields read frames self.old.reader.bytes → self.old.total ≡ length read → self.old.frames ≡ length frames → AreAnswered H.answers s frames replies node.old →
             Talks W.content W.is_open W.faults W.failed_openings u wire.old (read ++ piece.now) (joined replies) false →
@@ -98,10 +100,12 @@ impl Session {
         node: &mut H,
         wire: &mut W,
     ) -> Result<Option<How>, H::Fault>
+        requires ready { H.ready node.old }
         requires open { W.is_open wire.old ≡ true }
         requires sound { self.old.reader.failed ≡ false }
         requires within { self.old.total ≤ limit }
         requires room { self.old.frames + length self.old.reader.bytes ≤ self.old.total }
+        ensures ready { OnOk result (H.ready node.new) }
         ensures ok { (s : _) (u : _) → IsGoing H.answers (Talks W.content W.is_open W.faults W.failed_openings) s node.old u wire.old self.old.reader self.old.total self.old.frames →
             IfOk result (GoesOn H.answers (Talks W.content W.is_open W.faults W.failed_openings) W.content s node.new u wire.new self.new.reader self.new.total self.new.frames) }
         ensures err { (s : _) (u : _) → IsGoing H.answers (Talks W.content W.is_open W.faults W.failed_openings) s node.old u wire.old self.old.reader self.old.total self.old.frames →
@@ -124,7 +128,9 @@ pub fn serve_session<W: Wire, H: Handles>(
     node: &mut H,
     wire: &mut W,
 ) -> Result<SessionLog, H::Fault>
-    requires { W.is_open wire.old ≡ true }
+    requires ready { H.ready node.old }
+    requires open { W.is_open wire.old ≡ true }
+    ensures ready { OnOk result (H.ready node.new) }
     ensures ok { IfOk result (IsDone H.answers (Talks W.content W.is_open W.faults W.failed_openings) W.content node.old node.new wire.old wire.new) }
     ensures err { IfErr result (IsHalted H.answers H.breaks (Talks W.content W.is_open W.faults W.failed_openings) node.old node.new wire.old wire.new) }
 {

@@ -3,8 +3,9 @@ use Rattle.aw_session.specs.Steps.{IsStretch}
 use Rattle.aw_session.specs.Talking.{Talks}
 use Rattle.aw_session.proofs.answering.answer_frames.Given as goal
 
-abbrev pub invariant-loop : goal.invariant-loop
-invariant-loop g l = record {
+abbrev pub invariant-loop-count : goal.invariant-loop-count
+invariant-loop-count g l = record {
+  ready : g.H.Handles.ready l.node;
   sound : l.reader.failed ≡ false;
   rises : l.fn.count ≤ l.count;
   room : l.count + length l.reader.bytes ≤ l.fn.count + length l.fn.reader.bytes;
@@ -12,5 +13,5 @@ invariant-loop g l = record {
       l.fn.node l.node l.fn.reader.bytes l.reader.bytes (l.count - l.fn.count);
 }
 
-abbrev pub decreases-loop : goal.decreases-loop
-decreases-loop g l = length l.reader.bytes
+abbrev pub decreases-loop-count : goal.decreases-loop-count
+decreases-loop-count g l = length l.reader.bytes

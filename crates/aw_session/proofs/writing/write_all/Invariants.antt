@@ -1,4 +1,4 @@
-use Rattle.std.proofs.Common.{◌≡◌, ◌≤◌, ◌-◌, length, take, [], false}
+use Rattle.std.proofs.Common.{◌≤◌, ◌-◌, length, take, [], false}
 use Rattle.aw_session.specs.Talking.{Talks}
 use Rattle.aw_session.proofs.writing.write_all.Given as goal
 

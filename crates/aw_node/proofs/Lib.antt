@@ -1,0 +1,4 @@
+pub mod Choices
+pub mod Homes
+pub mod NodeLemmas
+pub mod Replying

@@ -1,0 +1,53 @@
+//! Serving a workspace.
+ghost use Rattle.std.specs.Prelude.{◌≡◌, ◌⊎◌, ◌<◌, ◌≤◌, length, IfOk, IfErr};
+ghost use Rattle.aw_grammar.specs.GrammarOf.{grammar_of};
+ghost use Rattle.aw_node.specs.Serving.{Serves, Stops};
+ghost use Rattle.aw_node.specs.TypedNodes.{rules_of};
+ghost use Rattle.aw_react.specs.Sites.{Site};
+ghost use Rattle.aw_session.specs.Sessions.{NoneComes};
+ghost use Rattle.aw_typed.specs.Typing.{IsMadeFor};
+
+use crate::node::Node;
+use crate::workspace::Workspace;
+use aw_accept::Accepted;
+use aw_out::Wire;
+use aw_session::{Log, Stopped, serve_sessions};
+use aw_typed::Typed;
+use std::alloc::Global;
+
+/// Why no further session was served.
+#[derive(Clone, Copy, Debug, PartialEq, Eq)]
+pub enum ServeFault {
+    /// The next session could not be opened.
+    NetFault,
+    NoMemory,
+}
+
+/// Serves a workspace in so many sessions, or as many as come, and tells of each.
+///
+/// # Errors
+/// `NetFault` where the next session could not be opened, `NoMemory` where memory ran out. What was served before is as told.
+pub fn serve_workspace<W: Wire, P: Workspace + Drop>(
+    alloc: Global,
+    g: &Accepted,
+    t: &Typed,
+    site: P,
+    role: u16,
+    sessions: u32,
+    wire: &mut W,
+) -> Result<Log, ServeFault>
+    requires role { role < 64 }
+    requires made { P.grammar site ≡ g.now.grammar }
+    requires types { IsMadeFor (grammar_of g.now.grammar) t.now }
+    ensures served { (s : Site) → P.shows site s → IfOk result (λ log. Serves W.content W.faults W.failed_openings (rules_of g.now.grammar t.now) role s wire.old wire.new log) }
+    ensures most { IfOk result (λ log. length log ≤ sessions) }
+    ensures all { IfOk result (λ log. (length log ≡ sessions) ⊎ NoneComes (W.content wire.new)) }
+    ensures stopped { (s : Site) → P.shows site s → IfErr result (Stops W.content W.failed_openings (rules_of g.now.grammar t.now) role s wire.old wire.new) }
+{
+    let mut node = Node::new(alloc, g, t, site);
+    match serve_sessions(alloc, &mut node, role, sessions, wire) {
+        Ok(log) => Ok(log),
+        Err(Stopped::NetFault) => Err(ServeFault::NetFault),
+        Err(Stopped::Node(_)) => Err(ServeFault::NoMemory),
+    }
+}

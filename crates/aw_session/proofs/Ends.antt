@@ -1,0 +1,98 @@
+-- How a session ends where nothing more is read.
+use Rattle.std.proofs.Common.{◌≡◌, ◌≢◌, ℕ, ◌≤◌, List, [], ◌++◌, length, Bool, true, false, Option, None, Some, refl, ap, sym, subst, ◌∙◌, arith, append-nil}
+use Rattle.aw_out.specs.Wires.{Content, Both, ReadsInSession}
+use Rattle.aw_out.specs.declared.edge.Got.TheVariants as got
+use Rattle.aw_msg.specs.Frames.{Frame}
+use Rattle.aw_msg.specs.Pieces.{Yields}
+use Rattle.aw_msg.specs.Streams.{Stream}
+use Rattle.aw_session.specs.Course.{IsGoing, IsDone}
+use Rattle.aw_session.specs.Frames.{joined}
+use Rattle.aw_session.specs.Served.{limit, Reading, LeavesNone}
+use Rattle.aw_session.specs.declared.log.How.TheVariants.{End, Cut, Fault}
+use Rattle.aw_session.proofs.Courses.{Adds-up}
+
+-- nothing is left
+pub end-left : (buf : List ℕ) (a b : Option Content) → Both (ReadsInSession got.End buf) a b → LeavesNone End b
+end-left buf None None h = tt
+end-left buf None (Some b) h = absurd h
+end-left buf (Some a) None h = absurd h
+end-left buf (Some a) (Some b) h = ap (λ (c : Content). c.left) h.1 ∙ h.0
+
+pub cut-left : (buf : List ℕ) (a b : Option Content) → Both (ReadsInSession got.End buf) a b → LeavesNone Cut b
+cut-left buf None None h = tt
+cut-left buf None (Some b) h = absurd h
+cut-left buf (Some a) None h = absurd h
+cut-left buf (Some a) (Some b) h = ap (λ (c : Content). c.left) h.1 ∙ h.0
+
+module _
+    (S W : Type 0)
+    (answers : S → Frame → List ℕ → S → Type 0)
+    (talks : W → W → List ℕ → List ℕ → Bool → Type 0)
+    (content : W → Option Content)
+    (adds : Adds-up talks)
+    (s t : S)
+    (u v v' : W)
+    (kept : Stream)
+    (total count : ℕ)
+    (going : IsGoing answers talks s t u v kept total count)
+  where
+    -- no byte more went over the wire
+    still : (f : Bool) → talks v v' [] [] f → talks u v' going.read (joined going.replies) f
+    still f h =
+        subst (λ (r : List ℕ). talks u v' r (joined going.replies) f) (append-nil going.read)
+        (subst (λ (w : List ℕ). talks u v' (going.read ++ []) w f) (append-nil (joined going.replies)) (adds u v v' going.read (joined going.replies) [] [] f going.talked h))
+
+    limited : length going.read ≤ limit
+    limited = omega (arith, going.sized, going.within)
+
+    all-written : joined going.replies ≡ joined (going.replies ++ [])
+    all-written = ap joined (sym (append-nil going.replies))
+
+    -- a read failed
+    pub going-failed : talks v v' [] [] true → IsDone answers talks content s t u v' (record { frames = count; how = Fault })
+    going-failed h = record {
+      read = going.read;
+      written = joined going.replies;
+      failed = true;
+      talked = still true h;
+      served = record { frames = going.frames; replies = going.replies; answered = going.answered; counted = going.counted; ends = (refl, Reading kept.bytes going.yields going.short limited refl) };
+      left = tt;
+    }
+
+    -- the input ended between two frames
+    pub going-ended : kept.bytes ≡ [] → talks v v' [] [] false → LeavesNone End (content v') → IsDone answers talks content s t u v' (record { frames = count; how = End })
+    going-ended none h left = record {
+      read = going.read;
+      written = joined going.replies;
+      failed = false;
+      talked = still false h;
+      served = record {
+        frames = going.frames;
+        replies = going.replies;
+        answered = going.answered;
+        counted = going.counted;
+        ends = (refl, (subst (λ (b : List ℕ). Yields going.read going.frames b) none going.yields, limited), all-written);
+      };
+      left = left;
+    }
+
+    -- within a frame
+    pub going-cut : kept.bytes ≢ [] → talks v v' [] [] false → LeavesNone Cut (content v') → IsDone answers talks content s t u v' (record { frames = count; how = Cut })
+    going-cut some h left = record {
+      read = going.read;
+      written = joined going.replies;
+      failed = false;
+      talked = still false h;
+      served = record {
+        frames = going.frames;
+        replies = going.replies;
+        answered = going.answered;
+        counted = going.counted;
+        ends = (refl, (kept.bytes, going.yields, some, going.short, limited), all-written);
+      };
+      left = left;
+    }
+
+    -- some bytes were read
+    pub going-read : (r : List ℕ) → talks v v' r [] false → talks u v' (going.read ++ r) (joined going.replies) false
+    going-read r h = subst (λ (w : List ℕ). talks u v' (going.read ++ r) w false) (append-nil (joined going.replies)) (adds u v v' going.read (joined going.replies) r [] false going.talked h)
