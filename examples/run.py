@@ -83,7 +83,7 @@ def is_shown(source):
         return f"`{faulty_line(source)}`" in page
     if folder == "tutorial" and source.name.count(".") > 1:
         return all(line + "\n" in page for line in new_lines(source))
-    return source.read_text().split("\nschedule\n")[-1] in boxes(page)
+    return re.split(r"\nschedule(?: 2)?\n", source.read_text())[-1] in boxes(page)
 
 
 def main():
