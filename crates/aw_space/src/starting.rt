@@ -6,8 +6,7 @@ ghost use Rattle.aw_held.specs.InOrder.{IsInOrder, Lacks, insert_in};
 use crate::taking::push_choice;
 use aw_choice::{Choice, copy_choice};
 use aw_held::{Held, put_between};
-use aw_list::Items;
-use aw_name::{Node, Trail};
+use aw_name::{Node, Refs, Trail};
 use std::alloc::{AllocError, Global};
 
 /// The node that a case begins with.
@@ -40,7 +39,7 @@ pub fn take_start(
     let alloc = *held.allocator();
     let new = Held {
         node: root(alloc, sort, case),
-        inherited: Items::new(alloc),
+        inherited: Refs::new(alloc),
         done: None,
     };
     let taken = copy_choice(choice)?;
