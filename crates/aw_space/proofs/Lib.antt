@@ -1,0 +1,14 @@
+pub mod Names
+pub mod Freshness
+pub mod Keeping
+pub mod KeptSound
+pub mod KeptValid
+pub mod OwnChildren
+pub mod Standing
+pub mod TakenOn
+pub mod Foretelling
+pub mod Clashes
+pub mod Staying
+pub mod FewParts
+pub mod Called
+pub mod Told
