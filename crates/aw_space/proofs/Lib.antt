@@ -12,3 +12,8 @@ pub mod Staying
 pub mod FewParts
 pub mod Called
 pub mod Told
+pub mod MadeNames
+pub mod Taken
+pub mod Carried
+pub mod Begun
+pub mod CarryingOut
