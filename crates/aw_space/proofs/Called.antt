@@ -1,6 +1,6 @@
 -- A space with one more called node.
 use Rattle.std.proofs.Common.{◌≡◌, ℕ, Bool, true, false, List, [], ◌∷◌, Option, Some, None, slice_get, refl, ap, sym, ◌∙◌, subst}
-use Rattle.std.specs.Prelude.{not, ◌&&◌, ◌||◌, unwrap_or, option_map}
+use Rattle.std.specs.Prelude.{Result, Ok, Err, IfOk, OnErr, not, ◌&&◌, ◌||◌, unwrap_or, option_map}
 use Rattle.std.proofs.lemmas.Bool.{and_parts, and_from}
 use Rattle.std.proofs.lemmas.Option.{same_Some}
 use Rattle.aw_term.specs.Names.{Node, Ref}
@@ -19,6 +19,8 @@ use Rattle.aw_joint.specs.Joint.{called_held}
 use Rattle.aw_react.specs.Homes.{has_steps, parent}
 use Rattle.aw_react.specs.ValidNames.{refs_ok, takes_as}
 use Rattle.aw_react.specs.Reacting.{add_held}
+use Rattle.aw_space.specs.Keeping.{KeepsNodes}
+use Rattle.aw_space.proofs.Staying.{nodes_same, nodes_put}
 use Rattle.aw_space.specs.Missing.{missing_on, missing_node, with_node, inherited_by, LacksIf}
 use Rattle.aw_space.specs.Placings.{MayBeCalled, MayBeCalledIf, called_open, placed_call, Places, Puts}
 use Rattle.aw_space.specs.Sound.{is_rooted, all_inherited, IsSound}
@@ -140,3 +142,28 @@ valid_cases g role p hs k (Some i) may valid = valid
 pub valid_missing : (g : Grammar) (role : ℕ) (p : Option Placing) (hs : List Held) (k : Map) → MayBeCalledIf g role (option_map (placed_call g) p) → IsValid g hs k → IsValid g (with_node (missing_node p hs) hs) k
 valid_missing g role None hs k may valid = valid
 valid_missing g role (Some p) hs k may valid = valid_cases g role p hs k (place_in p.node hs) may valid
+
+-- ---- whatever a call comes to
+
+pub sound_placed : {E : Type 0} (g : Grammar) (role : ℕ) (hs ks : List Held) (k : Map) (names names' : List Ref) (n : Node) (rs : List Ref) (o : Result Placed E) → IfOk o (λ p. Puts names' hs n rs p ks) → OnErr o (ks ≡ hs) →
+    MayBeCalled g role (call_of g n rs) → IsSound g role hs k names → IsInOrder ks → Grows names names' → IsSound g role ks k names'
+sound_placed g role hs ks k names names' n rs (Ok p) w e may sound ordered grows = sound_put g role hs ks k names names' n rs p w may sound ordered grows
+sound_placed g role hs ks k names names' n rs (Err x) w e may sound ordered grows = grown_sound g role hs ks k names names' sound grows e
+
+pub valid_placed : {E : Type 0} (g : Grammar) (role : ℕ) (hs ks : List Held) (k : Map) (names : List Ref) (n : Node) (rs : List Ref) (o : Result Placed E) → IfOk o (λ p. Puts names hs n rs p ks) → OnErr o (ks ≡ hs) → MayBeCalled g role (call_of g n rs) →
+    IsValid g hs k → IsValid g ks k
+valid_placed g role hs ks k names n rs (Ok p) w e may valid = valid_put g role hs ks k names n rs p w may valid
+valid_placed g role hs ks k names n rs (Err x) w e may valid = subst (λ xs. IsValid g xs k) (sym e) valid
+
+pub places_placed : {E : Type 0} (g g' : Grammar) (hs ks : List Held) (names : List Ref) (n : Node) (rs : List Ref) (o : Result Placed E) → g ≡ g' → IfOk o (λ p. Puts names hs n rs p ks) → IfOk o (λ p. Places (all_of g hs) (call_of g' n rs) p (all_of g ks))
+places_placed g g' hs ks names n rs (Ok p) same w = subst (λ x. Places (all_of g hs) (call_of x n rs) p (all_of g ks)) same (put_places g hs ks names n rs p w)
+places_placed g g' hs ks names n rs (Err x) same w = tt
+
+put_nodes : (g : Grammar) (hs ks : List Held) (names : List Ref) (n : Node) (rs : List Ref) (p : Placed) → Puts names hs n rs p ks → KeepsNodes (all_of g hs) (all_of g ks)
+put_nodes g hs ks names n rs New w = subst (KeepsNodes (all_of g hs)) (sym (put_places g hs ks names n rs New w).1) (nodes_put (called_held (call_of g n rs)) (all_of g hs))
+put_nodes g hs ks names n rs Same w = nodes_same (all_of g hs) (all_of g ks) (ap (all_of g) w.1)
+put_nodes g hs ks names n rs (Conflict kept came) w = nodes_same (all_of g hs) (all_of g ks) (ap (all_of g) w.3)
+
+pub nodes_placed : {E : Type 0} (g : Grammar) (hs ks : List Held) (names : List Ref) (n : Node) (rs : List Ref) (o : Result Placed E) → IfOk o (λ p. Puts names hs n rs p ks) → OnErr o (ks ≡ hs) → KeepsNodes (all_of g hs) (all_of g ks)
+nodes_placed g hs ks names n rs (Ok p) w e = put_nodes g hs ks names n rs p w
+nodes_placed g hs ks names n rs (Err x) w e = nodes_same (all_of g hs) (all_of g ks) (ap (all_of g) e)

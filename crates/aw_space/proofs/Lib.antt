@@ -17,3 +17,5 @@ pub mod Taken
 pub mod Carried
 pub mod Begun
 pub mod CarryingOut
+pub mod Results
+pub mod Refused

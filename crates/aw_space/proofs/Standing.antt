@@ -90,15 +90,16 @@ pub weighs_open : (g : Grammar) (number : ℕ) (rule : Rule) (k : Map) (args : L
     weighed_of (rule_of g.sorts rule) w ≡ by_rule (Some (rule_of g.sorts rule)) k held.node args (held_of (grammar_of g) held) →
     Weighs (grammar_of g) number w (by_held (Some (held_of (grammar_of g) held)) (grammar_of g) k held.node number args)
 weighs_open g number rule k args held w here idle e r there =
-    let h = held_of (grammar_of g) held in
+    let at = λ (done : Option Choice). by_held (Some (record { node = held.node; sort = sort_or (sort_of (grammar_of g) held.node); inherited = held.inherited; state = state_of done })) (grammar_of g) k held.node number args in
+    let h : H.Held = record { node = held.node; sort = sort_or (sort_of (grammar_of g) held.node); inherited = held.inherited; state = state_of None } in
     let same = same_rule g number rule r here there in
-    ap (λ x. weighed_of x w) (sym same) ∙ e
-    ∙ ap (λ o. by_rule o k held.node args h) (sym (slice_get-map (rule_of g.sorts) g.rules number ∙ ap (option_map (rule_of g.sorts)) here))
-    ∙ ap (λ d. by_held (Some (record { node = held.node; sort = sort_or (sort_of (grammar_of g) held.node); inherited = held.inherited; state = state_of d })) (grammar_of g) k held.node number args) (sym idle)
+    let met : weighed_of (rule_of g.sorts rule) w ≡ by_rule (Some (rule_of g.sorts rule)) k held.node args h = e in
+    let found : by_rule (Some (rule_of g.sorts rule)) k held.node args h ≡ at None = ap (λ o. by_rule o k held.node args h) (sym (slice_get-map (rule_of g.sorts) g.rules number ∙ ap (option_map (rule_of g.sorts)) here)) in
+    ap (λ x. weighed_of x w) (sym same) ∙ met ∙ found ∙ ap at (sym idle)
 
 -- a node that is done takes none
 pub weighs_done : (g : P.Grammar) (number : ℕ) (k : Map) (args : List Ground) (held : Held) (done : Option Choice) → held.done ≡ done → is_some done ≡ true → Weighs g number (weighed.Refused answer.Developed) (by_held (Some (held_of g held)) g k held.node number args)
-weighs_done g number k args held None is e = absurd cc
+weighs_done g number k args held None is e r there = absurd cc
 weighs_done g number k args held (Some (choice.Start s l)) is e r there =
     ap (λ d. by_held (Some (record { node = held.node; sort = sort_or (sort_of g held.node); inherited = held.inherited; state = state_of d })) g k held.node number args) (sym is)
 weighs_done g number k args held (Some (choice.Develop n rule given)) is e r there =

@@ -2,7 +2,7 @@
 ghost use Rattle.std.specs.Prelude.{◌≡◌, ◌+◌, ◌≤◌, ◌∷◌, [], None, true, false, IfOk, OnOk, OnErr, map as list_map, option_map};
 ghost use Rattle.std.specs.Option.{option_copied};
 ghost use Rattle.aw_choice.specs.ChoiceView.{answer_of, choice_of, item_of};
-ghost use Rattle.aw_term.specs.Choices.{Taken};
+ghost use Rattle.aw_term.specs.Choices.{Taken, answer_of as plain_answer};
 ghost use Rattle.aw_grammar.specs.GrammarOf.{grammar_of};
 ghost use Rattle.aw_base.specs.ChoiceFits.{choice_ok};
 ghost use Rattle.aw_store.specs.EquationView.{equation_of};
@@ -18,7 +18,7 @@ use crate::outcome::{Outcome, carry_out, foresee};
 use crate::placing::{Placed, Placing};
 use crate::taking_in::take_in;
 use aw_accept::Accepted;
-use aw_apply::Steps;
+use aw_apply::{Made, Steps};
 use aw_choice::{Choice, Worklist};
 use aw_grammar::Grammar;
 use aw_held::Held;
@@ -43,7 +43,7 @@ impl<'g, F: Facts> Space<'g, F> {
     ghost use Rattle.aw_space.specs.Spaces.{is_home, outcome, space_after, call_of, taken_in, clash_with, worklist};
     ghost use Rattle.aw_space.specs.Costs.{rules_of, waiting_on, choice_cost, taking_cost};
     ghost use Rattle.aw_space.specs.Keeping.{KeepsFacts, KeepsNodes, KeepsNodesBut};
-    ghost use Rattle.aw_space.specs.Outcomes.{IsOutcome};
+    ghost use Rattle.aw_space.specs.Outcomes.{IsMade, IsOutcome};
     ghost use Rattle.aw_space.specs.Placings.{MayBeCalled, MayBeCalledIf, MayBeLearnt, Places, placed_call};
     ghost use Rattle.aw_space.specs.Seen.{grammar_in, space_seen, IsUnchanged};
 
@@ -132,18 +132,34 @@ impl<'g, F: Facts> Space<'g, F> {
         ensures steps { steps.new ≤ steps.old + choice_cost (grammar_of g.now.grammar) self.old.role (space_seen ⟦<F as Facts>⟧ self.old) (choice_of choice.now) }
     {
         let outcome = self.foresee(g, choice, steps)?;
-        if outcome.is_taken() {
-            carry_out(
-                g.grammar(),
-                self.role,
-                &mut self.held,
-                &mut self.choices,
-                &mut self.facts,
-                choice,
-                &outcome.made,
-            )?;
+        if !outcome.is_taken() {
+            return Ok(outcome);
         }
+        self.take(g, choice, &outcome.made)?;
         Ok(outcome)
+    }
+
+    /// Takes a choice that was foreseen to be taken. An error changes neither nodes, choices nor equations.
+    fn take(&mut self, g: &Accepted, choice: &Choice, made: &Made) -> Result<(), AllocError>
+        requires grammar { g.now.grammar ≡ self.old.grammar.now }
+        requires ok { choice_ok (grammar_of g.now.grammar) (choice_of choice.now) ≡ true }
+        requires here { is_home (grammar_of g.now.grammar) self.old.role (node_of (choice_of choice.now)) ≡ true }
+        requires taken { plain_answer (outcome (grammar_of g.now.grammar) (space_seen ⟦<F as Facts>⟧ self.old) (choice_of choice.now)) ≡ Taken }
+        requires made { IsMade made.now (choice_of choice.now) (outcome (grammar_of g.now.grammar) (space_seen ⟦<F as Facts>⟧ self.old) (choice_of choice.now)) }
+        ensures grammar { self.new.grammar.now ≡ self.old.grammar.now }
+        ensures role { self.new.role ≡ self.old.role }
+        ensures space { OnOk result (space_seen ⟦<F as Facts>⟧ self.new ≡ space_after (grammar_of g.now.grammar) self.old.role (space_seen ⟦<F as Facts>⟧ self.old) (choice_of choice.now)) }
+        ensures err { OnErr result (IsUnchanged ⟦<F as Facts>⟧ self.old self.new) }
+    {
+        carry_out(
+            g.grammar(),
+            self.role,
+            &mut self.held,
+            &mut self.choices,
+            &mut self.facts,
+            choice,
+            made,
+        )
     }
 
     /// Holds a child that another role called, where it is not held. A conflict and an error change neither nodes, choices

@@ -19,8 +19,8 @@ use Rattle.aw_space.proofs.outcome.foresee.Goals.{in-Some, in-None}
 pub made-requires-clause-room : goal.made-requires-clause-room
 made-requires-clause-room g c = λ r here. subst (λ w. HasRoom (length r.children) c.in-Develop.node w) c.in-Takes.is (c.in_ok-answer-in-Develop.ensures.room r here)
 
-pub returns-after-find_held : goal.returns-after-find_held
-returns-after-find_held g c =
+pub returns-after-find_held-clause-outcome : goal.returns-after-find_held-clause-outcome
+returns-after-find_held-clause-outcome g c =
     let gr = grammar_of c.args.grammar.now in
     let hs = c.args.held.now in
     let k = g.F.Facts.map c.args.facts.now in
@@ -31,8 +31,8 @@ returns-after-find_held g c =
           c.plainly.ensures.equations c.plainly.ensures.children
     ])
 
-pub returns-in-Refused : goal.returns-in-Refused
-returns-in-Refused g c =
+pub returns-in-Refused-clause-outcome : goal.returns-in-Refused-clause-outcome
+returns-in-Refused-clause-outcome g c =
     let gr = grammar_of c.args.grammar.now in
     let k = g.F.Facts.map c.args.facts.now in
     let ok = subst (λ ch. choice_ok gr (choice_of ch) ≡ true) c.in-Develop.is c.requires.ok in
@@ -40,8 +40,8 @@ returns-in-Refused g c =
     (refused_foretold gr c.plainly-in-Refused.result c.in-Develop.node c.in-Develop.rule (map ground_of c.in-Develop.args) c.in_ok-answer-in-Develop.field-0 c.in-Refused.answer _ ok c.in_ok-answer-in-Develop.ensures.value c.in-Refused.is
     c.plainly-in-Refused.ensures.answer c.plainly-in-Refused.ensures.equations c.plainly-in-Refused.ensures.children)
 
-pub returns-in_ok-made-in-Takes : goal.returns-in_ok-made-in-Takes
-returns-in_ok-made-in-Takes g c =
+pub returns-in_ok-made-in-Takes-clause-outcome : goal.returns-in_ok-made-in-Takes-clause-outcome
+returns-in_ok-made-in-Takes-clause-outcome g c =
     let gr = grammar_of c.args.grammar.now in
     let k = g.F.Facts.map c.args.facts.now in
     let ok = subst (λ ch. choice_ok gr (choice_of ch) ≡ true) c.in-Develop.is c.requires.ok in

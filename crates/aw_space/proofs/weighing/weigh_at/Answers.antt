@@ -31,8 +31,8 @@ weigh_rule-requires-clause-shallow g c = patterns_shallow c.args.grammar.now c.a
 pub weigh_rule-requires-clause-room : goal.weigh_rule-requires-clause-room
 weigh_rule-requires-clause-room g c = patterns_room c.args.grammar.now c.args.number _ (found_rule c.args.grammar.now.rules c.args.number c.rule.result c.in-Some.rule c.rule.ensures.value c.in-Some.is)
 
-pub returns-in-Some-clause-value : goal.returns-in-Some-clause-value
-returns-in-Some-clause-value g c =
+pub returns-clause-value : goal.returns-clause-value
+returns-clause-value g c =
     let gr = c.args.grammar.now in
     let held = c.args.held.now in
     let k = g.F.Facts.map c.args.facts.now in
@@ -53,8 +53,8 @@ pub returns-then-is_some-clause-value : goal.returns-then-is_some-clause-value
 returns-then-is_some-clause-value g c =
     weighs_done (grammar_of c.args.grammar.now) c.args.number (g.F.Facts.map c.args.facts.now) (map ground_of c.args.args.now) c.args.held.now c.args.held.now.done refl (sym c.is_some.ensures ∙ c.if-is_some.true)
 
-pub returns-in-Some-clause-room : goal.returns-in-Some-clause-room
-returns-in-Some-clause-room g c =
+pub returns-clause-room : goal.returns-clause-room
+returns-clause-room g c =
     let gr = c.args.grammar.now in
     let here = found_rule gr.rules c.args.number c.rule.result c.in-Some.rule c.rule.ensures.value c.in-Some.is in
     IfOk-weaker c.weigh_rule.result (HasRoom (length c.in-Some.rule.now.children) c.args.held.now.node) (HasRoomFor gr c.args.number c.args.held.now.node)
