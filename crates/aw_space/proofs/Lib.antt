@@ -19,3 +19,4 @@ pub mod Begun
 pub mod CarryingOut
 pub mod Results
 pub mod Refused
+pub mod TakenIn

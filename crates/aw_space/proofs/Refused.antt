@@ -23,12 +23,12 @@ taken_is Taken e = refl
 
 -- what a test tells of an answer
 pub told_taken : (b : Bool) (a : Answer) (x : Q.Answer Ref) → (IsTrue b ↔ (a ≡ Taken)) → answer_of a ≡ x → b ≡ true → x ≡ Q.Taken
-told_taken true a x w e t = sym e ∙ ap answer_of (w.0 tt)
+told_taken true a x w e t = sym e ∙ ap answer_of (w.0 refl)
 told_taken false a x w e t = absurd cc
 
 pub told_refused : (b : Bool) (a : Answer) (x : Q.Answer Ref) → (IsTrue b ↔ (a ≡ Taken)) → answer_of a ≡ x → b ≡ false → x ≡ Q.Taken → ⊥
 told_refused true a x w e t f = absurd cc
-told_refused false a x w e t f = absurd (w.1 (taken_is a (e ∙ f)))
+told_refused false a x w e t f = let wrong : false ≡ true = w.1 (taken_is a (e ∙ f)) in absurd cc
 
 refused_cases : (g : Grammar) (role : ℕ) (s : Space) (c : Q.Choice) (x : Q.Outcome Ref Ref) → (Q.answer_of x ≡ Q.Taken → ⊥) → space_on g role s c x ≡ s
 refused_cases g role s c (Q.Refused a) f = refl
