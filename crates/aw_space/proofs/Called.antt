@@ -1,16 +1,14 @@
 -- A space with one more called node.
-use Rattle.std.proofs.Common.{◌≡◌, ℕ, Bool, true, false, List, [], ◌∷◌, Option, Some, None, slice_get, refl, ap, sym, ◌∙◌, subst}
+use Rattle.std.proofs.Common.{◌≡◌, ℕ, Bool, true, false, List, Option, Some, None, refl, ap, sym, ◌∙◌, subst}
 use Rattle.std.specs.Prelude.{Result, Ok, Err, IfOk, OnErr, not, ◌&&◌, ◌||◌, unwrap_or, option_map}
 use Rattle.std.proofs.lemmas.Bool.{and_parts, and_from}
 use Rattle.std.proofs.lemmas.Option.{same_Some}
 use Rattle.aw_term.specs.Names.{Node, Ref}
 use Rattle.aw_term.specs.Rules.{Grammar, sort_of}
-use Rattle.aw_term.specs.Held as P
 use Rattle.aw_term.specs.Held.{insert_held}
 use Rattle.aw_store.specs.Equations.{Map}
 use Rattle.aw_store.specs.NamedRefs.{all_named, Grows}
 use Rattle.aw_store.proofs.NameLemmas.{all_named-grown}
-use Rattle.aw_apply.specs.Made.{Call}
 use Rattle.aw_held.specs.declared.held.Held.{Held}
 use Rattle.aw_held.specs.HeldView.{sort_or, held_of, all_of}
 use Rattle.aw_held.specs.InOrder.{IsInOrder, place_in, insert_in}
@@ -23,7 +21,7 @@ use Rattle.aw_space.specs.Keeping.{KeepsNodes}
 use Rattle.aw_space.proofs.Staying.{nodes_same, nodes_put}
 use Rattle.aw_space.specs.Missing.{missing_on, missing_node, with_node, inherited_by, LacksIf}
 use Rattle.aw_space.specs.Placings.{MayBeCalled, MayBeCalledIf, called_open, placed_call, Places, Puts}
-use Rattle.aw_space.specs.Sound.{is_rooted, all_inherited, IsSound}
+use Rattle.aw_space.specs.Sound.{all_inherited, IsSound}
 use Rattle.aw_space.specs.Spaces.{is_home, call_of, with_call}
 use Rattle.aw_space.specs.Valid.{IsValid}
 use Rattle.aw_space.specs.declared.placing.Placed.{Placed}

@@ -1,5 +1,5 @@
 -- A choice that was foreseen to be taken, carried out.
-use Rattle.std.proofs.Common.{◌≡◌, ℕ, true, List, [], ◌∷◌, ◌++◌, map, Option, Some, None, slice_get, refl, ap, sym, ◌∙◌, subst}
+use Rattle.std.proofs.Common.{◌≡◌, ℕ, true, List, [], ◌∷◌, ◌++◌, map, Some, None, slice_get, ap, sym, ◌∙◌, subst}
 use Rattle.std.specs.Prelude.{Result, Ok, Err, OnOk, OnErr}
 use Rattle.std.proofs.lemmas.Option.{same_Some}
 use Rattle.aw_term.specs.Names.{Node, Ref, root}
@@ -38,7 +38,7 @@ use Rattle.aw_space.proofs.Called.{grown_sound}
 use Rattle.aw_space.proofs.Carried.{new_valid, kids_named, new_equations, own_lacks, sound_after, valid_after, space_after_rule}
 use Rattle.aw_space.proofs.FewParts.{all_few_valid}
 use Rattle.aw_space.proofs.Taken.{opened}
-use Rattle.aw_space.proofs.TakenOn.{TookRule, Took, took, started}
+use Rattle.aw_space.proofs.TakenOn.{Took, took, started}
 
 module _ (gr : Grammar) (role : ℕ) (hs : List Held) (k : Map) (names : List Ref) (sound : IsSound (grammar_of gr) role hs k names) (valid : IsValid (grammar_of gr) hs k) (c : Choice)
     (ok : choice_ok (grammar_of gr) (choice_of c) ≡ true) (home : is_home (grammar_of gr) role (node_of (choice_of c)) ≡ true)

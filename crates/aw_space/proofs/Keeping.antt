@@ -1,6 +1,6 @@
 -- What adding an equation keeps of a space.
-use Rattle.std.proofs.Common.{◌≡◌, ℕ, Bool, true, false, List, [], ◌∷◌, ◌++◌, Option, Some, None, refl, ap, sym, ◌∙◌, subst}
-use Rattle.std.specs.Prelude.{Result, Ok, Err, IfOk, OnErr, not, ◌&&◌, ◌||◌}
+use Rattle.std.proofs.Common.{◌≡◌, ℕ, true, false, List, [], ◌∷◌, ◌++◌, refl, ap, sym, subst}
+use Rattle.std.specs.Prelude.{Result, Ok, Err, IfOk, OnErr, not, ◌||◌}
 use Rattle.std.proofs.lemmas.Bool.{and_parts, and_from}
 use Rattle.aw_term.specs.Rules.{Grammar}
 use Rattle.aw_store.specs.Equations as Q

@@ -1,14 +1,14 @@
 -- The children of a taken rule that are of this role, as the nodes that are held of them.
-use Rattle.std.proofs.Common.{◌≡◌, ℕ, zero, suc, ◌<◌, get_or, arith, Bool, true, false, cond, List, [], ◌∷◌, ◌++◌, map, filter, length, Option, Some, None, slice_get, refl, ap, sym, ◌∙◌, subst, is_some}
-use Rattle.std.specs.Prelude.{not, ◌&&◌, ◌||◌, option_map}
+use Rattle.std.proofs.Common.{◌≡◌, ℕ, zero, suc, ◌<◌, get_or, arith, Bool, true, false, cond, List, [], ◌∷◌, map, filter, length, Option, Some, None, refl, ap, sym, ◌∙◌, is_some}
+use Rattle.std.specs.Prelude.{option_map}
 use Rattle.std.proofs.lemmas.Bool.{and_parts, and_from}
 use Rattle.aw_term.specs.Trees.{Never}
-use Rattle.aw_term.specs.Names.{Node, Ref, node_eq, node_lt}
+use Rattle.aw_term.specs.Names.{Node, node_eq, node_lt}
 use Rattle.aw_term.specs.Rules.{Grammar, sort_of}
 use Rattle.aw_term.specs.WellFormed.{Each, Later}
 use Rattle.aw_term.specs.Held as P
 use Rattle.aw_term.proofs.Eaches.{each_map}
-use Rattle.aw_term.proofs.NodeTests.{node_self, node_is}
+use Rattle.aw_term.proofs.NodeTests.{node_is}
 use Rattle.aw_iograph.proofs.Members.{never}
 use Rattle.aw_apply.specs.Made.{Call}
 use Rattle.aw_apply.specs.MadeView.{as_child}
@@ -19,7 +19,7 @@ use Rattle.aw_held.specs.InOrder.{place_in, insert_in, Lacks, LackEach}
 use Rattle.aw_joint.specs.Joint.{called_held}
 use Rattle.aw_react.specs.Telling.{calls_in}
 use Rattle.aw_space.specs.Children.{open_child, own_children, are_named}
-use Rattle.aw_space.specs.Sound.{is_own, all_own, is_done, is_rooted, all_rooted}
+use Rattle.aw_space.specs.Sound.{is_own, all_own, is_rooted, all_rooted}
 use Rattle.aw_space.specs.Spaces.{is_home}
 use Rattle.aw_space.specs.Valid.{held_fits, all_fit}
 

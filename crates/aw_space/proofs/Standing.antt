@@ -1,6 +1,6 @@
 -- What is known of the node at a place, and of a rule that is weighed there.
-use Rattle.std.proofs.Common.{◌≡◌, ℕ, zero, suc, ◌≤◌, Bool, true, false, List, [], ◌∷◌, ◌++◌, length, map, Option, Some, None, Bor, slice_get, nat_eq, is_some, refl, ap, sym, ◌∙◌, subst, arith}
-use Rattle.std.specs.Prelude.{◌&&◌, option_map}
+use Rattle.std.proofs.Common.{◌≡◌, ℕ, zero, suc, ◌≤◌, true, false, List, [], ◌∷◌, ◌++◌, length, map, Option, Some, None, Bor, slice_get, is_some, refl, ap, sym, ◌∙◌, subst}
+use Rattle.std.specs.Prelude.{option_map}
 use Rattle.std.specs.Option.{option_copied}
 use Rattle.std.proofs.lemmas.Bool.{and_parts, eqb-true}
 use Rattle.std.proofs.lemmas.Option.{slice_get-map, same_Some}
@@ -21,7 +21,7 @@ use Rattle.aw_grammar.specs.GrammarView.{rule_of}
 use Rattle.aw_grammar.proofs.RuleSizes.{patterns_taken, leaves_few}
 use Rattle.aw_store.specs.Equations.{Map}
 use Rattle.aw_store.specs.NamedRefs.{all_named}
-use Rattle.aw_apply.specs.Telling.{weighed_of, HasRoom}
+use Rattle.aw_apply.specs.Telling.{weighed_of}
 use Rattle.aw_apply.specs.declared.telling.Weighed.{Weighed}
 use Rattle.aw_apply.specs.declared.telling.Weighed.TheVariants as weighed
 use Rattle.aw_choice.specs.declared.choice.Answer.TheVariants as answer
@@ -33,7 +33,7 @@ use Rattle.aw_joint.specs.Joint.{by_rule, by_held}
 use Rattle.aw_react.specs.ValidNames.{takes_as}
 use Rattle.aw_space.specs.Sound.{is_own, all_own, all_inherited}
 use Rattle.aw_space.specs.Spaces.{is_home}
-use Rattle.aw_space.specs.Weighing.{Weighs, HasRoomFor}
+use Rattle.aw_space.specs.Weighing.{Weighs}
 use Rattle.aw_space.proofs.Names.{all_named-left, all_named-right}
 
 pub named_here : (ns : List Ref) (hs : List Held) (i : ℕ) (h : Held) → all_named ns (all_inherited hs) ≡ true → slice_get hs i ≡ Some h → all_named ns h.inherited ≡ true

@@ -1,9 +1,9 @@
 -- What stays over the calls of a space.
-use Rattle.std.proofs.Common.{◌≡◌, ℕ, Bool, true, false, cond, List, [], ◌∷◌, ◌++◌, map, Option, Some, None, refl, ap, sym, ◌∙◌, subst, inl, inr}
+use Rattle.std.proofs.Common.{◌≡◌, ℕ, Bool, true, false, cond, List, [], ◌∷◌, ◌++◌, map, Option, Some, None, refl, sym, ◌∙◌, subst, inl, inr}
 use Rattle.std.specs.Prelude.{◌⊎◌}
 use Rattle.aw_term.specs.Names.{Node, Ref, node_eq}
 use Rattle.aw_term.specs.Rules.{Ground, Grammar}
-use Rattle.aw_term.specs.Configs.{State, Done}
+use Rattle.aw_term.specs.Configs.{Done}
 use Rattle.aw_term.specs.Choices.{Choice, Start, Develop, Outcome, Refused, Starts, Takes}
 use Rattle.aw_term.specs.Held.{Held, held_of, mark, insert_held}
 use Rattle.aw_term.proofs.NodeTests.{node_is}

@@ -1,6 +1,6 @@
 -- A space that took in a call, if there is one, and equations.
-use Rattle.std.proofs.Common.{◌≡◌, ℕ, true, List, [], ◌∷◌, Option, Some, None, refl, ap, sym, ◌∙◌, subst}
-use Rattle.std.specs.Prelude.{Result, Ok, Err, OnOk, OnErr, map as list_map, option_map}
+use Rattle.std.proofs.Common.{◌≡◌, ℕ, true, List, Option, ap, sym, ◌∙◌, subst}
+use Rattle.std.specs.Prelude.{Result, Ok, Err, OnOk, OnErr, option_map}
 use Rattle.aw_term.specs.Names.{Ref}
 use Rattle.aw_term.specs.Rules.{Grammar}
 use Rattle.aw_choice.specs.declared.choice.Choice.{Choice}
@@ -14,7 +14,7 @@ use Rattle.aw_space.specs.Keeping.{KeepsFacts, KeepsNodes}
 use Rattle.aw_space.specs.Missing.{missing_node, with_node, inherited_by}
 use Rattle.aw_space.specs.Placings.{MayBeCalledIf, MayBeLearnt, placed_call}
 use Rattle.aw_space.specs.Sound.{IsSound}
-use Rattle.aw_space.specs.Spaces.{taken_in, with_call}
+use Rattle.aw_space.specs.Spaces.{taken_in}
 use Rattle.aw_space.specs.SpaceView.{space_of}
 use Rattle.aw_space.specs.Valid.{IsValid}
 use Rattle.aw_space.specs.declared.placing.Placing.{Placing}

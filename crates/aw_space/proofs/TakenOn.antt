@@ -1,18 +1,17 @@
 -- What a choice is that is taken over references.
-use Rattle.std.proofs.Common.{◌≡◌, ℕ, Bool, true, false, cond, List, [], ◌∷◌, length, Option, Some, None, slice_get, nat_eq, refl, ap, sym, ◌∙◌, subst}
+use Rattle.std.proofs.Common.{◌≡◌, ℕ, Bool, true, false, cond, List, length, Option, Some, None, slice_get, nat_eq, refl, ap, sym, ◌∙◌, subst}
 use Rattle.std.proofs.lemmas.Bool.{eqb-true}
 use Rattle.aw_term.specs.Names.{Node, Ref, root}
 use Rattle.aw_term.specs.Matching.{Matched, Yes, Waits, Differs, Circle}
-use Rattle.aw_term.specs.Rules.{Ground, Rule, Grammar, sort_of}
-use Rattle.aw_term.specs.Configs.{State, Pending, Done}
-use Rattle.aw_term.specs.Choices.{Start, Develop, Answer, Known, NotHere, Developed, NotItsRule, Arguments, TooDeep, Taken, Outcome, Refused, Starts, Takes, answer_of, after_guard, deep}
+use Rattle.aw_term.specs.Rules.{Ground, Rule, Grammar}
+use Rattle.aw_term.specs.Choices.{Start, Develop, Answer, Known, NotHere, NotItsRule, Arguments, TooDeep, Taken, Outcome, Refused, Starts, Takes, answer_of, after_guard, deep}
 use Rattle.aw_term.specs.Held as P
 use Rattle.aw_choice.specs.declared.choice.Choice.{Choice}
 use Rattle.aw_choice.specs.declared.choice.Choice.TheVariants as choice
 use Rattle.aw_store.specs.Equations.{Map}
 use Rattle.aw_apply.specs.Guard.{guard_all}
 use Rattle.aw_held.specs.declared.held.Held.{Held}
-use Rattle.aw_held.specs.HeldView.{sort_or, state_of, held_of, all_of}
+use Rattle.aw_held.specs.HeldView.{state_of, held_of, all_of}
 use Rattle.aw_held.specs.InOrder.{place_in}
 use Rattle.aw_held.proofs.HeldViews.{held_here, held_nowhere}
 use Rattle.aw_joint.specs.Joint.{by_rule, by_state, by_held, by_root, outcome_in}

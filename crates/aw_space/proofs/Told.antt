@@ -1,6 +1,6 @@
 -- A space with equations of other roles.
-use Rattle.std.proofs.Common.{◌≡◌, ℕ, Bool, true, false, cond, List, [], ◌∷◌, ◌++◌, Option, Some, None, refl, ap, sym, ◌∙◌, subst}
-use Rattle.std.specs.Prelude.{not, ◌&&◌, ◌||◌, nat_eq}
+use Rattle.std.proofs.Common.{◌≡◌, ℕ, Bool, true, false, cond, List, [], ◌∷◌, Option, Some, None, refl, ap}
+use Rattle.std.specs.Prelude.{not, ◌||◌}
 use Rattle.std.proofs.lemmas.Bool.{and_parts, and_from}
 use Rattle.aw_term.specs.Rules.{Grammar}
 use Rattle.aw_term.specs.Held as P
@@ -8,7 +8,6 @@ use Rattle.aw_store.specs.Equations.{Body, Equation, Map, find}
 use Rattle.aw_apply.specs.Made.{Call}
 use Rattle.aw_apply.specs.Messages.{Clash, OfNode}
 use Rattle.aw_held.specs.declared.held.Held.{Held}
-use Rattle.aw_react.specs.Homes.{home}
 use Rattle.aw_react.specs.Receiving.{none_mine, refs_eq, add_on, add_all, call_clash, first_clash}
 use Rattle.aw_react.specs.ValidNames.{equation_ok, equations_ok}
 use Rattle.aw_space.specs.Sound.{all_done, is_done}

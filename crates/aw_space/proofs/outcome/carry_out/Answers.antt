@@ -1,4 +1,4 @@
-use Rattle.std.proofs.Common.{◌≡◌, ◌∙◌, sym, ap}
+use Rattle.std.proofs.Common.{◌∙◌, sym, ap}
 use Rattle.aw_held.specs.InOrder.{place_in}
 use Rattle.aw_space.proofs.CarryingOut.{start_lacks, start_sound, start_valid, start_space, rule_named, rule_new, rule_few, rule_there, rule_lacks, rule_sound, rule_valid, rule_space}
 use Rattle.aw_space.proofs.outcome.carry_out.Goals as goal

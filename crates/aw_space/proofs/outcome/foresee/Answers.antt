@@ -3,8 +3,6 @@ use Rattle.aw_term.specs.Views.{ground_of}
 use Rattle.aw_grammar.specs.GrammarOf.{grammar_of}
 use Rattle.aw_base.specs.ChoiceFits.{choice_ok}
 use Rattle.aw_choice.specs.ChoiceView.{choice_of}
-use Rattle.aw_choice.specs.declared.choice.Choice.{Choice}
-use Rattle.aw_choice.specs.declared.choice.Choice.TheVariants.{Start, Develop}
 use Rattle.aw_held.specs.HeldView.{all_of}
 use Rattle.aw_held.specs.InOrder.{place_in}
 use Rattle.aw_joint.specs.Joint.{outcome_in}

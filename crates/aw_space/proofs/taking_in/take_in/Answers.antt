@@ -1,4 +1,4 @@
-use Rattle.std.proofs.Common.{◌≡◌, ◌∙◌, ap, sym, subst, true}
+use Rattle.std.proofs.Common.{◌≡◌, ◌∙◌, ap, subst, true}
 use Rattle.std.specs.Option.{option_copied}
 use Rattle.aw_store.specs.NamedRefs.{all_named}
 use Rattle.aw_store.proofs.NameLemmas.{all_named-grown}

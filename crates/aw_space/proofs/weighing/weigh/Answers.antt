@@ -1,7 +1,6 @@
-use Rattle.std.proofs.Common.{◌≡◌, ◌∙◌, sym, ap, subst, map, length, refl, Some, slice_get}
+use Rattle.std.proofs.Common.{sym, ap, subst, map, length, refl, Some}
 use Rattle.std.proofs.lemmas.Option.{slice_get_read}
 use Rattle.std.proofs.lemmas.Result.{IfOk-weaker}
-use Rattle.aw_term.specs.Rules.{sort_of}
 use Rattle.aw_term.specs.Choices.{Develop}
 use Rattle.aw_term.specs.Views.{ground_of}
 use Rattle.aw_grammar.specs.GrammarOf.{grammar_of}

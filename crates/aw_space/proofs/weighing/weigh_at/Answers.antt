@@ -1,7 +1,6 @@
-use Rattle.std.proofs.Common.{◌≡◌, ◌∙◌, sym, ap, subst, map, List, Some, None, refl, slice_get, length}
+use Rattle.std.proofs.Common.{◌≡◌, ◌∙◌, sym, subst, map, List, Some, refl, length}
 use Rattle.std.proofs.lemmas.Option.{same_Some}
 use Rattle.std.proofs.lemmas.Result.{IfOk-weaker}
-use Rattle.aw_term.specs.Rules.{sort_of}
 use Rattle.aw_term.specs.Views.{ground_of}
 use Rattle.aw_term.specs.Held as P
 use Rattle.aw_grammar.specs.GrammarOf.{grammar_of}

@@ -1,4 +1,4 @@
-use Rattle.std.proofs.Common.{◌≡◌, ◌∙◌, ap, sym, subst}
+use Rattle.std.proofs.Common.{ap, sym, subst}
 use Rattle.aw_grammar.specs.GrammarOf.{grammar_of}
 use Rattle.aw_space.specs.Placings.{MayBeCalled}
 use Rattle.aw_space.specs.Sound.{IsSound}
