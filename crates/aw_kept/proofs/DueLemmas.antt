@@ -1,7 +1,7 @@
 -- The triples that have to wait, where a mark, a record or a number changes.
 use Rattle.std.proofs.Common.{◌≡◌, ◌≢◌, ℕ, zero, suc, ◌+◌, ◌<◌, ◌≤◌, ◌⊎◌, inl, inr, Bool, true, false, cond, List, [], ◌∷◌, ◌++◌, length, Option, Some, None, slice_get, refl, sym, ap, ◌∙◌, subst, arith}
 use Rattle.std.specs.Prelude.{count_by, sum_by, filter, insert, nat_eq, not, ◌&&◌}
-use Rattle.std.proofs.lemmas.List.Sums.{sum_by-append, sum_by-cons, sum_by-insert, length-filter, count_by-le-length}
+use Rattle.std.proofs.lemmas.List.Sums.{sum_by-append, sum_by-cons, sum_by-insert, sum_by-le-sum_by, length-filter, count_by-le-length}
 use Rattle.std.specs.List.Sorted.{IsPermutation}
 use Rattle.std.proofs.lemmas.List.Sorted.{sum_by-IsPermutation}
 use Rattle.std.proofs.lemmas.Bool.{eqb-true, eq-eqb}
@@ -170,7 +170,7 @@ module _ (p : Triple → Bool) (n : ℕ) where
   abbrev pub elsewhere : Triple → Bool
   elsewhere t = not (nat_eq t.node n)
 
-  counted_here : (ts : List Triple) → count_by p (filter elsewhere ts) ≡ count_by (λ t. elsewhere t && p t) ts
+  pub counted_here : (ts : List Triple) → count_by p (filter elsewhere ts) ≡ count_by (λ t. elsewhere t && p t) ts
   counted_here [] = refl
   counted_here (t ∷ ts) = by (elsewhere t) refl (counted_here ts)
     where
@@ -282,3 +282,17 @@ pub taken_fewer : (q slot n rule : ℕ) (ts us : List Triple) → IsPermutation 
 taken_fewer q slot n rule ts us same =
     let f : Triple → ℕ = λ t. cond (nat_eq t.slot q) 1 0 in
     omega (arith, sum_by-IsPermutation f ts (triple slot n rule ∷ us) same, sum_by-cons f (triple slot n rule) us)
+
+-- of those of the other nodes not more wait for any slot
+pub others_wait_less : (q n : ℕ) (ts : List Triple) → waiting_at q (others_than n ts) ≤ waiting_at q ts
+others_wait_less q n ts =
+    omega (
+      arith,
+      counted_here (λ t. nat_eq t.slot q) n ts,
+      sum_by-le-sum_by (λ t. cond (not (nat_eq t.node n) && nat_eq t.slot q) 1 0) (λ t. cond (nat_eq t.slot q) 1 0) ts (λ t. less (not (nat_eq t.node n)) (nat_eq t.slot q)),
+    )
+  where
+    less : (a b : Bool) → cond {A = ℕ} (a && b) 1 0 ≤ cond {A = ℕ} b 1 0
+    less true b = omega arith
+    less false true = omega arith
+    less false false = omega arith

@@ -89,6 +89,7 @@ impl Kept {
         ensures kept { (g : PlainGrammar) (hs : List HeldValue) (k : Map) (names late : List RefName) (c : ChoiceValue) →
             IsKeptBut g hs k names late self.old → IsKeptBut g (done_at c at hs) k names late self.new }
         ensures room { (n w : ℕ) → HasRoom self.old n w → HasRoom self.new n w }
+        ensures fewer { (q : ℕ) → waiting_at q self.new.work.waiting ≤ waiting_at q self.old.work.waiting }
     {
         let number = self.numbers[at];
         self.work.drop_node(number);

@@ -1,5 +1,5 @@
 //! What is kept of one node.
-ghost use Rattle.std.specs.Prelude.{◌≡◌, ◌≢◌, ◌<◌, ◌≤◌, ◌+◌, ℕ, Bool, Some, true, false, IfSome, IfNone, length, count_by, slice_get};
+ghost use Rattle.std.specs.Prelude.{◌≡◌, ◌≢◌, ◌<◌, ◌≤◌, ◌+◌, ℕ, Bool, Some, true, false, IfSome, IfNone, length, count_by, slice_get, vec_len};
 ghost use Rattle.aw_work.specs.declared.block.Triple.{Triple as TripleValue};
 ghost use Rattle.aw_kept.specs.Due.{waiting_mark};
 ghost use Rattle.aw_kept.specs.Due.{due_of};
@@ -32,6 +32,15 @@ pub struct Record {
     pub(crate) sort: u16,
     pub(crate) deep: bool,
     pub(crate) marks: Vec<Mark>,
+}
+
+impl Record {
+    /// How many rules are tested where the node is opened, and may have to wait.
+    pub fn rule_count(&self) -> usize
+        ensures { result ≡ vec_len self.now.marks }
+    {
+        self.marks.len()
+    }
 }
 
 /// Lets a rule wait where it stands so, at the node with this number. There is room.

@@ -1,11 +1,12 @@
-use Rattle.std.proofs.Common.{rules, ◌≡◌, ◌<◌, get_or, length, ap, refl, subst, sym, arith}
+use Rattle.std.proofs.Common.{rules, ◌≡◌, ◌<◌, ◌≤◌, get_or, length, ap, refl, subst, sym, arith}
 use Rattle.std.specs.Prelude.{slice_set}
 use Rattle.std.proofs.lemmas.Option.{slice_get_read}
+use Rattle.aw_work.specs.Triples.{waiting_at}
 use Rattle.aw_held.specs.InOrder.{done_at}
 use Rattle.aw_kept.specs.declared.record.Record.{Record}
 use Rattle.aw_kept.specs.KeptStates.{AreKept}
 use Rattle.aw_kept.proofs.Places.{set_at}
-use Rattle.aw_kept.proofs.DueLemmas.{others_fewer}
+use Rattle.aw_kept.proofs.DueLemmas.{others_fewer, others_wait_less}
 use Rattle.aw_kept.proofs.Opening.{kept_closed}
 use Rattle.aw_kept.proofs.kept.Kept.close.Goals as goal
 
@@ -43,3 +44,9 @@ returns-in_default-clause-room c n w r = record {
   entries = r.entries;
   spare = omega (arith, r.spare, c.drop_node.ensures.spare, ap length c.drop_node.ensures.waiting, others_fewer c.index-number.result.now c.args.self.now.work.waiting);
 }
+
+pub returns-in-Some-clause-fewer : goal.returns-in-Some-clause-fewer
+returns-in-Some-clause-fewer c q = subst (λ z. waiting_at q z ≤ waiting_at q c.args.self.now.work.waiting) (sym c.drop_node.ensures.waiting) (others_wait_less q c.index-number.result.now c.args.self.now.work.waiting)
+
+pub returns-in_default-clause-fewer : goal.returns-in_default-clause-fewer
+returns-in_default-clause-fewer c q = subst (λ z. waiting_at q z ≤ waiting_at q c.args.self.now.work.waiting) (sym c.drop_node.ensures.waiting) (others_wait_less q c.index-number.result.now c.args.self.now.work.waiting)
