@@ -33,7 +33,7 @@ module _ (gr : Grammar) (role s l : ℕ) (start : is_start (slice_get (grammar_o
   abbrev g : P.Grammar
   g = grammar_of gr
 
-  takes_none : takes_as g (sort_of g (root s l)) [] ≡ true
+  pub takes_none : takes_as g (sort_of g (root s l)) [] ≡ true
   takes_none =
       ap (λ o. takes_as g o []) (sort_of_root g s l start)
       ∙ ∥∥₁_elim gr.well_formed (Bool-set _ _) (λ w. eq-eqb 0 (takes_of (slice_get g.sorts s)) (sym (start_takes (words_of gr) g w s start)))

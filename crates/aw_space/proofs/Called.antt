@@ -59,7 +59,7 @@ valid_called g role hs k n rs may valid = record {
   equations = valid.equations;
 }
 
-sort_or-zero : (o : Option ℕ) → sort_or o ≡ unwrap_or o 0
+pub sort_or-zero : (o : Option ℕ) → sort_or o ≡ unwrap_or o 0
 sort_or-zero None = refl
 sort_or-zero (Some s) = refl
 

@@ -195,7 +195,7 @@ module _ (gr : Grammar) (role : ℕ) (hs : List Held) (k : Map) (names : List Re
     done_now : is_done n after ≡ true
     done_now = done_all_inserted n own (done_at c t.at hs) (subst (λ m. is_done m (done_at c t.at hs) ≡ true) t.node (done_here c t.at hs t.held t.there))
 
-    own_is : all_own g role own ≡ true
+    pub own_is : all_own g role own ≡ true
     own_is = all_own_each g role own (own_each g role (λ h. is_own g role h ≡ true) mk.calls (each_of _ mk.calls (λ c m here. and_from _ _ here (kid_takes c m))))
 
     own_rooted : all_rooted g role after own ≡ true

@@ -1,9 +1,10 @@
 -- A choice that was foreseen to be taken, carried out.
-use Rattle.std.proofs.Common.{◌≡◌, ℕ, true, List, [], ◌∷◌, ◌++◌, map, Some, None, slice_get, ap, sym, ◌∙◌, subst}
+use Rattle.std.proofs.Common.{◌≡◌, ℕ, ◌+◌, ◌≤◌, true, List, [], ◌∷◌, ◌++◌, map, Some, None, slice_get, refl, ap, sym, ◌∙◌, subst, arith}
 use Rattle.std.specs.Prelude.{Result, Ok, Err, OnOk, OnErr}
 use Rattle.std.proofs.lemmas.Option.{same_Some}
 use Rattle.aw_term.specs.Names.{Node, Ref, root}
 use Rattle.aw_term.specs.Rules as P
+use Rattle.aw_term.specs.Rules.{sort_of}
 use Rattle.aw_term.specs.Choices as Q
 use Rattle.aw_term.specs.Views.{ground_of}
 use Rattle.aw_term.specs.declared.ground.Ground.{Ground}
@@ -23,20 +24,26 @@ use Rattle.aw_apply.specs.Made.{Making, made}
 use Rattle.aw_apply.specs.MadeView.{as_child}
 use Rattle.aw_apply.specs.declared.making.Made.{Made}
 use Rattle.aw_held.specs.declared.held.Held.{Held}
-use Rattle.aw_held.specs.HeldView.{all_of}
+use Rattle.aw_held.specs.HeldView.{sort_or, all_of}
 use Rattle.aw_held.specs.InOrder.{IsInOrder, Lacks, LackEach, place_in, insert_in, insert_all_in, done_at}
 use Rattle.aw_joint.specs.Joint.{outcome_in}
+use Rattle.aw_merge.proofs.Sorts.{sort_of_root}
+use Rattle.aw_react.specs.Telling.{calls_in}
+use Rattle.aw_react.specs.ValidNames.{takes_as}
+use Rattle.aw_react.specs.Worklists.{site_worklist}
 use Rattle.aw_react.specs.Worlds.{node_of}
 use Rattle.aw_space.specs.Children.{own_children, are_named}
+use Rattle.aw_space.specs.Costs.{rules_of, rules_at, added, choice_cost, waiting_on_lefts}
 use Rattle.aw_space.specs.Outcomes.{IsMade}
-use Rattle.aw_space.specs.Sound.{all_inherited, IsSound}
-use Rattle.aw_space.specs.Spaces.{is_home, making, space_after}
+use Rattle.aw_space.specs.Sound.{all_inherited, all_own, IsSound}
+use Rattle.aw_space.specs.Spaces.{is_home, making, space_after, worklist}
 use Rattle.aw_space.specs.SpaceView.{space_of}
 use Rattle.aw_space.specs.Valid.{IsValid}
-use Rattle.aw_space.proofs.Begun.{sound_begun, valid_begun, space_begun}
+use Rattle.aw_space.proofs.Begun.{takes_none, sound_begun, valid_begun, space_begun}
 use Rattle.aw_space.proofs.Called.{grown_sound}
-use Rattle.aw_space.proofs.Carried.{new_valid, kids_named, new_equations, own_lacks, sound_after, valid_after, space_after_rule}
+use Rattle.aw_space.proofs.Carried.{new_valid, kid_sorts, kids_named, new_equations, own_lacks, own_is, sound_after, valid_after, space_after_rule}
 use Rattle.aw_space.proofs.FewParts.{all_few_valid}
+use Rattle.aw_space.proofs.OwnChildren.{own_view}
 use Rattle.aw_space.proofs.Taken.{opened}
 use Rattle.aw_space.proofs.TakenOn.{Took, took, started}
 
@@ -60,19 +67,37 @@ module _ (gr : Grammar) (role : ℕ) (hs : List Held) (k : Map) (names : List Re
     pub start_lacks : Lacks (root s l) hs
     start_lacks = begins.0
 
-    pub start_sound : {E : Type 0} (hs' : List Held) (o : Result (Unit {0}) E) → OnOk o (hs' ≡ insert_in (opened s l) hs) → OnErr o (hs' ≡ hs) → IsInOrder hs' → IsSound g role hs' k names
-    start_sound hs' (Ok x) e f ordered = subst (λ xs. IsSound g role xs k names) (sym e) (sound_begun gr role s l start hs k names start_home sound (subst IsInOrder e ordered))
-    start_sound hs' (Err x) e f ordered = subst (λ xs. IsSound g role xs k names) (sym f) sound
+    pub start_takes : takes_as g (sort_of g (root s l)) [] ≡ true
+    start_takes = takes_none gr role s l start
 
-    pub start_valid : {E : Type 0} (hs' : List Held) (o : Result (Unit {0}) E) → OnOk o (hs' ≡ insert_in (opened s l) hs) → OnErr o (hs' ≡ hs) → IsValid g hs' k
-    start_valid hs' (Ok x) e f = subst (λ xs. IsValid g xs k) (sym e) (valid_begun gr role s l start hs k valid)
-    start_valid hs' (Err x) e f = subst (λ xs. IsValid g xs k) (sym f) valid
+    begun_sound : {E : Type 0} (hs' : List Held) (o : Result (Unit {0}) E) → OnOk o (hs' ≡ insert_in (opened s l) hs) → OnErr o (hs' ≡ hs) → IsInOrder hs' → IsSound g role hs' k names
+    begun_sound hs' (Ok x) e f ordered = subst (λ xs. IsSound g role xs k names) (sym e) (sound_begun gr role s l start hs k names start_home sound (subst IsInOrder e ordered))
+    begun_sound hs' (Err x) e f ordered = subst (λ xs. IsSound g role xs k names) (sym f) sound
 
-    pub start_space : {E : Type 0} (cs cs' : List Choice) (hs' : List Held) (o : Result (Unit {0}) E) → OnOk o (hs' ≡ insert_in (opened s l) hs) → OnOk o (cs' ≡ cs ++ c ∷ []) →
-        OnOk o (space_of g hs' cs' k ≡ space_after g role (space_of g hs cs k) (choice_of c))
-    start_space cs cs' hs' (Ok x) e f =
-        (λ i. space_of g (e i) (f i) k) ∙ space_begun gr role s l start hs cs k c (ap choice_of is) begins.1 ∙ ap (space_after g role (space_of g hs cs k)) (sym (ap choice_of is))
-    start_space cs cs' hs' (Err x) e f = tt
+    pub start_sound : {E : Type 0} (hs' : List Held) (k' : Map) (names' : List Ref) (o : Result (Unit {0}) E) → k' ≡ k → Grows names names' → OnOk o (hs' ≡ insert_in (opened s l) hs) → OnErr o (hs' ≡ hs) → IsInOrder hs' → IsSound g role hs' k' names'
+    start_sound hs' k' names' o same grows e f ordered = subst (λ m. IsSound g role hs' m names') (sym same) (grown_sound g role hs' hs' k names names' (begun_sound hs' o e f ordered) grows refl)
+
+    begun_valid : {E : Type 0} (hs' : List Held) (o : Result (Unit {0}) E) → OnOk o (hs' ≡ insert_in (opened s l) hs) → OnErr o (hs' ≡ hs) → IsValid g hs' k
+    begun_valid hs' (Ok x) e f = subst (λ xs. IsValid g xs k) (sym e) (valid_begun gr role s l start hs k valid)
+    begun_valid hs' (Err x) e f = subst (λ xs. IsValid g xs k) (sym f) valid
+
+    pub start_valid : {E : Type 0} (hs' : List Held) (k' : Map) (o : Result (Unit {0}) E) → k' ≡ k → OnOk o (hs' ≡ insert_in (opened s l) hs) → OnErr o (hs' ≡ hs) → IsValid g hs' k'
+    start_valid hs' k' o same e f = subst (λ m. IsValid g hs' m) (sym same) (begun_valid hs' o e f)
+
+    pub start_space : {E : Type 0} (cs cs' : List Choice) (hs' : List Held) (k' : Map) (o : Result (Unit {0}) E) → k' ≡ k → OnOk o (hs' ≡ insert_in (opened s l) hs) → OnOk o (cs' ≡ cs ++ c ∷ []) →
+        OnOk o (space_of g hs' cs' k' ≡ space_after g role (space_of g hs cs k) (choice_of c))
+    start_space cs cs' hs' k' (Ok x) same e f =
+        (λ i. space_of g (e i) (f i) (same i)) ∙ space_begun gr role s l start hs cs k c (ap choice_of is) begins.1 ∙ ap (space_after g role (space_of g hs cs k)) (sym (ap choice_of is))
+    start_space cs cs' hs' k' (Err x) same e f = tt
+
+    -- its own guard, which is none, and those of its node
+    pub start_cost : (cs : List Choice) → rules_of g (sort_or (sort_of g (root s l))) + 1 ≤ choice_cost g role (space_of g hs cs k) (choice_of c)
+    start_cost cs =
+        let S = space_of g hs cs k in
+        let R = rules_of g (sort_or (sort_of g (root s l))) in
+        let many : R ≡ rules_of g s = ap (λ o. rules_of g (sort_or o)) (sort_of_root g s l start) in
+        subst (λ x. R + 1 ≤ choice_cost g role S x) (sym (ap choice_of is))
+        (subst (λ x. R + 1 ≤ 1 + (rules_at g (added g role (Q.Start s l) x) + waiting_on_lefts (making (Q.Start s l) x).equations (worklist g S))) (sym begins.1) (omega (arith, many)))
 
   -- ---- a rule
   module _ (m : Made) (made_is : IsMade m (choice_of c) (outcome_in (all_of g hs) k g (choice_of c))) (n : Node) (r : ℕ) (given : List Ground) (is : c ≡ choice.Develop n r given) where
@@ -111,6 +136,23 @@ module _ (gr : Grammar) (role : ℕ) (hs : List Held) (k : Map) (names : List Re
 
     pub rule_few : all_few (map equation_of m.equations) ≡ true
     rule_few = ap all_few equations_are ∙ all_few_valid gr mk.equations (new_valid gr role hs k names sound valid n r args rule_ok rule_home t)
+
+    -- the children that are held here are this role's
+    pub rule_own : all_own g role (own_children g role m.children) ≡ true
+    rule_own = ap (λ cs. all_own g role (own_children g role cs)) children_are ∙ own_is gr role hs k names sound valid n r args rule_ok rule_home t c seen
+
+    -- its own guard, those of its children, and those that wait for one of its equations
+    pub rule_cost : (cs : List Choice) → (rules_at g (all_of g (own_children g role m.children)) + waiting_on_lefts (map equation_of m.equations) (site_worklist g k (all_of g hs))) + 1 ≤ choice_cost g role (space_of g hs cs k) (choice_of c)
+    rule_cost cs =
+        let S = space_of g hs cs k in
+        let W = site_worklist g k (all_of g hs) in
+        let A = rules_at g (all_of g (own_children g role m.children)) in
+        let B = waiting_on_lefts (map equation_of m.equations) W in
+        let kids : A ≡ rules_at g (calls_in g role mk.calls) =
+        ap (λ xs. rules_at g (all_of g (own_children g role xs))) children_are ∙ ap (rules_at g) (own_view g role mk.calls (kid_sorts gr role hs k names sound valid n r args rule_ok rule_home t)) in
+        let lefts : B ≡ waiting_on_lefts mk.equations W = ap (λ es. waiting_on_lefts es W) equations_are in
+        subst (λ x. (A + B) + 1 ≤ choice_cost g role S x) (sym seen)
+        (subst (λ x. (A + B) + 1 ≤ 1 + (rules_at g (added g role (Q.Develop n r args) x) + waiting_on_lefts (making (Q.Develop n r args) x).equations (worklist g S))) (sym t.rule.takes) (omega (arith, kids, lefts)))
 
     -- the node is held
     pub rule_there : place_in n hs ≡ None → ⊥

@@ -20,3 +20,7 @@ pub mod CarryingOut
 pub mod Results
 pub mod Refused
 pub mod TakenIn
+pub mod Waking
+pub mod Listing
+pub mod Openings
+pub mod Costing

@@ -8,6 +8,7 @@ use Rattle.aw_term.specs.Held.{Held}
 use Rattle.aw_store.specs.Equations.{Equation, find}
 use Rattle.aw_apply.specs.Made.{Call, made}
 use Rattle.aw_joint.specs.Joint.{root_held}
+pub use Rattle.aw_kept.specs.Items.{waiting_on}
 use Rattle.aw_react.specs.Telling.{calls_in}
 use Rattle.aw_react.specs.Receiving.{add_on}
 use Rattle.aw_space.specs.Spaces.{Space, outcome, making, with_call, worklist}
@@ -19,15 +20,6 @@ rules_of g sort = count_by (λ (r : Rule). nat_eq r.sort sort) g.rules
 -- how many rules are of the sorts of these nodes
 abbrev pub rules_at : Grammar → List Held → ℕ
 rules_at g hs = sum_by (λ (h : Held). rules_of g h.sort) hs
-
--- the answer is to wait for this reference
-abbrev pub is_waiting_for : Ref → Option (Answer Ref) → Bool
-is_waiting_for r (Some (WaitsFor s)) = ref_eq r s
-is_waiting_for r _ = false
-
--- how many items of a worklist wait for this reference
-abbrev pub waiting_on : Ref → List Item → ℕ
-waiting_on r items = count_by (λ (i : Item). is_waiting_for r i.refusal) items
 
 -- how many wait for the left sides of these equations
 abbrev pub waiting_on_lefts : List Equation → List Item → ℕ

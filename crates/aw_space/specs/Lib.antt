@@ -10,3 +10,6 @@ pub mod Placings
 pub mod Weighing
 pub mod Children
 pub mod Missing
+pub mod Openings
+pub mod Waking
+pub mod TakenIn

@@ -1,9 +1,11 @@
 //! The workspace of one role: its nodes in order, the choices taken on them, and its equations.
 #![tactic(auto)]
 
-mod adding;
 mod calls;
+mod learning;
+mod making;
 mod naming;
+mod opening;
 pub mod outcome;
 pub mod placing;
 pub mod space;

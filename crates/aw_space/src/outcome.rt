@@ -8,6 +8,8 @@ ghost use Rattle.aw_held.specs.HeldView.{all_of};
 ghost use Rattle.aw_joint.specs.Joint.{outcome_in};
 ghost use Rattle.aw_space.specs.Sound.{IsSound};
 ghost use Rattle.aw_react.specs.Worlds.{node_of};
+ghost use Rattle.aw_kept.specs.KeptStates.{IsKept};
+ghost use Rattle.aw_space.specs.Costs.{choice_cost};
 ghost use Rattle.aw_space.specs.Outcomes.{IsMade, IsOutcome};
 ghost use Rattle.aw_space.specs.Spaces.{is_home, space_after};
 ghost use Rattle.aw_space.specs.SpaceView.{space_of};
@@ -20,6 +22,7 @@ use aw_apply::{Made, Steps, Weighed, made};
 use aw_choice::{Answer, Choice};
 use aw_grammar::Grammar;
 use aw_held::{Held, find_held};
+use aw_kept::Kept;
 use aw_list::Items;
 use aw_store::Facts;
 use std::alloc::{AllocError, Global};
@@ -93,15 +96,17 @@ pub fn foresee<F: Facts, L: Ledger>(
 }
 
 /// Carries out a choice that is foreseen to be taken. All memory is taken first, so an error changes nothing but the
-/// names of the store.
-pub fn carry_out<F: Facts>(
+/// names of the store. With the guard that was tested to foresee it, no more are tested than the choice costs.
+pub fn carry_out<F: Facts, L: Ledger>(
     grammar: &Grammar,
     role: u16,
     held: &mut Vec<Held>,
     choices: &mut Vec<Choice>,
     facts: &mut F,
+    kept: &mut Kept,
     choice: &Choice,
     made: &Made,
+    steps: &mut Steps<L>,
 ) -> Result<(), AllocError>
     requires sound { IsSound (grammar_of grammar.now) role held.old.items (F.map facts.old) (F.names facts.old) }
     requires valid { IsValid (grammar_of grammar.now) held.old.items (F.map facts.old) }
@@ -110,6 +115,7 @@ pub fn carry_out<F: Facts>(
     requires taken { plain_answer (outcome_in (all_of (grammar_of grammar.now) held.old.items) (F.map facts.old) (grammar_of grammar.now) (choice_of choice.now)) ≡ PlainTaken }
     requires made { IsMade made.now (choice_of choice.now)
         (outcome_in (all_of (grammar_of grammar.now) held.old.items) (F.map facts.old) (grammar_of grammar.now) (choice_of choice.now)) }
+    requires stands { IsKept (grammar_of grammar.now) held.old.items (F.map facts.old) (F.names facts.old) kept.old }
     ensures space { OnOk result (space_of (grammar_of grammar.now) held.new.items choices.new.items (F.map facts.new)
         ≡ space_after (grammar_of grammar.now) role (space_of (grammar_of grammar.now) held.old.items choices.old.items (F.map facts.old)) (choice_of choice.now)) }
     ensures sound { IsSound (grammar_of grammar.now) role held.new.items (F.map facts.new) (F.names facts.new) }
@@ -117,11 +123,17 @@ pub fn carry_out<F: Facts>(
     ensures err_held { OnErr result (held.new.items ≡ held.old.items) }
     ensures err_choices { OnErr result (choices.new.items ≡ choices.old.items) }
     ensures err_map { OnErr result (F.map facts.new ≡ F.map facts.old) }
+    ensures stands { IsKept (grammar_of grammar.now) held.new.items (F.map facts.new) (F.names facts.new) kept.new }
+    ensures steps { steps.new + 1 ≤ steps.old + choice_cost (grammar_of grammar.now) role (space_of (grammar_of grammar.now) held.old.items choices.old.items (F.map facts.old)) (choice_of choice.now) }
 {
     match choice {
-        Choice::Start { sort, case } => take_start(held, choices, choice, *sort, *case),
+        Choice::Start { sort, case } => {
+            take_start(grammar, held, choices, facts, kept, choice, *sort, *case, steps)
+        }
         Choice::Develop { node, .. } => match find_held(held.as_slice(), node) {
-            Some(at) => take_rule(grammar, role, held, choices, facts, at, choice, made),
+            Some(at) => take_rule(
+                grammar, role, held, choices, facts, kept, at, choice, made, steps,
+            ),
             None => unreachable!(),
         },
     }

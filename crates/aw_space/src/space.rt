@@ -10,10 +10,12 @@ ghost use Rattle.aw_store.specs.StoreView.{Adds};
 ghost use Rattle.aw_held.specs.HeldView.{all_of};
 ghost use Rattle.aw_react.specs.ValidNames.{equation_ok};
 ghost use Rattle.aw_react.specs.Worlds.{node_of};
+ghost use Rattle.aw_kept.specs.KeptStates.{IsKept};
 ghost use Rattle.aw_space.specs.Sound.{IsSound};
 ghost use Rattle.aw_space.specs.Valid.{IsValid};
 
 use crate::calls::place_call;
+use crate::learning::learn;
 use crate::outcome::{Outcome, carry_out, foresee};
 use crate::placing::{Placed, Placing};
 use crate::taking_in::take_in;
@@ -22,6 +24,7 @@ use aw_apply::{Made, Steps};
 use aw_choice::{Choice, Worklist};
 use aw_grammar::Grammar;
 use aw_held::Held;
+use aw_kept::Kept;
 use aw_name::{Node, Refs};
 use aw_store::{Added, Equation, Equations, Facts};
 use std::alloc::{AllocError, Global};
@@ -35,8 +38,10 @@ pub struct Space<'g, F: Facts> {
     pub(crate) held: Vec<Held>,
     pub(crate) choices: Vec<Choice>,
     pub(crate) facts: F,
+    pub(crate) kept: Kept,
     pub ghost sound: { IsSound (grammar_of grammar.now) role held.items (F.map facts) (F.names facts) },
     pub ghost valid: { IsValid (grammar_of grammar.now) held.items (F.map facts) },
+    pub ghost stands: { IsKept (grammar_of grammar.now) held.items (F.map facts) (F.names facts) kept },
 }
 
 impl<'g, F: Facts> Space<'g, F> {
@@ -62,6 +67,7 @@ impl<'g, F: Facts> Space<'g, F> {
             held: Vec::new(alloc),
             choices: Vec::new(alloc),
             facts,
+            kept: Kept::new(alloc),
         }
     }
 
@@ -135,12 +141,18 @@ impl<'g, F: Facts> Space<'g, F> {
         if !outcome.is_taken() {
             return Ok(outcome);
         }
-        self.take(g, choice, &outcome.made)?;
+        self.take(g, choice, &outcome.made, steps)?;
         Ok(outcome)
     }
 
     /// Takes a choice that was foreseen to be taken. An error changes neither nodes, choices nor equations.
-    fn take(&mut self, g: &Accepted, choice: &Choice, made: &Made) -> Result<(), AllocError>
+    fn take<L: Ledger>(
+        &mut self,
+        g: &Accepted,
+        choice: &Choice,
+        made: &Made,
+        steps: &mut Steps<L>,
+    ) -> Result<(), AllocError>
         requires grammar { g.now.grammar ≡ self.old.grammar.now }
         requires ok { choice_ok (grammar_of g.now.grammar) (choice_of choice.now) ≡ true }
         requires here { is_home (grammar_of g.now.grammar) self.old.role (node_of (choice_of choice.now)) ≡ true }
@@ -150,6 +162,7 @@ impl<'g, F: Facts> Space<'g, F> {
         ensures role { self.new.role ≡ self.old.role }
         ensures space { OnOk result (space_seen ⟦<F as Facts>⟧ self.new ≡ space_after (grammar_of g.now.grammar) self.old.role (space_seen ⟦<F as Facts>⟧ self.old) (choice_of choice.now)) }
         ensures err { OnErr result (IsUnchanged ⟦<F as Facts>⟧ self.old self.new) }
+        ensures steps { steps.new + 1 ≤ steps.old + choice_cost (grammar_of g.now.grammar) self.old.role (space_seen ⟦<F as Facts>⟧ self.old) (choice_of choice.now) }
     {
         carry_out(
             g.grammar(),
@@ -157,8 +170,10 @@ impl<'g, F: Facts> Space<'g, F> {
             &mut self.held,
             &mut self.choices,
             &mut self.facts,
+            &mut self.kept,
             choice,
             made,
+            steps,
         )
     }
 
@@ -182,7 +197,15 @@ impl<'g, F: Facts> Space<'g, F> {
         ensures nodes { KeepsNodes (space_seen ⟦<F as Facts>⟧ self.old).held (space_seen ⟦<F as Facts>⟧ self.new).held }
         ensures steps { steps.new ≤ steps.old + rules_of (grammar_of g.now.grammar) (call_of (grammar_of g.now.grammar) node.now inherited.now).sort }
     {
-        place_call(&mut self.held, &mut self.facts, node, inherited)
+        place_call(
+            g.grammar(),
+            &mut self.held,
+            &mut self.facts,
+            &mut self.kept,
+            node,
+            inherited,
+            steps,
+        )
     }
 
     /// Takes in an equation of another role, where its left side has none. A conflict and an error change neither nodes,
@@ -205,7 +228,7 @@ impl<'g, F: Facts> Space<'g, F> {
         ensures facts { KeepsFacts (F.map self.old.facts) (F.map self.new.facts) }
         ensures steps { steps.new ≤ steps.old + waiting_on e.left (worklist (grammar_of g.now.grammar) (space_seen ⟦<F as Facts>⟧ self.old)) }
     {
-        self.facts.add(e)
+        learn(g.grammar(), &mut self.facts, &mut self.kept, e, steps)
     }
 
     /// Takes in a call, if there is one, and equations of other roles, none of which contradicts what is held. An error
@@ -229,7 +252,15 @@ impl<'g, F: Facts> Space<'g, F> {
         ensures nodes { KeepsNodes (space_seen ⟦<F as Facts>⟧ self.old).held (space_seen ⟦<F as Facts>⟧ self.new).held }
         ensures steps { steps.new ≤ steps.old + taking_cost (grammar_of g.now.grammar) (option_map (placed_call (grammar_of g.now.grammar)) (option_copied call.entry)) (list_map equation_of es.now) (space_seen ⟦<F as Facts>⟧ self.old) }
     {
-        take_in(&mut self.held, &mut self.facts, call, es)
+        take_in(
+            g.grammar(),
+            &mut self.held,
+            &mut self.facts,
+            &mut self.kept,
+            call,
+            es,
+            steps,
+        )
     }
 
     /// The worklist: each open node in order with each rule of its sort, and how it stands. It tests no guard.
@@ -242,6 +273,11 @@ impl<'g, F: Facts> Space<'g, F> {
         ensures items { IfOk result (λ items. list_map item_of items ≡ worklist (grammar_of g.now.grammar) (space_seen ⟦<F as Facts>⟧ self.now)) }
         ensures steps { steps.new ≡ steps.old }
     {
-        Err(AllocError)
+        let mut items = Vec::new(*self.held.allocator());
+        for at in 0..self.held.len() {
+            self.kept
+                .push_items(at, &self.held[at].node, &self.facts, &mut items)?;
+        }
+        Ok(Worklist::from_vec(items))
     }
 }
