@@ -1,5 +1,5 @@
 -- What a call and equations cost, by the program's nodes and by the plain ones.
-use Rattle.std.proofs.Common.{◌≡◌, ℕ, ◌+◌, ◌≤◌, true, List, [], ◌∷◌, map, Option, Some, None, refl, ap, sym, subst, ◌∙◌, arith, All, filter}
+use Rattle.std.proofs.Common.{◌≡◌, ℕ, ◌+◌, ◌≤◌, true, List, [], ◌∷◌, map, Option, Some, None, refl, ap, sym, subst, ◌∙◌, arith, All, filter, Vec}
 use Rattle.std.specs.Prelude.{option_map}
 use Rattle.std.proofs.lemmas.Bool.{and_parts}
 use Rattle.std.proofs.lemmas.List.Elements.{All-nil, All-cons}
@@ -21,7 +21,6 @@ use Rattle.aw_space.specs.Openings.{IsOpenable, held_in}
 use Rattle.aw_space.specs.Placings.{MayBeCalled, MayBeCalledIf, placed_call}
 use Rattle.aw_space.specs.Sound.{is_own, all_own}
 use Rattle.aw_space.specs.Spaces.{Space, is_home, with_call}
-use Rattle.std_alloc.specs.declared.vec.Vec.{Vec}
 use Rattle.aw_term.specs.Names.{Ref}
 use Rattle.aw_store.specs.NamedRefs.{Grows, all_named}
 use Rattle.aw_kept.specs.declared.kept.Kept.{Kept}

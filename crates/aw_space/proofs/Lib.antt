@@ -24,3 +24,4 @@ pub mod Waking
 pub mod Listing
 pub mod Openings
 pub mod Costing
+pub mod Beginning

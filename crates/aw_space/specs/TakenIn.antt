@@ -1,6 +1,5 @@
 -- What is taken in with a call and equations, and how many guards are tested.
-use Rattle.std.specs.Prelude.{ℕ, ◌<◌, ◌+◌, List, Option, Some, None, vec_len, vec_capacity}
-use Rattle.std_alloc.specs.declared.vec.Vec.{Vec}
+use Rattle.std.specs.Prelude.{ℕ, ◌<◌, ◌+◌, List, Option, Some, None, Vec, vec_len, vec_capacity}
 use Rattle.aw_term.specs.Names.{Ref}
 use Rattle.aw_term.specs.Rules.{Grammar, sort_of}
 use Rattle.aw_store.specs.Equations.{Equation, Map}

@@ -61,13 +61,15 @@ impl<'g, F: Facts> Space<'g, F> {
         ensures choices { result.choices.items ≡ [] }
         ensures map { F.map result.facts ≡ [] }
     {
+        let held = Vec::new(alloc);
+        let kept = Kept::new(alloc);
         Space {
             grammar: g.grammar(),
             role,
-            held: Vec::new(alloc),
+            held,
             choices: Vec::new(alloc),
             facts,
-            kept: Kept::new(alloc),
+            kept,
         }
     }
 

@@ -62,8 +62,9 @@ pub fn take_start<F: Facts, L: Ledger>(
     ensures steps { steps.new ≤ steps.old + rules_of (grammar_of grammar.now) (sort_or (sort_of (grammar_of grammar.now) (plain_root sort case))) }
 {
     let alloc = *held.allocator();
+    let node = root(alloc, sort, case);
     let new = Held {
-        node: root(alloc, sort, case),
+        node,
         inherited: Refs::new(alloc),
         done: None,
     };

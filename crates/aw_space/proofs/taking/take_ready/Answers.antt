@@ -1,11 +1,9 @@
-use Rattle.std.proofs.Common.{◌≡◌, ◌+◌, ◌≤◌, ◌++◌, ◌∙◌, [], true, ap, sym, subst, map, arith, All}
+use Rattle.std.proofs.Common.{◌≡◌, ◌+◌, ◌≤◌, ◌++◌, ◌∙◌, [], ap, sym, subst, map, arith, All}
 use Rattle.std.specs.Prelude.{Contains}
 use Rattle.std.proofs.lemmas.List.Elements.{All-weaker}
 use Rattle.aw_term.specs.Names.{Ref}
 use Rattle.aw_grammar.specs.GrammarOf.{grammar_of}
-use Rattle.aw_held.specs.InOrder.{IsInOrder, LackEach, done_at, insert_all_in}
-use Rattle.aw_store.specs.Adding.{AreNew}
-use Rattle.aw_store.specs.StoreView.{all_few}
+use Rattle.aw_held.specs.InOrder.{IsInOrder, LackEach, done_at}
 use Rattle.aw_held.specs.HeldView.{all_of}
 use Rattle.aw_held.proofs.InOrderLemmas.{up_of, far}
 use Rattle.aw_held.proofs.HeldViews.{ordered_done}
@@ -72,27 +70,3 @@ returns-clause-steps g c =
     let most = λ (r : Ref). waiting_on r (site_worklist gr k (all_of gr hs)) in
     let bound = closed_bound gr hs k l more c.args.kept.now c.close.new.self (g.met.F.Facts.once c.add_all_ready.new.f) c.close.ensures.fewer (named_more gr hs k names more c.args.kept.now c.add_all_ready.ensures.names c.requires.stands) in
     omega (arith, c.put_all_open.ensures.steps, c.wake_all.ensures.steps most bound, sum_lefts most c.args.told.now)
-
-pub close-requires : goal.close-requires
-close-requires g c = omega (arith, c.requires.at, c.requires.stands.beside, c.args.kept.now.numbers.ok.0)
-
-pub add_all_ready-requires-clause-new : goal.add_all_ready-requires-clause-new
-add_all_ready-requires-clause-new g c = subst (λ es. AreNew (g.F.Facts.map c.args.facts.now) (map equation_of es)) (sym c.requires.told) c.requires.new
-
-pub add_all_ready-requires-clause-few : goal.add_all_ready-requires-clause-few
-add_all_ready-requires-clause-few g c = subst (λ es. all_few (map equation_of es) ≡ true) (sym c.requires.told) c.requires.few
-
-pub add_all_ready-requires-clause-ready : goal.add_all_ready-requires-clause-ready
-add_all_ready-requires-clause-ready g c e m = c.requires.ready e (subst (λ es. Contains (map equation_of es) e) c.requires.told m)
-
-pub put_all_open-requires-clause-lacks : goal.put_all_open-requires-clause-lacks
-put_all_open-requires-clause-lacks g c = subst (LackEach (map held_in c.args.own.items)) (sym c.mark_done.ensures.items) c.requires.lacks
-
-pub put_all_open-requires-clause-place : goal.put_all_open-requires-clause-place
-put_all_open-requires-clause-place g c = omega (arith, c.requires.place, c.mark_done.ensures.len, c.mark_done.ensures.room)
-
-pub returns-clause-held : goal.returns-clause-held
-returns-clause-held g c = c.put_all_open.ensures.items ∙ ap (insert_all_in (map held_in c.args.own.items)) c.mark_done.ensures.items
-
-pub returns-clause-map : goal.returns-clause-map
-returns-clause-map g c = c.add_all_ready.ensures.map ∙ ap (λ es. g.F.Facts.map c.args.facts.now ++ map equation_of es) c.requires.told

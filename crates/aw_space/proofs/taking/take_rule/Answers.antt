@@ -47,6 +47,10 @@ pub take_ready-requires-clause-stands : goal.take_ready-requires-clause-stands
 take_ready-requires-clause-stands g c =
     grown_same (grammar_of c.args.grammar.now) _ _ _ _ _ c.make_all_ready.new.kept c.reserve-2.ensures.map c.reserve-2.ensures.names c.make_all_ready.ensures.stands
 
+pub returns-in_err-reserve-2-clause-stands : goal.returns-in_err-reserve-2-clause-stands
+returns-in_err-reserve-2-clause-stands g c =
+    grown_same (grammar_of c.args.grammar.now) _ _ _ _ _ c.make_all_ready.new.kept c.reserve-2.ensures.map c.reserve-2.ensures.names c.make_all_ready.ensures.stands
+
 pub returns-clause-held : goal.returns-clause-held
 returns-clause-held g c =
     let gr = grammar_of c.args.grammar.now in
