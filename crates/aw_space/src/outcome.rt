@@ -128,7 +128,9 @@ pub fn carry_out<F: Facts, L: Ledger>(
 {
     match choice {
         Choice::Start { sort, case } => {
-            take_start(grammar, held, choices, facts, kept, choice, *sort, *case, steps)
+            take_start(
+                grammar, held, choices, facts, kept, choice, *sort, *case, steps,
+            )
         }
         Choice::Develop { node, .. } => match find_held(held.as_slice(), node) {
             Some(at) => take_rule(

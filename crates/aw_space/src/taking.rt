@@ -178,7 +178,9 @@ pub fn take_rule<F: Facts, L: Ledger>(
     let own = make_all_ready(grammar, facts, held, kept, children)?;
     facts.reserve(&made.equations)?;
     let told = made.equations.as_slice();
-    take_ready(grammar, held, facts, kept, at, done, told, equations, own, steps);
+    take_ready(
+        grammar, held, facts, kept, at, done, told, equations, own, steps,
+    );
     push_choice(choices, taken);
     Ok(())
 }
