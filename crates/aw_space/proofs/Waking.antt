@@ -1,0 +1,188 @@
+-- What is kept, where an equation comes that rules waited for.
+use Rattle.std.proofs.Common.{◌≡◌, ℕ, zero, suc, ◌+◌, ◌≤◌, Bool, true, false, cond, List, [], ◌∷◌, ◌++◌, length, map, take, drop, get_or, All, Option, Some, None, is_some, slice_get, refl, ap, sym, ◌∙◌, subst, arith}
+use Rattle.std.specs.Prelude.{◌||◌, option_and_then, sum_by}
+use Rattle.std.proofs.lemmas.Bool.{and_parts, and_from}
+use Rattle.std.proofs.lemmas.List.Elements.{All-head, All-tail}
+use Rattle.std.proofs.lemmas.List.Sums.{sum_by-cons}
+use Rattle.std.proofs.lemmas.Option.{slice_get-get_or}
+use Rattle.aw_term.specs.Names.{Ref, ref_eq}
+use Rattle.aw_term.specs.Rules.{Grammar}
+use Rattle.aw_term.proofs.RefTests.{ref_eq-self, ref_eq-true}
+use Rattle.aw_store.specs.Equations.{Body, Equation, Map, find, mentions}
+use Rattle.aw_store.specs.NamedRefs.{is_named, all_named, has_names, has_names_of, Grows, body_at, IsNamedOnce}
+use Rattle.aw_store.proofs.MoreEquations.{find-left_more, find-right_more}
+use Rattle.aw_store.specs.EquationView.{equation_of}
+use Rattle.aw_store.specs.StoreView.{Adds}
+use Rattle.aw_store.specs.declared.equation.Equation as program
+use Rattle.aw_store.specs.declared.facts.Added.{Added}
+use Rattle.aw_store.specs.declared.facts.Added.TheVariants.{New, Same, Conflict}
+use Rattle.aw_held.specs.declared.held.Held.{Held}
+use Rattle.aw_held.specs.HeldView.{all_of}
+use Rattle.aw_joint.specs.Laws.{IsSubmap}
+use Rattle.aw_react.specs.Worklists.{site_worklist}
+use Rattle.aw_work.specs.Triples.{waiting_at}
+use Rattle.aw_kept.specs.Items.{waiting_on}
+use Rattle.aw_kept.proofs.ItemLemmas.{pairs_wait}
+use Rattle.aw_kept.specs.declared.kept.Kept.{Kept}
+use Rattle.aw_kept.specs.KeptStates.{AreFit, IsFitKept, IsKept, IsKeptBut, AreLate}
+use Rattle.aw_kept.proofs.Growing.{fit_grows, kept_named, kept_grown}
+use Rattle.aw_space.specs.Waking.{AreKnown, IsBound, left_of, lefts_of}
+
+-- it stays fit where names come
+pub fits_named : (g : Grammar) (names more : List Ref) (kept : Kept) → Grows names more → IsFitKept g names kept → IsFitKept g more kept
+fits_named g names more kept grows f = record { apart = f.apart; known = f.known; fit = λ i n x e u. fit_grows names more grows g x (f.fit i n x e u); waiting = f.waiting }
+
+pub named_more : (g : Grammar) (hs : List Held) (k : Map) (names more : List Ref) (kept : Kept) → Grows names more → IsKept g hs k names kept → IsKept g hs k more kept
+named_more g hs k names more kept grows w = kept_named names more grows g hs k [] kept.numbers.items kept.records.items kept.work.waiting w
+
+-- what is kept stays so where names come and the equations are the same
+pub grown_same : (g : Grammar) (hs : List Held) (k l : Map) (names more : List Ref) (kept : Kept) → l ≡ k → Grows names more → IsKept g hs k names kept → IsKept g hs l more kept
+grown_same g hs k l names more kept is grows w = subst (λ m. IsKept g hs m more kept) (sym is) (named_more g hs k names more kept grows w)
+
+-- an equation that is not new changes nothing
+pub told_same : (k l : Map) (e : program.Equation) (a : Added) → Adds k e a l → (a ≡ New → ⊥) → l ≡ k
+told_same k l e New w other = absurd (other refl)
+told_same k l e Same w other = w.1
+told_same k l e (Conflict kept came) w other = w.3
+
+-- the new left side has an equation
+left_found : (k : Map) (e : Equation) → find k e.left ≡ None → find (k ++ e ∷ []) e.left ≡ Some e.body
+left_found k e none = find-right_more k (e ∷ []) e.left none ∙ ap (λ b. cond b (Some e.body) None) (ref_eq-self e.left)
+
+pub left_there : (k l : Map) (names : List Ref) (e : Equation) (slot : ℕ) → find k e.left ≡ None → l ≡ k ++ e ∷ [] → slice_get names slot ≡ Some e.left → is_some (body_at l names slot) ≡ true
+left_there k l names e slot none is here =
+    ap is_some (ap (option_and_then (find l)) here ∙ ap (λ m. find m e.left) is ∙ left_found k e none)
+
+not_left : (r l : Ref) → (ref_eq r l || false) ≡ false → ref_eq r l ≡ false
+not_left r l e = by (ref_eq r l) e
+  where
+    by : (b : Bool) → (b || false) ≡ false → b ≡ false
+    by true e = absurd cc
+    by false e = refl
+
+-- only what waits for it is late
+pub one_late : (k l : Map) (e : Equation) → l ≡ k ++ e ∷ [] → AreLate k l [] (e.left ∷ [])
+one_late k l e is r other = (refl, λ none. ap (λ m. find m r) is ∙ find-right_more k (e ∷ []) r none ∙ ap (λ b. cond b (Some e.body) None) (not_left r e.left other))
+
+pub grown_by : (g : Grammar) (hs : List Held) (k l : Map) (names : List Ref) (e : Equation) (kept : Kept) → l ≡ k ++ e ∷ [] → IsKept g hs k names kept → IsKeptBut g hs l names (e.left ∷ []) kept
+grown_by g hs k l names e kept is w =
+    kept_grown k l names [] (e.left ∷ []) (λ r b f. subst (λ m. find m r ≡ Some b) (sym is) (find-left_more k (e ∷ []) r b f)) (one_late k l e is) g hs kept.numbers.items kept.records.items kept.work.waiting w
+
+-- ---- left sides in turn
+
+pub all_here : (k : Map) (es : List program.Equation) (i : ℕ) (e : program.Equation) → slice_get es i ≡ Some e → All (AreKnown k) es → is_some (find k e.left) ≡ true
+all_here k [] i e here known = absurd cc
+all_here k (x ∷ xs) zero e here known = let same : x ≡ e = cc in ap (λ (y : program.Equation). is_some (find k y.left)) (sym same) ∙ All-head (AreKnown k) x xs known
+all_here k (x ∷ xs) (suc i) e here known = all_here k xs i e here (All-tail (AreKnown k) x xs known)
+
+dropped : (es : List program.Equation) (i : ℕ) (e : program.Equation) → slice_get es i ≡ Some e → drop i es ≡ e ∷ drop (suc i) es
+dropped [] i e here = absurd cc
+dropped (x ∷ xs) zero e here = let same : x ≡ e = cc in ap (λ y. y ∷ xs) same
+dropped (x ∷ xs) (suc i) e here = dropped xs i e here
+
+pub one_dropped : (es : List program.Equation) (i : ℕ) (e : program.Equation) → slice_get es i ≡ Some e → map left_of (drop i es) ≡ e.left ∷ map left_of (drop (i + 1) es)
+one_dropped es i e here = let one : suc i ≡ i + 1 = omega arith in ap (map left_of) (dropped es i e here ∙ ap (λ n. e ∷ drop n es) one)
+
+sum_taken : (most : Ref → ℕ) (es : List program.Equation) (i : ℕ) (e : program.Equation) → slice_get es i ≡ Some e →
+    sum_by most (map left_of (take (suc i) es)) ≡ sum_by most (map left_of (take i es)) + most e.left
+sum_taken most [] i e here = absurd cc
+sum_taken most (x ∷ xs) zero e here = let same : x ≡ e = cc in ap (λ (y : program.Equation). 0 + most y.left) same
+sum_taken most (x ∷ xs) (suc i) e here =
+    omega (arith, sum_by-cons most x.left (map left_of (take (suc i) xs)), sum_by-cons most x.left (map left_of (take i xs)), sum_taken most xs i e here)
+
+pub one_taken : (most : Ref → ℕ) (es : List program.Equation) (i : ℕ) (e : program.Equation) → slice_get es i ≡ Some e →
+    sum_by most (map left_of (take (i + 1) es)) ≡ sum_by most (map left_of (take i es)) + most e.left
+one_taken most es i e here = let one : i + 1 ≡ suc i = omega arith in ap (λ n. sum_by most (map left_of (take n es))) one ∙ sum_taken most es i e here
+
+pub all_dropped : (es : List program.Equation) (i : ℕ) → length es ≤ i → map left_of (drop i es) ≡ []
+all_dropped [] i l = nothing i
+  where
+    nothing : (i : ℕ) → map left_of (drop i []) ≡ []
+    nothing zero = refl
+    nothing (suc i) = refl
+all_dropped (x ∷ xs) zero l = absurd (omega (arith, l))
+all_dropped (x ∷ xs) (suc i) l = all_dropped xs i (omega (arith, l))
+
+-- a reference with an equation is named
+pub found_named : (names : List Ref) (k : Map) (r : Ref) → has_names names k ≡ true → is_some (find k r) ≡ true → is_named names r ≡ true
+found_named names [] r h e = absurd cc
+found_named names (x ∷ xs) r h e = by (found_named names xs r (and_parts (has_names_of names x) (has_names names xs) h).1) (ref_eq r x.left) refl e
+  where
+    left : is_named names x.left ≡ true
+    left = (and_parts (is_named names x.left) (all_named names (mentions x.body)) (and_parts (has_names_of names x) (has_names names xs) h).0).0
+
+    by : (is_some (find xs r) ≡ true → is_named names r ≡ true) → (b : Bool) → ref_eq r x.left ≡ b → is_some (cond b (Some x.body) (find xs r)) ≡ true → is_named names r ≡ true
+    by go true t e = ap (is_named names) (ref_eq-true r x.left t) ∙ left
+    by go false t e = go e
+
+-- ---- several equations at once
+
+none_there : (es : List program.Equation) (r : Ref) → is_named (map left_of es) r ≡ false → find (map equation_of es) r ≡ None
+none_there [] r e = refl
+none_there (x ∷ xs) r e = by (ref_eq r x.left) (none_there xs r) e
+  where
+    by : (b : Bool) → (is_named (map left_of xs) r ≡ false → find (map equation_of xs) r ≡ None) → (b || is_named (map left_of xs) r) ≡ false → cond b (Some (equation_of x).body) (find (map equation_of xs) r) ≡ None
+    by true go e = absurd cc
+    by false go e = go e
+
+pub all_late : (k l : Map) (es : List program.Equation) → l ≡ k ++ map equation_of es → AreLate k l [] (map left_of es)
+all_late k l es is r other = (refl, λ none. ap (λ m. find m r) is ∙ find-right_more k (map equation_of es) r none ∙ none_there es r other)
+
+pub grown_by_all : (g : Grammar) (hs : List Held) (k l : Map) (names : List Ref) (es : List program.Equation) (kept : Kept) → l ≡ k ++ map equation_of es → IsKept g hs k names kept → IsKeptBut g hs l names (map left_of es) kept
+grown_by_all g hs k l names es kept is w =
+    kept_grown k l names [] (map left_of es) (λ r b f. subst (λ m. find m r ≡ Some b) (sym is) (find-left_more k (map equation_of es) r b f)) (all_late k l es is) g hs kept.numbers.items kept.records.items kept.work.waiting w
+
+found_in : (es : List program.Equation) (i : ℕ) (e : program.Equation) → slice_get es i ≡ Some e → is_some (find (map equation_of es) e.left) ≡ true
+found_in [] i e here = absurd cc
+found_in (x ∷ xs) zero e here =
+    let same : x ≡ e = cc in
+    ap (λ (y : program.Equation). is_some (find (map equation_of (x ∷ xs)) y.left)) (sym same) ∙ ap (λ b. is_some (cond b (Some (equation_of x).body) (find (map equation_of xs) x.left))) (ref_eq-self x.left)
+found_in (x ∷ xs) (suc i) e here = by (ref_eq e.left x.left) (found_in xs i e here)
+  where
+    by : (b : Bool) → is_some (find (map equation_of xs) e.left) ≡ true → is_some (cond b (Some (equation_of x).body) (find (map equation_of xs) e.left)) ≡ true
+    by true go = refl
+    by false go = go
+
+found_more : (k es : Map) (r : Ref) → is_some (find es r) ≡ true → is_some (find (k ++ es) r) ≡ true
+found_more [] es r e = e
+found_more (x ∷ k) es r e = by (ref_eq r x.left) (found_more k es r e)
+  where
+    by : (b : Bool) → is_some (find (k ++ es) r) ≡ true → is_some (cond b (Some x.body) (find (k ++ es) r)) ≡ true
+    by true go = refl
+    by false go = go
+
+pub all_known : (k l : Map) (es : List program.Equation) → l ≡ k ++ map equation_of es → All (AreKnown l) es
+all_known k l es is i d lt =
+    let e = get_or es i d in
+    ap (λ m. is_some (find m e.left)) is ∙ found_more k (map equation_of es) e.left (found_in es i e (slice_get-get_or es i d lt))
+
+pub sum_lefts : (most : Ref → ℕ) (es : List program.Equation) → sum_by most (map left_of es) ≡ sum_by (λ (e : Equation). most e.left) (map equation_of es)
+sum_lefts most [] = refl
+sum_lefts most (x ∷ xs) =
+    omega (arith, sum_by-cons most x.left (map left_of xs), sum_by-cons (λ (e : Equation). most e.left) (equation_of x) (map equation_of xs), sum_lefts most xs)
+
+-- where a node was closed, no more rules wait for a reference than the worklist showed
+pub closed_bound : (g : Grammar) (hs : List Held) (k l : Map) (names : List Ref) (old new : Kept) → IsNamedOnce names → ((q : ℕ) → waiting_at q new.work.waiting ≤ waiting_at q old.work.waiting) → IsKept g hs k names old →
+    IsBound l names new (λ r. waiting_on r (site_worklist g k (all_of g hs)))
+closed_bound g hs k l names old new once fewer w slot r here known =
+    omega (arith, fewer slot, pairs_wait names once slot r here g k hs old.numbers.items old.records.items old.work.waiting w)
+
+-- ---- left sides that are named
+
+pub lefts_taken : (names : List Ref) (es : List program.Equation) (i : ℕ) (e : program.Equation) → slice_get es i ≡ Some e → all_named names (map left_of (take i es)) ≡ true → is_named names e.left ≡ true →
+    all_named names (map left_of (take (i + 1) es)) ≡ true
+lefts_taken names es i e here before now = let one : i + 1 ≡ suc i = omega arith in ap (λ n. all_named names (map left_of (take n es))) one ∙ go es i here before
+  where
+    go : (es : List program.Equation) (i : ℕ) → slice_get es i ≡ Some e → all_named names (map left_of (take i es)) ≡ true → all_named names (map left_of (take (suc i) es)) ≡ true
+    go [] i here before = absurd cc
+    go (x ∷ xs) zero here before = let same : x ≡ e = cc in and_from _ _ (ap (λ (y : program.Equation). is_named names y.left) same ∙ now) refl
+    go (x ∷ xs) (suc i) here before =
+        let parts = and_parts (is_named names x.left) (all_named names (map left_of (take i xs))) before in
+        and_from _ _ parts.0 (go xs i here parts.1)
+
+pub all_lefts : (names : List Ref) (es : List program.Equation) (i : ℕ) → length es ≤ i → all_named names (map left_of (take i es)) ≡ true → all_named names (lefts_of (map equation_of es)) ≡ true
+all_lefts names [] i l e = refl
+all_lefts names (x ∷ xs) zero l e = absurd (omega (arith, l))
+all_lefts names (x ∷ xs) (suc i) l e =
+    let parts = and_parts (is_named names x.left) (all_named names (map left_of (take i xs))) e in
+    and_from _ _ parts.0 (all_lefts names xs i (omega (arith, l)) parts.1)

@@ -1,0 +1,34 @@
+-- Nodes that are to be held, each with what is kept of it.
+use Rattle.std.specs.Prelude.{◌≡◌, ℕ, true, List, None, sum_by, vec_len}
+use Rattle.aw_term.specs.Names.{Ref}
+use Rattle.aw_term.specs.Rules.{Grammar, sort_of}
+use Rattle.aw_held.specs.declared.held.Held.{Held}
+use Rattle.aw_react.specs.ValidNames.{takes_as}
+use Rattle.aw_kept.specs.Records.{IsFit, IsOf}
+use Rattle.aw_kept.specs.Tested.{IsFresh}
+use Rattle.aw_space.specs.declared.opening.Opening.{Opening}
+
+-- The node is open and goes by its name; what is kept is of this node, and none of its rules waits yet.
+pub record IsReady (g : Grammar) (names : List Ref) (o : Opening) : Type 0 where
+  pub name : o.name ≡ o.held.node
+  pub done : o.held.done ≡ None
+  pub of_node : IsOf g names o.held o.entry
+  pub fit : IsFit g names o.entry
+  pub fresh : IsFresh o.entry
+
+-- the node itself
+abbrev pub held_in : Opening → Held
+held_in o = o.held
+
+-- how many rules are tested where it is opened
+abbrev pub tests_of : Opening → ℕ
+tests_of o = vec_len o.entry.marks
+
+-- the same of several
+abbrev pub all_tests : List Opening → ℕ
+all_tests os = sum_by tests_of os
+
+-- an open node with as many references as its sort takes
+pub record IsOpenable (g : Grammar) (h : Held) : Type 0 where
+  pub takes : takes_as g (sort_of g h.node) h.inherited ≡ true
+  pub done : h.done ≡ None

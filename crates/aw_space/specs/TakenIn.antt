@@ -1,0 +1,38 @@
+-- What is taken in with a call and equations, and how many guards are tested.
+use Rattle.std.specs.Prelude.{ℕ, ◌<◌, ◌+◌, List, Option, Some, None, Vec, vec_len, vec_capacity}
+use Rattle.aw_term.specs.Names.{Ref}
+use Rattle.aw_term.specs.Rules.{Grammar, sort_of}
+use Rattle.aw_store.specs.Equations.{Equation, Map}
+use Rattle.aw_held.specs.declared.held.Held.{Held}
+use Rattle.aw_held.specs.HeldView.{sort_or, all_of}
+use Rattle.aw_kept.specs.declared.kept.Kept.{Kept}
+use Rattle.aw_kept.specs.KeptStates.{HasRoom}
+use Rattle.aw_space.specs.Costs.{rules_of}
+use Rattle.aw_space.specs.Missing.{with_node}
+use Rattle.aw_space.specs.Openings.{IsOpenable, IsReady, tests_of}
+use Rattle.aw_space.specs.Waking.{turns_cost}
+use Rattle.aw_space.specs.declared.opening.Opening.{Opening}
+
+-- the node, if there is one, is open with as many references as its sort takes
+abbrev pub IsOpenableIf : Grammar → Option Held → Type 0
+IsOpenableIf g None = Unit {0}
+IsOpenableIf g (Some h) = IsOpenable g h
+
+-- what is to be kept of the node is ready, if there is one, and there is room for it
+abbrev pub IsReadyIf : {Z : Type 0} → Grammar → List Ref → Vec Held Z → Kept → Option Opening → Type 0
+IsReadyIf g names held kept None = Unit {0}
+IsReadyIf g names held kept (Some o) = IsReady g names o × (vec_len held < vec_capacity held) × HasRoom kept 1 (tests_of o)
+
+-- how many rules are tested where it is opened
+abbrev pub tests_if : Option Opening → ℕ
+tests_if None = 0
+tests_if (Some o) = tests_of o
+
+-- the rules of its sort
+abbrev pub rules_if : Grammar → Option Held → ℕ
+rules_if g None = 0
+rules_if g (Some h) = rules_of g (sort_or (sort_of g h.node))
+
+-- the guards of a node, if there is one, and those that wait for each of these equations in turn
+abbrev pub taken_cost : Grammar → Option Held → List Held → Map → List Equation → ℕ
+taken_cost g new hs k es = rules_if g new + turns_cost g (all_of g (with_node new hs)) k es

@@ -1,0 +1,186 @@
+//! Taking a rule: all memory is taken before anything changes.
+ghost use Rattle.std.specs.Prelude.{◌≡◌, ◌++◌, ◌∷◌, ◌<◌, ◌≤◌, ◌+◌, [], true, is_some, All, Contains, IfOk, OnOk, OnErr, length, map as list_map, vec_len, vec_capacity};
+ghost use Rattle.aw_term.specs.Rules.{sort_of};
+ghost use Rattle.aw_grammar.specs.GrammarOf.{grammar_of};
+ghost use Rattle.aw_store.specs.Adding.{AreNew};
+ghost use Rattle.aw_store.specs.Equations.{Equation as PlainEquation};
+ghost use Rattle.aw_store.specs.EquationView.{equation_of};
+ghost use Rattle.aw_store.specs.NamedRefs.{all_named, Grows};
+ghost use Rattle.aw_store.specs.StoreView.{all_few};
+ghost use Rattle.aw_held.specs.InOrder.{IsInOrder, LackEach, insert_all_in, done_at};
+ghost use Rattle.aw_held.specs.HeldView.{all_of};
+ghost use Rattle.aw_react.specs.Worklists.{site_worklist};
+ghost use Rattle.aw_kept.specs.KeptStates.{HasRoom, IsKept};
+ghost use Rattle.aw_space.specs.Children.{own_children as plain_own, open_child, are_named};
+ghost use Rattle.aw_space.specs.Costs.{rules_at, waiting_on_lefts};
+ghost use Rattle.aw_space.specs.Openings.{IsReady, all_tests, held_in};
+ghost use Rattle.aw_space.specs.Sound.{all_inherited, all_own};
+ghost use Rattle.aw_space.specs.Spaces.{is_home};
+
+use crate::learning::wake_all;
+use crate::making::make_all_ready;
+use crate::opening::{Opening, put_all_open};
+use aw_apply::{Made, MadeChild, Steps};
+use aw_base::home_of_valid;
+use aw_choice::{Choice, copy_choice};
+use aw_grammar::Grammar;
+use aw_held::{Held, mark_done};
+use aw_kept::Kept;
+use aw_name::{Node, copy_node};
+use aw_store::{Equation, Facts, add_all_ready, copy_equations};
+use std::alloc::{AllocError, Global};
+use std::sync::ledger::Ledger;
+
+/// Whether a node is worked on by this role.
+fn is_here(grammar: &Grammar, role: u16, node: &Node) -> bool
+    requires { is_some (sort_of (grammar_of grammar.now) node.now) ≡ true }
+    ensures { result ≡ is_home (grammar_of grammar.now) role node.now }
+{
+    home_of_valid(grammar, node) == role
+}
+
+/// A child as an open node.
+fn open(child: &MadeChild) -> Result<Held, AllocError>
+    ensures { IfOk result (λ h. h ≡ open_child child.now) }
+{
+    Ok(Held {
+        node: copy_node(&child.node)?,
+        inherited: child.inherited.clone()?,
+        done: None,
+    })
+}
+
+/// Adds a child as an open node, where it is this role's.
+fn push_own(
+    own: &mut Vec<Held>,
+    grammar: &Grammar,
+    role: u16,
+    child: &MadeChild,
+) -> Result<(), AllocError>
+    requires { is_some (sort_of (grammar_of grammar.now) child.now.node) ≡ true }
+    ensures { OnOk result (own.new.items ≡ own.old.items ++ plain_own (grammar_of grammar.now) role (child.now ∷ [])) }
+{
+    if is_here(grammar, role, &child.node) {
+        own.push(open(child)?)?;
+    }
+    Ok(())
+}
+
+/// The children of this role as open nodes.
+fn own_children(
+    alloc: Global,
+    grammar: &Grammar,
+    role: u16,
+    children: &[MadeChild],
+) -> Result<Vec<Held>, AllocError>
+    requires { are_named (grammar_of grammar.now) children.now ≡ true }
+    ensures { IfOk result (λ own. own.items ≡ plain_own (grammar_of grammar.now) role children.now) }
+{
+    let mut own = Vec::new(alloc);
+    for child in children {
+        push_own(&mut own, grammar, role, child)?;
+    }
+    Ok(own)
+}
+
+/// Adds a choice, for which there is room.
+pub fn push_choice(choices: &mut Vec<Choice>, choice: Choice)
+    requires { vec_len choices.old < vec_capacity choices.old }
+    ensures { choices.new.items ≡ choices.old.items ++ choice ∷ [] }
+{
+    match choices.push(choice) {
+        Ok(()) => {}
+        Err(_) => unreachable!(),
+    }
+}
+
+/// Takes a rule on the node at a place, for which all is ready: the node is done and what was kept of it is let go, the
+/// equations are known and each rule that waited for one of them is tested, and the children are held. Nothing can be refused.
+fn take_ready<F: Facts, L: Ledger>(
+    grammar: &Grammar,
+    held: &mut Vec<Held>,
+    facts: &mut F,
+    kept: &mut Kept,
+    at: usize,
+    done: Choice,
+    told: &[Equation],
+    equations: Vec<Equation>,
+    own: Vec<Opening>,
+    steps: &mut Steps<L>,
+)
+    requires ordered { IsInOrder held.old.items }
+    requires at { at < length held.old.items }
+    requires told { equations.items ≡ told.now }
+    requires new { AreNew (F.map facts.old) (list_map equation_of told.now) }
+    requires few { all_few (list_map equation_of told.now) ≡ true }
+    requires ready { (e : PlainEquation) → Contains (list_map equation_of told.now) e → F.is_ready facts.old e }
+    requires lacks { LackEach (list_map held_in own.items) (done_at done at held.old.items) }
+    requires own { All (IsReady (grammar_of grammar.now) (F.names facts.old)) own.items }
+    requires place { vec_len held.old + vec_len own ≤ vec_capacity held.old }
+    requires room { HasRoom kept.old (vec_len own) (all_tests own.items) }
+    requires stands { IsKept (grammar_of grammar.now) held.old.items (F.map facts.old) (F.names facts.old) kept.old }
+    ensures held { held.new.items ≡ insert_all_in (list_map held_in own.items) (done_at done at held.old.items) }
+    ensures ordered { IsInOrder held.new.items }
+    ensures map { F.map facts.new ≡ F.map facts.old ++ list_map equation_of told.now }
+    ensures names { Grows (F.names facts.old) (F.names facts.new) }
+    ensures stands { IsKept (grammar_of grammar.now) held.new.items (F.map facts.new) (F.names facts.new) kept.new }
+    ensures steps { steps.new ≤ steps.old + (all_tests own.items
+        + waiting_on_lefts (list_map equation_of told.now) (site_worklist (grammar_of grammar.now) (F.map facts.old) (all_of (grammar_of grammar.now) held.old.items))) }
+{
+    mark_done(held, at, done);
+    kept.close(at);
+    add_all_ready(facts, equations);
+    wake_all(grammar, &*facts, kept, told, steps);
+    put_all_open(grammar, &*facts, held, kept, own, steps);
+}
+
+/// Takes a rule on the node at a place: the node is done, its children of this role are held, and what it made is known.
+/// All memory is taken first, so an error changes nothing but the names of the store.
+pub fn take_rule<F: Facts, L: Ledger>(
+    grammar: &Grammar,
+    role: u16,
+    held: &mut Vec<Held>,
+    choices: &mut Vec<Choice>,
+    facts: &mut F,
+    kept: &mut Kept,
+    at: usize,
+    choice: &Choice,
+    made: &Made,
+    steps: &mut Steps<L>,
+) -> Result<(), AllocError>
+    requires ordered { IsInOrder held.old.items }
+    requires at { at < length held.old.items }
+    requires named { are_named (grammar_of grammar.now) made.now.children ≡ true }
+    requires new { AreNew (F.map facts.old) (list_map equation_of made.now.equations) }
+    requires few { all_few (list_map equation_of made.now.equations) ≡ true }
+    requires lacks { LackEach (plain_own (grammar_of grammar.now) role made.now.children) (done_at choice.now at held.old.items) }
+    requires own { all_own (grammar_of grammar.now) role (plain_own (grammar_of grammar.now) role made.now.children) ≡ true }
+    requires stands { IsKept (grammar_of grammar.now) held.old.items (F.map facts.old) (F.names facts.old) kept.old }
+    ensures held { OnOk result (held.new.items ≡ insert_all_in (plain_own (grammar_of grammar.now) role made.now.children) (done_at choice.now at held.old.items)) }
+    ensures ordered { IsInOrder held.new.items }
+    ensures choices { OnOk result (choices.new.items ≡ choices.old.items ++ choice.now ∷ []) }
+    ensures map { OnOk result (F.map facts.new ≡ F.map facts.old ++ list_map equation_of made.now.equations) }
+    ensures names { Grows (F.names facts.old) (F.names facts.new) }
+    ensures named { OnOk result (all_named (F.names facts.new) (all_inherited (plain_own (grammar_of grammar.now) role made.now.children)) ≡ true) }
+    ensures err_held { OnErr result (held.new.items ≡ held.old.items) }
+    ensures err_choices { OnErr result (choices.new.items ≡ choices.old.items) }
+    ensures err_map { OnErr result (F.map facts.new ≡ F.map facts.old) }
+    ensures stands { IsKept (grammar_of grammar.now) held.new.items (F.map facts.new) (F.names facts.new) kept.new }
+    ensures steps { steps.new ≤ steps.old + (rules_at (grammar_of grammar.now) (all_of (grammar_of grammar.now) (plain_own (grammar_of grammar.now) role made.now.children))
+        + waiting_on_lefts (list_map equation_of made.now.equations) (site_worklist (grammar_of grammar.now) (F.map facts.old) (all_of (grammar_of grammar.now) held.old.items))) }
+{
+    let alloc = *held.allocator();
+    let children = own_children(alloc, grammar, role, made.children.as_slice())?;
+    let equations = copy_equations(alloc, made.equations.as_slice())?;
+    let done = copy_choice(choice)?;
+    let taken = copy_choice(choice)?;
+    choices.reserve(1)?;
+    let own = make_all_ready(grammar, facts, held, kept, children)?;
+    facts.reserve(&made.equations)?;
+    let told = made.equations.as_slice();
+    take_ready(
+        grammar, held, facts, kept, at, done, told, equations, own, steps,
+    );
+    push_choice(choices, taken);
+    Ok(())
+}
