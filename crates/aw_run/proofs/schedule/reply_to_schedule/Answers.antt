@@ -1,8 +1,11 @@
-use Rattle.std.proofs.Common.{arith, ◌≡◌, ◌∙◌, sym, map, ap}
+use Rattle.std.proofs.Common.{arith, ◌≡◌, ◌∙◌, sym, map, ap, subst, List}
 use Rattle.std.proofs.lemmas.Result.{IfOk-weaker}
 use Rattle.aw_lex.specs.Lines.{lines_of}
-use Rattle.aw_grammar.specs.GrammarOf.{declarations_of}
-use Rattle.aw_sched.specs.Answers.{event_seen}
+use Rattle.aw_term.specs.WellFormed.{Each}
+use Rattle.aw_grammar.specs.declared.grammar.Grammar.{Grammar}
+use Rattle.aw_grammar.specs.GrammarOf.{declarations_of, grammar_of}
+use Rattle.aw_sched.specs.declared.event.Event.{Event}
+use Rattle.aw_sched.specs.Answers.{MayCome, event_seen}
 use Rattle.aw_sched.specs.Schedules.{Events, FaultAt, read_lines}
 use Rattle.aw_typed.specs.Typing.{types_of}
 use Rattle.aw_run.specs.Replies.{reply_with}
@@ -11,6 +14,12 @@ use Rattle.aw_run.proofs.LineCounts.{schedule-within}
 use Rattle.aw_run.proofs.Outputs.{schedule-good, schedule-bad}
 use Rattle.aw_run.proofs.Verdicts.{bad-event}
 use Rattle.aw_run.proofs.schedule.reply_to_schedule.Goals as goal
+
+pub reply_to_events-requires : goal.reply_to_events-requires
+reply_to_events-requires c =
+    let g = c.args.accepted.now.grammar in
+    let fits : Each (MayCome (grammar_of g)) c.in-Ok.events = subst (λ (h : Grammar). Each (MayCome (grammar_of h)) c.in-Ok.events) c.grammar-g.ensures.value c.in-Ok.ensures.fits in
+    subst (λ (es : List Event). Each (MayCome (grammar_of g)) es) (sym c.as_slice.ensures) fits
 
 pub overflow_add-before : goal.overflow_add-before
 overflow_add-before c =
