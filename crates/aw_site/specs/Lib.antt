@@ -1,0 +1,4 @@
+pub mod Views
+pub mod Holders
+pub mod Senders
+pub mod Plans

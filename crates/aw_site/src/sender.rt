@@ -1,0 +1,144 @@
+//! What a role sends by, and the loads of its messages.
+ghost use Rattle.std.specs.Prelude.{◌≡◌, ◌++◌, ◌≤◌, ℕ, List, Option, Some, true, IfOk, OnOk, length, reverse, option_map, map as list_map};
+ghost use Rattle.std.specs.Option.{option_copied};
+ghost use Rattle.aw_grammar.specs.GrammarOf.{grammar_of};
+ghost use Rattle.aw_name.specs.declared.node.Ref.{Ref as RefName};
+ghost use Rattle.aw_store.specs.Equations.{find, mentions};
+ghost use Rattle.aw_store.specs.EquationView.{body_of, equation_of};
+ghost use Rattle.aw_react.specs.InOrder.{has_ref};
+ghost use Rattle.aw_react.specs.Loads.{Given, may_give, given_on, next_given, walk, load_of};
+ghost use Rattle.aw_react.specs.Sites as P;
+
+use crate::finding::{body_in_both, is_behind};
+use crate::validity::home;
+use aw_base::Grammar;
+use aw_name::{Ref, copy_ref};
+use aw_store::{Body, Equation, Equations, Facts};
+use aw_term::order::is_ref;
+use std::alloc::{AllocError, Global};
+
+/// The most equations that a message carries as its load.
+const MOST_LOADED: usize = 64;
+
+/// What a role sends by: its grammar, its number, whether its messages carry loads, its store, and equations that are to come behind those of
+/// the store.
+pub struct Sender<'a, F: Facts> {
+    pub alloc: Global,
+    pub grammar: &'a Grammar,
+    pub role: u16,
+    pub loads: bool,
+    pub facts: &'a F,
+    pub more: &'a [Equation],
+}
+
+/// Adds copies of references so that the first is the last.
+fn push_reversed(open: &mut Vec<Ref>, refs: &[Ref]) -> Result<(), AllocError>
+    ensures { OnOk result (reverse open.new.items ≡ refs.now ++ reverse open.old.items) }
+{
+    for i in 0..refs.len() {
+        open.push(copy_ref(&refs[refs.len() - 1 - i])?)?;
+    }
+    Ok(())
+}
+
+/// Adds copies of the references of a body so that the first is the last.
+fn push_mentions(open: &mut Vec<Ref>, body: &Body) -> Result<(), AllocError>
+    ensures { OnOk result (reverse open.new.items ≡ mentions (body_of body.now) ++ reverse open.old.items) }
+{
+    match body {
+        Body::Same(r) => {
+            open.push(copy_ref(r)?)?;
+            Ok(())
+        }
+        Body::Con(_, parts) => push_reversed(open, parts.as_slice()),
+        Body::Num(_) | Body::Text(_) => Ok(()),
+    }
+}
+
+/// Whether a reference is a left side in a message: the given one, or one of its load.
+fn is_seen(first: Option<&Ref>, load: &[Equation], r: &Ref) -> bool
+    ensures { result ≡ has_ref r.now (seen_with load.now (alone (option_copied first))) }
+{
+    let is_first = match first {
+        Some(left) => is_ref(r, left),
+        None => false,
+    };
+    is_first || is_behind(load, r)
+}
+
+ghost use Rattle.aw_site.specs.Senders.{SendsAs, Gives, alone, seen_with};
+
+impl<'a, F: Facts> Sender<'a, F> {
+    /// A copy of the body that a reference gives to a load: it is this role's, it is no left side yet, and it has an equation here.
+    fn given(
+        &self,
+        first: Option<&Ref>,
+        load: &[Equation],
+        r: &Ref,
+    ) -> Result<Option<Body>, AllocError>
+        ensures { IfOk result (λ body. (s : P.Site) → SendsAs ⟦<F as Facts>⟧ self.now s → (rs : List RefName) (later : Option Given) →
+            given_on (may_give (grammar_of self.now.grammar.now) s (seen_with load.now (alone (option_copied first))) r.now) r.now (find s.equations r.now) rs later
+            ≡ given_on true r.now (option_map body_of body) rs later) }
+    {
+        if home(self.grammar, &r.node) == self.role && !is_seen(first, load, r) {
+            body_in_both(self.alloc, self.facts, self.more, r)
+        } else {
+            Ok(None)
+        }
+    }
+
+    /// The next equation of a load. The references that are to be looked at stand with the next one last; those that give nothing are taken away,
+    /// and where one gives its equation, the references of its body are put in its place.
+    fn next_given(
+        &self,
+        first: Option<&Ref>,
+        load: &[Equation],
+        open: &mut Vec<Ref>,
+    ) -> Result<Option<Equation>, AllocError>
+        ensures { IfOk result (λ e. (s : P.Site) → SendsAs ⟦<F as Facts>⟧ self.now s →
+            Gives (next_given (grammar_of self.now.grammar.now) s (seen_with load.now (alone (option_copied first))) (reverse open.old.items)) e (reverse open.new.items)) }
+    {
+        while let Some(r) = open.pop() {
+            if let Some(body) = self.given(first, load, &r)? {
+                push_mentions(open, &body)?;
+                return Ok(Some(Equation { left: r, body }));
+            }
+        }
+        Ok(None)
+    }
+
+    /// The equations that references lead to, depth first, a number of them at most.
+    fn walk(
+        &self,
+        first: Option<&Ref>,
+        refs: &[Ref],
+        most: usize,
+    ) -> Result<Vec<Equation>, AllocError>
+        ensures load { IfOk result (λ load. (s : P.Site) → SendsAs ⟦<F as Facts>⟧ self.now s →
+            list_map equation_of load.items ≡ walk most (grammar_of self.now.grammar.now) s (alone (option_copied first)) refs.now) }
+    {
+        let mut open = Vec::new(self.alloc);
+        push_reversed(&mut open, refs)?;
+        let mut load = Vec::new(self.alloc);
+        for _ in 0..most {
+            match self.next_given(first, load.as_slice(), &mut open)? {
+                Some(e) => load.push(e)?,
+                None => return Ok(load),
+            }
+        }
+        Ok(load)
+    }
+
+    /// The load of a message with these references: the equations that they lead to, depth first, where this role sends loads. The given
+    /// reference is a left side in the message already.
+    pub fn load(&self, first: Option<&Ref>, refs: &[Ref]) -> Result<Equations, AllocError>
+        ensures { IfOk result (λ load. (s : P.Site) → SendsAs ⟦<F as Facts>⟧ self.now s →
+            list_map equation_of load ≡ load_of (grammar_of self.now.grammar.now) s (alone (option_copied first)) refs.now) }
+    {
+        if self.loads {
+            Ok(Equations::from_vec(self.walk(first, refs, MOST_LOADED)?))
+        } else {
+            Ok(Equations::new(self.alloc))
+        }
+    }
+}
