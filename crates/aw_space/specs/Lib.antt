@@ -1,0 +1,12 @@
+pub mod Spaces
+pub mod Costs
+pub mod Keeping
+pub mod Sound
+pub mod Valid
+pub mod SpaceView
+pub mod Seen
+pub mod Outcomes
+pub mod Placings
+pub mod Weighing
+pub mod Children
+pub mod Missing

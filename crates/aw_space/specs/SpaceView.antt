@@ -1,0 +1,13 @@
+-- A space of the program as a plain one.
+use Rattle.std.specs.Prelude.{List, map}
+use Rattle.aw_term.specs.Rules.{Grammar}
+use Rattle.aw_choice.specs.declared.choice.Choice.{Choice}
+use Rattle.aw_choice.specs.ChoiceView.{choice_of}
+use Rattle.aw_store.specs.Equations.{Map}
+use Rattle.aw_held.specs.declared.held.Held.{Held}
+use Rattle.aw_held.specs.HeldView.{all_of}
+use Rattle.aw_space.specs.Spaces.{Space}
+
+-- the space of these nodes, choices and equations
+abbrev pub space_of : Grammar → List Held → List Choice → Map → Space
+space_of g hs cs k = record { held = all_of g hs; choices = map choice_of cs; equations = k }

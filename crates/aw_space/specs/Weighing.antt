@@ -1,0 +1,17 @@
+-- What a choice of a rule is weighed as.
+use Rattle.std.specs.Prelude.{◌≡◌, ℕ, length, Some, slice_get}
+use Rattle.aw_term.specs.Names.{Node, Ref}
+use Rattle.aw_term.specs.Rules as P
+use Rattle.aw_term.specs.Choices.{Outcome}
+use Rattle.aw_grammar.specs.declared.grammar.Grammar.{Grammar}
+use Rattle.aw_grammar.specs.declared.rule.Rule.{Rule}
+use Rattle.aw_apply.specs.declared.telling.Weighed.{Weighed}
+use Rattle.aw_apply.specs.Telling.{weighed_of, HasRoom}
+
+-- the rule with this number leads to this
+abbrev pub Weighs : P.Grammar → ℕ → Weighed → Outcome Ref Ref → Type 0
+Weighs g number w x = (rule : P.Rule) → slice_get g.rules number ≡ Some rule → weighed_of rule w ≡ x
+
+-- where the rule with this number is taken, there is room for a child's step below the node
+abbrev pub HasRoomFor : Grammar → ℕ → Node → Weighed → Type 0
+HasRoomFor g number n w = (rule : Rule) → slice_get g.rules number ≡ Some rule → HasRoom (length rule.children) n w

@@ -1,0 +1,17 @@
+//! The workspace of one role: its nodes in order, the choices taken on them, and its equations.
+#![tactic(auto)]
+
+mod adding;
+mod calls;
+mod naming;
+pub mod outcome;
+pub mod placing;
+pub mod space;
+mod starting;
+mod taking;
+mod taking_in;
+mod weighing;
+
+pub use outcome::Outcome;
+pub use placing::{Placed, Placing};
+pub use space::Space;

@@ -1,0 +1,128 @@
+//! What a choice leads to at a space.
+ghost use Rattle.std.specs.Prelude.{◌≡◌, ◌↔◌, ◌≤◌, ◌+◌, [], true, IsTrue, IfOk, OnOk, OnErr};
+ghost use Rattle.aw_term.specs.Choices.{answer_of as plain_answer, Taken as PlainTaken};
+ghost use Rattle.aw_choice.specs.ChoiceView.{choice_of};
+ghost use Rattle.aw_grammar.specs.GrammarOf.{grammar_of};
+ghost use Rattle.aw_base.specs.ChoiceFits.{choice_ok};
+ghost use Rattle.aw_held.specs.HeldView.{all_of};
+ghost use Rattle.aw_joint.specs.Joint.{outcome_in};
+ghost use Rattle.aw_space.specs.Sound.{IsSound};
+ghost use Rattle.aw_react.specs.Worlds.{node_of};
+ghost use Rattle.aw_space.specs.Outcomes.{IsMade, IsOutcome};
+ghost use Rattle.aw_space.specs.Spaces.{is_home, space_after};
+ghost use Rattle.aw_space.specs.SpaceView.{space_of};
+ghost use Rattle.aw_space.specs.Valid.{IsValid};
+
+use crate::starting::{root, take_start};
+use crate::taking::take_rule;
+use crate::weighing::weigh;
+use aw_apply::{Made, Steps, Weighed, made};
+use aw_choice::{Answer, Choice};
+use aw_grammar::Grammar;
+use aw_held::{Held, find_held};
+use aw_list::Items;
+use aw_store::Facts;
+use std::alloc::{AllocError, Global};
+use std::sync::ledger::Ledger;
+
+/// The answer to a choice, and what it makes where a rule is taken.
+#[derive(Debug, Drop)]
+pub struct Outcome {
+    pub answer: Answer,
+    pub made: Made,
+}
+
+impl Outcome {
+    /// An answer where nothing is made.
+    fn plainly(alloc: Global, answer: Answer) -> Outcome
+        ensures answer { result.answer ≡ answer }
+        ensures equations { result.made.equations ≡ [] }
+        ensures children { result.made.children ≡ [] }
+    {
+        Outcome {
+            answer,
+            made: Made {
+                equations: Items::new(alloc),
+                children: Items::new(alloc),
+            },
+        }
+    }
+
+    /// Whether the choice is taken.
+    pub(crate) fn is_taken(&self) -> bool
+        ensures { IsTrue result ↔ (self.now.answer ≡ Answer.Taken) }
+    {
+        matches!(self.answer, Answer::Taken)
+    }
+}
+
+/// What a choice leads to, and what it makes. It changes nothing.
+pub fn foresee<F: Facts, L: Ledger>(
+    alloc: Global,
+    grammar: &Grammar,
+    role: u16,
+    held: &[Held],
+    facts: &F,
+    choice: &Choice,
+    steps: &mut Steps<L>,
+) -> Result<Outcome, AllocError>
+    requires sound { IsSound (grammar_of grammar.now) role held.now (F.map facts.now) (F.names facts.now) }
+    requires ok { choice_ok (grammar_of grammar.now) (choice_of choice.now) ≡ true }
+    ensures outcome { IfOk result (λ o. IsOutcome o (choice_of choice.now)
+        (outcome_in (all_of (grammar_of grammar.now) held.now) (F.map facts.now) (grammar_of grammar.now) (choice_of choice.now))) }
+    ensures steps { steps.new ≤ steps.old + 1 }
+{
+    match choice {
+        Choice::Start { sort, case } => {
+            let answer = match find_held(held, &root(alloc, *sort, *case)) {
+                Some(_) => Answer::Known,
+                None => Answer::Taken,
+            };
+            Ok(Outcome::plainly(alloc, answer))
+        }
+        Choice::Develop { node, rule, args } => {
+            match weigh(alloc, grammar, role, held, facts, node, *rule, args, steps)? {
+                Weighed::Refused(answer) => Ok(Outcome::plainly(alloc, answer)),
+                Weighed::Takes(bound) => Ok(Outcome {
+                    answer: Answer::Taken,
+                    made: made(alloc, grammar, node, *rule, args, &bound)?,
+                }),
+            }
+        }
+    }
+}
+
+/// Carries out a choice that is foreseen to be taken. All memory is taken first, so an error changes nothing but the
+/// names of the store.
+pub fn carry_out<F: Facts>(
+    grammar: &Grammar,
+    role: u16,
+    held: &mut Vec<Held>,
+    choices: &mut Vec<Choice>,
+    facts: &mut F,
+    choice: &Choice,
+    made: &Made,
+) -> Result<(), AllocError>
+    requires sound { IsSound (grammar_of grammar.now) role held.old.items (F.map facts.old) (F.names facts.old) }
+    requires valid { IsValid (grammar_of grammar.now) held.old.items (F.map facts.old) }
+    requires ok { choice_ok (grammar_of grammar.now) (choice_of choice.now) ≡ true }
+    requires here { is_home (grammar_of grammar.now) role (node_of (choice_of choice.now)) ≡ true }
+    requires taken { plain_answer (outcome_in (all_of (grammar_of grammar.now) held.old.items) (F.map facts.old) (grammar_of grammar.now) (choice_of choice.now)) ≡ PlainTaken }
+    requires made { IsMade made.now (choice_of choice.now)
+        (outcome_in (all_of (grammar_of grammar.now) held.old.items) (F.map facts.old) (grammar_of grammar.now) (choice_of choice.now)) }
+    ensures space { OnOk result (space_of (grammar_of grammar.now) held.new.items choices.new.items (F.map facts.new)
+        ≡ space_after (grammar_of grammar.now) role (space_of (grammar_of grammar.now) held.old.items choices.old.items (F.map facts.old)) (choice_of choice.now)) }
+    ensures sound { IsSound (grammar_of grammar.now) role held.new.items (F.map facts.new) (F.names facts.new) }
+    ensures valid { IsValid (grammar_of grammar.now) held.new.items (F.map facts.new) }
+    ensures err_held { OnErr result (held.new.items ≡ held.old.items) }
+    ensures err_choices { OnErr result (choices.new.items ≡ choices.old.items) }
+    ensures err_map { OnErr result (F.map facts.new ≡ F.map facts.old) }
+{
+    match choice {
+        Choice::Start { sort, case } => take_start(held, choices, choice, *sort, *case),
+        Choice::Develop { node, .. } => match find_held(held.as_slice(), node) {
+            Some(at) => take_rule(grammar, role, held, choices, facts, at, choice, made),
+            None => unreachable!(),
+        },
+    }
+}

@@ -1,0 +1,208 @@
+//! What one role holds of a case.
+ghost use Rattle.std.specs.Prelude.{◌≡◌, ◌+◌, ◌≤◌, ◌∷◌, [], None, true, false, IfOk, OnOk, OnErr, map as list_map, option_map};
+ghost use Rattle.std.specs.Option.{option_copied};
+ghost use Rattle.aw_choice.specs.ChoiceView.{choice_of, item_of};
+ghost use Rattle.aw_grammar.specs.GrammarOf.{grammar_of};
+ghost use Rattle.aw_base.specs.ChoiceFits.{choice_ok};
+ghost use Rattle.aw_store.specs.EquationView.{equation_of};
+ghost use Rattle.aw_store.specs.StoreView.{Adds};
+ghost use Rattle.aw_held.specs.HeldView.{all_of};
+ghost use Rattle.aw_react.specs.ValidNames.{equation_ok};
+ghost use Rattle.aw_react.specs.Worlds.{node_of};
+ghost use Rattle.aw_space.specs.Sound.{IsSound};
+ghost use Rattle.aw_space.specs.Valid.{IsValid};
+
+use crate::outcome::Outcome;
+use crate::placing::{Placed, Placing};
+use aw_accept::Accepted;
+use aw_apply::Steps;
+use aw_choice::{Choice, Worklist};
+use aw_grammar::Grammar;
+use aw_held::Held;
+use aw_name::{Node, Refs};
+use aw_store::{Added, Equation, Equations, Facts};
+use std::alloc::{AllocError, Global};
+use std::sync::ledger::Ledger;
+
+/// The nodes of one role, the choices taken on them, and all equations that are known to it.
+#[derive(Drop)]
+pub struct Space<'g, F: Facts> {
+    pub(crate) grammar: &'g Grammar,
+    pub(crate) role: u16,
+    pub(crate) held: Vec<Held>,
+    pub(crate) choices: Vec<Choice>,
+    pub(crate) facts: F,
+    pub ghost sound: { IsSound (grammar_of grammar.now) role held.items (F.map facts) (F.names facts) },
+    pub ghost valid: { IsValid (grammar_of grammar.now) held.items (F.map facts) },
+}
+
+impl<'g, F: Facts> Space<'g, F> {
+    ghost use Rattle.aw_space.specs.Spaces.{is_home, outcome, space_after, call_of, taken_in, clash_with, worklist};
+    ghost use Rattle.aw_space.specs.Costs.{rules_of, waiting_on, choice_cost, taking_cost};
+    ghost use Rattle.aw_space.specs.Keeping.{KeepsFacts, KeepsNodes, KeepsNodesBut};
+    ghost use Rattle.aw_space.specs.Outcomes.{IsOutcome};
+    ghost use Rattle.aw_space.specs.Placings.{MayBeCalled, MayBeCalledIf, MayBeLearnt, Places, placed_call};
+    ghost use Rattle.aw_space.specs.Seen.{grammar_in, space_seen, IsUnchanged};
+
+    /// A space of a role that holds nothing, over a store without equations.
+    pub fn new(alloc: Global, g: &'g Accepted, role: u16, facts: F) -> Space<'g, F>
+        requires { F.map facts ≡ [] }
+        ensures grammar { result.grammar.now ≡ g.now.grammar }
+        ensures role { result.role ≡ role }
+        ensures nodes { result.held.items ≡ [] }
+        ensures choices { result.choices.items ≡ [] }
+        ensures map { F.map result.facts ≡ [] }
+    {
+        Space {
+            grammar: g.grammar(),
+            role,
+            held: Vec::new(alloc),
+            choices: Vec::new(alloc),
+            facts,
+        }
+    }
+
+    /// The held nodes, in their order.
+    pub fn nodes(&self) -> &[Held]
+        ensures { result.now ≡ self.now.held.items }
+    {
+        self.held.as_slice()
+    }
+
+    /// The store of equations, lent.
+    pub fn facts(&self) -> &F
+        ensures { result.now ≡ self.now.facts }
+    {
+        &self.facts
+    }
+
+    /// The role whose nodes are held.
+    pub fn role(&self) -> u16
+        ensures { result ≡ self.now.role }
+    {
+        self.role
+    }
+
+    /// What a choice leads to, and what it makes. It changes nothing, and tests at most one guard.
+    pub fn foresee<L: Ledger>(
+        &self,
+        g: &Accepted,
+        choice: &Choice,
+        steps: &mut Steps<L>,
+    ) -> Result<Outcome, AllocError>
+        requires grammar { g.now.grammar ≡ self.now.grammar.now }
+        requires ok { choice_ok (grammar_of g.now.grammar) (choice_of choice.now) ≡ true }
+        requires here { is_home (grammar_of g.now.grammar) self.now.role (node_of (choice_of choice.now)) ≡ true }
+        ensures outcome { IfOk result (λ o. IsOutcome o (choice_of choice.now) (outcome (grammar_of g.now.grammar) (space_seen ⟦<F as Facts>⟧ self.now) (choice_of choice.now))) }
+        ensures steps { steps.new ≤ steps.old + 1 }
+    {
+        Err(AllocError)
+    }
+
+    /// Answers a choice, and takes it where the answer is `Taken`. A refused choice and an error change neither nodes,
+    /// choices nor equations.
+    pub fn choose<L: Ledger>(
+        &mut self,
+        g: &Accepted,
+        choice: &Choice,
+        steps: &mut Steps<L>,
+    ) -> Result<Outcome, AllocError>
+        requires grammar { g.now.grammar ≡ self.old.grammar.now }
+        requires ok { choice_ok (grammar_of g.now.grammar) (choice_of choice.now) ≡ true }
+        requires here { is_home (grammar_of g.now.grammar) self.old.role (node_of (choice_of choice.now)) ≡ true }
+        ensures grammar { self.new.grammar.now ≡ self.old.grammar.now }
+        ensures role { self.new.role ≡ self.old.role }
+        ensures outcome { IfOk result (λ o. IsOutcome o (choice_of choice.now) (outcome (grammar_of g.now.grammar) (space_seen ⟦<F as Facts>⟧ self.old) (choice_of choice.now))) }
+        ensures space { OnOk result (space_seen ⟦<F as Facts>⟧ self.new ≡ space_after (grammar_of g.now.grammar) self.old.role (space_seen ⟦<F as Facts>⟧ self.old) (choice_of choice.now)) }
+        ensures refused { IfOk result (λ o. (o.answer ≡ Answer.Taken → ⊥) → IsUnchanged ⟦<F as Facts>⟧ self.old self.new) }
+        ensures err { OnErr result (IsUnchanged ⟦<F as Facts>⟧ self.old self.new) }
+        ensures facts { KeepsFacts (F.map self.old.facts) (F.map self.new.facts) }
+        ensures nodes { KeepsNodesBut (node_of (choice_of choice.now)) (space_seen ⟦<F as Facts>⟧ self.old).held (space_seen ⟦<F as Facts>⟧ self.new).held }
+        ensures steps { steps.new ≤ steps.old + choice_cost (grammar_of g.now.grammar) self.old.role (space_seen ⟦<F as Facts>⟧ self.old) (choice_of choice.now) }
+    {
+        Err(AllocError)
+    }
+
+    /// Holds a child that another role called, where it is not held. A conflict and an error change neither nodes, choices
+    /// nor equations.
+    pub fn add_call<L: Ledger>(
+        &mut self,
+        g: &Accepted,
+        node: &Node,
+        inherited: &Refs,
+        steps: &mut Steps<L>,
+    ) -> Result<Placed, AllocError>
+        requires grammar { g.now.grammar ≡ self.old.grammar.now }
+        requires call { MayBeCalled (grammar_of g.now.grammar) self.old.role (call_of (grammar_of g.now.grammar) node.now inherited.now) }
+        ensures grammar { self.new.grammar.now ≡ self.old.grammar.now }
+        ensures role { self.new.role ≡ self.old.role }
+        ensures placed { IfOk result (λ p. Places (space_seen ⟦<F as Facts>⟧ self.old).held (call_of (grammar_of g.now.grammar) node.now inherited.now) p (space_seen ⟦<F as Facts>⟧ self.new).held) }
+        ensures choices { self.new.choices.items ≡ self.old.choices.items }
+        ensures map { F.map self.new.facts ≡ F.map self.old.facts }
+        ensures err { OnErr result (IsUnchanged ⟦<F as Facts>⟧ self.old self.new) }
+        ensures nodes { KeepsNodes (space_seen ⟦<F as Facts>⟧ self.old).held (space_seen ⟦<F as Facts>⟧ self.new).held }
+        ensures steps { steps.new ≤ steps.old + rules_of (grammar_of g.now.grammar) (call_of (grammar_of g.now.grammar) node.now inherited.now).sort }
+    {
+        Err(AllocError)
+    }
+
+    /// Takes in an equation of another role, where its left side has none. A conflict and an error change neither nodes,
+    /// choices nor equations.
+    pub fn learn<L: Ledger>(
+        &mut self,
+        g: &Accepted,
+        e: Equation,
+        steps: &mut Steps<L>,
+    ) -> Result<Added, AllocError>
+        requires grammar { g.now.grammar ≡ self.old.grammar.now }
+        requires ok { equation_ok (grammar_of g.now.grammar) (equation_of e) ≡ true }
+        requires other { is_home (grammar_of g.now.grammar) self.old.role e.left.node ≡ false }
+        ensures grammar { self.new.grammar.now ≡ self.old.grammar.now }
+        ensures role { self.new.role ≡ self.old.role }
+        ensures added { IfOk result (λ added. Adds (F.map self.old.facts) e added (F.map self.new.facts)) }
+        ensures nodes { self.new.held.items ≡ self.old.held.items }
+        ensures choices { self.new.choices.items ≡ self.old.choices.items }
+        ensures err { OnErr result (IsUnchanged ⟦<F as Facts>⟧ self.old self.new) }
+        ensures facts { KeepsFacts (F.map self.old.facts) (F.map self.new.facts) }
+        ensures steps { steps.new ≤ steps.old + waiting_on e.left (worklist (grammar_of g.now.grammar) (space_seen ⟦<F as Facts>⟧ self.old)) }
+    {
+        Err(AllocError)
+    }
+
+    /// Takes in a call, if there is one, and equations of other roles, none of which contradicts what is held. An error
+    /// changes neither nodes, choices nor equations.
+    pub fn take_in<L: Ledger>(
+        &mut self,
+        g: &Accepted,
+        call: Option<&Placing>,
+        es: &Equations,
+        steps: &mut Steps<L>,
+    ) -> Result<(), AllocError>
+        requires grammar { g.now.grammar ≡ self.old.grammar.now }
+        requires call { MayBeCalledIf (grammar_of g.now.grammar) self.old.role (option_map (placed_call (grammar_of g.now.grammar)) (option_copied call)) }
+        requires ok { MayBeLearnt (grammar_of g.now.grammar) self.old.role (list_map equation_of es.now) }
+        requires free { clash_with (option_map (placed_call (grammar_of g.now.grammar)) (option_copied call)) (list_map equation_of es.now) (space_seen ⟦<F as Facts>⟧ self.old) ≡ None }
+        ensures grammar { self.new.grammar.now ≡ self.old.grammar.now }
+        ensures role { self.new.role ≡ self.old.role }
+        ensures space { OnOk result (space_seen ⟦<F as Facts>⟧ self.new ≡ taken_in (option_map (placed_call (grammar_of g.now.grammar)) (option_copied call.entry)) (list_map equation_of es.now) (space_seen ⟦<F as Facts>⟧ self.old)) }
+        ensures err { OnErr result (IsUnchanged ⟦<F as Facts>⟧ self.old self.new) }
+        ensures facts { KeepsFacts (F.map self.old.facts) (F.map self.new.facts) }
+        ensures nodes { KeepsNodes (space_seen ⟦<F as Facts>⟧ self.old).held (space_seen ⟦<F as Facts>⟧ self.new).held }
+        ensures steps { steps.new ≤ steps.old + taking_cost (grammar_of g.now.grammar) (option_map (placed_call (grammar_of g.now.grammar)) (option_copied call.entry)) (list_map equation_of es.now) (space_seen ⟦<F as Facts>⟧ self.old) }
+    {
+        Err(AllocError)
+    }
+
+    /// The worklist: each open node in order with each rule of its sort, and how it stands. It tests no guard.
+    pub fn list<L: Ledger>(
+        &self,
+        g: &Accepted,
+        steps: &mut Steps<L>,
+    ) -> Result<Worklist, AllocError>
+        requires { g.now.grammar ≡ self.now.grammar.now }
+        ensures items { IfOk result (λ items. list_map item_of items ≡ worklist (grammar_of g.now.grammar) (space_seen ⟦<F as Facts>⟧ self.now)) }
+        ensures steps { steps.new ≡ steps.old }
+    {
+        Err(AllocError)
+    }
+}

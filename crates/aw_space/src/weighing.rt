@@ -1,0 +1,114 @@
+//! What a choice of a rule leads to at a held node.
+ghost use Rattle.std.specs.Prelude.{◌≡◌, ◌≤◌, ◌<◌, ◌+◌, List, Some, true, IfOk, length, map, slice_get, is_some};
+ghost use Rattle.aw_term.specs.Trees.{join};
+ghost use Rattle.aw_term.specs.Rules.{sort_of};
+ghost use Rattle.aw_term.specs.Views.{ground_of, pattern_of};
+ghost use Rattle.aw_term.specs.WellFormed.{all_leaves, all_nesting};
+ghost use Rattle.aw_grammar.specs.declared.rule.Sort.{Sort as SortValue};
+ghost use Rattle.aw_grammar.specs.GrammarView.{rule_of};
+ghost use Rattle.aw_grammar.specs.GrammarOf.{grammar_of};
+ghost use Rattle.aw_store.specs.NamedRefs.{all_named};
+ghost use Rattle.aw_term.specs.Held as P;
+ghost use Rattle.aw_held.specs.HeldView.{held_of, all_of};
+ghost use Rattle.aw_joint.specs.Joint.{by_rule, by_held, outcome_in};
+ghost use Rattle.aw_term.specs.Choices.{Develop};
+ghost use Rattle.aw_apply.specs.Telling.{weighed_of, HasRoom};
+ghost use Rattle.aw_react.specs.ValidNames.{takes_as};
+ghost use Rattle.aw_space.specs.Sound.{IsSound};
+ghost use Rattle.aw_space.specs.Weighing.{Weighs, HasRoomFor};
+
+use aw_apply::{Steps, Weighed, test_rule, weigh_guard};
+use aw_base::sort_at;
+use aw_choice::Answer;
+use aw_grammar::{Grammar, Rule};
+use aw_held::{Held, find_held};
+use aw_name::Node;
+use aw_store::Facts;
+use aw_term::{Ground, Grounds};
+use std::alloc::{AllocError, Global};
+use std::sync::ledger::Ledger;
+
+/// A rule at an open node of this sort.
+fn weigh_rule<F: Facts, L: Ledger>(
+    alloc: Global,
+    facts: &F,
+    rule: &Rule,
+    sort: u16,
+    held: &Held,
+    args: &[Ground],
+    steps: &mut Steps<L>,
+) -> Result<Weighed, AllocError>
+    requires named { all_named (F.names facts.now) held.now.inherited ≡ true }
+    requires same { rule.now.sort ≡ sort → length rule.now.patterns ≡ length held.now.inherited }
+    requires few { length rule.now.patterns ≤ 8 }
+    requires shallow { all_nesting (join (map pattern_of rule.now.patterns)) ≤ 32 }
+    requires room { length (all_leaves (join (map pattern_of rule.now.patterns))) ≤ 64 }
+    ensures room { IfOk result (λ w. HasRoom (length rule.now.children) held.now.node w) }
+    ensures value { IfOk result (λ w. (sorts : List SortValue) (h : P.Held) → h.sort ≡ sort → h.inherited ≡ held.now.inherited →
+        weighed_of (rule_of sorts rule.now) w ≡ by_rule (Some (rule_of sorts rule.now)) (F.map facts.now) held.now.node (map ground_of args.now) h) }
+    ensures steps { steps.new ≤ steps.old + 1 }
+{
+    if rule.sort != sort {
+        return Ok(Weighed::Refused(Answer::NotItsRule));
+    }
+    if args.len() != usize::from(rule.params) {
+        return Ok(Weighed::Refused(Answer::Arguments));
+    }
+    let tested = test_rule(alloc, facts, rule, held.inherited.as_slice(), steps)?;
+    Ok(weigh_guard(&held.node, rule, tested))
+}
+
+/// A declared rule at a held node.
+fn weigh_at<F: Facts, L: Ledger>(
+    alloc: Global,
+    grammar: &Grammar,
+    facts: &F,
+    held: &Held,
+    number: u16,
+    args: &Grounds,
+    steps: &mut Steps<L>,
+) -> Result<Weighed, AllocError>
+    requires takes { takes_as (grammar_of grammar.now) (sort_of (grammar_of grammar.now) held.now.node) held.now.inherited ≡ true }
+    requires declared { is_some (slice_get grammar.now.rules number) ≡ true }
+    requires named { all_named (F.names facts.now) held.now.inherited ≡ true }
+    ensures room { IfOk result (λ w. HasRoomFor grammar.now number held.now.node w) }
+    ensures value { IfOk result (λ w. Weighs (grammar_of grammar.now) number w
+        (by_held (Some (held_of (grammar_of grammar.now) held.now)) (grammar_of grammar.now) (F.map facts.now) held.now.node number (map ground_of args.now))) }
+    ensures steps { steps.new ≤ steps.old + 1 }
+{
+    if held.done.is_some() {
+        return Ok(Weighed::Refused(Answer::Developed));
+    }
+    match grammar.rule(number) {
+        Some(rule) => {
+            let sort = sort_at(grammar, &held.node);
+            weigh_rule(alloc, facts, rule, sort, held, args.as_slice(), steps)
+        }
+        None => unreachable!(),
+    }
+}
+
+/// A declared rule at a node, where it is held.
+pub fn weigh<F: Facts, L: Ledger>(
+    alloc: Global,
+    grammar: &Grammar,
+    role: u16,
+    held: &[Held],
+    facts: &F,
+    node: &Node,
+    number: u16,
+    args: &Grounds,
+    steps: &mut Steps<L>,
+) -> Result<Weighed, AllocError>
+    requires sound { IsSound (grammar_of grammar.now) role held.now (F.map facts.now) (F.names facts.now) }
+    requires declared { is_some (slice_get grammar.now.rules number) ≡ true }
+    ensures room { IfOk result (λ w. HasRoomFor grammar.now number node.now w) }
+    ensures value { IfOk result (λ w. Weighs (grammar_of grammar.now) number w
+        (outcome_in (all_of (grammar_of grammar.now) held.now) (F.map facts.now) (grammar_of grammar.now) (Develop node.now number (map ground_of args.now)))) }
+    ensures steps { steps.new ≤ steps.old + 1 }
+{
+    match find_held(held, node) {
+        Some(at) => weigh_at(alloc, grammar, facts, &held[at], number, args, steps),
+        None => Ok(Weighed::Refused(Answer::NotHere)),
+    }
+}
