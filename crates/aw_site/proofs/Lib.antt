@@ -1,5 +1,7 @@
 pub mod Steps
-pub mod Finding
+pub mod FindLemmas
 pub mod Clashing
 pub mod Walking
-pub mod Sending
+pub mod SentLists
+pub mod Ordering
+pub mod Noting

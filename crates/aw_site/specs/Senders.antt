@@ -6,22 +6,21 @@ use Rattle.aw_store.specs.Equations.{find, mentions}
 use Rattle.aw_store.specs.EquationView.{equation_of}
 use Rattle.aw_store.specs.declared.equation.Equation.{Equation}
 use Rattle.aw_store.specs.declared.facts.Facts.{Ghosts}
-use Rattle.aw_apply.specs.Messages.{Message}
 use Rattle.aw_react.specs.Sites.{Site}
 use Rattle.aw_react.specs.Loads.{Given}
 use Rattle.aw_site.specs.declared.sender.Sender.{Sender}
 
 -- The plain site sends as this: it has the role, and sends loads where this does; and its equations say of each reference what the store and the
 -- equations behind it say.
-pub record SendsAs {F : Type 0} (f : Ghosts F) (sender : Sender F f) (s : Site) : Type 0 where
+pub record SendsAs {F : Type 0} (f : Ghosts F) (sender : Sender F) (s : Site) : Type 0 where
   pub role : s.role ≡ sender.role
   pub loads : s.loads ≡ sender.loads
   pub equations : (r : Ref) → find s.equations r ≡ find (f.map sender.facts.now ++ map equation_of sender.more.now) r
 
--- a reference alone, or none
-abbrev pub alone : Option Ref → List Ref
-alone None = []
-alone (Some r) = r ∷ []
+-- one item alone, or none
+abbrev pub listed : {A : Type 0} → Option A → List A
+listed None = []
+listed (Some m) = m ∷ []
 
 -- the left sides of these equations, the last one first, before other references
 abbrev pub seen_with : List Equation → List Ref → List Ref
@@ -33,8 +32,3 @@ abbrev pub Gives : Option Given → Option Equation → List Ref → Type 0
 Gives None None rs = Unit {0}
 Gives (Some d) (Some e) rs = (d.equation ≡ equation_of e) × (rs ≡ mentions d.equation.body ++ d.rest)
 Gives _ _ _ = Never
-
--- one message, or none
-abbrev pub sent_alone : Option Message → List Message
-sent_alone None = []
-sent_alone (Some m) = m ∷ []

@@ -7,7 +7,11 @@ mod clashes;
 mod finding;
 mod known;
 mod plan;
+mod received;
 mod sender;
+mod sending;
 mod tells;
 mod validity;
 mod wanted;
+
+pub use received::Received;

@@ -32,32 +32,32 @@ pub struct Sender<'a, F: Facts> {
 }
 
 /// Adds copies of references so that the first is the last.
-fn push_reversed(open: &mut Vec<Ref>, refs: &[Ref]) -> Result<(), AllocError>
-    ensures { OnOk result (reverse open.new.items ≡ refs.now ++ reverse open.old.items) }
+fn push_reversed(stack: &mut Vec<Ref>, refs: &[Ref]) -> Result<(), AllocError>
+    ensures { OnOk result (reverse stack.new.items ≡ refs.now ++ reverse stack.old.items) }
 {
     for i in 0..refs.len() {
-        open.push(copy_ref(&refs[refs.len() - 1 - i])?)?;
+        stack.push(copy_ref(&refs[refs.len() - 1 - i])?)?;
     }
     Ok(())
 }
 
 /// Adds copies of the references of a body so that the first is the last.
-fn push_mentions(open: &mut Vec<Ref>, body: &Body) -> Result<(), AllocError>
-    ensures { OnOk result (reverse open.new.items ≡ mentions (body_of body.now) ++ reverse open.old.items) }
+fn push_mentions(stack: &mut Vec<Ref>, body: &Body) -> Result<(), AllocError>
+    ensures { OnOk result (reverse stack.new.items ≡ mentions (body_of body.now) ++ reverse stack.old.items) }
 {
     match body {
         Body::Same(r) => {
-            open.push(copy_ref(r)?)?;
+            stack.push(copy_ref(r)?)?;
             Ok(())
         }
-        Body::Con(_, parts) => push_reversed(open, parts.as_slice()),
+        Body::Con(_, parts) => push_reversed(stack, parts.as_slice()),
         Body::Num(_) | Body::Text(_) => Ok(()),
     }
 }
 
 /// Whether a reference is a left side in a message: the given one, or one of its load.
 fn is_seen(first: Option<&Ref>, load: &[Equation], r: &Ref) -> bool
-    ensures { result ≡ has_ref r.now (seen_with load.now (alone (option_copied first))) }
+    ensures { result ≡ has_ref r.now (seen_with load.now (listed (option_copied first.entry))) }
 {
     let is_first = match first {
         Some(left) => is_ref(r, left),
@@ -66,10 +66,18 @@ fn is_seen(first: Option<&Ref>, load: &[Equation], r: &Ref) -> bool
     is_first || is_behind(load, r)
 }
 
-ghost use Rattle.aw_site.specs.Senders.{SendsAs, Gives, alone, seen_with};
+ghost use Rattle.aw_site.specs.Senders.{SendsAs, Gives, listed, seen_with};
 
 impl<'a, F: Facts> Sender<'a, F> {
-    /// A copy of the body that a reference gives to a load: it is this role's, it is no left side yet, and it has an equation here.
+    /// Whether a reference may give its equation to a load: it is this role's, and no left side in the message yet.
+    fn may_give(&self, first: Option<&Ref>, load: &[Equation], r: &Ref) -> bool
+        ensures { (s : P.Site) → SendsAs ⟦<F as Facts>⟧ self.now s →
+            result ≡ may_give (grammar_of self.now.grammar.now) s (seen_with load.now (listed (option_copied first.entry))) r.now }
+    {
+        home(self.grammar, &r.node) == self.role && !is_seen(first, load, r)
+    }
+
+    /// A copy of the body that a reference gives to a load, where it may give one and has an equation here.
     fn given(
         &self,
         first: Option<&Ref>,
@@ -77,10 +85,10 @@ impl<'a, F: Facts> Sender<'a, F> {
         r: &Ref,
     ) -> Result<Option<Body>, AllocError>
         ensures { IfOk result (λ body. (s : P.Site) → SendsAs ⟦<F as Facts>⟧ self.now s → (rs : List RefName) (later : Option Given) →
-            given_on (may_give (grammar_of self.now.grammar.now) s (seen_with load.now (alone (option_copied first))) r.now) r.now (find s.equations r.now) rs later
+            given_on (may_give (grammar_of self.now.grammar.now) s (seen_with load.now (listed (option_copied first.entry))) r.now) r.now (find s.equations r.now) rs later
             ≡ given_on true r.now (option_map body_of body) rs later) }
     {
-        if home(self.grammar, &r.node) == self.role && !is_seen(first, load, r) {
+        if self.may_give(first, load, r) {
             body_in_both(self.alloc, self.facts, self.more, r)
         } else {
             Ok(None)
@@ -93,14 +101,14 @@ impl<'a, F: Facts> Sender<'a, F> {
         &self,
         first: Option<&Ref>,
         load: &[Equation],
-        open: &mut Vec<Ref>,
+        stack: &mut Vec<Ref>,
     ) -> Result<Option<Equation>, AllocError>
         ensures { IfOk result (λ e. (s : P.Site) → SendsAs ⟦<F as Facts>⟧ self.now s →
-            Gives (next_given (grammar_of self.now.grammar.now) s (seen_with load.now (alone (option_copied first))) (reverse open.old.items)) e (reverse open.new.items)) }
+            Gives (next_given (grammar_of self.now.grammar.now) s (seen_with load.now (listed (option_copied first.entry))) (reverse stack.old.items)) e (reverse stack.new.items)) }
     {
-        while let Some(r) = open.pop() {
+        while let Some(r) = stack.pop() {
             if let Some(body) = self.given(first, load, &r)? {
-                push_mentions(open, &body)?;
+                push_mentions(stack, &body)?;
                 return Ok(Some(Equation { left: r, body }));
             }
         }
@@ -115,13 +123,13 @@ impl<'a, F: Facts> Sender<'a, F> {
         most: usize,
     ) -> Result<Vec<Equation>, AllocError>
         ensures load { IfOk result (λ load. (s : P.Site) → SendsAs ⟦<F as Facts>⟧ self.now s →
-            list_map equation_of load.items ≡ walk most (grammar_of self.now.grammar.now) s (alone (option_copied first)) refs.now) }
+            list_map equation_of load.items ≡ walk most (grammar_of self.now.grammar.now) s (listed (option_copied first.entry)) refs.now) }
     {
-        let mut open = Vec::new(self.alloc);
-        push_reversed(&mut open, refs)?;
+        let mut stack = Vec::new(self.alloc);
+        push_reversed(&mut stack, refs)?;
         let mut load = Vec::new(self.alloc);
-        for _ in 0..most {
-            match self.next_given(first, load.as_slice(), &mut open)? {
+        for i in 0..most {
+            match self.next_given(first, load.as_slice(), &mut stack)? {
                 Some(e) => load.push(e)?,
                 None => return Ok(load),
             }
@@ -133,7 +141,7 @@ impl<'a, F: Facts> Sender<'a, F> {
     /// reference is a left side in the message already.
     pub fn load(&self, first: Option<&Ref>, refs: &[Ref]) -> Result<Equations, AllocError>
         ensures { IfOk result (λ load. (s : P.Site) → SendsAs ⟦<F as Facts>⟧ self.now s →
-            list_map equation_of load ≡ load_of (grammar_of self.now.grammar.now) s (alone (option_copied first)) refs.now) }
+            list_map equation_of load ≡ load_of (grammar_of self.now.grammar.now) s (listed (option_copied first.entry)) refs.now) }
     {
         if self.loads {
             Ok(Equations::from_vec(self.walk(first, refs, MOST_LOADED)?))

@@ -1,14 +1,14 @@
 //! Equations for the roles that asked for them.
-ghost use Rattle.std.specs.Prelude.{◌≡◌, ◌≤◌, ◌<◌, ◌++◌, ◌∷◌, [], IfOk, OnOk, map as list_map, option_map};
+ghost use Rattle.std.specs.Prelude.{◌≡◌, ◌≤◌, ◌<◌, ◌++◌, ◌∷◌, [], IfOk, OnOk, map as list_map, option_map, if◌then◌else◌};
 ghost use Rattle.aw_grammar.specs.GrammarOf.{grammar_of};
 ghost use Rattle.aw_store.specs.Equations.{find, mentions};
 ghost use Rattle.aw_store.specs.EquationView.{body_of, equation_of};
 ghost use Rattle.aw_msg.specs.MessageView.{message_of};
 ghost use Rattle.aw_react.specs.Loads.{load_of};
 ghost use Rattle.aw_react.specs.Sites as P;
-ghost use Rattle.aw_react.specs.Telling.{watchers_from, tell, tells, tell_back};
+ghost use Rattle.aw_react.specs.Telling.{has_watch, watchers_from, tell, tells, tell_back};
 ghost use Rattle.aw_site.specs.Holders.{ShowsWatchers};
-ghost use Rattle.aw_site.specs.Senders.{SendsAs, sent_alone};
+ghost use Rattle.aw_site.specs.Senders.{SendsAs, listed};
 
 use crate::finding::body_in_both;
 use crate::known::is_watched_by;
@@ -50,6 +50,25 @@ impl<'a, F: Facts> Sender<'a, F> {
         })
     }
 
+    /// Adds an equation for a role, where that watches its left side.
+    fn push_told_one(
+        &self,
+        sent: &mut Vec<Message>,
+        subs: &Subs,
+        e: &Equation,
+        role: u16,
+    ) -> Result<(), AllocError>
+        requires { role < 64 }
+        ensures { OnOk result ((s : P.Site) → SendsAs ⟦<F as Facts>⟧ self.now s → ShowsWatchers subs.now s.watchers →
+            list_map (message_of (grammar_of self.now.grammar.now)) sent.new.items ≡ list_map (message_of (grammar_of self.now.grammar.now)) sent.old.items
+            ++ (if has_watch e.now.left role s.watchers then tell (grammar_of self.now.grammar.now) s (equation_of e.now) role ∷ [] else [])) }
+    {
+        if is_watched_by(subs, &e.left, role) {
+            sent.push(self.tell(e, role)?)?;
+        }
+        Ok(())
+    }
+
     /// Adds an equation for each role below a number that watches its left side, in the order of roles.
     fn push_told(
         &self,
@@ -64,9 +83,7 @@ impl<'a, F: Facts> Sender<'a, F> {
             ++ list_map (tell (grammar_of self.now.grammar.now) s (equation_of e.now)) (watchers_from most 0 e.now.left s.watchers)) }
     {
         for role in 0..most {
-            if is_watched_by(subs, &e.left, role) {
-                sent.push(self.tell(e, role)?)?;
-            }
+            self.push_told_one(sent, subs, e, role)?;
         }
         Ok(())
     }
@@ -91,7 +108,7 @@ impl<'a, F: Facts> Sender<'a, F> {
     /// The answer to a question: the equation, where it is here.
     pub fn tell_back(&self, r: &Ref, from: u16) -> Result<Option<Message>, AllocError>
         ensures { IfOk result (λ m. (s : P.Site) → SendsAs ⟦<F as Facts>⟧ self.now s →
-            sent_alone (option_map (message_of (grammar_of self.now.grammar.now)) m) ≡ tell_back (grammar_of self.now.grammar.now) s (find s.equations r.now) r.now from) }
+            listed (option_map (message_of (grammar_of self.now.grammar.now)) m) ≡ tell_back (grammar_of self.now.grammar.now) s (find s.equations r.now) r.now from) }
     {
         match body_in_both(self.alloc, self.facts, self.more, r)? {
             Some(body) => {
