@@ -5,3 +5,5 @@ pub mod Walking
 pub mod SentLists
 pub mod Ordering
 pub mod Noting
+pub mod HeldTests
+pub mod FrontLemmas

@@ -1,7 +1,9 @@
 -- What was asked for and who watches, after one more.
-use Rattle.std.proofs.Common.{◌≡◌, ℕ, ◌<◌, Bool, true, false, List, [], ◌∷◌, ◌++◌, nat_eq, refl, ap, sym, ◌∙◌, eq-eqb}
+use Rattle.std.proofs.Common.{◌≡◌, ℕ, ◌+◌, ◌<◌, ◌≤◌, length, take, get_or, append_assoc, subst, Bool, true, false, List, [], ◌∷◌, ◌++◌, nat_eq, refl, ap, sym, ◌∙◌, eq-eqb}
 use Rattle.std.specs.Prelude.{◌||◌, ◌&&◌}
 use Rattle.std.proofs.lemmas.Bool.{eqb-true}
+use Rattle.std.proofs.lemmas.List.{append-nil, take_all}
+use Rattle.aw_site.proofs.Steps.{take_here}
 use Rattle.aw_term.specs.Names.{Ref, ref_eq}
 use Rattle.aw_term.proofs.RefTests.{ref_eq-true, ref_eq-self}
 use Rattle.aw_react.specs.InOrder.{has_ref}
@@ -57,3 +59,13 @@ watched_one old new r from ws writes shows x role l =
     watch_push x role (record { reference = r; role = from }) ws
     ∙ (λ i. (ref_eq-sym x r i && nat_eq-sym role from i) || shows x role l i)
     ∙ sym (writes x role)
+
+-- one more of some references was asked for
+pub asked_next : (subs : Subs) (asked wanted : List Ref) (i : ℕ) (r : Ref) → i < length wanted → r ≡ get_or wanted i r → ShowsAsked subs ((asked ++ take i wanted) ++ r ∷ []) → ShowsAsked subs (asked ++ take (i + 1) wanted)
+asked_next subs asked wanted i r l e h = subst (ShowsAsked subs) (append_assoc asked (take i wanted) (r ∷ []) ∙ ap (λ ys. asked ++ ys) (sym (take_here wanted i r l e))) h
+
+pub asked_whole : (subs : Subs) (asked wanted : List Ref) (i : ℕ) → length wanted ≤ i → ShowsAsked subs (asked ++ take i wanted) → ShowsAsked subs (asked ++ wanted)
+asked_whole subs asked wanted i l h = subst (ShowsAsked subs) (ap (λ ys. asked ++ ys) (take_all i wanted l)) h
+
+pub asked_none : (subs : Subs) (asked : List Ref) → ShowsAsked subs asked → ShowsAsked subs (asked ++ [])
+asked_none subs asked h = subst (ShowsAsked subs) (sym (append-nil asked)) h

@@ -26,7 +26,7 @@ passed_more xs i r x whole l e after other p =
     ap (λ ys. ys ++ insert_ref r (drop (i + 1) xs)) (take_here xs i x l e)
     ∙ append_assoc (take i xs) (x ∷ []) (insert_ref r (drop (i + 1) xs))
     ∙ ap (λ ys. take i xs ++ ys) (sym (ap (λ b. cond b (r ∷ x ∷ drop (i + 1) xs) (cond (ref_eq r x) (x ∷ drop (i + 1) xs) (x ∷ insert_ref r (drop (i + 1) xs)))) after
-      ∙ ap (λ b. cond b (x ∷ drop (i + 1) xs) (x ∷ insert_ref r (drop (i + 1) xs))) other))
+    ∙ ap (λ b. cond b (x ∷ drop (i + 1) xs) (x ∷ insert_ref r (drop (i + 1) xs))) other))
     ∙ ap (λ ys. take i xs ++ insert_ref r ys) (sym (drop_here xs i x l e))
     ∙ p
 
@@ -52,7 +52,7 @@ stands_here xs i r x whole l e after same p =
     sym (take_drop xs i)
     ∙ ap (λ ys. take i xs ++ ys) (drop_here xs i x l e)
     ∙ ap (λ ys. take i xs ++ ys) (sym (ap (λ b. cond b (r ∷ x ∷ drop (i + 1) xs) (cond (ref_eq r x) (x ∷ drop (i + 1) xs) (x ∷ insert_ref r (drop (i + 1) xs)))) after
-      ∙ ap (λ b. cond b (x ∷ drop (i + 1) xs) (x ∷ insert_ref r (drop (i + 1) xs))) same))
+    ∙ ap (λ b. cond b (x ∷ drop (i + 1) xs) (x ∷ insert_ref r (drop (i + 1) xs))) same))
     ∙ ap (λ ys. take i xs ++ insert_ref r ys) (sym (drop_here xs i x l e))
     ∙ p
 

@@ -15,16 +15,16 @@ use Rattle.aw_react.specs.Homes.{home}
 use Rattle.aw_react.specs.InOrder.{has_ref}
 use Rattle.aw_react.specs.Loads.{Given, may_give, given_on, next_given, walk}
 use Rattle.aw_react.specs.Sites.{Site}
-use Rattle.aw_site.specs.Senders.{Gives, seen_with}
+use Rattle.aw_site.specs.Senders.{Gives, GivesFirst, seen_with}
 use Rattle.aw_site.proofs.Steps.{drop_here}
 
 -- one more reference on the stack
 pub reverse-push : {A : Type 0} (xs ys : List A) (x : A) → ys ≡ xs ++ x ∷ [] → reverse ys ≡ x ∷ reverse xs
 reverse-push xs ys x e = ap reverse e ∙ reverse-append xs (x ∷ [])
 
-pub reversed_more : {A : Type 0} (refs open new base : List A) (i j : ℕ) (x : A) → j < length refs → j + 1 ≡ i → x ≡ get_or refs j x → new ≡ open ++ x ∷ [] → reverse open ≡ drop i refs ++ base → reverse new ≡ drop j refs ++ base
-reversed_more refs open new base i j x l n e p h =
-    reverse-push open new x p
+pub reversed_more : {A : Type 0} (refs stack new base : List A) (i j : ℕ) (x : A) → j < length refs → j + 1 ≡ i → x ≡ get_or refs j x → new ≡ stack ++ x ∷ [] → reverse stack ≡ drop i refs ++ base → reverse new ≡ drop j refs ++ base
+reversed_more refs stack new base i j x l n e p h =
+    reverse-push stack new x p
     ∙ ap (λ ys. x ∷ ys) (h ∙ ap (λ k. drop k refs ++ base) (sym n))
     ∙ ap (λ ys. ys ++ base) (sym (drop_here refs j x l e))
 
@@ -110,3 +110,31 @@ load_yes b es fs e f = f ∙ ap (λ b. cond b fs []) (sym e)
 
 pub load_no : (b : Bool) (fs : List P.Equation) → b ≡ false → [] ≡ cond b fs []
 load_no b fs e = ap (λ b. cond b fs []) (sym e)
+
+-- a reference that gave its equation
+pub gave : (given later : Option Given) (r : Ref) (o : Option Body) (b : Body) (rs new : List Ref) → given ≡ given_on true r (option_map body_of o) rs later → o ≡ Some b → new ≡ mentions (body_of b) ++ rs
+    → Gives given (Some (record { left = r; body = b })) new
+gave given later r o b rs new e s p =
+    subst (λ d. Gives d (Some (record { left = r; body = b })) new) (sym (e ∙ ap (λ o. given_on true r (option_map body_of o) rs later) s)) (refl, p)
+
+-- the loop over the stack
+module _ (g : Grammar) (s : Site) (seen whole stack rest : List Ref) (r : Ref) (e : Option Equation) (new : List Ref)
+    (so_far : next_given g s seen (reverse stack) ≡ next_given g s seen (reverse whole)) (popped : stack ≡ rest ++ r ∷ [])
+    (gives : GivesFirst (given_on (may_give g s seen r) r (find s.equations r) (reverse rest) (next_given g s seen (reverse rest))) (next_given g s seen (reverse rest)) e new) where
+  now : next_given g s seen (r ∷ reverse rest) ≡ next_given g s seen (reverse whole)
+  now = ap (next_given g s seen) (sym (reverse-push rest stack r popped)) ∙ so_far
+
+  pub given_here : (x : Equation) → e ≡ Some x → Gives (next_given g s seen (reverse whole)) (Some x) new
+  given_here x q =
+      subst (λ d. Gives d (Some x) new) now
+      (subst (λ e. GivesFirst (given_on (may_give g s seen r) r (find s.equations r) (reverse rest) (next_given g s seen (reverse rest))) (next_given g s seen (reverse rest)) e new) q gives)
+
+  pub given_later : e ≡ None → next_given g s seen (reverse rest) ≡ next_given g s seen (reverse whole)
+  given_later q =
+      sym (subst (λ e. GivesFirst (given_on (may_give g s seen r) r (find s.equations r) (reverse rest) (next_given g s seen (reverse rest))) (next_given g s seen (reverse rest)) e new) q gives)
+      ∙ now
+
+-- what is given, by the load that stands in a slice
+pub at_slice : (g : Grammar) (s : Site) (first rs new : List Ref) (slice load : List Equation) (o e : Option Equation) → slice ≡ load → o ≡ e
+    → Gives (next_given g s (seen_with slice first) rs) o new → Gives (next_given g s (seen_with load first) rs) e new
+at_slice g s first rs new slice load o e p q h = subst (λ e. Gives (next_given g s (seen_with load first) rs) e new) q (subst (λ l. Gives (next_given g s (seen_with l first) rs) o new) p h)

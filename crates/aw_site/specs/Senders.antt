@@ -32,3 +32,8 @@ abbrev pub Gives : Option Given → Option Equation → List Ref → Type 0
 Gives None None rs = Unit {0}
 Gives (Some d) (Some e) rs = (d.equation ≡ equation_of e) × (rs ≡ mentions d.equation.body ++ d.rest)
 Gives _ _ _ = Never
+
+-- the same of one reference, where later ones give what is told: it gives its own equation, or nothing
+abbrev pub GivesFirst : Option Given → Option Given → Option Equation → List Ref → Type 0
+GivesFirst given later None rs = given ≡ later
+GivesFirst given later (Some e) rs = Gives given (Some e) rs

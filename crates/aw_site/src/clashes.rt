@@ -7,7 +7,6 @@ ghost use Rattle.aw_held.specs.HeldView.{all_of};
 ghost use Rattle.aw_store.specs.Equations.{find};
 ghost use Rattle.aw_store.specs.EquationView.{body_of, equation_of};
 ghost use Rattle.aw_react.specs.Receiving.{refs_eq, clash_on, first_clash, call_clash};
-
 ghost use Rattle.aw_site.specs.Views.{call_of, clash_of};
 
 use crate::finding::body_in_both;
@@ -71,11 +70,7 @@ pub fn first_clash<F: Facts>(
 }
 
 /// Whether the node of a call is held with other references.
-pub fn call_clash(
-    held: &[Held],
-    node: &Node,
-    inherited: &Refs,
-) -> Result<Option<Clash>, AllocError>
+pub fn call_clash(held: &[Held], node: &Node, inherited: &Refs) -> Result<Option<Clash>, AllocError>
     requires { IsInOrder held.now }
     ensures { IfOk result (λ c. (g : T.Grammar) → option_map clash_of c ≡ call_clash (held_of node.now (all_of g held.now)) (call_of g node.now inherited.now) None) }
 {

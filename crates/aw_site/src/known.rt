@@ -6,6 +6,7 @@ ghost use Rattle.aw_held.specs.InOrder.{IsInOrder};
 ghost use Rattle.aw_held.specs.HeldView.{all_of};
 ghost use Rattle.aw_store.specs.EquationView.{equation_of};
 ghost use Rattle.aw_subs.specs.Entries.{watches};
+ghost use Rattle.aw_msg.specs.MessageView.{plain_kind};
 ghost use Rattle.aw_react.specs.Receiving.{all_held, is_repeat};
 ghost use Rattle.aw_react.specs.Sites.{Watch};
 ghost use Rattle.aw_site.specs.Holders.{holder, ShowsWatchers, IsOfRole};
@@ -49,7 +50,7 @@ pub fn is_watched_by(subs: &Subs, r: &Ref, role: u16) -> bool
 /// Whether nothing of a message is new.
 pub fn is_repeat<F: Facts>(facts: &F, held: &[Held], subs: &Subs, kind: &MsgKind) -> bool
     requires ordered { IsInOrder held.now }
-    requires role { (g : T.Grammar) → IsOfRole (kind_of g kind.now) }
+    requires role { IsOfRole (plain_kind kind.now) }
     ensures { (g : T.Grammar) (ws : List Watch) → ShowsWatchers subs.now ws → result ≡ is_repeat (holder (all_of g held.now) (F.map facts.now) ws) (kind_of g kind.now) }
 {
     match kind {

@@ -28,12 +28,7 @@ pub struct Plan {
 
 impl<'a, F: Facts> Sender<'a, F> {
     /// What is sent behind these messages: questions for those of the references that are wanted.
-    fn asking(
-        &self,
-        subs: &Subs,
-        sent: Vec<Message>,
-        refs: Vec<Ref>,
-    ) -> Result<Plan, AllocError>
+    fn asking(&self, subs: &Subs, sent: Vec<Message>, refs: Vec<Ref>) -> Result<Plan, AllocError>
         ensures wanted { IfOk result (λ p. (s : P.Site) → SendsAs ⟦<F as Facts>⟧ self.now s → ShowsAsked subs.now s.asked →
             p.wanted ≡ wanted_of (grammar_of self.now.grammar.now) s refs.items) }
         ensures sent { IfOk result (λ p. (s : P.Site) → SendsAs ⟦<F as Facts>⟧ self.now s →

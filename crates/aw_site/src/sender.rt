@@ -1,5 +1,5 @@
 //! What a role sends by, and the loads of its messages.
-ghost use Rattle.std.specs.Prelude.{◌≡◌, ◌++◌, ◌≤◌, ℕ, List, Option, Some, true, IfOk, OnOk, length, reverse, option_map, map as list_map};
+ghost use Rattle.std.specs.Prelude.{◌≡◌, ◌++◌, ◌≤◌, ℕ, List, Option, Some, None, true, IfOk, OnOk, length, reverse, option_map, map as list_map};
 ghost use Rattle.std.specs.Option.{option_copied};
 ghost use Rattle.aw_grammar.specs.GrammarOf.{grammar_of};
 ghost use Rattle.aw_name.specs.declared.node.Ref.{Ref as RefName};
@@ -55,18 +55,24 @@ fn push_mentions(stack: &mut Vec<Ref>, body: &Body) -> Result<(), AllocError>
     }
 }
 
+/// Whether a reference is the given one.
+fn is_first(first: Option<&Ref>, r: &Ref) -> bool
+    ensures { result ≡ has_ref r.now (listed (option_copied first.entry)) }
+{
+    match first {
+        Some(left) => is_ref(r, left),
+        None => false,
+    }
+}
+
 /// Whether a reference is a left side in a message: the given one, or one of its load.
 fn is_seen(first: Option<&Ref>, load: &[Equation], r: &Ref) -> bool
     ensures { result ≡ has_ref r.now (seen_with load.now (listed (option_copied first.entry))) }
 {
-    let is_first = match first {
-        Some(left) => is_ref(r, left),
-        None => false,
-    };
-    is_first || is_behind(load, r)
+    is_first(first, r) || is_behind(load, r)
 }
 
-ghost use Rattle.aw_site.specs.Senders.{SendsAs, Gives, listed, seen_with};
+ghost use Rattle.aw_site.specs.Senders.{SendsAs, Gives, GivesFirst, listed, seen_with};
 
 impl<'a, F: Facts> Sender<'a, F> {
     /// Whether a reference may give its equation to a load: it is this role's, and no left side in the message yet.
@@ -95,6 +101,28 @@ impl<'a, F: Facts> Sender<'a, F> {
         }
     }
 
+    /// The equation of a reference, where it gives one to a load; the references of its body are then looked at before those that stand there.
+    fn give(
+        &self,
+        first: Option<&Ref>,
+        load: &[Equation],
+        stack: &mut Vec<Ref>,
+        r: Ref,
+    ) -> Result<Option<Equation>, AllocError>
+        ensures gives { IfOk result (λ e. (s : P.Site) → SendsAs ⟦<F as Facts>⟧ self.now s → (later : Option Given) →
+            GivesFirst (given_on (may_give (grammar_of self.now.grammar.now) s (seen_with load.now (listed (option_copied first.entry))) r) r (find s.equations r) (reverse stack.old.items) later)
+            later e (reverse stack.new.items)) }
+        ensures none { IfOk result (λ e. e ≡ None → stack.new.items ≡ stack.old.items) }
+    {
+        match self.given(first, load, &r)? {
+            Some(body) => {
+                push_mentions(stack, &body)?;
+                Ok(Some(Equation { left: r, body }))
+            }
+            None => Ok(None),
+        }
+    }
+
     /// The next equation of a load. The references that are to be looked at stand with the next one last; those that give nothing are taken away,
     /// and where one gives its equation, the references of its body are put in its place.
     fn next_given(
@@ -107,9 +135,8 @@ impl<'a, F: Facts> Sender<'a, F> {
             Gives (next_given (grammar_of self.now.grammar.now) s (seen_with load.now (listed (option_copied first.entry))) (reverse stack.old.items)) e (reverse stack.new.items)) }
     {
         while let Some(r) = stack.pop() {
-            if let Some(body) = self.given(first, load, &r)? {
-                push_mentions(stack, &body)?;
-                return Ok(Some(Equation { left: r, body }));
+            if let Some(e) = self.give(first, load, stack, r)? {
+                return Ok(Some(e));
             }
         }
         Ok(None)

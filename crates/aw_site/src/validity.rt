@@ -11,7 +11,7 @@ ghost use Rattle.aw_site.specs.Views.{call_of, kind_of};
 
 use aw_base::{Grammar, content_ok, home_of, ref_ok, sort_of};
 use aw_msg::{Message, MsgKind};
-use aw_name::{Node, Ref, Trail};
+use aw_name::{Node, Ref, Step, Trail};
 use aw_store::{Body, Equation};
 use std::alloc::{AllocError, Global};
 
@@ -109,18 +109,27 @@ fn names_ok(g: &Grammar, kind: &MsgKind) -> bool
     }
 }
 
+/// Copies of steps.
+fn copy_steps(alloc: Global, steps: &[Step]) -> Result<Vec<Step>, AllocError>
+    ensures { IfOk result (λ copies. copies.items ≡ steps.now) }
+{
+    let mut copies = Vec::new(alloc);
+    for step in steps {
+        copies.push(*step)?;
+    }
+    Ok(copies)
+}
+
 /// The node of which another is a child; for a start node itself.
 fn parent(alloc: Global, node: &Node) -> Result<Node, AllocError>
     ensures { IfOk result (λ p. p ≡ parent node.now) }
 {
-    let steps = match node.steps.as_slice().split_last() {
-        Some((_, front)) => Trail::from_vec(front.to_vec(alloc)?)?,
-        None => Trail::new(alloc),
-    };
+    let steps = node.steps.as_slice();
+    let front = copy_steps(alloc, &steps[..steps.len().saturating_sub(1)])?;
     Ok(Node {
         start: node.start,
         case: node.case,
-        steps,
+        steps: Trail::from_vec(front)?,
     })
 }
 
@@ -142,12 +151,7 @@ fn origin_ok(alloc: Global, g: &Grammar, role: u16, kind: &MsgKind) -> Result<bo
 }
 
 /// Whether all names in a message to this role are valid.
-pub fn message_ok(
-    alloc: Global,
-    g: &Grammar,
-    role: u16,
-    m: &Message,
-) -> Result<bool, AllocError>
+pub fn message_ok(alloc: Global, g: &Grammar, role: u16, m: &Message) -> Result<bool, AllocError>
     ensures { IfOk result (λ ok. ok ≡ message_ok (grammar_of g.now) role (message_of (grammar_of g.now) m.now)) }
 {
     if is_role(g, m.to) && names_ok(g, &m.kind) {

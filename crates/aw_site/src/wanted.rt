@@ -97,6 +97,17 @@ impl<'a, F: Facts> Sender<'a, F> {
             && !subs.has_asked(r)
     }
 
+    /// Adds a copy of a reference, where it is wanted.
+    fn push_wanted(&self, wanted: &mut Vec<Ref>, subs: &Subs, r: &Ref) -> Result<(), AllocError>
+        ensures { OnOk result ((s : P.Site) → SendsAs ⟦<F as Facts>⟧ self.now s → ShowsAsked subs.now s.asked →
+            wanted.new.items ≡ wanted.old.items ++ filter (is_wanted (grammar_of self.now.grammar.now) s) (r.now ∷ [])) }
+    {
+        if self.is_wanted(subs, r) {
+            wanted.push(copy_ref(r)?)?;
+        }
+        Ok(())
+    }
+
     /// Those of the references that are wanted.
     fn only_wanted(&self, subs: &Subs, refs: &[Ref]) -> Result<Vec<Ref>, AllocError>
         ensures { IfOk result (λ wanted. (s : P.Site) → SendsAs ⟦<F as Facts>⟧ self.now s → ShowsAsked subs.now s.asked →
@@ -104,9 +115,7 @@ impl<'a, F: Facts> Sender<'a, F> {
     {
         let mut wanted = Vec::new(self.alloc);
         for r in refs {
-            if self.is_wanted(subs, r) {
-                wanted.push(copy_ref(r)?)?;
-            }
+            self.push_wanted(&mut wanted, subs, r)?;
         }
         Ok(wanted)
     }
@@ -162,11 +171,7 @@ impl<'a, F: Facts> Sender<'a, F> {
     }
 
     /// Adds copies of what a child inherits, where it is of this role.
-    fn push_child_inherited(
-        &self,
-        refs: &mut Vec<Ref>,
-        child: &MadeChild,
-    ) -> Result<(), AllocError>
+    fn push_child_inherited(&self, refs: &mut Vec<Ref>, child: &MadeChild) -> Result<(), AllocError>
         ensures { OnOk result (refs.new.items ≡ refs.old.items
             ++ all_inherited (calls_in (grammar_of self.now.grammar.now) self.now.role (child_call (grammar_of self.now.grammar.now) child.now ∷ []))) }
     {

@@ -2,7 +2,7 @@
 use Rattle.std.specs.Prelude.{◌≡◌, ℕ, List, ◌⊎◌}
 use Rattle.aw_term.specs.Names.{Node}
 use Rattle.aw_term.specs.Rules.{Ground}
-use Rattle.aw_term.specs.Configs.{Pending, Done}
+use Rattle.aw_term.specs.Configs.{Done}
 use Rattle.aw_term.specs.Held.{Held}
 use Rattle.aw_iograph.specs.Graphs.{Member}
 use Rattle.aw_store.specs.Equations.{Map}
@@ -20,5 +20,4 @@ KeepsNodes hs ks = (h : Held) → Member h hs → Member h ks
 
 -- each node is held as it was, but for this one, which keeps its references where it is developed
 abbrev pub KeepsNodesBut : Node → List Held → List Held → Type 0
-KeepsNodesBut n hs ks = (h : Held) → Member h hs →
-    Member h ks ⊎ ((h.node ≡ n) × (h.state ≡ Pending) × (r : ℕ) × (args : List Ground) × Member (record h { state = Done r args }) ks)
+KeepsNodesBut n hs ks = (h : Held) → Member h hs → Member h ks ⊎ ((h.node ≡ n) × (r : ℕ) × (args : List Ground) × Member (record h { state = Done r args }) ks)

@@ -1,7 +1,8 @@
 //! What one role holds of a case.
 ghost use Rattle.std.specs.Prelude.{◌≡◌, ◌+◌, ◌≤◌, ◌∷◌, [], None, true, false, IfOk, OnOk, OnErr, map as list_map, option_map};
 ghost use Rattle.std.specs.Option.{option_copied};
-ghost use Rattle.aw_choice.specs.ChoiceView.{choice_of, item_of};
+ghost use Rattle.aw_choice.specs.ChoiceView.{answer_of, choice_of, item_of};
+ghost use Rattle.aw_term.specs.Choices.{Taken};
 ghost use Rattle.aw_grammar.specs.GrammarOf.{grammar_of};
 ghost use Rattle.aw_base.specs.ChoiceFits.{choice_ok};
 ghost use Rattle.aw_store.specs.EquationView.{equation_of};
@@ -12,8 +13,10 @@ ghost use Rattle.aw_react.specs.Worlds.{node_of};
 ghost use Rattle.aw_space.specs.Sound.{IsSound};
 ghost use Rattle.aw_space.specs.Valid.{IsValid};
 
-use crate::outcome::Outcome;
+use crate::calls::place_call;
+use crate::outcome::{Outcome, carry_out, foresee};
 use crate::placing::{Placed, Placing};
+use crate::taking_in::take_in;
 use aw_accept::Accepted;
 use aw_apply::Steps;
 use aw_choice::{Choice, Worklist};
@@ -96,7 +99,15 @@ impl<'g, F: Facts> Space<'g, F> {
         ensures outcome { IfOk result (λ o. IsOutcome o (choice_of choice.now) (outcome (grammar_of g.now.grammar) (space_seen ⟦<F as Facts>⟧ self.now) (choice_of choice.now))) }
         ensures steps { steps.new ≤ steps.old + 1 }
     {
-        Err(AllocError)
+        foresee(
+            *self.held.allocator(),
+            g.grammar(),
+            self.role,
+            self.held.as_slice(),
+            &self.facts,
+            choice,
+            steps,
+        )
     }
 
     /// Answers a choice, and takes it where the answer is `Taken`. A refused choice and an error change neither nodes,
@@ -114,13 +125,25 @@ impl<'g, F: Facts> Space<'g, F> {
         ensures role { self.new.role ≡ self.old.role }
         ensures outcome { IfOk result (λ o. IsOutcome o (choice_of choice.now) (outcome (grammar_of g.now.grammar) (space_seen ⟦<F as Facts>⟧ self.old) (choice_of choice.now))) }
         ensures space { OnOk result (space_seen ⟦<F as Facts>⟧ self.new ≡ space_after (grammar_of g.now.grammar) self.old.role (space_seen ⟦<F as Facts>⟧ self.old) (choice_of choice.now)) }
-        ensures refused { IfOk result (λ o. (o.answer ≡ Answer.Taken → ⊥) → IsUnchanged ⟦<F as Facts>⟧ self.old self.new) }
+        ensures refused { IfOk result (λ o. (answer_of o.answer ≡ Taken → ⊥) → IsUnchanged ⟦<F as Facts>⟧ self.old self.new) }
         ensures err { OnErr result (IsUnchanged ⟦<F as Facts>⟧ self.old self.new) }
         ensures facts { KeepsFacts (F.map self.old.facts) (F.map self.new.facts) }
         ensures nodes { KeepsNodesBut (node_of (choice_of choice.now)) (space_seen ⟦<F as Facts>⟧ self.old).held (space_seen ⟦<F as Facts>⟧ self.new).held }
         ensures steps { steps.new ≤ steps.old + choice_cost (grammar_of g.now.grammar) self.old.role (space_seen ⟦<F as Facts>⟧ self.old) (choice_of choice.now) }
     {
-        Err(AllocError)
+        let outcome = self.foresee(g, choice, steps)?;
+        if outcome.is_taken() {
+            carry_out(
+                g.grammar(),
+                self.role,
+                &mut self.held,
+                &mut self.choices,
+                &mut self.facts,
+                choice,
+                &outcome.made,
+            )?;
+        }
+        Ok(outcome)
     }
 
     /// Holds a child that another role called, where it is not held. A conflict and an error change neither nodes, choices
@@ -143,7 +166,7 @@ impl<'g, F: Facts> Space<'g, F> {
         ensures nodes { KeepsNodes (space_seen ⟦<F as Facts>⟧ self.old).held (space_seen ⟦<F as Facts>⟧ self.new).held }
         ensures steps { steps.new ≤ steps.old + rules_of (grammar_of g.now.grammar) (call_of (grammar_of g.now.grammar) node.now inherited.now).sort }
     {
-        Err(AllocError)
+        place_call(&mut self.held, &mut self.facts, node, inherited)
     }
 
     /// Takes in an equation of another role, where its left side has none. A conflict and an error change neither nodes,
@@ -166,7 +189,7 @@ impl<'g, F: Facts> Space<'g, F> {
         ensures facts { KeepsFacts (F.map self.old.facts) (F.map self.new.facts) }
         ensures steps { steps.new ≤ steps.old + waiting_on e.left (worklist (grammar_of g.now.grammar) (space_seen ⟦<F as Facts>⟧ self.old)) }
     {
-        Err(AllocError)
+        self.facts.add(e)
     }
 
     /// Takes in a call, if there is one, and equations of other roles, none of which contradicts what is held. An error
@@ -190,7 +213,7 @@ impl<'g, F: Facts> Space<'g, F> {
         ensures nodes { KeepsNodes (space_seen ⟦<F as Facts>⟧ self.old).held (space_seen ⟦<F as Facts>⟧ self.new).held }
         ensures steps { steps.new ≤ steps.old + taking_cost (grammar_of g.now.grammar) (option_map (placed_call (grammar_of g.now.grammar)) (option_copied call.entry)) (list_map equation_of es.now) (space_seen ⟦<F as Facts>⟧ self.old) }
     {
-        Err(AllocError)
+        take_in(&mut self.held, &mut self.facts, call, es)
     }
 
     /// The worklist: each open node in order with each rule of its sort, and how it stands. It tests no guard.

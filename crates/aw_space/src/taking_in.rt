@@ -1,5 +1,5 @@
 //! Taking in a call and equations together, which no other call of the space could do without being refused midway.
-ghost use Rattle.std.specs.Prelude.{◌≡◌, ◌<◌, ◌≤◌, ◌+◌, None, true, IfOk, OnOk, OnErr, ForSome, map as list_map, vec_len, vec_capacity};
+ghost use Rattle.std.specs.Prelude.{◌≡◌, ◌<◌, ◌≤◌, ◌+◌, None, true, IfOk, OnOk, OnErr, map as list_map, vec_len, vec_capacity};
 ghost use Rattle.std.specs.Option.{option_copied};
 ghost use Rattle.aw_store.specs.EquationView.{equation_of};
 ghost use Rattle.aw_store.specs.NamedRefs.{all_named, Grows};
