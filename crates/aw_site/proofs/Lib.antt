@@ -7,3 +7,5 @@ pub mod Ordering
 pub mod Noting
 pub mod HeldTests
 pub mod FrontLemmas
+pub mod ChosenSites
+pub mod Receptions

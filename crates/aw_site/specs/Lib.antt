@@ -2,4 +2,9 @@ pub mod Views
 pub mod Holders
 pub mod Senders
 pub mod Plans
+pub mod Shown
 pub mod Answers
+pub mod Chosen
+pub mod Judged
+pub mod Came
+pub mod Seen

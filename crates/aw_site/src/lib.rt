@@ -3,15 +3,21 @@
 
 mod belonging;
 mod calls;
+mod choosing;
 mod clashes;
 mod finding;
+mod judging;
 mod known;
 mod plan;
 mod received;
+mod receiving;
 mod sender;
 mod sending;
+mod site;
 mod tells;
+mod uncounted;
 mod validity;
 mod wanted;
 
 pub use received::Received;
+pub use site::Site;

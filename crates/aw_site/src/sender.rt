@@ -22,6 +22,7 @@ const MOST_LOADED: usize = 64;
 
 /// What a role sends by: its grammar, its number, whether its messages carry loads, its store, and equations that are to come behind those of
 /// the store.
+#[derive(Drop)]
 pub struct Sender<'a, F: Facts> {
     pub alloc: Global,
     pub grammar: &'a Grammar,
