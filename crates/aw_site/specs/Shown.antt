@@ -17,7 +17,7 @@ space_in s = record { held = s.held; choices = s.choices; equations = s.equation
 -- its role and flag, what it holds, what it asked for and who watches: all but what it sent
 pub record HoldsAs {F : Type 0} (f : Ghosts F) (space : Space F f) (subs : Subs) (loads : Bool) (s : P.Site) : Type 0 where
   pub role : s.role ≡ space.role
-  pub loads : s.loads ≡ loads
+  pub flag : s.loads ≡ loads
   pub holds : space_in s ≡ space_seen f space
   pub asked : ShowsAsked subs s.asked
   pub watchers : ShowsWatchers subs s.watchers
@@ -25,4 +25,4 @@ pub record HoldsAs {F : Type 0} (f : Ghosts F) (space : Space F f) (subs : Subs)
 -- all that, and all messages that it sent
 pub record Shows {F : Type 0} (f : Ghosts F) (space : Space F f) (subs : Subs) (outbox : List Message) (loads : Bool) (s : P.Site) : Type 0 where
   pub holds : HoldsAs f space subs loads s
-  pub outbox : s.outbox ≡ map (message_of (grammar_in f space)) outbox
+  pub sent : s.outbox ≡ map (message_of (grammar_in f space)) outbox

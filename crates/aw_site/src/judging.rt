@@ -78,7 +78,9 @@ fn clash<F: Facts>(
     ensures { IfOk result (λ c. (g : T.Grammar) → option_map clash_of c ≡ plain_clash (holder (all_of g held.now) (F.map facts.now) []) (kind_of g kind.now)) }
 {
     if let MsgKind::Call {
-        node, inherited, ..
+        node,
+        inherited,
+        ..
     } = kind
     {
         if let Some(clash) = call_clash(held, node, inherited)? {

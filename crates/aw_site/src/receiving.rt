@@ -153,7 +153,7 @@ fn react<'g, F: Facts>(
     requires grammar { g.now.grammar ≡ space.old.grammar.now }
     requires carried { (g : T.Grammar) → list_map equation_of es.now ≡ carried (kind_of g m.now.kind) }
     requires fresh { (s : P.Site) → HoldsAs ⟦<F as Facts>⟧ space.old subs.old loads s → IsFresh (grammar_of g.now.grammar) s (message_of (grammar_of g.now.grammar) m.now) }
-    requires holds { ∥ (s : P.Site) × HoldsAs ⟦<F as Facts>⟧ space.old subs.old loads s ∥₁ }
+    requires holds { ∥ ((s : P.Site) × HoldsAs ⟦<F as Facts>⟧ space.old subs.old loads s) ∥₁ }
     ensures grammar { space.new.grammar.now ≡ space.old.grammar.now }
     ensures role { space.new.role ≡ space.old.role }
     ensures count { IfOk result (λ n. (s : P.Site) → Shows ⟦<F as Facts>⟧ space.old subs.old outbox.old.items loads s →
@@ -170,7 +170,9 @@ fn react<'g, F: Facts>(
 {
     match &m.kind {
         MsgKind::Call {
-            node, inherited, ..
+            node,
+            inherited,
+            ..
         } => {
             let placing = Placing {
                 node: copy_node(node)?,
@@ -196,7 +198,7 @@ pub fn receive<'g, F: Facts>(
     copy: &mut Vec<Message>,
 ) -> Result<Received, AllocError>
     requires grammar { g.now.grammar ≡ space.old.grammar.now }
-    requires holds { ∥ (s : P.Site) × HoldsAs ⟦<F as Facts>⟧ space.old subs.old loads s ∥₁ }
+    requires holds { ∥ ((s : P.Site) × HoldsAs ⟦<F as Facts>⟧ space.old subs.old loads s) ∥₁ }
     ensures grammar { space.new.grammar.now ≡ space.old.grammar.now }
     ensures role { space.new.role ≡ space.old.role }
     ensures answer { IfOk result (λ r. (s : P.Site) → Shows ⟦<F as Facts>⟧ space.old subs.old outbox.old.items loads s →

@@ -11,9 +11,8 @@ ghost use Rattle.aw_space.specs.Seen.{space_seen};
 ghost use Rattle.aw_space.specs.Spaces.{is_home};
 ghost use Rattle.aw_site.specs.Shown.{Shows};
 
-use crate::choosing;
 use crate::received::Received;
-use crate::receiving;
+use crate::{choosing, receiving};
 use aw_accept::Accepted;
 use aw_choice::{Answer, Choice};
 use aw_msg::{Message, Messages};
@@ -29,7 +28,7 @@ pub struct Site<'g, F: Facts> {
     pub(crate) subs: Subs,
     pub(crate) outbox: Vec<Message>,
     pub(crate) loads: bool,
-    pub ghost shown: { ∥ (s : P.Site) × Shows ⟦<F as Facts>⟧ space subs outbox.items loads s ∥₁ },
+    pub ghost shown: { ∥ ((s : P.Site) × Shows ⟦<F as Facts>⟧ space subs outbox.items loads s) ∥₁ },
 }
 
 impl<'g, F: Facts> Site<'g, F> {
@@ -41,13 +40,7 @@ impl<'g, F: Facts> Site<'g, F> {
     ghost use Rattle.aw_site.specs.Seen.{grammar_in, role_in, map_in, nodes_in, IsShown};
 
     /// A site of a role that holds nothing, over a store without equations. Its messages carry loads, or none does.
-    pub fn new(
-        alloc: Global,
-        g: &'g Accepted,
-        role: u16,
-        facts: F,
-        loads: bool,
-    ) -> Site<'g, F>
+    pub fn new(alloc: Global, g: &'g Accepted, role: u16, facts: F, loads: bool) -> Site<'g, F>
         requires { F.map facts ≡ [] }
         ensures grammar { result.space.grammar.now ≡ g.now.grammar }
         ensures role { role_in ⟦<F as Facts>⟧ result ≡ role }
@@ -121,11 +114,7 @@ impl<'g, F: Facts> Site<'g, F> {
     }
 
     /// Answers a choice; how many messages it sent. Only `Taken` changes the site, and an error does not.
-    pub fn choose(
-        &mut self,
-        g: &Accepted,
-        choice: &Choice,
-    ) -> Result<(Answer, usize), AllocError>
+    pub fn choose(&mut self, g: &Accepted, choice: &Choice) -> Result<(Answer, usize), AllocError>
         requires grammar { g.now.grammar ≡ self.old.space.grammar.now }
         requires ok { choice_ok (grammar_of g.now.grammar) (choice_of choice.now) ≡ true }
         requires here { is_home (grammar_of g.now.grammar) (role_in ⟦<F as Facts>⟧ self.old) (node_of (choice_of choice.now)) ≡ true }
