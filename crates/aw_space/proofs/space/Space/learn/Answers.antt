@@ -18,7 +18,7 @@ returns-clause-facts g c = learnt_facts _ _ c.args.e c.add.result c.add.ensures.
 pub invariant_of-self : goal.invariant_of-self
 invariant_of-self g c =
     let old = c.args.self.now in
-    let gr = grammar_of old.grammar.now in
+    let gr = grammar_of old.accepted.now.grammar in
     let other = subst (λ x. is_home (grammar_of x) old.role c.args.e.left.node ≡ false) c.requires.grammar c.requires.other in
     let ok = subst (λ x. equation_ok (grammar_of x) (equation_of c.args.e) ≡ true) c.requires.grammar c.requires.ok in
     record {
