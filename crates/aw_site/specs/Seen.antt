@@ -12,7 +12,7 @@ use Rattle.aw_site.specs.Shown.{Shows}
 
 -- the grammar of its space
 abbrev pub grammar_in : {F : Type 0} (f : Ghosts F) → Site F f → Grammar
-grammar_in f s = grammar_of s.space.grammar.now
+grammar_in f s = grammar_of s.space.accepted.now.grammar
 
 -- the role of its space
 abbrev pub role_in : {F : Type 0} (f : Ghosts F) → Site F f → ℕ

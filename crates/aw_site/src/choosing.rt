@@ -45,7 +45,7 @@ fn prepare<'g, F: Facts>(
     loads: bool,
     choice: &Choice,
 ) -> Result<Prepared, AllocError>
-    requires grammar { g.now.grammar ≡ space.now.grammar.now }
+    requires grammar { g.now.grammar ≡ space.now.accepted.now.grammar }
     requires ok { choice_ok (grammar_of g.now.grammar) (choice_of choice.now) ≡ true }
     requires here { is_home (grammar_of g.now.grammar) space.now.role (node_of (choice_of choice.now)) ≡ true }
     ensures { IfOk result (λ p. (s : P.Site) → HoldsAs ⟦<F as Facts>⟧ space.now subs.now loads s → Prepares (grammar_of g.now.grammar) s (choice_of choice.now) p) }
@@ -77,10 +77,10 @@ pub fn choose<'g, F: Facts>(
     choice: &Choice,
     copy: &mut Vec<Message>,
 ) -> Result<(Answer, usize), AllocError>
-    requires grammar { g.now.grammar ≡ space.old.grammar.now }
+    requires grammar { g.now.grammar ≡ space.old.accepted.now.grammar }
     requires ok { choice_ok (grammar_of g.now.grammar) (choice_of choice.now) ≡ true }
     requires here { is_home (grammar_of g.now.grammar) space.old.role (node_of (choice_of choice.now)) ≡ true }
-    ensures grammar { space.new.grammar.now ≡ space.old.grammar.now }
+    ensures grammar { space.new.accepted.now.grammar ≡ space.old.accepted.now.grammar }
     ensures role { space.new.role ≡ space.old.role }
     ensures answer { IfOk result (λ r. (s : P.Site) → Shows ⟦<F as Facts>⟧ space.old subs.old outbox.old.items loads s →
         answer_of r.0 ≡ answer_to (plain_choose (grammar_of g.now.grammar) s (choice_of choice.now))) }

@@ -99,7 +99,7 @@ pub fn judge<'g, F: Facts>(
     m: &Message,
     es: &Equations,
 ) -> Result<Judged, AllocError>
-    requires grammar { g.now.grammar ≡ space.now.grammar.now }
+    requires grammar { g.now.grammar ≡ space.now.accepted.now.grammar }
     requires carried { (g : T.Grammar) → list_map equation_of es.now ≡ carried (kind_of g m.now.kind) }
     ensures { IfOk result (λ j. (loads : Bool) (s : P.Site) → HoldsAs ⟦<F as Facts>⟧ space.now subs.now loads s →
         Judges (grammar_of g.now.grammar) s (message_of (grammar_of g.now.grammar) m.now) j) }

@@ -57,7 +57,7 @@ fn answer_ask<'g, F: Facts>(
     from: u16,
     copy: &mut Vec<Message>,
 ) -> Result<usize, AllocError>
-    requires grammar { g.now.grammar ≡ space.now.grammar.now }
+    requires grammar { g.now.grammar ≡ space.now.accepted.now.grammar }
     requires role { from < 64 }
     ensures count { IfOk result (λ n. (s : P.Site) → Shows ⟦<F as Facts>⟧ space.now subs.old outbox.old.items loads s → n ≡ length (plain_react (grammar_of g.now.grammar) s (Asks r.now from)).sent) }
     ensures site { OnOk result ((s : P.Site) → Shows ⟦<F as Facts>⟧ space.now subs.old outbox.old.items loads s →
@@ -100,11 +100,11 @@ fn take_in<'g, F: Facts>(
     es: &Equations,
     copy: &mut Vec<Message>,
 ) -> Result<usize, AllocError>
-    requires grammar { g.now.grammar ≡ space.old.grammar.now }
+    requires grammar { g.now.grammar ≡ space.old.accepted.now.grammar }
     requires call { MayBeCalledIf (grammar_of g.now.grammar) space.old.role (option_map (placed_call (grammar_of g.now.grammar)) (option_copied call)) }
     requires ok { MayBeLearnt (grammar_of g.now.grammar) space.old.role (list_map equation_of es.now) }
     requires free { clash_with (option_map (placed_call (grammar_of g.now.grammar)) (option_copied call)) (list_map equation_of es.now) (space_seen ⟦<F as Facts>⟧ space.old) ≡ None }
-    ensures grammar { space.new.grammar.now ≡ space.old.grammar.now }
+    ensures grammar { space.new.accepted.now.grammar ≡ space.old.accepted.now.grammar }
     ensures role { space.new.role ≡ space.old.role }
     ensures count { IfOk result (λ n. (s : P.Site) → Shows ⟦<F as Facts>⟧ space.old subs.old outbox.old.items loads s →
         n ≡ length (came (grammar_of g.now.grammar) s (option_map (placed_call (grammar_of g.now.grammar)) (option_copied call.entry)) (list_map equation_of es.now)).sent) }
@@ -150,11 +150,11 @@ fn react<'g, F: Facts>(
     es: &Equations,
     copy: &mut Vec<Message>,
 ) -> Result<usize, AllocError>
-    requires grammar { g.now.grammar ≡ space.old.grammar.now }
+    requires grammar { g.now.grammar ≡ space.old.accepted.now.grammar }
     requires carried { (g : T.Grammar) → list_map equation_of es.now ≡ carried (kind_of g m.now.kind) }
     requires fresh { (s : P.Site) → HoldsAs ⟦<F as Facts>⟧ space.old subs.old loads s → IsFresh (grammar_of g.now.grammar) s (message_of (grammar_of g.now.grammar) m.now) }
     requires holds { ∥ ((s : P.Site) × HoldsAs ⟦<F as Facts>⟧ space.old subs.old loads s) ∥₁ }
-    ensures grammar { space.new.grammar.now ≡ space.old.grammar.now }
+    ensures grammar { space.new.accepted.now.grammar ≡ space.old.accepted.now.grammar }
     ensures role { space.new.role ≡ space.old.role }
     ensures count { IfOk result (λ n. (s : P.Site) → Shows ⟦<F as Facts>⟧ space.old subs.old outbox.old.items loads s →
         n ≡ length (plain_react (grammar_of g.now.grammar) s (message_of (grammar_of g.now.grammar) m.now).kind).sent) }
@@ -197,9 +197,9 @@ pub fn receive<'g, F: Facts>(
     m: &Message,
     copy: &mut Vec<Message>,
 ) -> Result<Received, AllocError>
-    requires grammar { g.now.grammar ≡ space.old.grammar.now }
+    requires grammar { g.now.grammar ≡ space.old.accepted.now.grammar }
     requires holds { ∥ ((s : P.Site) × HoldsAs ⟦<F as Facts>⟧ space.old subs.old loads s) ∥₁ }
-    ensures grammar { space.new.grammar.now ≡ space.old.grammar.now }
+    ensures grammar { space.new.accepted.now.grammar ≡ space.old.accepted.now.grammar }
     ensures role { space.new.role ≡ space.old.role }
     ensures answer { IfOk result (λ r. (s : P.Site) → Shows ⟦<F as Facts>⟧ space.old subs.old outbox.old.items loads s →
         IsReceived r (plain_receive (grammar_of g.now.grammar) s (message_of (grammar_of g.now.grammar) m.now))) }

@@ -42,7 +42,7 @@ impl<'g, F: Facts> Site<'g, F> {
     /// A site of a role that holds nothing, over a store without equations. Its messages carry loads, or none does.
     pub fn new(alloc: Global, g: &'g Accepted, role: u16, facts: F, loads: bool) -> Site<'g, F>
         requires { F.map facts ≡ [] }
-        ensures grammar { result.space.grammar.now ≡ g.now.grammar }
+        ensures grammar { result.space.accepted.now.grammar ≡ g.now.grammar }
         ensures role { role_in ⟦<F as Facts>⟧ result ≡ role }
         ensures site { IsShown ⟦<F as Facts>⟧ result (empty_site loads role) }
     {
@@ -83,10 +83,10 @@ impl<'g, F: Facts> Site<'g, F> {
         choice: &Choice,
         copy: &mut Messages,
     ) -> Result<(Answer, usize), AllocError>
-        requires grammar { g.now.grammar ≡ self.old.space.grammar.now }
+        requires grammar { g.now.grammar ≡ self.old.space.accepted.now.grammar }
         requires ok { choice_ok (grammar_of g.now.grammar) (choice_of choice.now) ≡ true }
         requires here { is_home (grammar_of g.now.grammar) (role_in ⟦<F as Facts>⟧ self.old) (node_of (choice_of choice.now)) ≡ true }
-        ensures grammar { self.new.space.grammar.now ≡ self.old.space.grammar.now }
+        ensures grammar { self.new.space.accepted.now.grammar ≡ self.old.space.accepted.now.grammar }
         ensures role { role_in ⟦<F as Facts>⟧ self.new ≡ role_in ⟦<F as Facts>⟧ self.old }
         ensures answer { IfOk result (λ r. (s : P.Site) → IsShown ⟦<F as Facts>⟧ self.old s → answer_of r.0 ≡ answer_to (plain_choose (grammar_of g.now.grammar) s (choice_of choice.now))) }
         ensures count { IfOk result (λ r. (s : P.Site) → IsShown ⟦<F as Facts>⟧ self.old s → r.1 ≡ length (sent_by (plain_choose (grammar_of g.now.grammar) s (choice_of choice.now)))) }
@@ -115,10 +115,10 @@ impl<'g, F: Facts> Site<'g, F> {
 
     /// Answers a choice; how many messages it sent. Only `Taken` changes the site, and an error does not.
     pub fn choose(&mut self, g: &Accepted, choice: &Choice) -> Result<(Answer, usize), AllocError>
-        requires grammar { g.now.grammar ≡ self.old.space.grammar.now }
+        requires grammar { g.now.grammar ≡ self.old.space.accepted.now.grammar }
         requires ok { choice_ok (grammar_of g.now.grammar) (choice_of choice.now) ≡ true }
         requires here { is_home (grammar_of g.now.grammar) (role_in ⟦<F as Facts>⟧ self.old) (node_of (choice_of choice.now)) ≡ true }
-        ensures grammar { self.new.space.grammar.now ≡ self.old.space.grammar.now }
+        ensures grammar { self.new.space.accepted.now.grammar ≡ self.old.space.accepted.now.grammar }
         ensures role { role_in ⟦<F as Facts>⟧ self.new ≡ role_in ⟦<F as Facts>⟧ self.old }
         ensures answer { IfOk result (λ r. (s : P.Site) → IsShown ⟦<F as Facts>⟧ self.old s → answer_of r.0 ≡ answer_to (plain_choose (grammar_of g.now.grammar) s (choice_of choice.now))) }
         ensures count { IfOk result (λ r. (s : P.Site) → IsShown ⟦<F as Facts>⟧ self.old s → r.1 ≡ length (sent_by (plain_choose (grammar_of g.now.grammar) s (choice_of choice.now)))) }
@@ -139,8 +139,8 @@ impl<'g, F: Facts> Site<'g, F> {
         m: &Message,
         copy: &mut Messages,
     ) -> Result<Received, AllocError>
-        requires { g.now.grammar ≡ self.old.space.grammar.now }
-        ensures grammar { self.new.space.grammar.now ≡ self.old.space.grammar.now }
+        requires { g.now.grammar ≡ self.old.space.accepted.now.grammar }
+        ensures grammar { self.new.space.accepted.now.grammar ≡ self.old.space.accepted.now.grammar }
         ensures role { role_in ⟦<F as Facts>⟧ self.new ≡ role_in ⟦<F as Facts>⟧ self.old }
         ensures answer { IfOk result (λ r. (s : P.Site) → IsShown ⟦<F as Facts>⟧ self.old s → IsReceived r (plain_receive (grammar_of g.now.grammar) s (message_of (grammar_of g.now.grammar) m.now))) }
         ensures site { OnOk result ((s : P.Site) → IsShown ⟦<F as Facts>⟧ self.old s →
@@ -170,8 +170,8 @@ impl<'g, F: Facts> Site<'g, F> {
     /// Answers a message. Only `New` changes the site, and an error does not. Whatever comes, forged or not: equations and nodes stay,
     /// and a guard that is decided stays so.
     pub fn receive(&mut self, g: &Accepted, m: &Message) -> Result<Received, AllocError>
-        requires { g.now.grammar ≡ self.old.space.grammar.now }
-        ensures grammar { self.new.space.grammar.now ≡ self.old.space.grammar.now }
+        requires { g.now.grammar ≡ self.old.space.accepted.now.grammar }
+        ensures grammar { self.new.space.accepted.now.grammar ≡ self.old.space.accepted.now.grammar }
         ensures role { role_in ⟦<F as Facts>⟧ self.new ≡ role_in ⟦<F as Facts>⟧ self.old }
         ensures answer { IfOk result (λ r. (s : P.Site) → IsShown ⟦<F as Facts>⟧ self.old s → IsReceived r (plain_receive (grammar_of g.now.grammar) s (message_of (grammar_of g.now.grammar) m.now))) }
         ensures site { OnOk result ((s : P.Site) → IsShown ⟦<F as Facts>⟧ self.old s →

@@ -30,7 +30,7 @@ fn foresee_in_ledger<'g, F: Facts, L: Ledger>(
     requires name { blank.name ≡ L.name }
     requires parts { blank.parts ≡ L.parts }
     requires some { 0 < L.parts }
-    requires grammar { g.now.grammar ≡ space.now.grammar.now }
+    requires grammar { g.now.grammar ≡ space.now.accepted.now.grammar }
     requires ok { choice_ok (grammar_of g.now.grammar) (choice_of choice.now) ≡ true }
     requires here { is_home (grammar_of g.now.grammar) space.now.role (node_of (choice_of choice.now)) ≡ true }
     ensures { IfOk result (λ o. IsOutcome o (choice_of choice.now) (outcome (grammar_of g.now.grammar) (space_seen ⟦<F as Facts>⟧ space.now) (choice_of choice.now))) }
@@ -45,7 +45,7 @@ pub fn foresee<'g, F: Facts>(
     g: &Accepted,
     choice: &Choice,
 ) -> Result<Outcome, AllocError>
-    requires grammar { g.now.grammar ≡ space.now.grammar.now }
+    requires grammar { g.now.grammar ≡ space.now.accepted.now.grammar }
     requires ok { choice_ok (grammar_of g.now.grammar) (choice_of choice.now) ≡ true }
     requires here { is_home (grammar_of g.now.grammar) space.now.role (node_of (choice_of choice.now)) ≡ true }
     ensures { IfOk result (λ o. IsOutcome o (choice_of choice.now) (outcome (grammar_of g.now.grammar) (space_seen ⟦<F as Facts>⟧ space.now) (choice_of choice.now))) }
@@ -62,10 +62,10 @@ fn choose_in_ledger<'g, F: Facts, L: Ledger>(
     requires name { blank.name ≡ L.name }
     requires parts { blank.parts ≡ L.parts }
     requires some { 0 < L.parts }
-    requires grammar { g.now.grammar ≡ space.old.grammar.now }
+    requires grammar { g.now.grammar ≡ space.old.accepted.now.grammar }
     requires ok { choice_ok (grammar_of g.now.grammar) (choice_of choice.now) ≡ true }
     requires here { is_home (grammar_of g.now.grammar) space.old.role (node_of (choice_of choice.now)) ≡ true }
-    ensures grammar { space.new.grammar.now ≡ space.old.grammar.now }
+    ensures grammar { space.new.accepted.now.grammar ≡ space.old.accepted.now.grammar }
     ensures role { space.new.role ≡ space.old.role }
     ensures space { OnOk result (space_seen ⟦<F as Facts>⟧ space.new ≡ space_after (grammar_of g.now.grammar) space.old.role (space_seen ⟦<F as Facts>⟧ space.old) (choice_of choice.now)) }
     ensures err { OnErr result (IsUnchanged ⟦<F as Facts>⟧ space.old space.new) }
@@ -83,10 +83,10 @@ pub fn choose<'g, F: Facts>(
     g: &Accepted,
     choice: &Choice,
 ) -> Result<(), AllocError>
-    requires grammar { g.now.grammar ≡ space.old.grammar.now }
+    requires grammar { g.now.grammar ≡ space.old.accepted.now.grammar }
     requires ok { choice_ok (grammar_of g.now.grammar) (choice_of choice.now) ≡ true }
     requires here { is_home (grammar_of g.now.grammar) space.old.role (node_of (choice_of choice.now)) ≡ true }
-    ensures grammar { space.new.grammar.now ≡ space.old.grammar.now }
+    ensures grammar { space.new.accepted.now.grammar ≡ space.old.accepted.now.grammar }
     ensures role { space.new.role ≡ space.old.role }
     ensures space { OnOk result (space_seen ⟦<F as Facts>⟧ space.new ≡ space_after (grammar_of g.now.grammar) space.old.role (space_seen ⟦<F as Facts>⟧ space.old) (choice_of choice.now)) }
     ensures err { OnErr result (IsUnchanged ⟦<F as Facts>⟧ space.old space.new) }
@@ -106,11 +106,11 @@ fn take_in_ledger<'g, F: Facts, L: Ledger>(
     requires name { blank.name ≡ L.name }
     requires parts { blank.parts ≡ L.parts }
     requires some { 0 < L.parts }
-    requires grammar { g.now.grammar ≡ space.old.grammar.now }
+    requires grammar { g.now.grammar ≡ space.old.accepted.now.grammar }
     requires call { MayBeCalledIf (grammar_of g.now.grammar) space.old.role (option_map (placed_call (grammar_of g.now.grammar)) (option_copied call)) }
     requires ok { MayBeLearnt (grammar_of g.now.grammar) space.old.role (list_map equation_of es.now) }
     requires free { clash_with (option_map (placed_call (grammar_of g.now.grammar)) (option_copied call)) (list_map equation_of es.now) (space_seen ⟦<F as Facts>⟧ space.old) ≡ None }
-    ensures grammar { space.new.grammar.now ≡ space.old.grammar.now }
+    ensures grammar { space.new.accepted.now.grammar ≡ space.old.accepted.now.grammar }
     ensures role { space.new.role ≡ space.old.role }
     ensures space { OnOk result (space_seen ⟦<F as Facts>⟧ space.new ≡ taken_in (option_map (placed_call (grammar_of g.now.grammar)) (option_copied call.entry)) (list_map equation_of es.now) (space_seen ⟦<F as Facts>⟧ space.old)) }
     ensures err { OnErr result (IsUnchanged ⟦<F as Facts>⟧ space.old space.new) }
@@ -129,11 +129,11 @@ pub fn take_in<'g, F: Facts>(
     call: Option<&Placing>,
     es: &Equations,
 ) -> Result<(), AllocError>
-    requires grammar { g.now.grammar ≡ space.old.grammar.now }
+    requires grammar { g.now.grammar ≡ space.old.accepted.now.grammar }
     requires call { MayBeCalledIf (grammar_of g.now.grammar) space.old.role (option_map (placed_call (grammar_of g.now.grammar)) (option_copied call)) }
     requires ok { MayBeLearnt (grammar_of g.now.grammar) space.old.role (list_map equation_of es.now) }
     requires free { clash_with (option_map (placed_call (grammar_of g.now.grammar)) (option_copied call)) (list_map equation_of es.now) (space_seen ⟦<F as Facts>⟧ space.old) ≡ None }
-    ensures grammar { space.new.grammar.now ≡ space.old.grammar.now }
+    ensures grammar { space.new.accepted.now.grammar ≡ space.old.accepted.now.grammar }
     ensures role { space.new.role ≡ space.old.role }
     ensures space { OnOk result (space_seen ⟦<F as Facts>⟧ space.new ≡ taken_in (option_map (placed_call (grammar_of g.now.grammar)) (option_copied call.entry)) (list_map equation_of es.now) (space_seen ⟦<F as Facts>⟧ space.old)) }
     ensures err { OnErr result (IsUnchanged ⟦<F as Facts>⟧ space.old space.new) }

@@ -1,16 +1,16 @@
 -- What carrying a choice out asks, and what it keeps.
-use Rattle.std.proofs.Common.{◌≡◌, ℕ, zero, suc, ◌+◌, ◌<◌, Bool, true, false, cond, List, [], ◌∷◌, ◌++◌, map, length, Option, Some, None, slice_get, nat_eq, is_some, refl, ap, sym, ◌∙◌, subst, inl, inr, eq-eqb}
+use Rattle.std.proofs.Common.{◌≡◌, ℕ, zero, suc, ◌+◌, Bool, true, false, cond, List, [], ◌∷◌, ◌++◌, map, length, Option, Some, None, slice_get, is_some, refl, ap, sym, ◌∙◌, subst, inl, inr, eq-eqb}
 use Rattle.std.specs.Prelude.{not, ◌&&◌, ◌||◌, option_map}
 use Rattle.std.proofs.Math.Logic.{∥∥₁_elim}
 use Rattle.std.proofs.Math.Bool.{Bool-set}
 use Rattle.std.proofs.lemmas.Bool.{and_parts, and_from}
-use Rattle.aw_term.specs.Trees.{Never, Head}
-use Rattle.aw_term.specs.Names.{Step, Node, Ref, node_eq, node_lt, below, root}
+use Rattle.aw_term.specs.Trees.{Head}
+use Rattle.aw_term.specs.Names.{Step, Node, Ref, node_eq, node_lt, below}
 use Rattle.aw_term.specs.Rules as P
 use Rattle.aw_term.specs.Rules.{Ground, sort_of}
 use Rattle.aw_term.specs.Choices as Q
 use Rattle.aw_term.specs.Views.{ground_of}
-use Rattle.aw_term.specs.WellFormed.{Each, IsWellFormed}
+use Rattle.aw_term.specs.WellFormed.{Each}
 use Rattle.aw_term.proofs.Eaches.{each_map}
 use Rattle.aw_term.proofs.NodeTests.{node_self}
 use Rattle.aw_term.proofs.ByNodeLemmas.{other_before, other_after}
@@ -22,15 +22,12 @@ use Rattle.aw_grammar.specs.GrammarOf.{grammar_of, words_of}
 use Rattle.aw_base.specs.ChoiceFits.{choice_ok, args_ok, ref_ok}
 use Rattle.aw_iograph.specs.Graphs.{Member}
 use Rattle.aw_iograph.specs.Occurrences.{pattern_entries}
-use Rattle.aw_accept.proofs.Fitting.{each_member}
 use Rattle.aw_store.specs.Adding.{AreNew}
 use Rattle.aw_store.specs.Equations.{Is, Equation, Map, find}
 use Rattle.aw_store.specs.NamedRefs.{all_named, Grows}
 use Rattle.aw_store.proofs.NameLemmas.{all_named-grown}
-use Rattle.aw_apply.specs.Guard.{guard_all}
 use Rattle.aw_apply.specs.Made.{Call, Making, made}
 use Rattle.aw_apply.specs.MadeView.{as_child}
-use Rattle.aw_apply.proofs.MadeByRules.{made_few}
 use Rattle.aw_apply.proofs.MadeCalls.{IsBelow, made-below, made-differ, made-sorts}
 use Rattle.aw_apply.proofs.Numbering.{Lies, made-apart, made-new}
 use Rattle.aw_held.specs.declared.held.Held.{Held}
@@ -39,13 +36,13 @@ use Rattle.aw_held.specs.InOrder.{IsInOrder, place_in, insert_all_in, done_at, L
 use Rattle.aw_held.proofs.InOrderLemmas.{Up, up_of}
 use Rattle.aw_held.proofs.HeldViews.{held_here}
 use Rattle.aw_react.specs.Homes.{has_steps, parent}
-use Rattle.aw_react.specs.ValidNames.{refs_ok, takes_as, equation_ok, equations_ok}
+use Rattle.aw_react.specs.ValidNames.{refs_ok, takes_as, equations_ok}
 use Rattle.aw_merge.proofs.Delivering.{parent-below}
 use Rattle.aw_merge.proofs.GuardBinds.{all_bound, all_many}
 use Rattle.aw_merge.proofs.Learning.{find-member}
 use Rattle.aw_merge.proofs.Sorts.{some_sort}
 use Rattle.aw_space.specs.Children.{own_children, are_named}
-use Rattle.aw_space.specs.Sound.{is_own, all_own, is_done, all_done, is_rooted, all_rooted, all_inherited, IsSound}
+use Rattle.aw_space.specs.Sound.{is_own, all_own, is_done, is_rooted, all_rooted, all_inherited, IsSound}
 use Rattle.aw_space.specs.Spaces.{is_home, develop_space, space_on, space_after}
 use Rattle.aw_space.specs.SpaceView.{space_of}
 use Rattle.aw_space.specs.Valid.{is_of_sort, done_fits, held_fits, all_fit, IsValid}
@@ -55,7 +52,7 @@ use Rattle.aw_space.proofs.KeptValid.{fit_all_inserted, fit_done, refs_here, val
 use Rattle.aw_space.proofs.MadeNames.{each_ref, each_valid, kid_valid, made_valid}
 use Rattle.aw_space.proofs.OwnChildren.{named_each, own_each, own_differ, lack_each, all_own_each, all_rooted_each, all_fit_each}
 use Rattle.aw_space.proofs.Taken.{developed}
-use Rattle.aw_space.proofs.TakenOn.{TookRule, Took}
+use Rattle.aw_space.proofs.TakenOn.{Took}
 
 has_end : (steps : List Step) (s : Step) → has_steps (steps ++ s ∷ []) ≡ true
 has_end [] s = refl

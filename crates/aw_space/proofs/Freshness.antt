@@ -1,6 +1,6 @@
 -- An open node of this role has no equations.
 use Rattle.std.proofs.Common.{◌≡◌, ℕ, Bool, true, false, cond, List, [], ◌∷◌, Option, Some, None, refl, ap, sym, ◌∙◌, subst}
-use Rattle.std.specs.Prelude.{not, ◌&&◌, ◌||◌}
+use Rattle.std.specs.Prelude.{not, ◌||◌}
 use Rattle.std.proofs.lemmas.Bool.{and_parts}
 use Rattle.aw_term.specs.Names.{Node, Ref, ref_eq}
 use Rattle.aw_term.specs.Rules.{Grammar}

@@ -1,11 +1,10 @@
 -- What is added to a space fits its grammar where it fitted.
-use Rattle.std.proofs.Common.{◌≡◌, ℕ, zero, suc, Bool, true, false, cond, List, [], ◌∷◌, ◌++◌, Option, Some, None, slice_get, refl, ap, sym, ◌∙◌, subst}
-use Rattle.std.specs.Prelude.{◌&&◌}
+use Rattle.std.proofs.Common.{◌≡◌, ℕ, zero, suc, Bool, true, false, cond, List, [], ◌∷◌, ◌++◌, Some, slice_get, refl, subst}
 use Rattle.std.proofs.lemmas.Bool.{and_parts, and_from}
-use Rattle.aw_term.specs.Names.{Node, Ref, node_lt}
+use Rattle.aw_term.specs.Names.{node_lt}
 use Rattle.aw_term.specs.Rules.{Grammar}
 use Rattle.aw_choice.specs.declared.choice.Choice.{Choice}
-use Rattle.aw_store.specs.Equations.{Equation, Map}
+use Rattle.aw_store.specs.Equations.{Map}
 use Rattle.aw_held.specs.declared.held.Held.{Held}
 use Rattle.aw_held.specs.InOrder.{insert_in, insert_all_in, done_at}
 use Rattle.aw_react.specs.ValidNames.{refs_ok, equation_ok, equations_ok}

@@ -1,5 +1,5 @@
 -- The names of what a rule makes at a valid node are valid.
-use Rattle.std.specs.Prelude.{is_some, nat_le, slice_get}
+use Rattle.std.specs.Prelude.{nat_le, slice_get}
 use Rattle.std.proofs.Common.{List, None, Option, Some, [], ap, arith, inl, inr, length, refl, subst, suc, sym, true, ℕ, ◌+◌, ◌<◌, ◌∙◌, ◌∷◌, ◌≡◌, ◌≤◌}
 use Rattle.std.proofs.lemmas.Bool.{and_from, and_parts, eq-eqb, le-leb, leb-true}
 use Rattle.aw_term.specs.Artifacts.{Words}
@@ -17,7 +17,7 @@ use Rattle.aw_store.specs.Equations.{Equation}
 use Rattle.aw_apply.specs.Made.{Call, Making, made}
 use Rattle.aw_apply.proofs.Numbering.{Covers, Lies, made-apart}
 use Rattle.aw_joint.proofs.Entering.{IsTermOf, variables_enter}
-use Rattle.aw_react.specs.ValidNames.{body_ok, call_ok, equation_ok, equations_ok, refs_ok, takes_as}
+use Rattle.aw_react.specs.ValidNames.{body_ok, equation_ok, equations_ok, refs_ok, takes_as}
 use Rattle.aw_merge.proofs.MadeHeads.{all-refs-ok, body-of, kid-many, made-heads}
 use Rattle.aw_merge.proofs.MadeMentions.{MentionsIn, made-in}
 use Rattle.aw_merge.proofs.PartNumbers.{Under, made-under}

@@ -1,14 +1,14 @@
 -- The children of a taken rule that are of this role, as the nodes that are held of them.
-use Rattle.std.proofs.Common.{◌≡◌, ℕ, suc, Bool, true, false, cond, List, [], ◌∷◌, ◌++◌, map, filter, length, Option, Some, None, slice_get, refl, ap, sym, ◌∙◌, subst, is_some}
-use Rattle.std.specs.Prelude.{not, ◌&&◌, ◌||◌, option_map}
+use Rattle.std.proofs.Common.{◌≡◌, ℕ, zero, suc, ◌<◌, get_or, arith, Bool, true, false, cond, List, [], ◌∷◌, map, filter, length, Option, Some, None, refl, ap, sym, ◌∙◌, is_some}
+use Rattle.std.specs.Prelude.{option_map}
 use Rattle.std.proofs.lemmas.Bool.{and_parts, and_from}
 use Rattle.aw_term.specs.Trees.{Never}
-use Rattle.aw_term.specs.Names.{Node, Ref, node_eq, node_lt}
+use Rattle.aw_term.specs.Names.{Node, node_eq, node_lt}
 use Rattle.aw_term.specs.Rules.{Grammar, sort_of}
 use Rattle.aw_term.specs.WellFormed.{Each, Later}
 use Rattle.aw_term.specs.Held as P
 use Rattle.aw_term.proofs.Eaches.{each_map}
-use Rattle.aw_term.proofs.NodeTests.{node_self, node_is}
+use Rattle.aw_term.proofs.NodeTests.{node_is}
 use Rattle.aw_iograph.proofs.Members.{never}
 use Rattle.aw_apply.specs.Made.{Call}
 use Rattle.aw_apply.specs.MadeView.{as_child}
@@ -19,7 +19,7 @@ use Rattle.aw_held.specs.InOrder.{place_in, insert_in, Lacks, LackEach}
 use Rattle.aw_joint.specs.Joint.{called_held}
 use Rattle.aw_react.specs.Telling.{calls_in}
 use Rattle.aw_space.specs.Children.{open_child, own_children, are_named}
-use Rattle.aw_space.specs.Sound.{is_own, all_own, is_done, is_rooted, all_rooted}
+use Rattle.aw_space.specs.Sound.{is_own, all_own, is_rooted, all_rooted}
 use Rattle.aw_space.specs.Spaces.{is_home}
 use Rattle.aw_space.specs.Valid.{held_fits, all_fit}
 
@@ -110,3 +110,9 @@ lack_each (h ∷ hs) ks lacks differ = (
     both : (xs : List Held) → Each (λ (x : Held). Lacks x.node ks) xs → Each (λ (x : Held). h.node ≡ x.node → Never) xs → Each (λ (x : Held). Lacks x.node (insert_in h ks)) xs
     both [] a b = tt
     both (x ∷ xs) a b = (lacks_inserted x.node h ks (differs x.node h.node (node_eq x.node h.node) refl (λ t. b.0 (sym (node_is x.node h.node t)))) a.0, both xs a.1 b.1)
+
+-- the child at a place has a valid name
+pub named_at : (g : Grammar) (cs : List MadeChild) (i : ℕ) (c : MadeChild) → i < length cs → c ≡ get_or cs i c → are_named g cs ≡ true → is_some (sort_of g c.node) ≡ true
+named_at g [] i c l e all = absurd (omega (arith, l))
+named_at g (x ∷ cs) zero c l e all = ap (λ (y : MadeChild). is_some (sort_of g y.node)) e ∙ (and_parts (is_some (sort_of g x.node)) _ all).0
+named_at g (x ∷ cs) (suc i) c l e all = named_at g cs i c (omega (arith, l)) e (and_parts (is_some (sort_of g x.node)) _ all).1

@@ -1,6 +1,6 @@
 -- What is known of the node at a place, and of a rule that is weighed there.
-use Rattle.std.proofs.Common.{◌≡◌, ℕ, zero, suc, ◌≤◌, Bool, true, false, List, [], ◌∷◌, ◌++◌, length, map, Option, Some, None, Bor, slice_get, nat_eq, is_some, refl, ap, sym, ◌∙◌, subst, arith}
-use Rattle.std.specs.Prelude.{◌&&◌, option_map}
+use Rattle.std.proofs.Common.{◌≡◌, ℕ, zero, suc, ◌≤◌, true, false, List, [], ◌∷◌, ◌++◌, length, map, Option, Some, None, Bor, slice_get, is_some, refl, ap, sym, ◌∙◌, subst}
+use Rattle.std.specs.Prelude.{option_map}
 use Rattle.std.specs.Option.{option_copied}
 use Rattle.std.proofs.lemmas.Bool.{and_parts, eqb-true}
 use Rattle.std.proofs.lemmas.Option.{slice_get-map, same_Some}
@@ -21,7 +21,7 @@ use Rattle.aw_grammar.specs.GrammarView.{rule_of}
 use Rattle.aw_grammar.proofs.RuleSizes.{patterns_taken, leaves_few}
 use Rattle.aw_store.specs.Equations.{Map}
 use Rattle.aw_store.specs.NamedRefs.{all_named}
-use Rattle.aw_apply.specs.Telling.{weighed_of, HasRoom}
+use Rattle.aw_apply.specs.Telling.{weighed_of}
 use Rattle.aw_apply.specs.declared.telling.Weighed.{Weighed}
 use Rattle.aw_apply.specs.declared.telling.Weighed.TheVariants as weighed
 use Rattle.aw_choice.specs.declared.choice.Answer.TheVariants as answer
@@ -33,7 +33,7 @@ use Rattle.aw_joint.specs.Joint.{by_rule, by_held}
 use Rattle.aw_react.specs.ValidNames.{takes_as}
 use Rattle.aw_space.specs.Sound.{is_own, all_own, all_inherited}
 use Rattle.aw_space.specs.Spaces.{is_home}
-use Rattle.aw_space.specs.Weighing.{Weighs, HasRoomFor}
+use Rattle.aw_space.specs.Weighing.{Weighs}
 use Rattle.aw_space.proofs.Names.{all_named-left, all_named-right}
 
 pub named_here : (ns : List Ref) (hs : List Held) (i : ℕ) (h : Held) → all_named ns (all_inherited hs) ≡ true → slice_get hs i ≡ Some h → all_named ns h.inherited ≡ true
@@ -90,15 +90,16 @@ pub weighs_open : (g : Grammar) (number : ℕ) (rule : Rule) (k : Map) (args : L
     weighed_of (rule_of g.sorts rule) w ≡ by_rule (Some (rule_of g.sorts rule)) k held.node args (held_of (grammar_of g) held) →
     Weighs (grammar_of g) number w (by_held (Some (held_of (grammar_of g) held)) (grammar_of g) k held.node number args)
 weighs_open g number rule k args held w here idle e r there =
-    let h = held_of (grammar_of g) held in
+    let at = λ (done : Option Choice). by_held (Some (record { node = held.node; sort = sort_or (sort_of (grammar_of g) held.node); inherited = held.inherited; state = state_of done })) (grammar_of g) k held.node number args in
+    let h : H.Held = record { node = held.node; sort = sort_or (sort_of (grammar_of g) held.node); inherited = held.inherited; state = state_of None } in
     let same = same_rule g number rule r here there in
-    ap (λ x. weighed_of x w) (sym same) ∙ e
-    ∙ ap (λ o. by_rule o k held.node args h) (sym (slice_get-map (rule_of g.sorts) g.rules number ∙ ap (option_map (rule_of g.sorts)) here))
-    ∙ ap (λ d. by_held (Some (record { node = held.node; sort = sort_or (sort_of (grammar_of g) held.node); inherited = held.inherited; state = state_of d })) (grammar_of g) k held.node number args) (sym idle)
+    let met : weighed_of (rule_of g.sorts rule) w ≡ by_rule (Some (rule_of g.sorts rule)) k held.node args h = e in
+    let found : by_rule (Some (rule_of g.sorts rule)) k held.node args h ≡ at None = ap (λ o. by_rule o k held.node args h) (sym (slice_get-map (rule_of g.sorts) g.rules number ∙ ap (option_map (rule_of g.sorts)) here)) in
+    ap (λ x. weighed_of x w) (sym same) ∙ met ∙ found ∙ ap at (sym idle)
 
 -- a node that is done takes none
 pub weighs_done : (g : P.Grammar) (number : ℕ) (k : Map) (args : List Ground) (held : Held) (done : Option Choice) → held.done ≡ done → is_some done ≡ true → Weighs g number (weighed.Refused answer.Developed) (by_held (Some (held_of g held)) g k held.node number args)
-weighs_done g number k args held None is e = absurd cc
+weighs_done g number k args held None is e r there = absurd cc
 weighs_done g number k args held (Some (choice.Start s l)) is e r there =
     ap (λ d. by_held (Some (record { node = held.node; sort = sort_or (sort_of g held.node); inherited = held.inherited; state = state_of d })) g k held.node number args) (sym is)
 weighs_done g number k args held (Some (choice.Develop n rule given)) is e r there =

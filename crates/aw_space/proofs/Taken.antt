@@ -1,13 +1,13 @@
 -- A space after a taken rule and after a start, through its view.
-use Rattle.std.proofs.Common.{◌≡◌, ℕ, true, List, [], ◌∷◌, ◌++◌, map, Option, Some, None, slice_get, refl, ap, sym, ◌∙◌}
+use Rattle.std.proofs.Common.{◌≡◌, ℕ, true, List, [], ◌∷◌, ◌++◌, map, Some, None, slice_get, ap, ◌∙◌}
 use Rattle.std.proofs.lemmas.List.{map-append}
-use Rattle.aw_term.specs.Names.{Node, Ref, root}
+use Rattle.aw_term.specs.Names.{root}
 use Rattle.aw_term.specs.Rules.{Ground, Grammar, sort_of}
 use Rattle.aw_term.specs.Configs.{Done}
 use Rattle.aw_term.specs.Choices as P
 use Rattle.aw_term.specs.Views.{ground_of}
 use Rattle.aw_term.specs.WellFormed.{Each}
-use Rattle.aw_term.specs.Held.{insert_held, insert_all, mark}
+use Rattle.aw_term.specs.Held.{insert_held, insert_all}
 use Rattle.aw_base.specs.NodeNames.{is_start}
 use Rattle.aw_choice.specs.declared.choice.Choice.{Choice}
 use Rattle.aw_choice.specs.declared.choice.Choice.TheVariants.{Start, Develop}
@@ -23,7 +23,7 @@ use Rattle.aw_held.proofs.HeldViews.{view_inserted, view_all_inserted, view_mark
 use Rattle.aw_joint.specs.Joint.{root_held}
 use Rattle.aw_merge.proofs.Sorts.{sort_of_root}
 use Rattle.aw_react.specs.Telling.{calls_in}
-use Rattle.aw_space.specs.Spaces.{Space, develop_space}
+use Rattle.aw_space.specs.Spaces.{develop_space}
 use Rattle.aw_space.specs.SpaceView.{space_of}
 use Rattle.aw_space.specs.Children.{own_children}
 use Rattle.aw_space.proofs.OwnChildren.{own_view}

@@ -1,18 +1,17 @@
 -- What a choice is that is taken over references.
-use Rattle.std.proofs.Common.{◌≡◌, ℕ, Bool, true, false, cond, List, [], ◌∷◌, length, Option, Some, None, slice_get, nat_eq, refl, ap, sym, ◌∙◌, subst}
+use Rattle.std.proofs.Common.{◌≡◌, ℕ, Bool, true, false, cond, List, length, Option, Some, None, slice_get, nat_eq, refl, ap, sym, ◌∙◌, subst}
 use Rattle.std.proofs.lemmas.Bool.{eqb-true}
 use Rattle.aw_term.specs.Names.{Node, Ref, root}
 use Rattle.aw_term.specs.Matching.{Matched, Yes, Waits, Differs, Circle}
-use Rattle.aw_term.specs.Rules.{Ground, Rule, Grammar, sort_of}
-use Rattle.aw_term.specs.Configs.{State, Pending, Done}
-use Rattle.aw_term.specs.Choices.{Start, Develop, Answer, Known, NotHere, Developed, NotItsRule, Arguments, TooDeep, Taken, Outcome, Refused, Starts, Takes, answer_of, after_guard, deep}
+use Rattle.aw_term.specs.Rules.{Ground, Rule, Grammar}
+use Rattle.aw_term.specs.Choices.{Start, Develop, Answer, Known, NotHere, NotItsRule, Arguments, TooDeep, Taken, Outcome, Refused, Starts, Takes, answer_of, after_guard, deep}
 use Rattle.aw_term.specs.Held as P
 use Rattle.aw_choice.specs.declared.choice.Choice.{Choice}
 use Rattle.aw_choice.specs.declared.choice.Choice.TheVariants as choice
 use Rattle.aw_store.specs.Equations.{Map}
 use Rattle.aw_apply.specs.Guard.{guard_all}
 use Rattle.aw_held.specs.declared.held.Held.{Held}
-use Rattle.aw_held.specs.HeldView.{sort_or, state_of, held_of, all_of}
+use Rattle.aw_held.specs.HeldView.{state_of, held_of, all_of}
 use Rattle.aw_held.specs.InOrder.{place_in}
 use Rattle.aw_held.proofs.HeldViews.{held_here, held_nowhere}
 use Rattle.aw_joint.specs.Joint.{by_rule, by_state, by_held, by_root, outcome_in}
@@ -28,15 +27,15 @@ pub record TookRule (g : Grammar) (k : Map) (n : Node) (r : ℕ) (args : List Gr
   pub takes : x ≡ Takes rule bound
 
 if_not : (b : Bool) (a : Answer Ref) (o : Outcome Ref Ref) → answer_of (cond b o (Refused a)) ≡ Taken → (a ≡ Taken → ⊥) → (b ≡ true) × (answer_of o ≡ Taken)
-if_not true a o e no = (refl, e)
-if_not false a o e no = absurd (no e)
+if_not true a o e other = (refl, e)
+if_not false a o e other = absurd (other e)
 
-if_deep : (b : Bool) (rule : Rule) (xs : List Ref) → answer_of (cond b (Refused TooDeep) (Takes rule xs)) ≡ Taken → cond b (Refused TooDeep) (Takes rule xs) ≡ Takes rule xs
-if_deep true rule xs e = absurd cc
-if_deep false rule xs e = refl
+if_deep : (b : Bool) (x y : Outcome Ref Ref) → answer_of x ≡ TooDeep → answer_of (cond b x y) ≡ Taken → cond b x y ≡ y
+if_deep true x y deep e = let apart : TooDeep ≡ Taken = sym deep ∙ e in absurd cc
+if_deep false x y deep e = refl
 
 guard_met : (n : Node) (rule : Rule) (m : Matched Ref Ref) → answer_of (after_guard n rule m) ≡ Taken → (bound : List Ref) × (m ≡ Yes bound) × (after_guard n rule m ≡ Takes rule bound)
-guard_met n rule (Yes xs) e = (xs, refl, if_deep (deep n rule) rule xs e)
+guard_met n rule (Yes xs) e = (xs, refl, if_deep (deep n rule) (Refused TooDeep) (Takes rule xs) refl e)
 guard_met n rule (Waits r) e = absurd cc
 guard_met n rule (Differs p) e = absurd cc
 guard_met n rule (Circle r) e = absurd cc
@@ -47,14 +46,14 @@ rule_met g k n r args h (Some rule) is e =
     let m = guard_all k 1 rule.patterns h.inherited in
     let (sort, inner) = if_not (nat_eq rule.sort h.sort) NotItsRule _ e (λ p. cc) in
     let (many, met) = if_not (nat_eq (length args) rule.params) Arguments _ inner (λ p. cc) in
-    let (bound, yes, takes) = guard_met n rule m met in
+    let (bound, binds, takes) = guard_met n rule m met in
     record {
       rule = rule;
       bound = bound;
       is_rule = is;
       of_sort = eqb-true rule.sort h.sort sort;
       given = eqb-true (length args) rule.params many;
-      met = yes;
+      met = binds;
       takes = ap (λ b. cond b (cond (nat_eq (length args) rule.params) (after_guard n rule m) (Refused Arguments)) (Refused NotItsRule)) sort
           ∙ ap (λ b. cond b (after_guard n rule m) (Refused Arguments)) many ∙ takes;
     }

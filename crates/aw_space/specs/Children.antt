@@ -1,5 +1,5 @@
 -- Children of a taken rule that are of this role, as open nodes.
-use Rattle.std.specs.Prelude.{◌≡◌, ℕ, Bool, true, false, ◌&&◌, List, [], ◌∷◌, map, filter, None, is_some}
+use Rattle.std.specs.Prelude.{ℕ, Bool, true, ◌&&◌, List, [], ◌∷◌, map, filter, None, is_some}
 use Rattle.aw_term.specs.Rules.{Grammar, sort_of}
 use Rattle.aw_apply.specs.declared.making.MadeChild.{MadeChild}
 use Rattle.aw_held.specs.declared.held.Held.{Held}

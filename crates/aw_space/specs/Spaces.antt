@@ -1,6 +1,6 @@
 -- What one role holds of a case, and what a choice of this role, a call and equations do to it.
 use Rattle.std.specs.Prelude.{ℕ, Bool, List, [], ◌∷◌, ◌++◌, map, Option, Some, None, nat_eq, unwrap_or}
-use Rattle.aw_term.specs.Names.{Node, Ref, root}
+use Rattle.aw_term.specs.Names.{Node, Ref}
 use Rattle.aw_term.specs.Rules.{Ground, Grammar, sort_of}
 use Rattle.aw_term.specs.Configs.{Done}
 use Rattle.aw_term.specs.Choices.{Choice, Start, Develop, Outcome, Refused, Starts, Takes}

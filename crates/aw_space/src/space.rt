@@ -2,7 +2,7 @@
 ghost use Rattle.std.specs.Prelude.{◌≡◌, ◌+◌, ◌≤◌, ◌∷◌, [], None, true, false, IfOk, OnOk, OnErr, map as list_map, option_map};
 ghost use Rattle.std.specs.Option.{option_copied};
 ghost use Rattle.aw_choice.specs.ChoiceView.{answer_of, choice_of, item_of};
-ghost use Rattle.aw_term.specs.Choices.{Taken};
+ghost use Rattle.aw_term.specs.Choices.{Taken, answer_of as plain_answer};
 ghost use Rattle.aw_grammar.specs.GrammarOf.{grammar_of};
 ghost use Rattle.aw_base.specs.ChoiceFits.{choice_ok};
 ghost use Rattle.aw_store.specs.EquationView.{equation_of};
@@ -18,7 +18,7 @@ use crate::outcome::{Outcome, carry_out, foresee};
 use crate::placing::{Placed, Placing};
 use crate::taking_in::take_in;
 use aw_accept::Accepted;
-use aw_apply::Steps;
+use aw_apply::{Made, Steps};
 use aw_choice::{Choice, Worklist};
 use aw_grammar::Grammar;
 use aw_held::Held;
@@ -30,34 +30,34 @@ use std::sync::ledger::Ledger;
 /// The nodes of one role, the choices taken on them, and all equations that are known to it.
 #[derive(Drop)]
 pub struct Space<'g, F: Facts> {
-    pub(crate) grammar: &'g Grammar,
+    pub(crate) accepted: &'g Accepted,
     pub(crate) role: u16,
     pub(crate) held: Vec<Held>,
     pub(crate) choices: Vec<Choice>,
     pub(crate) facts: F,
-    pub ghost sound: { IsSound (grammar_of grammar.now) role held.items (F.map facts) (F.names facts) },
-    pub ghost valid: { IsValid (grammar_of grammar.now) held.items (F.map facts) },
+    pub ghost sound: { IsSound (grammar_of accepted.now.grammar) role held.items (F.map facts) (F.names facts) },
+    pub ghost valid: { IsValid (grammar_of accepted.now.grammar) held.items (F.map facts) },
 }
 
 impl<'g, F: Facts> Space<'g, F> {
     ghost use Rattle.aw_space.specs.Spaces.{is_home, outcome, space_after, call_of, taken_in, clash_with, worklist};
     ghost use Rattle.aw_space.specs.Costs.{rules_of, waiting_on, choice_cost, taking_cost};
     ghost use Rattle.aw_space.specs.Keeping.{KeepsFacts, KeepsNodes, KeepsNodesBut};
-    ghost use Rattle.aw_space.specs.Outcomes.{IsOutcome};
+    ghost use Rattle.aw_space.specs.Outcomes.{IsMade, IsOutcome};
     ghost use Rattle.aw_space.specs.Placings.{MayBeCalled, MayBeCalledIf, MayBeLearnt, Places, placed_call};
     ghost use Rattle.aw_space.specs.Seen.{grammar_in, space_seen, IsUnchanged};
 
     /// A space of a role that holds nothing, over a store without equations.
     pub fn new(alloc: Global, g: &'g Accepted, role: u16, facts: F) -> Space<'g, F>
         requires { F.map facts ≡ [] }
-        ensures grammar { result.grammar.now ≡ g.now.grammar }
+        ensures grammar { result.accepted.now.grammar ≡ g.now.grammar }
         ensures role { result.role ≡ role }
         ensures nodes { result.held.items ≡ [] }
         ensures choices { result.choices.items ≡ [] }
         ensures map { F.map result.facts ≡ [] }
     {
         Space {
-            grammar: g.grammar(),
+            accepted: g,
             role,
             held: Vec::new(alloc),
             choices: Vec::new(alloc),
@@ -79,6 +79,13 @@ impl<'g, F: Facts> Space<'g, F> {
         &self.facts
     }
 
+    /// The grammar that it was made for.
+    pub fn accepted(&self) -> &'g Accepted
+        ensures { result.now ≡ self.now.accepted.now }
+    {
+        self.accepted
+    }
+
     /// The role whose nodes are held.
     pub fn role(&self) -> u16
         ensures { result ≡ self.now.role }
@@ -93,7 +100,7 @@ impl<'g, F: Facts> Space<'g, F> {
         choice: &Choice,
         steps: &mut Steps<L>,
     ) -> Result<Outcome, AllocError>
-        requires grammar { g.now.grammar ≡ self.now.grammar.now }
+        requires grammar { g.now.grammar ≡ self.now.accepted.now.grammar }
         requires ok { choice_ok (grammar_of g.now.grammar) (choice_of choice.now) ≡ true }
         requires here { is_home (grammar_of g.now.grammar) self.now.role (node_of (choice_of choice.now)) ≡ true }
         ensures outcome { IfOk result (λ o. IsOutcome o (choice_of choice.now) (outcome (grammar_of g.now.grammar) (space_seen ⟦<F as Facts>⟧ self.now) (choice_of choice.now))) }
@@ -118,10 +125,10 @@ impl<'g, F: Facts> Space<'g, F> {
         choice: &Choice,
         steps: &mut Steps<L>,
     ) -> Result<Outcome, AllocError>
-        requires grammar { g.now.grammar ≡ self.old.grammar.now }
+        requires grammar { g.now.grammar ≡ self.old.accepted.now.grammar }
         requires ok { choice_ok (grammar_of g.now.grammar) (choice_of choice.now) ≡ true }
         requires here { is_home (grammar_of g.now.grammar) self.old.role (node_of (choice_of choice.now)) ≡ true }
-        ensures grammar { self.new.grammar.now ≡ self.old.grammar.now }
+        ensures grammar { self.new.accepted.now.grammar ≡ self.old.accepted.now.grammar }
         ensures role { self.new.role ≡ self.old.role }
         ensures outcome { IfOk result (λ o. IsOutcome o (choice_of choice.now) (outcome (grammar_of g.now.grammar) (space_seen ⟦<F as Facts>⟧ self.old) (choice_of choice.now))) }
         ensures space { OnOk result (space_seen ⟦<F as Facts>⟧ self.new ≡ space_after (grammar_of g.now.grammar) self.old.role (space_seen ⟦<F as Facts>⟧ self.old) (choice_of choice.now)) }
@@ -132,18 +139,34 @@ impl<'g, F: Facts> Space<'g, F> {
         ensures steps { steps.new ≤ steps.old + choice_cost (grammar_of g.now.grammar) self.old.role (space_seen ⟦<F as Facts>⟧ self.old) (choice_of choice.now) }
     {
         let outcome = self.foresee(g, choice, steps)?;
-        if outcome.is_taken() {
-            carry_out(
-                g.grammar(),
-                self.role,
-                &mut self.held,
-                &mut self.choices,
-                &mut self.facts,
-                choice,
-                &outcome.made,
-            )?;
+        if !outcome.is_taken() {
+            return Ok(outcome);
         }
+        self.take(g, choice, &outcome.made)?;
         Ok(outcome)
+    }
+
+    /// Takes a choice that was foreseen to be taken. An error changes neither nodes, choices nor equations.
+    fn take(&mut self, g: &Accepted, choice: &Choice, made: &Made) -> Result<(), AllocError>
+        requires grammar { g.now.grammar ≡ self.old.accepted.now.grammar }
+        requires ok { choice_ok (grammar_of g.now.grammar) (choice_of choice.now) ≡ true }
+        requires here { is_home (grammar_of g.now.grammar) self.old.role (node_of (choice_of choice.now)) ≡ true }
+        requires taken { plain_answer (outcome (grammar_of g.now.grammar) (space_seen ⟦<F as Facts>⟧ self.old) (choice_of choice.now)) ≡ Taken }
+        requires made { IsMade made.now (choice_of choice.now) (outcome (grammar_of g.now.grammar) (space_seen ⟦<F as Facts>⟧ self.old) (choice_of choice.now)) }
+        ensures grammar { self.new.accepted.now.grammar ≡ self.old.accepted.now.grammar }
+        ensures role { self.new.role ≡ self.old.role }
+        ensures space { OnOk result (space_seen ⟦<F as Facts>⟧ self.new ≡ space_after (grammar_of g.now.grammar) self.old.role (space_seen ⟦<F as Facts>⟧ self.old) (choice_of choice.now)) }
+        ensures err { OnErr result (IsUnchanged ⟦<F as Facts>⟧ self.old self.new) }
+    {
+        carry_out(
+            g.grammar(),
+            self.role,
+            &mut self.held,
+            &mut self.choices,
+            &mut self.facts,
+            choice,
+            made,
+        )
     }
 
     /// Holds a child that another role called, where it is not held. A conflict and an error change neither nodes, choices
@@ -155,9 +178,9 @@ impl<'g, F: Facts> Space<'g, F> {
         inherited: &Refs,
         steps: &mut Steps<L>,
     ) -> Result<Placed, AllocError>
-        requires grammar { g.now.grammar ≡ self.old.grammar.now }
+        requires grammar { g.now.grammar ≡ self.old.accepted.now.grammar }
         requires call { MayBeCalled (grammar_of g.now.grammar) self.old.role (call_of (grammar_of g.now.grammar) node.now inherited.now) }
-        ensures grammar { self.new.grammar.now ≡ self.old.grammar.now }
+        ensures grammar { self.new.accepted.now.grammar ≡ self.old.accepted.now.grammar }
         ensures role { self.new.role ≡ self.old.role }
         ensures placed { IfOk result (λ p. Places (space_seen ⟦<F as Facts>⟧ self.old).held (call_of (grammar_of g.now.grammar) node.now inherited.now) p (space_seen ⟦<F as Facts>⟧ self.new).held) }
         ensures choices { self.new.choices.items ≡ self.old.choices.items }
@@ -177,10 +200,10 @@ impl<'g, F: Facts> Space<'g, F> {
         e: Equation,
         steps: &mut Steps<L>,
     ) -> Result<Added, AllocError>
-        requires grammar { g.now.grammar ≡ self.old.grammar.now }
+        requires grammar { g.now.grammar ≡ self.old.accepted.now.grammar }
         requires ok { equation_ok (grammar_of g.now.grammar) (equation_of e) ≡ true }
         requires other { is_home (grammar_of g.now.grammar) self.old.role e.left.node ≡ false }
-        ensures grammar { self.new.grammar.now ≡ self.old.grammar.now }
+        ensures grammar { self.new.accepted.now.grammar ≡ self.old.accepted.now.grammar }
         ensures role { self.new.role ≡ self.old.role }
         ensures added { IfOk result (λ added. Adds (F.map self.old.facts) e added (F.map self.new.facts)) }
         ensures nodes { self.new.held.items ≡ self.old.held.items }
@@ -201,11 +224,11 @@ impl<'g, F: Facts> Space<'g, F> {
         es: &Equations,
         steps: &mut Steps<L>,
     ) -> Result<(), AllocError>
-        requires grammar { g.now.grammar ≡ self.old.grammar.now }
+        requires grammar { g.now.grammar ≡ self.old.accepted.now.grammar }
         requires call { MayBeCalledIf (grammar_of g.now.grammar) self.old.role (option_map (placed_call (grammar_of g.now.grammar)) (option_copied call)) }
         requires ok { MayBeLearnt (grammar_of g.now.grammar) self.old.role (list_map equation_of es.now) }
         requires free { clash_with (option_map (placed_call (grammar_of g.now.grammar)) (option_copied call)) (list_map equation_of es.now) (space_seen ⟦<F as Facts>⟧ self.old) ≡ None }
-        ensures grammar { self.new.grammar.now ≡ self.old.grammar.now }
+        ensures grammar { self.new.accepted.now.grammar ≡ self.old.accepted.now.grammar }
         ensures role { self.new.role ≡ self.old.role }
         ensures space { OnOk result (space_seen ⟦<F as Facts>⟧ self.new ≡ taken_in (option_map (placed_call (grammar_of g.now.grammar)) (option_copied call.entry)) (list_map equation_of es.now) (space_seen ⟦<F as Facts>⟧ self.old)) }
         ensures err { OnErr result (IsUnchanged ⟦<F as Facts>⟧ self.old self.new) }
@@ -222,7 +245,7 @@ impl<'g, F: Facts> Space<'g, F> {
         g: &Accepted,
         steps: &mut Steps<L>,
     ) -> Result<Worklist, AllocError>
-        requires { g.now.grammar ≡ self.now.grammar.now }
+        requires { g.now.grammar ≡ self.now.accepted.now.grammar }
         ensures items { IfOk result (λ items. list_map item_of items ≡ worklist (grammar_of g.now.grammar) (space_seen ⟦<F as Facts>⟧ self.now)) }
         ensures steps { steps.new ≡ steps.old }
     {

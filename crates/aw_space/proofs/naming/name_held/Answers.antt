@@ -1,5 +1,4 @@
-use Rattle.std.proofs.Common.{◌≡◌, ◌+◌, [], ◌∷◌, ◌++◌, ◌∙◌, take, ap, sym, subst, true}
-use Rattle.std.proofs.lemmas.List.{take_more}
+use Rattle.std.proofs.Common.{◌≡◌, ◌∙◌, take, subst, true}
 use Rattle.aw_store.specs.NamedRefs.{all_named}
 use Rattle.aw_store.proofs.NameLemmas.{grows_more, all_named-grown}
 use Rattle.aw_space.specs.Sound.{all_inherited}

@@ -1,4 +1,4 @@
-use Rattle.std.proofs.Common.{◌≡◌, ◌∙◌, sym, ap, subst, true, arith}
+use Rattle.std.proofs.Common.{◌≡◌, ◌∙◌, sym, ap, subst, true}
 use Rattle.aw_grammar.specs.GrammarOf.{grammar_of}
 use Rattle.aw_store.specs.NamedRefs.{all_named}
 use Rattle.aw_store.proofs.NameLemmas.{all_named-grown}
@@ -19,6 +19,6 @@ put_all-requires-clause-ordered g c =
 pub returns-clause-named : goal.returns-clause-named
 returns-clause-named g c =
     let own = own_children (grammar_of c.args.grammar.now) c.args.role c.args.made.now.children in
-    all_named-grown _ _ (all_inherited own) c.add_all.ensures.names
+    all_named-grown _ _ (all_inherited own) c.add_all_ready.ensures.names
     (all_named-grown _ _ (all_inherited own) c.in_ok-reserve-3.ensures.names
     (subst (λ hs. all_named (g.F.Facts.names c.name_held.new.facts) (all_inherited hs) ≡ true) (c.as_slice-3.ensures.value ∙ c.in_ok-own.ensures ∙ ap (own_children (grammar_of c.args.grammar.now) c.args.role) c.as_slice.ensures) c.in_ok-name_held.ensures.ok))

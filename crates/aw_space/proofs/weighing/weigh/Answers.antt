@@ -1,27 +1,16 @@
-use Rattle.std.proofs.Common.{◌≡◌, ◌∙◌, sym, ap, subst, map, length, refl, is_some, true}
+use Rattle.std.proofs.Common.{sym, ap, subst, map, length, refl, Some}
 use Rattle.std.proofs.lemmas.Option.{slice_get_read}
-use Rattle.aw_term.specs.Rules.{sort_of}
+use Rattle.std.proofs.lemmas.Result.{IfOk-weaker}
+use Rattle.aw_term.specs.Choices.{Develop}
 use Rattle.aw_term.specs.Views.{ground_of}
 use Rattle.aw_grammar.specs.GrammarOf.{grammar_of}
+use Rattle.aw_apply.specs.declared.telling.Weighed.{Weighed}
+use Rattle.aw_held.specs.HeldView.{held_of, all_of}
 use Rattle.aw_held.proofs.HeldViews.{held_nowhere}
-use Rattle.aw_space.specs.Joint.{by_held}
-use Rattle.aw_space.specs.Weighing.{HasRoom}
+use Rattle.aw_joint.specs.Joint.{by_held, outcome_in}
+use Rattle.aw_space.specs.Weighing.{Weighs, HasRoomFor}
 use Rattle.aw_space.proofs.Standing.{named_here, node_here, takes_here, weighs_here}
-use Rattle.aw_space.proofs.PlaceByPlace.{if_ok}
 use Rattle.aw_space.proofs.weighing.weigh.Goals as goal
-
-pub weigh_at-requires-clause-valid : goal.weigh_at-requires-clause-valid
-weigh_at-requires-clause-valid g c =
-    let gr = grammar_of c.args.grammar.now in
-    let hs = c.args.held.now in
-    let here = slice_get_read hs (length hs) c.in-Some.at c.index-held-at.result refl c.in-Some.ensures.within c.index-held-at.is in
-    subst (λ n. is_some (sort_of gr n) ≡ true) (sym (node_here gr c.args.node.now hs c.in-Some.at c.index-held-at.result (sym c.in-Some.ensures.place) here)) c.requires.valid
-
-pub weigh_at-requires-clause-named : goal.weigh_at-requires-clause-named
-weigh_at-requires-clause-named g c =
-    let hs = c.args.held.now in
-    let here = slice_get_read hs (length hs) c.in-Some.at c.index-held-at.result refl c.in-Some.ensures.within c.index-held-at.is in
-    named_here (g.F.Facts.names c.args.facts.now) hs c.in-Some.at c.index-held-at.result c.requires.sound.named here
 
 pub weigh_at-requires-clause-takes : goal.weigh_at-requires-clause-takes
 weigh_at-requires-clause-takes g c =
@@ -29,12 +18,25 @@ weigh_at-requires-clause-takes g c =
     let here = slice_get_read hs (length hs) c.in-Some.at c.index-held-at.result refl c.in-Some.ensures.within c.index-held-at.is in
     takes_here (grammar_of c.args.grammar.now) c.args.role hs c.in-Some.at c.index-held-at.result c.requires.sound.own here
 
+pub weigh_at-requires-clause-named : goal.weigh_at-requires-clause-named
+weigh_at-requires-clause-named g c =
+    let hs = c.args.held.now in
+    let here = slice_get_read hs (length hs) c.in-Some.at c.index-held-at.result refl c.in-Some.ensures.within c.index-held-at.is in
+    named_here (g.F.Facts.names c.args.facts.now) hs c.in-Some.at c.index-held-at.result c.requires.sound.named here
+
 pub returns-in-Some-clause-value : goal.returns-in-Some-clause-value
 returns-in-Some-clause-value g c =
     let hs = c.args.held.now in
-    let here = slice_get_read hs (length hs) c.in-Some.at c.index-held-at.result refl c.in-Some.ensures.within c.index-held-at.is in
-    if_ok c.weigh_at.result c.weigh_at.ensures.value (λ w h.
-    weighs_here c.args.grammar.now hs c.args.node.now c.in-Some.at c.index-held-at.result (g.F.Facts.map c.args.facts.now) c.args.number (map ground_of c.args.args.now) w (sym c.in-Some.ensures.place) here h)
+    let gr = grammar_of c.args.grammar.now in
+    let k = g.F.Facts.map c.args.facts.now in
+    let args = map ground_of c.args.args.now in
+    let h = c.index-held-at.result in
+    let here = slice_get_read hs (length hs) c.in-Some.at h refl c.in-Some.ensures.within c.index-held-at.is in
+    IfOk-weaker c.weigh_at.result
+    (λ (w : Weighed). Weighs gr c.args.number w (by_held (Some (held_of gr h)) gr k h.node c.args.number args))
+    (λ (w : Weighed). Weighs gr c.args.number w (outcome_in (all_of gr hs) k gr (Develop c.args.node.now c.args.number args)))
+    (λ w weighs. weighs_here gr hs c.args.node.now c.in-Some.at h k c.args.number args w (sym c.in-Some.ensures.place) here weighs)
+    c.weigh_at.ensures.value
 
 pub returns-in-None-clause-value : goal.returns-in-None-clause-value
 returns-in-None-clause-value g c = λ rule here.
@@ -44,6 +46,8 @@ returns-in-None-clause-value g c = λ rule here.
 pub returns-in-Some-clause-room : goal.returns-in-Some-clause-room
 returns-in-Some-clause-room g c =
     let hs = c.args.held.now in
-    let here = slice_get_read hs (length hs) c.in-Some.at c.index-held-at.result refl c.in-Some.ensures.within c.index-held-at.is in
-    if_ok c.weigh_at.result c.weigh_at.ensures.room (λ w h rule e.
-    subst (λ n. HasRoom (length rule.children) n w) (node_here (grammar_of c.args.grammar.now) c.args.node.now hs c.in-Some.at c.index-held-at.result (sym c.in-Some.ensures.place) here) (h rule e))
+    let h = c.index-held-at.result in
+    let here = slice_get_read hs (length hs) c.in-Some.at h refl c.in-Some.ensures.within c.index-held-at.is in
+    let node = node_here (grammar_of c.args.grammar.now) c.args.node.now hs c.in-Some.at h (sym c.in-Some.ensures.place) here in
+    IfOk-weaker c.weigh_at.result (HasRoomFor c.args.grammar.now c.args.number h.node) (HasRoomFor c.args.grammar.now c.args.number c.args.node.now)
+    (λ w room. subst (λ n. HasRoomFor c.args.grammar.now c.args.number n w) node room) c.weigh_at.ensures.room

@@ -1,15 +1,25 @@
-use Rattle.std.proofs.Common.{◌≡◌, ◌∙◌, sym, ap, subst, map, Some, None, refl, slice_get, length}
+use Rattle.std.proofs.Common.{◌≡◌, ◌∙◌, sym, subst, map, List, Some, refl, length}
 use Rattle.std.proofs.lemmas.Option.{same_Some}
+use Rattle.std.proofs.lemmas.Result.{IfOk-weaker}
 use Rattle.aw_term.specs.Views.{ground_of}
+use Rattle.aw_term.specs.Held as P
 use Rattle.aw_grammar.specs.GrammarOf.{grammar_of}
 use Rattle.aw_grammar.specs.GrammarView.{rule_of}
 use Rattle.aw_grammar.specs.declared.rule.Rule.{Rule}
-use Rattle.aw_held.specs.HeldView.{state_of, sort_or, held_of}
-use Rattle.aw_space.specs.Joint.{by_state}
-use Rattle.aw_space.specs.Weighing.{weighed_of, HasRoom}
-use Rattle.aw_space.proofs.FitLemmas.{patterns_few, patterns_shallow, patterns_room, found_rule, at_pending, none_noted}
-use Rattle.aw_space.proofs.PlaceByPlace.{if_ok}
+use Rattle.aw_grammar.specs.declared.rule.Sort.{Sort}
+use Rattle.aw_grammar.proofs.RuleSizes.{patterns_few, patterns_shallow}
+use Rattle.aw_apply.specs.Telling.{weighed_of, HasRoom}
+use Rattle.aw_apply.specs.declared.telling.Weighed.{Weighed}
+use Rattle.aw_held.specs.HeldView.{held_of}
+use Rattle.aw_joint.specs.Joint.{by_rule, by_held}
+use Rattle.aw_space.specs.Weighing.{Weighs, HasRoomFor}
+use Rattle.aw_space.proofs.Standing.{patterns_room, found_rule, none_noted, same_many, sort_here, weighs_open, weighs_done}
 use Rattle.aw_space.proofs.weighing.weigh_at.Goals as goal
+
+pub weigh_rule-requires-clause-same : goal.weigh_rule-requires-clause-same
+weigh_rule-requires-clause-same g c = λ e.
+    let here = found_rule c.args.grammar.now.rules c.args.number c.rule.result c.in-Some.rule c.rule.ensures.value c.in-Some.is in
+    same_many c.args.grammar.now c.args.number c.in-Some.rule.now c.args.held.now.node c.args.held.now.inherited here c.requires.takes (e ∙ c.sort_at-sort.ensures)
 
 pub weigh_rule-requires-clause-few : goal.weigh_rule-requires-clause-few
 weigh_rule-requires-clause-few g c = patterns_few c.args.grammar.now c.args.number _ (found_rule c.args.grammar.now.rules c.args.number c.rule.result c.in-Some.rule c.rule.ensures.value c.in-Some.is)
@@ -26,16 +36,25 @@ returns-clause-value g c =
     let held = c.args.held.now in
     let k = g.F.Facts.map c.args.facts.now in
     let args = map ground_of c.as_slice.result.now in
+    let rule = c.in-Some.rule.now in
     let here = found_rule gr.rules c.args.number c.rule.result c.in-Some.rule c.rule.ensures.value c.in-Some.is in
     let idle = none_noted held.done (sym c.is_some.ensures ∙ c.if-is_some.false) in
-    if_ok c.weigh_rule.result c.weigh_rule.ensures.value (λ w h rule e.
-    subst (λ xs. weighed_of (rule_of gr.sorts rule) w ≡ by_state (state_of held.done) (grammar_of gr) k held.node c.args.number (map ground_of xs) (held_of (grammar_of gr) held)) c.as_slice.ensures
-    (subst (λ (r : Rule). weighed_of (rule_of gr.sorts r) w ≡ by_state (state_of held.done) (grammar_of gr) k held.node c.args.number args (held_of (grammar_of gr) held)) (same_Some _ _ (sym here ∙ e))
-    (at_pending gr c.args.number c.in-Some.rule.now rule k args (held_of (grammar_of gr) held) held.done _ here e idle
-    (h gr.sorts (held_of (grammar_of gr) held) (ap sort_or (sym c.in-Some-sort_of.ensures)) refl))))
+    let sort = sort_here (grammar_of gr) held.node held.inherited c.requires.takes ∙ sym c.sort_at-sort.ensures in
+    IfOk-weaker c.weigh_rule.result
+    (λ (w : Weighed). (sorts : List Sort) (h : P.Held) → h.sort ≡ c.sort_at-sort.result → h.inherited ≡ held.inherited → weighed_of (rule_of sorts rule) w ≡ by_rule (Some (rule_of sorts rule)) k held.node args h)
+    (λ (w : Weighed). Weighs (grammar_of gr) c.args.number w (by_held (Some (held_of (grammar_of gr) held)) (grammar_of gr) k held.node c.args.number (map ground_of c.args.args.now)))
+    (λ w h.
+    subst (λ xs. Weighs (grammar_of gr) c.args.number w (by_held (Some (held_of (grammar_of gr) held)) (grammar_of gr) k held.node c.args.number (map ground_of xs))) c.as_slice.ensures
+    (weighs_open gr c.args.number rule k args held w here idle (h gr.sorts (held_of (grammar_of gr) held) sort refl)))
+    c.weigh_rule.ensures.value
+
+pub returns-then-is_some-clause-value : goal.returns-then-is_some-clause-value
+returns-then-is_some-clause-value g c =
+    weighs_done (grammar_of c.args.grammar.now) c.args.number (g.F.Facts.map c.args.facts.now) (map ground_of c.args.args.now) c.args.held.now c.args.held.now.done refl (sym c.is_some.ensures ∙ c.if-is_some.true)
 
 pub returns-clause-room : goal.returns-clause-room
 returns-clause-room g c =
     let gr = c.args.grammar.now in
     let here = found_rule gr.rules c.args.number c.rule.result c.in-Some.rule c.rule.ensures.value c.in-Some.is in
-    if_ok c.weigh_rule.result c.weigh_rule.ensures.room (λ w h rule e. subst (λ (r : Rule). HasRoom (length r.children) c.args.held.now.node w) (same_Some _ _ (sym here ∙ e)) h)
+    IfOk-weaker c.weigh_rule.result (HasRoom (length c.in-Some.rule.now.children) c.args.held.now.node) (HasRoomFor gr c.args.number c.args.held.now.node)
+    (λ w h rule e. subst (λ (r : Rule). HasRoom (length r.children) c.args.held.now.node w) (same_Some _ _ (sym here ∙ e)) h) c.weigh_rule.ensures.room

@@ -1,0 +1,10 @@
+pub mod Places
+pub mod DueLemmas
+pub mod KeptLemmas
+pub mod GuardWaits
+pub mod AllTested
+pub mod Opening
+pub mod MarkLemmas
+pub mod Growing
+pub mod ItemLemmas
+pub mod Placed

@@ -1,0 +1,80 @@
+use Rattle.std.proofs.Common.{◌∙◌, slice_get, length, ap, refl, sym, arith}
+use Rattle.std.specs.Prelude.{slice_set}
+use Rattle.std.proofs.lemmas.Option.{slice_get_read, slice_get_within}
+use Rattle.aw_grammar.specs.GrammarOf.{grammar_of}
+use Rattle.aw_kept.specs.Due.{waiting_mark}
+use Rattle.aw_kept.specs.declared.record.Record.{Record}
+use Rattle.aw_kept.proofs.Places.{set_at}
+use Rattle.aw_kept.proofs.KeptLemmas.{taken_waits, kept_again, fits_again, waits_elsewhere, one_record}
+use Rattle.aw_kept.proofs.kept.Kept.test_pair.Goals as goal
+
+pub index_mut-entry-requires : goal.index_mut-entry-requires
+index_mut-entry-requires g c =
+    let xs = c.args.self.now.records.items in
+    let w = taken_waits (grammar_of c.args.grammar.now) (g.F.Facts.names c.args.facts.now) c.args.slot c.args.pair.node c.args.pair.rule c.args.self.now.numbers.items xs c.args.self.now.work.waiting c.requires.fits in
+    omega (arith, slice_get_within xs c.args.pair.node w.1 w.3, c.args.self.now.records.ok)
+
+pub unreachable-requires : goal.unreachable-requires
+unreachable-requires g c =
+    let xs = c.args.self.now.records.items in
+    let n = c.args.pair.node in
+    let x = c.index_mut-entry.result.now in
+    let w = taken_waits (grammar_of c.args.grammar.now) (g.F.Facts.names c.args.facts.now) c.args.slot n c.args.pair.rule c.args.self.now.numbers.items xs c.args.self.now.work.waiting c.requires.fits in
+    let here = slice_get_read xs (length xs) n x refl (slice_get_within xs n w.1 w.3) c.index_mut-entry.ensures.value in
+    let same = one_record xs n w.1 x w.3 here in
+    c.in_default.ensures.none w.4.0
+    (ap (λ l. slice_get l w.4.0) (c.as_slice.ensures.value ∙ ap (λ (z : Record). z.marks.items) (sym same)) ∙ w.4.1)
+
+pub test_mark-requires-clause-fit : goal.test_mark-requires-clause-fit
+test_mark-requires-clause-fit g c =
+    let xs = c.args.self.now.records.items in
+    let n = c.args.pair.node in
+    let x = c.index_mut-entry.result.now in
+    let w = taken_waits (grammar_of c.args.grammar.now) (g.F.Facts.names c.args.facts.now) c.args.slot n c.args.pair.rule c.args.self.now.numbers.items xs c.args.self.now.work.waiting c.requires.fits in
+    let here = slice_get_read xs (length xs) n x refl (slice_get_within xs n w.1 w.3) c.index_mut-entry.ensures.value in
+    c.requires.fits.fit w.0 n x w.2 here
+
+pub returns-clause-kept : goal.returns-clause-kept
+returns-clause-kept g c hs late f =
+    let gr = grammar_of c.args.grammar.now in
+    let names = g.F.Facts.names c.args.facts.now in
+    let ns = c.args.self.now.numbers.items in
+    let xs = c.args.self.now.records.items in
+    let n = c.args.pair.node in
+    let x = c.index_mut-entry.result.now in
+    let w = taken_waits gr names c.args.slot n c.args.pair.rule ns xs c.args.self.now.work.waiting c.requires.fits in
+    let within = slice_get_within xs n w.1 w.3 in
+    let here = slice_get_read xs (length xs) n x refl within c.index_mut-entry.ensures.value in
+    let mark = ap (λ l. slice_get l c.in-Some.at) (sym c.as_slice.ensures.value) ∙ c.in-Some.ensures.found in
+    kept_again gr (g.F.Facts.map c.args.facts.now) names c.args.slot n c.args.pair.rule ns xs (slice_set xs n c.test_mark.new.entry) c.args.self.now.work.waiting c.test_mark.new.work.waiting w.0 c.in-Some.at x c.test_mark.new.entry
+    w.2 here mark (c.test_mark.ensures.tested (waiting_mark c.args.pair.rule c.args.slot) mark) (set_at xs n c.test_mark.new.entry within) hs late f
+
+pub returns-clause-fits : goal.returns-clause-fits
+returns-clause-fits g c =
+    let gr = grammar_of c.args.grammar.now in
+    let names = g.F.Facts.names c.args.facts.now in
+    let ns = c.args.self.now.numbers.items in
+    let xs = c.args.self.now.records.items in
+    let n = c.args.pair.node in
+    let x = c.index_mut-entry.result.now in
+    let w = taken_waits gr names c.args.slot n c.args.pair.rule ns xs c.args.self.now.work.waiting c.requires.fits in
+    let within = slice_get_within xs n w.1 w.3 in
+    let here = slice_get_read xs (length xs) n x refl within c.index_mut-entry.ensures.value in
+    let mark = ap (λ l. slice_get l c.in-Some.at) (sym c.as_slice.ensures.value) ∙ c.in-Some.ensures.found in
+    fits_again gr (g.F.Facts.map c.args.facts.now) names c.args.slot n c.args.pair.rule ns xs (slice_set xs n c.test_mark.new.entry) c.args.self.now.work.waiting c.test_mark.new.work.waiting w.0 c.in-Some.at x c.test_mark.new.entry
+    w.2 here mark (c.test_mark.ensures.tested (waiting_mark c.args.pair.rule c.args.slot) mark) (set_at xs n c.test_mark.new.entry within) c.requires.fits
+
+pub returns-clause-waiting : goal.returns-clause-waiting
+returns-clause-waiting g c q learnt =
+    let gr = grammar_of c.args.grammar.now in
+    let names = g.F.Facts.names c.args.facts.now in
+    let ns = c.args.self.now.numbers.items in
+    let xs = c.args.self.now.records.items in
+    let n = c.args.pair.node in
+    let x = c.index_mut-entry.result.now in
+    let w = taken_waits gr names c.args.slot n c.args.pair.rule ns xs c.args.self.now.work.waiting c.requires.fits in
+    let within = slice_get_within xs n w.1 w.3 in
+    let here = slice_get_read xs (length xs) n x refl within c.index_mut-entry.ensures.value in
+    let mark = ap (λ l. slice_get l c.in-Some.at) (sym c.as_slice.ensures.value) ∙ c.in-Some.ensures.found in
+    waits_elsewhere gr (g.F.Facts.map c.args.facts.now) names c.args.slot n c.args.pair.rule ns xs (slice_set xs n c.test_mark.new.entry) c.args.self.now.work.waiting c.test_mark.new.work.waiting w.0 c.in-Some.at x c.test_mark.new.entry
+    w.2 here mark (c.test_mark.ensures.tested (waiting_mark c.args.pair.rule c.args.slot) mark) (set_at xs n c.test_mark.new.entry within) q learnt

@@ -1,0 +1,75 @@
+//! What is kept of one node.
+ghost use Rattle.std.specs.Prelude.{◌≡◌, ◌≢◌, ◌<◌, ◌≤◌, ◌+◌, ℕ, Bool, Some, true, false, IfSome, IfNone, length, count_by, slice_get};
+ghost use Rattle.aw_work.specs.declared.block.Triple.{Triple as TripleValue};
+ghost use Rattle.aw_kept.specs.Due.{waiting_mark};
+ghost use Rattle.aw_kept.specs.Due.{due_of};
+
+use aw_base::Place;
+use aw_work::{Pair, Work};
+
+/// How a rule stands at an open node, its arguments aside. References are told by slots.
+#[derive(Clone, Copy, Debug)]
+pub enum Stands {
+    Ready,
+    Waits(usize),
+    Differs(Place),
+    Circle(usize),
+    TooDeep,
+}
+
+/// A rule of the node's sort, by its number, and how it stands.
+#[derive(Clone, Copy, Debug)]
+pub struct Mark {
+    pub rule: u16,
+    pub stands: Stands,
+}
+
+/// What is kept of a held node: its inherited references by slots, its sort, whether its name is as long as one may be, and
+/// a mark for each rule of its sort, which is gone when the node was developed.
+#[derive(Drop)]
+pub struct Record {
+    pub(crate) slots: Vec<usize>,
+    pub(crate) sort: u16,
+    pub(crate) deep: bool,
+    pub(crate) marks: Vec<Mark>,
+}
+
+/// Lets a rule wait where it stands so, at the node with this number. There is room.
+pub(crate) fn wait_for(work: &mut Work, number: usize, rule: u16, stands: Stands)
+    requires { 0 < work.old.spare }
+    ensures waiting { (p : TripleValue → Bool) → count_by p work.new.waiting ≡ count_by p (due_of number rule stands) + count_by p work.old.waiting }
+    ensures spare { work.old.spare ≤ work.new.spare + 1 }
+{
+    if let Stands::Waits(slot) = stands {
+        let pair = Pair { node: number, rule };
+        match work.wait(slot, pair) {
+            Ok(()) => {}
+            Err(_) => unreachable!(),
+        }
+    }
+}
+
+/// Whether a mark is of this rule, which waits for the slot.
+fn waits_so(mark: &Mark, rule: u16, slot: usize) -> bool
+    ensures yes { result ≡ true → mark.now ≡ waiting_mark rule slot }
+    ensures no { result ≡ false → mark.now ≢ waiting_mark rule slot }
+{
+    match mark.stands {
+        Stands::Waits(at) => at == slot && mark.rule == rule,
+        _ => false,
+    }
+}
+
+/// The place of a mark of this rule, where it waits for the slot.
+pub(crate) fn place_of(marks: &[Mark], rule: u16, slot: usize) -> Option<usize>
+    ensures within { IfSome result (λ at. at < length marks.now) }
+    ensures found { IfSome result (λ at. slice_get marks.now at ≡ Some (waiting_mark rule slot)) }
+    ensures none { IfNone result ((j : ℕ) → slice_get marks.now j ≢ Some (waiting_mark rule slot)) }
+{
+    for at in 0..marks.len() {
+        if waits_so(&marks[at], rule, slot) {
+            return Some(at);
+        }
+    }
+    None
+}

@@ -1,0 +1,133 @@
+//! Tests of rules at a held node, by what is kept of it.
+ghost use Rattle.std.specs.Prelude.{◌≡◌, ◌<◌, ◌≤◌, ◌+◌, ◌&&◌, List, Some, true, All, length, map as list_map, nat_eq, nat_lt, slice_get, vec_len};
+ghost use Rattle.aw_term.specs.Names.{Node as NodeValue, Ref as RefName};
+ghost use Rattle.aw_term.specs.Trees.{join};
+ghost use Rattle.aw_term.specs.Views.{pattern_of};
+ghost use Rattle.aw_term.specs.WellFormed.{all_leaves, all_nesting};
+ghost use Rattle.aw_grammar.specs.declared.rule.Sort.{Sort as SortValue};
+ghost use Rattle.aw_grammar.specs.GrammarView.{rule_of};
+ghost use Rattle.aw_grammar.specs.GrammarOf.{grammar_of};
+ghost use Rattle.aw_held.specs.declared.held.Held.{Held as HeldValue};
+ghost use Rattle.aw_store.specs.NamedRefs.{AreNamed};
+ghost use Rattle.aw_kept.specs.declared.record.Mark.{Mark as MarkValue};
+ghost use Rattle.aw_kept.specs.Standings.{guard_stands, kept_refusal, told_refusal};
+ghost use Rattle.aw_kept.specs.Records.{IsFit, IsOf, IsTold, with_stands, has_live};
+ghost use Rattle.aw_kept.specs.Tested.{IsTested, IsFresh, AreTested, LacksBody};
+
+use crate::record::{Record, Stands, wait_for};
+use aw_apply::{Guard, Steps, test_guard};
+use aw_base::{Grammar, Rule};
+use aw_store::Facts;
+use aw_work::Work;
+use std::sync::ledger::Ledger;
+
+/// How a rule stands where its guard gives this.
+fn stands_by(deep: bool, rule: &Rule, guard: &Guard) -> Stands
+    ensures { result ≡ guard_stands (deep && nat_lt 0 (length rule.now.children)) guard.now }
+{
+    match guard {
+        Guard::Yes(_) => {
+            if deep && !rule.children.is_empty() {
+                Stands::TooDeep
+            } else {
+                Stands::Ready
+            }
+        }
+        Guard::Waits(slot) => Stands::Waits(*slot),
+        Guard::Differs(place) => Stands::Differs(*place),
+        Guard::Circle(slot) => Stands::Circle(*slot),
+    }
+}
+
+/// How a rule stands at a node that inherits what these slots name. One call is one step.
+fn test_stands<F: Facts, L: Ledger>(
+    facts: &F,
+    rule: &Rule,
+    slots: &[usize],
+    deep: bool,
+    steps: &mut Steps<L>,
+) -> Stands
+    requires live { All (λ slot. slot < length (F.names facts.now)) slots.now }
+    requires same { length rule.now.patterns ≡ length slots.now }
+    requires few { length rule.now.patterns ≤ 8 }
+    requires shallow { all_nesting (join (list_map pattern_of rule.now.patterns)) ≤ 32 }
+    requires room { length (all_leaves (join (list_map pattern_of rule.now.patterns))) ≤ 64 }
+    ensures stands { (sorts : List SortValue) (n : NodeValue) (rs : List RefName) → deep ≡ nat_eq (length n.steps) 250 → AreNamed (F.names facts.now) slots.now rs →
+        kept_refusal (F.names facts.now) result ≡ told_refusal (F.map facts.now) n rs (rule_of sorts rule.now) }
+    ensures lacks { LacksBody (F.map facts.now) (F.names facts.now) result }
+    ensures live { has_live (length (F.names facts.now)) result ≡ true }
+    ensures step { steps.new ≡ steps.old + 1 }
+{
+    let guard = test_guard(facts, rule, slots, steps);
+    stands_by(deep, rule, &guard)
+}
+
+/// How the rule of a mark stands at the node of the record.
+fn test_at<F: Facts, L: Ledger>(
+    entry: &Record,
+    at: usize,
+    grammar: &Grammar,
+    facts: &F,
+    steps: &mut Steps<L>,
+) -> Stands
+    requires within { at < length entry.now.marks.items }
+    requires fit { IsFit (grammar_of grammar.now) (F.names facts.now) entry.now }
+    ensures told { (h : HeldValue) (m : MarkValue) → IsOf (grammar_of grammar.now) (F.names facts.now) h entry.now → slice_get entry.now.marks.items at ≡ Some m →
+        IsTold (grammar_of grammar.now) (F.map facts.now) (F.names facts.now) h (with_stands m result) }
+    ensures lacks { LacksBody (F.map facts.now) (F.names facts.now) result }
+    ensures live { has_live (length (F.names facts.now)) result ≡ true }
+    ensures step { steps.new ≡ steps.old + 1 }
+{
+    let mark = entry.marks[at];
+    let Some(rule) = grammar.rule(mark.rule) else {
+        unreachable!();
+    };
+    test_stands(facts, rule, entry.slots.as_slice(), entry.deep, steps)
+}
+
+/// Tests the rule of a mark at the node of the record, which has this number: the mark says how it stands from now on, and it
+/// waits where it stands so. There is room for it to wait.
+pub fn test_mark<F: Facts, L: Ledger>(
+    entry: &mut Record,
+    at: usize,
+    number: usize,
+    grammar: &Grammar,
+    facts: &F,
+    work: &mut Work,
+    steps: &mut Steps<L>,
+)
+    requires within { at < length entry.old.marks.items }
+    requires fit { IsFit (grammar_of grammar.now) (F.names facts.now) entry.old }
+    requires room { 0 < work.old.spare }
+    ensures tested { (m : MarkValue) → slice_get entry.old.marks.items at ≡ Some m →
+        IsTested (grammar_of grammar.now) (F.map facts.now) (F.names facts.now) number at m entry.old entry.new work.old.waiting work.new.waiting }
+    ensures spare { work.old.spare ≤ work.new.spare + 1 }
+    ensures step { steps.new ≡ steps.old + 1 }
+{
+    let stands = test_at(entry, at, grammar, facts, steps);
+    let mark = &mut entry.marks[at];
+    mark.stands = stands;
+    wait_for(work, number, mark.rule, stands);
+}
+
+/// Tests the rule of each mark of a record, none of which waits yet. There is room for all to wait.
+pub fn test_all<F: Facts, L: Ledger>(
+    entry: &mut Record,
+    number: usize,
+    grammar: &Grammar,
+    facts: &F,
+    work: &mut Work,
+    steps: &mut Steps<L>,
+)
+    requires fit { IsFit (grammar_of grammar.now) (F.names facts.now) entry.old }
+    requires fresh { IsFresh entry.old }
+    requires room { vec_len entry.old.marks ≤ work.old.spare }
+    ensures tested { AreTested (grammar_of grammar.now) (F.map facts.now) (F.names facts.now) number entry.old entry.new work.old.waiting work.new.waiting }
+    ensures fit { IsFit (grammar_of grammar.now) (F.names facts.now) entry.new }
+    ensures spare { work.old.spare ≤ work.new.spare + vec_len entry.old.marks }
+    ensures steps { steps.new ≡ steps.old + vec_len entry.old.marks }
+{
+    for at in 0..entry.marks.len() {
+        test_mark(entry, at, number, grammar, facts, work, steps);
+    }
+}

@@ -1,0 +1,34 @@
+use Rattle.std.proofs.Common.{ap, sym, subst}
+use Rattle.aw_grammar.specs.GrammarOf.{grammar_of}
+use Rattle.aw_space.specs.Placings.{MayBeCalled}
+use Rattle.aw_space.specs.Sound.{IsSound}
+use Rattle.aw_space.specs.Spaces.{call_of}
+use Rattle.aw_space.specs.Valid.{IsValid}
+use Rattle.aw_space.proofs.Called.{places_placed, nodes_placed, sound_placed, valid_placed}
+use Rattle.aw_space.proofs.space.Space.add_call.Goals as goal
+
+pub invariant_of-self : goal.invariant_of-self
+invariant_of-self g c =
+    let old = c.args.self.now in
+    let gr = grammar_of old.accepted.now.grammar in
+    let n = c.args.node.now in
+    let rs = c.args.inherited.now in
+    let hs = c.place_call.new.held.items in
+    let names = g.F.Facts.names c.place_call.new.facts in
+    let may = subst (λ x. MayBeCalled (grammar_of x) old.role (call_of (grammar_of x) n rs)) c.requires.grammar c.requires.call in
+    record {
+      sound = subst (λ k. IsSound gr old.role hs k names) (sym c.place_call.ensures.map)
+          (sound_placed gr old.role old.held.items hs (g.F.Facts.map old.facts) (g.F.Facts.names old.facts) names n rs c.place_call.result c.place_call.ensures.placed c.place_call.ensures.err may old.sound c.place_call.ensures.ordered c.place_call.ensures.names);
+      valid = subst (λ k. IsValid gr hs k) (sym c.place_call.ensures.map)
+          (valid_placed gr old.role old.held.items hs (g.F.Facts.map old.facts) names n rs c.place_call.result c.place_call.ensures.placed c.place_call.ensures.err may old.valid);
+    }
+
+pub returns-clause-placed : goal.returns-clause-placed
+returns-clause-placed g c =
+    places_placed (grammar_of c.args.self.now.accepted.now.grammar) (grammar_of c.args.g.now.grammar) c.args.self.now.held.items c.place_call.new.held.items (g.F.Facts.names c.place_call.new.facts) c.args.node.now c.args.inherited.now
+    c.place_call.result (ap grammar_of (sym c.requires.grammar)) c.place_call.ensures.placed
+
+pub returns-clause-nodes : goal.returns-clause-nodes
+returns-clause-nodes g c =
+    nodes_placed (grammar_of c.args.self.now.accepted.now.grammar) c.args.self.now.held.items c.place_call.new.held.items (g.F.Facts.names c.place_call.new.facts) c.args.node.now c.args.inherited.now
+    c.place_call.result c.place_call.ensures.placed c.place_call.ensures.err
