@@ -29,11 +29,16 @@ use Rattle.aw_joint.specs.Joint.{by_rule, by_state, by_held, by_root, outcome_in
 use Rattle.aw_msg.specs.MessageView.{sort_or_zero}
 use Rattle.aw_react.specs.Choosing.{Chosen, No, Did, answer_to, outcome, choose_on, choose}
 use Rattle.aw_react.specs.SiteEvents.{after_choice}
-use Rattle.aw_react.specs.Sites.{Site}
+use Rattle.aw_react.specs.Sites.{Site, Reaction}
 use Rattle.aw_space.specs.Spaces as S
 use Rattle.aw_space.specs.Spaces.{making, space_on}
+use Rattle.aw_apply.specs.Messages.{Message}
+use Rattle.aw_msg.specs.MessageView.{message_of}
+use Rattle.aw_site.specs.declared.plan.Plan.{Plan}
 use Rattle.aw_site.specs.Answers.{sent_by}
-use Rattle.aw_site.specs.Chosen.{worked, asks_after, sends_after}
+use Rattle.aw_site.specs.Chosen.{worked, reaction_of}
+use Rattle.aw_site.specs.Doing.{doing, IsPlanned}
+use Rattle.aw_site.specs.Plans.{wanted_of, asks_for, made_mentions, told}
 use Rattle.aw_site.specs.Shown.{space_in}
 use Rattle.aw_site.specs.Views.{child_call}
 
@@ -83,19 +88,36 @@ answered g s (Develop n r args) = rule_cases g s n r args (outcome g s (Develop 
 
 -- ---- what is done and sent
 
-abbrev pub Chose : Grammar → Site → Choice → Outcome Ref Ref → Site
-Chose g s c x = record (worked g s c x) { asked = s.asked ++ asks_after g s c x; outbox = s.outbox ++ sends_after g s c x }
+-- what a choice that leads to this asks for
+abbrev pub asks_after : Grammar → Site → Choice → Outcome Ref Ref → List Ref
+asks_after g s c x = wanted_of g (worked g s c x) (made_mentions g (worked g s c x) (making c x).equations (making c x).calls)
+
+-- what it sends
+abbrev pub sends_after : Grammar → Site → Choice → Outcome Ref Ref → List Message
+sends_after g s c x = told g (worked g s c x) (making c x).equations (making c x).calls ++ asks_for g (worked g s c x) (asks_after g s c x)
 
 still : (s : Site) → s ≡ record s { asked = s.asked ++ []; outbox = s.outbox ++ [] }
 still s = λ i. record s { asked = sym (append-nil s.asked) i; outbox = sym (append-nil s.outbox) i }
 
-pub chosen_on : (g : Grammar) (s : Site) (c : Choice) (x : Outcome Ref Ref) → (after_choice s (choose_on g s c x) ≡ Chose g s c x) × (sent_by (choose_on g s c x) ≡ sends_after g s c x)
-chosen_on g s (Start t k) (Refused a) = (still s, refl)
-chosen_on g s (Start t k) Starts = (still (after_choice s (choose_on g s (Start t k) Starts)), refl)
-chosen_on g s (Start t k) (Takes rule bound) = (still s, refl)
-chosen_on g s (Develop n r args) (Refused a) = (still s, refl)
-chosen_on g s (Develop n r args) Starts = (still s, refl)
-chosen_on g s (Develop n r args) (Takes rule bound) = (refl, refl)
+still_doing : (s t : Site) → s ≡ t → record { site = s; sent = [] } ≡ doing t [] []
+still_doing s t e = (λ i. record { site = (e ∙ still t) i; sent = [] })
+
+done_on : (g : Grammar) (s : Site) (c : Choice) (x : Outcome Ref Ref) → reaction_of s (choose_on g s c x) ≡ doing (worked g s c x) (asks_after g s c x) (sends_after g s c x)
+done_on g s (Start t k) (Refused a) = still_doing s s refl
+done_on g s (Start t k) Starts = still_doing (worked g s (Start t k) Starts) (worked g s (Start t k) Starts) refl
+done_on g s (Start t k) (Takes rule bound) = still_doing s s refl
+done_on g s (Develop n r args) (Refused a) = still_doing s s refl
+done_on g s (Develop n r args) Starts = still_doing s s refl
+done_on g s (Develop n r args) (Takes rule bound) = refl
+
+-- a site is as its reaction says, and sent what that says
+pub site_reacted : (s : Site) (x : Chosen) → (reaction_of s x).site ≡ after_choice s x
+site_reacted s (No a) = refl
+site_reacted s (Did x) = refl
+
+pub sent_reacted : (s : Site) (x : Chosen) → (reaction_of s x).sent ≡ sent_by x
+sent_reacted s (No a) = refl
+sent_reacted s (Did x) = refl
 
 -- the new equations stand behind the others
 pub made_behind : (g : Grammar) (role : ℕ) (sp : S.Space) (c : Choice) (x : Outcome Ref Ref) → (space_on g role sp c x).equations ≡ sp.equations ++ (making c x).equations
@@ -195,3 +217,16 @@ module _ (g : Grammar) (s : Site) (c : Choice) (hs : List program.Held) (cs : Li
 
   pub equations_behind : (worked g s c (outcome g s c)).equations ≡ k ++ map equation_of m.equations
   equations_behind = made_behind g s.role (space_in s) c (outcome g s c) ∙ (λ i. (holds i).equations ++ sym is_made.equations i)
+
+  -- the plan for what was made
+  pub plan_prepared : (other : Grammar) (p : Plan) → other ≡ g
+      → p.wanted ≡ wanted_of other (worked g s c (outcome g s c)) (made_mentions other (worked g s c (outcome g s c)) (map equation_of m.equations) (map (child_call other) m.children))
+      → map (message_of other) p.sent.items ≡ told other (worked g s c (outcome g s c)) (map equation_of m.equations) (map (child_call other) m.children) ++ asks_for other (worked g s c (outcome g s c)) p.wanted
+      → IsPlanned g (worked g s c (outcome g s c)) (reaction_of s (choose g s c)) p
+  plan_prepared other p e w v =
+      let t = worked g s c (outcome g s c) in
+      let w' = subst (λ (y : Grammar). p.wanted ≡ wanted_of y t (made_mentions y t (map equation_of m.equations) (map (child_call y) m.children))) e w in
+      let v' = subst (λ (y : Grammar). map (message_of y) p.sent.items ≡ told y t (map equation_of m.equations) (map (child_call y) m.children) ++ asks_for y t p.wanted) e v in
+      let wanted = w' ∙ (λ i. wanted_of g t (made_mentions g t (equations_made i) (calls_made i))) in
+      let sent = v' ∙ (λ i. told g t (equations_made i) (calls_made i) ++ asks_for g t (wanted i)) in
+      done_on g s c (outcome g s c) ∙ (λ i. doing t (sym wanted i) (sym sent i))

@@ -9,3 +9,6 @@ pub mod HeldTests
 pub mod FrontLemmas
 pub mod ChosenSites
 pub mod Receptions
+pub mod Holding
+pub mod Coming
+pub mod Beginning

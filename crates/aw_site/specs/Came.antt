@@ -1,5 +1,5 @@
--- What a site does where a call, if there is one, and equations came, something of which is new.
-use Rattle.std.specs.Prelude.{List, [], ◌++◌, Option, None, Some}
+-- What a site does where a call, if there is one, and equations came, something of which is new, and where a role asks.
+use Rattle.std.specs.Prelude.{ℕ, List, [], ◌∷◌, ◌++◌, Option, None, Some}
 use Rattle.aw_term.specs.Names.{Ref}
 use Rattle.aw_term.specs.Rules.{Grammar}
 use Rattle.aw_store.specs.Equations.{Equation}
@@ -21,3 +21,7 @@ holding s c es = record s { held = with_call c s.held; equations = add_all s.equ
 -- they are added, and then what is wanted is asked for
 abbrev pub came : Grammar → Site → Option Call → List Equation → Reaction
 came g s c es = asking g (holding s c es) [] (inherited_by c ++ all_mentions es)
+
+-- the role watches the reference, too
+abbrev pub watching : Site → Ref → ℕ → Site
+watching s r from = record s { watchers = s.watchers ++ record { reference = r; role = from } ∷ [] }

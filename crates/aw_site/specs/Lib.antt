@@ -3,6 +3,7 @@ pub mod Holders
 pub mod Senders
 pub mod Plans
 pub mod Shown
+pub mod Doing
 pub mod Answers
 pub mod Chosen
 pub mod Judged

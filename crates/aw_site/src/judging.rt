@@ -77,17 +77,18 @@ fn clash<F: Facts>(
     requires carried { (g : T.Grammar) → list_map equation_of es.now ≡ carried (kind_of g kind.now) }
     ensures { IfOk result (λ c. (g : T.Grammar) → option_map clash_of c ≡ plain_clash (holder (all_of g held.now) (F.map facts.now) []) (kind_of g kind.now)) }
 {
-    if let MsgKind::Call {
-        node,
-        inherited,
-        ..
-    } = kind
-    {
-        if let Some(clash) = call_clash(held, node, inherited)? {
-            return Ok(Some(clash));
-        }
+    match kind {
+        MsgKind::Call {
+            node,
+            inherited,
+            ..
+        } => match call_clash(held, node, inherited)? {
+            Some(clash) => Ok(Some(clash)),
+            None => first_clash(alloc, facts, es.as_slice()),
+        },
+        MsgKind::Ask { .. } => Ok(None),
+        MsgKind::Tell { .. } => first_clash(alloc, facts, es.as_slice()),
     }
-    first_clash(alloc, facts, es.as_slice())
 }
 
 /// The first of the five answers to a message that holds.

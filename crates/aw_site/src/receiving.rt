@@ -13,7 +13,8 @@ ghost use Rattle.aw_space.specs.Placings.{MayBeCalledIf, MayBeLearnt, placed_cal
 ghost use Rattle.aw_space.specs.Seen.{space_seen};
 ghost use Rattle.aw_space.specs.Spaces.{clash_with};
 ghost use Rattle.aw_site.specs.Answers.{sent_for, IsReceived};
-ghost use Rattle.aw_site.specs.Came.{came};
+ghost use Rattle.aw_site.specs.Came.{came, holding, inherited_by, watching};
+ghost use Rattle.aw_site.specs.Doing.{IsPlanned};
 ghost use Rattle.aw_site.specs.Judged.{IsFresh};
 ghost use Rattle.aw_site.specs.Shown.{HoldsAs, Shows};
 ghost use Rattle.aw_site.specs.Senders.{listed};
@@ -46,6 +47,33 @@ fn listed(alloc: Global, message: Option<Message>) -> Result<Vec<Message>, Alloc
     Ok(messages)
 }
 
+/// What is sent where a role asks: the equation, where it is here.
+fn plan_answer<'g, F: Facts>(
+    alloc: Global,
+    g: &Accepted,
+    space: &Space<'g, F>,
+    loads: bool,
+    r: &Ref,
+    from: u16,
+) -> Result<Plan, AllocError>
+    ensures nothing { IfOk result (λ p. p.wanted ≡ []) }
+    ensures plan { IfOk result (λ p. (s : P.Site) → s.role ≡ space.now.role → s.loads ≡ loads → s.equations ≡ F.map space.now.facts →
+        IsPlanned (grammar_of g.now.grammar) (watching s r.now from) (plain_react (grammar_of g.now.grammar) s (Asks r.now from)) p) }
+{
+    let sender = Sender {
+        alloc,
+        grammar: g.grammar(),
+        role: space.role(),
+        loads,
+        facts: space.facts(),
+        more: &[],
+    };
+    Ok(Plan {
+        sent: listed(alloc, sender.tell_back(r, from)?)?,
+        wanted: Refs::new(alloc),
+    })
+}
+
 /// Notes who asks, and answers where the equation is here; how many messages were sent. An error changes nothing.
 fn answer_ask<'g, F: Facts>(
     g: &Accepted,
@@ -69,23 +97,49 @@ fn answer_ask<'g, F: Facts>(
     ensures err_copy { OnErr result (copy.new.items ≡ copy.old.items) }
 {
     let alloc = *outbox.allocator();
+    let plan = plan_answer(alloc, g, space, loads, r, from)?;
+    let copies = make_room(alloc, &plan, subs, outbox, copy)?;
+    let count = copies.len();
+    subs.watch(r, from)?;
+    carry_out(plan, copies, subs, outbox, copy);
+    Ok(count)
+}
+
+/// Copies of the references of a call, if there is one.
+fn inherited_by(alloc: Global, call: Option<&Placing>) -> Result<Refs, AllocError>
+    ensures { IfOk result (λ rs. (g : T.Grammar) → rs ≡ inherited_by (option_map (placed_call g) (option_copied call.entry))) }
+{
+    match call {
+        Some(placing) => placing.inherited.clone(),
+        None => Ok(Refs::new(alloc)),
+    }
+}
+
+/// What is sent where a call, if there is one, and equations come.
+fn plan_came<'g, F: Facts>(
+    alloc: Global,
+    g: &Accepted,
+    space: &Space<'g, F>,
+    subs: &Subs,
+    loads: bool,
+    call: Option<&Placing>,
+    es: &Equations,
+) -> Result<Plan, AllocError>
+    requires { g.now.grammar ≡ space.now.accepted.now.grammar }
+    ensures { IfOk result (λ p. (s : P.Site) → HoldsAs ⟦<F as Facts>⟧ space.now subs.now loads s → IsPlanned (grammar_of g.now.grammar)
+        (holding s (option_map (placed_call (grammar_of g.now.grammar)) (option_copied call.entry)) (list_map equation_of es.now))
+        (came (grammar_of g.now.grammar) s (option_map (placed_call (grammar_of g.now.grammar)) (option_copied call.entry)) (list_map equation_of es.now)) p) }
+{
+    let inherited = inherited_by(alloc, call)?;
     let sender = Sender {
         alloc,
         grammar: g.grammar(),
         role: space.role(),
         loads,
         facts: space.facts(),
-        more: &[],
+        more: es.as_slice(),
     };
-    let plan = Plan {
-        sent: listed(alloc, sender.tell_back(r, from)?)?,
-        wanted: Refs::new(alloc),
-    };
-    let copies = make_room(alloc, &plan, subs, outbox, copy)?;
-    let count = copies.len();
-    subs.watch(r, from)?;
-    carry_out(plan, copies, subs, outbox, copy);
-    Ok(count)
+    sender.plan_came(subs, inherited.as_slice(), es.as_slice())
 }
 
 /// Takes in a call, if there is one, and equations, and asks for what is then wanted; how many messages were sent. An error changes
@@ -119,19 +173,7 @@ fn take_in<'g, F: Facts>(
     ensures nodes { KeepsNodes (space_seen ⟦<F as Facts>⟧ space.old).held (space_seen ⟦<F as Facts>⟧ space.new).held }
 {
     let alloc = *outbox.allocator();
-    let inherited = match call {
-        Some(placing) => placing.inherited.clone()?,
-        None => Refs::new(alloc),
-    };
-    let sender = Sender {
-        alloc,
-        grammar: g.grammar(),
-        role: space.role(),
-        loads,
-        facts: space.facts(),
-        more: es.as_slice(),
-    };
-    let plan = sender.plan_came(subs, inherited.as_slice(), es.as_slice())?;
+    let plan = plan_came(alloc, g, space, subs, loads, call, es)?;
     let copies = make_room(alloc, &plan, subs, outbox, copy)?;
     let count = copies.len();
     uncounted::take_in(space, g, call, es)?;

@@ -68,6 +68,13 @@ impl<'g, F: Facts> Site<'g, F> {
         &self.space
     }
 
+    /// The grammar that it was made for.
+    pub fn accepted(&self) -> &'g Accepted
+        ensures { result.now ≡ self.now.space.accepted.now }
+    {
+        self.space.accepted()
+    }
+
     /// Its role.
     pub fn role(&self) -> u16
         ensures { result ≡ role_in ⟦<F as Facts>⟧ self.now }
