@@ -1,6 +1,7 @@
 -- What is planned where something came, and what may be concluded of a message of which something is new.
-use Rattle.std.proofs.Common.{◌≡◌, ℕ, Bool, true, false, cond, List, [], ◌∷◌, ◌++◌, map, Option, Some, None, option_map, length, refl, ap, sym, ◌∙◌, subst}
-use Rattle.std.specs.Prelude.{is_some, is_none}
+use Rattle.std.proofs.Common.{◌≡◌, ℕ, Bool, true, false, cond, List, [], ◌∷◌, ◌++◌, map, Option, Some, None, option_map, Result, Ok, Err, length, refl, ap, sym, ◌∙◌, subst}
+use Rattle.std.specs.Prelude.{is_some, IfOk, OnOk}
+use Rattle.std.specs.Option.{is_none}
 use Rattle.std.proofs.lemmas.List.{append-nil}
 use Rattle.std.proofs.Math.Bool.{Bool-set}
 use Rattle.std.proofs.Math.Logic.{∥∥₁_elim}
@@ -18,24 +19,29 @@ use Rattle.aw_apply.specs.Messages.{Asks, carried}
 use Rattle.aw_msg.specs.declared.message.Message.{Message}
 use Rattle.aw_msg.specs.declared.message.MsgKind.{MsgKind}
 use Rattle.aw_msg.specs.declared.message.MsgKind.TheVariants as msg
-use Rattle.aw_msg.specs.MessageView.{message_of}
+use Rattle.aw_msg.specs.MessageView.{message_of, content_of}
 use Rattle.aw_react.specs.Asking.{all_mentions}
 use Rattle.aw_react.specs.Receiving.{is_mine, clash, first_clash, call_clash, add_all}
-use Rattle.aw_react.specs.Reacting.{react}
+use Rattle.aw_react.specs.Reacting.{react, receive}
 use Rattle.aw_react.specs.Sites.{Site, Reaction}
 use Rattle.aw_react.specs.Telling.{tell_back}
 use Rattle.aw_react.specs.ValidNames.{message_ok}
 use Rattle.aw_space.specs.Spaces as S
 use Rattle.aw_space.specs.Spaces.{clash_with}
+use Rattle.aw_space.specs.Placings.{MayBeCalled, MayBeLearnt}
 use Rattle.aw_site.specs.declared.plan.Plan.{Plan}
 use Rattle.aw_site.specs.declared.sender.Sender.{Sender}
 use Rattle.aw_site.specs.Came.{came, holding, inherited_by, watching}
 use Rattle.aw_site.specs.Doing.{doing, IsPlanned}
-use Rattle.aw_site.specs.Judged.{IsFresh}
+use Rattle.aw_site.specs.Judged.{IsFresh, Judges}
+use Rattle.aw_site.specs.declared.judging.Judged.{Judged}
+use Rattle.aw_site.specs.declared.judging.Judged.TheVariants.{BadName, NotMine, Clashes, Repeat, Fresh}
+use Rattle.aw_site.specs.Shown.{space_in}
 use Rattle.aw_site.specs.Plans.{wanted_of, asks_for}
 use Rattle.aw_site.specs.Senders.{SendsAs, listed}
-use Rattle.aw_site.specs.Views.{kind_of}
+use Rattle.aw_site.specs.Views.{clash_of, kind_of}
 use Rattle.aw_site.proofs.Clashing.{find_added}
+use Rattle.aw_site.proofs.Receptions.{call_may_come, tell_may_come, bad_name, not_mine, in_conflict, known_already, new_here}
 
 -- ---- a sender
 
@@ -112,3 +118,56 @@ module _ (g : Grammar) (role : ℕ) (Holds : Site → Type 0) (m : Q.Message) (h
 
   pub fresh_free : (sp : S.Space) (c : Option Call) (es : List P.Equation) → ((s : Site) → Holds s → clash_with c es sp ≡ clash s m.kind) → clash_with c es sp ≡ None
   fresh_free sp c es same = is_clear (clash_with c es sp) (∥∥₁_elim held (Bool-set _ _) (λ w. ap is_none (same w.0 w.1 ∙ (fresh w.0 w.1).free)))
+
+-- a called node, and equations, may come
+pub call_fits : (g : Grammar) (role : ℕ) (m : Message) (n x : Node) (rs qs : List Ref) (load es : List Equation) → m.kind ≡ msg.Call n rs load → x ≡ n → qs ≡ rs → map equation_of es ≡ carried (kind_of g m.kind)
+    → message_ok g role (message_of g m) ≡ true → is_mine g role (message_of g m) ≡ true → MayBeCalled g role (S.call_of g x qs) × MayBeLearnt g role (map equation_of es)
+call_fits g role m n x rs qs load es e a b c ok mine =
+    let loaded : map equation_of es ≡ map equation_of load = c ∙ ap (λ k. carried (kind_of g k)) e in
+    let (called, learnt) = call_may_come g role (message_of g m) (S.call_of g n rs) (map equation_of load) (ap (kind_of g) e) ok mine in
+    (subst (λ (y : Call). MayBeCalled g role y) (λ i. S.call_of g (sym a i) (sym b i)) called, subst (MayBeLearnt g role) (sym loaded) learnt)
+
+pub tell_fits : (g : Grammar) (role : ℕ) (m : Message) (x : Equation) (load es : List Equation) → m.kind ≡ msg.Tell x load → map equation_of es ≡ carried (kind_of g m.kind)
+    → message_ok g role (message_of g m) ≡ true → is_mine g role (message_of g m) ≡ true → MayBeLearnt g role (map equation_of es)
+tell_fits g role m x load es e c ok mine =
+    let loaded : map equation_of es ≡ equation_of x ∷ map equation_of load = c ∙ ap (λ k. carried (kind_of g k)) e in
+    subst (MayBeLearnt g role) (sym loaded) (tell_may_come g role (message_of g m) (equation_of x) (map equation_of load) (ap (kind_of g) e) ok mine)
+
+pub call_clashes : (g : Grammar) (s : Site) (sp : S.Space) (kind : MsgKind) (n x : Node) (rs qs : List Ref) (load es : List Equation) → kind ≡ msg.Call n rs load → x ≡ n → qs ≡ rs → map equation_of es ≡ carried (kind_of g kind)
+    → space_in s ≡ sp → clash_with (Some (S.call_of g x qs)) (map equation_of es) sp ≡ clash s (kind_of g kind)
+call_clashes g s sp kind n x rs qs load es e a b c holds =
+    let loaded : map equation_of es ≡ map equation_of load = c ∙ ap (λ k. carried (kind_of g k)) e in
+    (λ i. clash_with (Some (S.call_of g (a i) (b i))) (loaded i) (sym holds i)) ∙ ap (λ k. clash s (kind_of g k)) (sym e)
+
+pub tell_clashes : (g : Grammar) (s : Site) (sp : S.Space) (kind : MsgKind) (x : Equation) (load es : List Equation) → kind ≡ msg.Tell x load → map equation_of es ≡ carried (kind_of g kind)
+    → space_in s ≡ sp → clash_with None (map equation_of es) sp ≡ clash s (kind_of g kind)
+tell_clashes g s sp kind x load es e c holds =
+    let loaded : map equation_of es ≡ equation_of x ∷ map equation_of load = c ∙ ap (λ k. carried (kind_of g k)) e in
+    (λ i. clash_with None (loaded i) (sym holds i)) ∙ ap (λ k. clash s (kind_of g k)) (sym e)
+
+-- ---- the answer to a message
+
+-- what a site answers that makes this of a message
+abbrev pub told : Grammar → Site → Q.Message → Judged → Q.Received Reaction
+told g s m BadName = Q.BadName
+told g s m NotMine = Q.NotMine
+told g s m (Clashes c) = Q.Conflict (content_of c.kept) (content_of c.came)
+told g s m Repeat = Q.Repeat
+told g s m Fresh = Q.New (react g s m.kind)
+
+pub judged_as : (g : Grammar) (s : Site) (m : Q.Message) (j : Judged) → Judges g s m j → receive g s m ≡ told g s m j
+judged_as g s m BadName h = bad_name g s m h
+judged_as g s m NotMine h = not_mine g s m h.0 h.1
+judged_as g s m (Clashes c) h = in_conflict g s m (clash_of c) h.0 h.1 h.2
+judged_as g s m Repeat h = known_already g s m h.0 h.1 h.2 h.3
+judged_as g s m Fresh h = new_here g s m h
+
+-- ---- results
+
+pub both_ok : {A E : Type 0} (r : Result A E) (P Q R : A → Type 0) → ((a : A) → P a → Q a → R a) → IfOk r P → IfOk r Q → IfOk r R
+both_ok (Ok a) P Q R f p q = f a p q
+both_ok (Err e) P Q R f p q = tt
+
+pub on_ok : {A E : Type 0} (r : Result A E) (P Q : Type 0) → (P → Q) → OnOk r P → OnOk r Q
+on_ok (Ok a) P Q f p = f p
+on_ok (Err e) P Q f p = tt
