@@ -1,10 +1,11 @@
-use Rattle.std.proofs.Common.{◌≡◌, ◌∙◌, ◌++◌, true, sym, ap, map, length, subst}
+use Rattle.std.proofs.Common.{◌≡◌, ◌∙◌, ◌++◌, Some, None, sym, ap, map, length, subst}
 use Rattle.std.proofs.lemmas.Result.{IfOk-weaker}
 use Rattle.aw_grammar.specs.GrammarOf.{grammar_of}
 use Rattle.aw_store.specs.EquationView.{equation_of}
 use Rattle.aw_msg.specs.MessageView.{message_of, plain_kind}
 use Rattle.aw_react.specs.Sites.{Reaction}
 use Rattle.aw_space.specs.Seen.{space_seen}
+use Rattle.aw_space.specs.Spaces.{call_of}
 use Rattle.aw_site.specs.Holders.{IsOfRole}
 use Rattle.aw_site.specs.Shown.{HoldsAs, Shows}
 use Rattle.aw_site.proofs.Coming.{call_fits, tell_fits, call_clashes, tell_clashes, fresh_ok, fresh_mine, fresh_free, reacts_to_call, reacts_to_tell, reacts_to_ask, on_ok}
@@ -34,7 +35,7 @@ take_in-requires-clause-free g c =
     let gr = grammar_of c.args.g.now.grammar in
     let role = c.args.space.now.role in
     let holds = HoldsAs g.F.Facts c.args.space.now c.args.subs.now c.args.loads in
-    fresh_free gr role holds (message_of gr c.args.m.now) c.requires.holds (λ s h. h.role) c.requires.fresh (space_seen g.F.Facts c.args.space.now) _ (map equation_of c.args.es.now)
+    fresh_free gr role holds (message_of gr c.args.m.now) c.requires.holds (λ s h. h.role) c.requires.fresh (space_seen g.F.Facts c.args.space.now) (Some (call_of gr c.in_ok-copy_node-in-Call.field-0 c.in_ok-clone-in-Call.field-0)) (map equation_of c.args.es.now)
     (λ s h. call_clashes gr s (space_seen g.F.Facts c.args.space.now) c.args.m.now.kind c.in-Call.node c.in_ok-copy_node-in-Call.field-0 c.in-Call.inherited c.in_ok-clone-in-Call.field-0 c.in-Call.load c.args.es.now
     c.in-Call.is c.in_ok-copy_node-in-Call.ensures c.in_ok-clone-in-Call.ensures.cases (c.requires.carried gr) h.holds)
 
@@ -59,7 +60,7 @@ take_in-requires-in-Tell-clause-free g c =
     let gr = grammar_of c.args.g.now.grammar in
     let role = c.args.space.now.role in
     let holds = HoldsAs g.F.Facts c.args.space.now c.args.subs.now c.args.loads in
-    fresh_free gr role holds (message_of gr c.args.m.now) c.requires.holds (λ s h. h.role) c.requires.fresh (space_seen g.F.Facts c.args.space.now) _ (map equation_of c.args.es.now)
+    fresh_free gr role holds (message_of gr c.args.m.now) c.requires.holds (λ s h. h.role) c.requires.fresh (space_seen g.F.Facts c.args.space.now) None (map equation_of c.args.es.now)
     (λ s h. tell_clashes gr s (space_seen g.F.Facts c.args.space.now) c.args.m.now.kind c.in-Tell.equation c.in-Tell.load c.args.es.now c.in-Tell.is (c.requires.carried gr) h.holds)
 
 pub returns-in_ok-clone-in-Call-clause-count : goal.returns-in_ok-clone-in-Call-clause-count
