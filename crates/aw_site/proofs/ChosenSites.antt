@@ -1,6 +1,6 @@
 -- A plain site after a choice: its space after the choice, and what it then asks for and sends.
 use Rattle.std.proofs.Common.{◌≡◌, ℕ, Bool, true, false, cond, List, [], ◌∷◌, ◌++◌, map, Option, Some, None, slice_get, nat_eq, length, refl, ap, sym, ◌∙◌, subst}
-use Rattle.std.specs.Prelude.{◌&&◌, is_some, unwrap_or}
+use Rattle.std.specs.Prelude.{is_some, unwrap_or}
 use Rattle.std.proofs.lemmas.Bool.{and_parts, eqb-true}
 use Rattle.std.proofs.lemmas.List.{append-nil}
 use Rattle.aw_term.specs.Names.{Node, Ref, root, node_eq}
@@ -8,7 +8,7 @@ use Rattle.aw_term.specs.Rules.{Ground, Rule, Grammar, sort_of}
 use Rattle.aw_term.specs.WellFormed.{Each}
 use Rattle.aw_term.specs.Matching.{Matched, Yes, Waits, Differs, Circle}
 use Rattle.aw_term.specs.Configs.{State, Pending, Done}
-use Rattle.aw_term.specs.Choices.{Choice, Start, Develop, Outcome, Refused, Starts, Takes, Taken, TooDeep, Arguments, NotItsRule, after_guard, deep, answer_of}
+use Rattle.aw_term.specs.Choices.{Choice, Start, Develop, Outcome, Refused, Starts, Takes, TooDeep, Arguments, NotItsRule, after_guard, deep, answer_of}
 use Rattle.aw_term.specs.Held.{Held, held_of}
 use Rattle.aw_term.proofs.NodeTests.{node_is}
 use Rattle.aw_store.specs.Equations.{Map}
@@ -18,7 +18,7 @@ use Rattle.aw_choice.specs.declared.choice.Choice.{Choice as ProgramChoice}
 use Rattle.aw_space.specs.Outcomes.{IsMade}
 use Rattle.aw_space.specs.SpaceView.{space_of}
 use Rattle.aw_apply.specs.Guard.{guard_all}
-use Rattle.aw_apply.specs.Made.{Call, Making, made}
+use Rattle.aw_apply.specs.Made.{Call}
 use Rattle.aw_apply.specs.MadeView.{as_child}
 use Rattle.aw_apply.proofs.MadeCalls.{made-sorts}
 use Rattle.aw_base.specs.ChoiceFits.{choice_ok}
@@ -29,7 +29,7 @@ use Rattle.aw_joint.specs.Joint.{by_rule, by_state, by_held, by_root, outcome_in
 use Rattle.aw_msg.specs.MessageView.{sort_or_zero}
 use Rattle.aw_react.specs.Choosing.{Chosen, No, Did, answer_to, outcome, choose_on, choose}
 use Rattle.aw_react.specs.SiteEvents.{after_choice}
-use Rattle.aw_react.specs.Sites.{Site, Reaction}
+use Rattle.aw_react.specs.Sites.{Site}
 use Rattle.aw_space.specs.Spaces as S
 use Rattle.aw_space.specs.Spaces.{making, space_on}
 use Rattle.aw_apply.specs.Messages.{Message}

@@ -1,13 +1,12 @@
 -- What is planned where something came, and what may be concluded of a message of which something is new.
-use Rattle.std.proofs.Common.{◌≡◌, ℕ, Bool, true, false, cond, List, [], ◌∷◌, ◌++◌, map, Option, Some, None, option_map, Result, Ok, Err, length, refl, ap, sym, ◌∙◌, subst}
-use Rattle.std.specs.Prelude.{is_some, IfOk, OnOk}
+use Rattle.std.proofs.Common.{◌≡◌, ℕ, true, List, [], ◌∷◌, ◌++◌, map, Option, Some, None, option_map, Result, Ok, Err, refl, ap, sym, ◌∙◌, subst}
+use Rattle.std.specs.Prelude.{IfOk, OnOk}
 use Rattle.std.specs.Option.{is_none}
 use Rattle.std.proofs.lemmas.List.{append-nil}
 use Rattle.std.proofs.Math.Bool.{Bool-set}
 use Rattle.std.proofs.Math.Logic.{∥∥₁_elim}
 use Rattle.aw_term.specs.Names.{Node, Ref}
 use Rattle.aw_term.specs.Rules.{Grammar}
-use Rattle.aw_term.specs.Held.{held_of}
 use Rattle.aw_store.specs.Equations as P
 use Rattle.aw_store.specs.Equations.{find}
 use Rattle.aw_store.specs.EquationView.{equation_of}
@@ -21,7 +20,7 @@ use Rattle.aw_msg.specs.declared.message.MsgKind.{MsgKind}
 use Rattle.aw_msg.specs.declared.message.MsgKind.TheVariants as msg
 use Rattle.aw_msg.specs.MessageView.{message_of, content_of}
 use Rattle.aw_react.specs.Asking.{all_mentions}
-use Rattle.aw_react.specs.Receiving.{is_mine, clash, first_clash, call_clash, add_all}
+use Rattle.aw_react.specs.Receiving.{is_mine, clash}
 use Rattle.aw_react.specs.Reacting.{react, receive}
 use Rattle.aw_react.specs.Sites.{Site, Reaction}
 use Rattle.aw_react.specs.Telling.{tell_back}
@@ -68,7 +67,7 @@ planned_came g other s c es rs p e r w v =
     let t = holding s c es in
     let wanted : p.wanted ≡ wanted_of g t (inherited_by c ++ all_mentions es) = w ∙ (λ i. wanted_of (e i) t (r i)) in
     let sent : map (message_of g) p.sent.items ≡ asks_for g t (wanted_of g t (inherited_by c ++ all_mentions es)) =
-        subst (λ (y : Grammar). map (message_of y) p.sent.items ≡ asks_for y t p.wanted) e v ∙ ap (asks_for g t) wanted in
+    subst (λ (y : Grammar). map (message_of y) p.sent.items ≡ asks_for y t p.wanted) e v ∙ ap (asks_for g t) wanted in
     λ i. doing t (sym wanted i) (sym sent i)
 
 listed_map : (g : Grammar) (o : Option Message) → map (message_of g) (listed o) ≡ listed (option_map (message_of g) o)

@@ -1,5 +1,5 @@
 -- What a plain site holds, by the site of the program that shows it.
-use Rattle.std.proofs.Common.{◌≡◌, ℕ, Bool, true, List, [], ◌∷◌, ◌++◌, map, Option, option_map, length, refl, ap, sym, ◌∙◌, subst}
+use Rattle.std.proofs.Common.{◌≡◌, ℕ, Bool, true, List, [], ◌++◌, map, Option, option_map, length, ap, sym, ◌∙◌, subst}
 use Rattle.std.proofs.lemmas.Bool.{and_parts}
 use Rattle.std.proofs.lemmas.List.{length-map, map-append}
 use Rattle.aw_term.specs.Names.{Ref}
@@ -112,8 +112,8 @@ shown_planned f space subs loads g t x p old room new same role flag holds asked
     let done : Shows f space subs new loads (doing_planned (grammar_of g) t p).site = record {
       holds = record { role = role; flag = flag; holds = holds; asked = asked; watchers = watchers };
       sent =
-        ap (λ ms. ms ++ map (message_of (grammar_of g)) p.sent.items) outbox
-        ∙ outbox_planned g p old room new r n
-        ∙ (λ i. map (message_of (grammar_of (same i))) new);
+          ap (λ ms. ms ++ map (message_of (grammar_of g)) p.sent.items) outbox
+          ∙ outbox_planned g p old room new r n
+          ∙ (λ i. map (message_of (grammar_of (same i))) new);
     } in
     subst (λ (y : Reaction). Shows f space subs new loads y.site) (sym e) done

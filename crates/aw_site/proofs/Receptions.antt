@@ -1,31 +1,24 @@
 -- What a plain site answers to a message, by what was found out of it, and what it then does.
-use Rattle.std.proofs.Common.{◌≡◌, ℕ, ◌<◌, ◌≤◌, Bool, true, false, cond, List, [], ◌∷◌, ◌++◌, map, Option, Some, None, nat_eq, length, refl, ap, sym, ◌∙◌, subst, arith}
+use Rattle.std.proofs.Common.{◌≡◌, ℕ, ◌≤◌, Bool, true, false, cond, List, ◌∷◌, Option, Some, None, nat_eq, refl, sym, subst, arith}
 use Rattle.std.specs.Prelude.{◌&&◌, not, nat_lt, is_some}
 use Rattle.std.proofs.lemmas.Bool.{and_parts, ltb-true}
-use Rattle.std.proofs.lemmas.List.{append-nil}
 use Rattle.std.proofs.Math.Logic.{∥∥₁_elim}
 use Rattle.std.specs.Coded.{le_prop}
-use Rattle.aw_term.specs.Names.{Ref}
 use Rattle.aw_term.specs.Rules.{Grammar}
 use Rattle.aw_term.specs.Held.{Held, held_of}
 use Rattle.aw_grammar.specs.declared.grammar.Grammar as program
 use Rattle.aw_grammar.specs.GrammarOf.{grammar_of}
-use Rattle.aw_store.specs.Equations.{Equation, Map, find}
-use Rattle.aw_store.specs.EquationView.{equation_of}
+use Rattle.aw_store.specs.Equations.{Equation, Map}
 use Rattle.aw_apply.specs.Made.{Call}
-use Rattle.aw_apply.specs.Messages.{Kind, Calls, Asks, Tells, Message, Clash, Received, BadName, NotMine, Conflict, Repeat, New, carried}
+use Rattle.aw_apply.specs.Messages.{Kind, Calls, Asks, Tells, Message, Clash, BadName, NotMine, Conflict, Repeat, New}
 use Rattle.aw_msg.specs.declared.message.MsgKind.{MsgKind}
 use Rattle.aw_msg.specs.declared.message.MsgKind.TheVariants as msg
 use Rattle.aw_msg.specs.MessageView.{plain_kind}
-use Rattle.aw_react.specs.Homes.{home, parent, has_steps}
-use Rattle.aw_react.specs.Receiving.{is_mine, about_ok, none_mine, clash, is_repeat, first_clash, call_clash, all_held}
+use Rattle.aw_react.specs.Receiving.{is_mine, about_ok, clash, is_repeat, first_clash, call_clash, all_held}
 use Rattle.aw_react.specs.Reacting.{received_on, receive, react}
-use Rattle.aw_react.specs.Sites.{Watch, Site, Reaction}
-use Rattle.aw_react.specs.Telling.{has_watch}
-use Rattle.aw_react.specs.ValidNames.{message_ok, names_ok, origin_ok, call_ok, equation_ok, equations_ok}
-use Rattle.aw_space.specs.Spaces.{is_home, clash_with}
-use Rattle.aw_space.specs.Placings.{MayBeCalled, MayBeCalledIf, MayBeLearnt}
-use Rattle.aw_site.specs.Came.{came}
+use Rattle.aw_react.specs.Sites.{Watch, Site}
+use Rattle.aw_react.specs.ValidNames.{message_ok, names_ok, origin_ok}
+use Rattle.aw_space.specs.Placings.{MayBeCalled, MayBeLearnt}
 use Rattle.aw_site.specs.Holders.{holder, IsOfRole}
 use Rattle.aw_site.specs.Judged.{IsFresh}
 use Rattle.aw_site.specs.Views.{kind_of}

@@ -10,7 +10,6 @@ use Rattle.aw_apply.specs.Made.{Call}
 use Rattle.aw_apply.specs.Messages.{Message}
 use Rattle.aw_react.specs.Asking.{all_inherited}
 use Rattle.aw_react.specs.Homes.{home}
-use Rattle.aw_react.specs.InOrder.{insert_ref, in_order}
 use Rattle.aw_react.specs.Sites.{Watch, Site}
 use Rattle.aw_react.specs.Telling.{has_watch, watchers_from, tell, tells, call_out, calls_out, calls_in}
 

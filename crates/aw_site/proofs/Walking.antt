@@ -1,9 +1,8 @@
 -- The walk of a load, one equation after the other.
-use Rattle.std.proofs.Common.{◌≡◌, ℕ, zero, suc, ◌+◌, ◌-◌, ◌<◌, ◌≤◌, Bool, true, false, cond, List, [], ◌∷◌, ◌++◌, length, map, drop, get_or, reverse, Option, Some, None, nat_eq, refl, ap, sym, ◌∙◌, append_assoc, subst, arith}
-use Rattle.std.specs.Prelude.{◌||◌, ◌&&◌, not, is_some, option_map}
+use Rattle.std.proofs.Common.{◌≡◌, ℕ, suc, ◌+◌, ◌-◌, ◌<◌, ◌≤◌, Bool, true, false, cond, List, [], ◌∷◌, ◌++◌, length, map, drop, get_or, reverse, Option, Some, None, refl, ap, sym, ◌∙◌, append_assoc, subst, arith}
+use Rattle.std.specs.Prelude.{◌||◌, is_some, option_map}
 use Rattle.std.proofs.lemmas.List.{reverse-append, append-nil, map-append}
 use Rattle.std.proofs.Math.Bool.{or-false}
-use Rattle.aw_term.specs.Trees.{Never}
 use Rattle.aw_term.specs.Names.{Ref, ref_eq}
 use Rattle.aw_term.specs.Rules.{Grammar}
 use Rattle.aw_store.specs.Equations as P
@@ -11,7 +10,6 @@ use Rattle.aw_store.specs.Equations.{find, mentions}
 use Rattle.aw_store.specs.EquationView.{body_of, equation_of}
 use Rattle.aw_store.specs.declared.equation.Body.{Body}
 use Rattle.aw_store.specs.declared.equation.Equation.{Equation}
-use Rattle.aw_react.specs.Homes.{home}
 use Rattle.aw_react.specs.InOrder.{has_ref}
 use Rattle.aw_react.specs.Loads.{Given, may_give, given_on, next_given, walk}
 use Rattle.aw_react.specs.Sites.{Site}

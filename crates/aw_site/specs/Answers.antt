@@ -1,5 +1,5 @@
 -- What a site sent at a choice and at a message, and what it answers.
-use Rattle.std.specs.Prelude.{◌≡◌, ℕ, List, [], length}
+use Rattle.std.specs.Prelude.{◌≡◌, List, [], length}
 use Rattle.aw_term.specs.Trees.{Never}
 use Rattle.aw_apply.specs.Messages as P
 use Rattle.aw_msg.specs.MessageView.{content_of}

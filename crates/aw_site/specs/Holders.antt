@@ -1,5 +1,5 @@
 -- What counts of a site where a message is tested: its nodes, its equations, and who watches.
-use Rattle.std.specs.Prelude.{◌≡◌, ℕ, ◌<◌, Bool, false, List, []}
+use Rattle.std.specs.Prelude.{◌≡◌, ℕ, ◌<◌, false, List}
 use Rattle.aw_term.specs.Names.{Ref}
 use Rattle.aw_term.specs.Held.{Held}
 use Rattle.aw_store.specs.Equations.{Map}

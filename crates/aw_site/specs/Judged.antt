@@ -1,11 +1,7 @@
 -- What a site makes of a message before it reacts, and what it does where something of it is new.
-use Rattle.std.specs.Prelude.{◌≡◌, ℕ, true, false, List, ◌++◌, length, Option, None, Some}
-use Rattle.aw_term.specs.Trees.{Never}
-use Rattle.aw_term.specs.Names.{Ref}
+use Rattle.std.specs.Prelude.{◌≡◌, true, false, None, Some}
 use Rattle.aw_term.specs.Rules.{Grammar}
-use Rattle.aw_apply.specs.Made.{Call}
 use Rattle.aw_apply.specs.Messages as P
-use Rattle.aw_msg.specs.MessageView.{content_of}
 use Rattle.aw_react.specs.Receiving.{is_mine, clash, is_repeat}
 use Rattle.aw_react.specs.Sites.{Site}
 use Rattle.aw_react.specs.ValidNames.{message_ok}

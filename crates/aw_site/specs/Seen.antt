@@ -1,5 +1,5 @@
 -- What is seen of a site of the program.
-use Rattle.std.specs.Prelude.{◌≡◌, ℕ, List}
+use Rattle.std.specs.Prelude.{ℕ, List}
 use Rattle.aw_term.specs.Rules.{Grammar}
 use Rattle.aw_term.specs.Held.{Held}
 use Rattle.aw_grammar.specs.GrammarOf.{grammar_of}

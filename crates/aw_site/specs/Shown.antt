@@ -1,5 +1,5 @@
 -- What a site of the program shows: a plain site, of which it can tell what was asked for and who watches.
-use Rattle.std.specs.Prelude.{◌≡◌, Bool, List, map, length}
+use Rattle.std.specs.Prelude.{◌≡◌, Bool, List, map}
 use Rattle.aw_store.specs.declared.facts.Facts.{Ghosts}
 use Rattle.aw_subs.specs.declared.subs.Subs.{Subs}
 use Rattle.aw_msg.specs.declared.message.Message.{Message}

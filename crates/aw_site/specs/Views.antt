@@ -1,5 +1,5 @@
 -- The program's messages, children and clashes as plain ones.
-use Rattle.std.specs.Prelude.{List, map}
+use Rattle.std.specs.Prelude.{List}
 use Rattle.aw_term.specs.Names.{Node, Ref}
 use Rattle.aw_term.specs.Rules.{Grammar}
 use Rattle.aw_apply.specs.Made.{Call}

@@ -1,4 +1,4 @@
-use Rattle.std.proofs.Common.{◌≡◌, ◌∙◌, ◌++◌, Some, None, sym, ap, map, length, subst}
+use Rattle.std.proofs.Common.{◌∙◌, ◌++◌, Some, None, ap, map, length, subst}
 use Rattle.std.proofs.lemmas.Result.{IfOk-weaker}
 use Rattle.aw_grammar.specs.GrammarOf.{grammar_of}
 use Rattle.aw_store.specs.EquationView.{equation_of}
@@ -8,7 +8,7 @@ use Rattle.aw_space.specs.Seen.{space_seen}
 use Rattle.aw_space.specs.Spaces.{call_of}
 use Rattle.aw_site.specs.Holders.{IsOfRole}
 use Rattle.aw_site.specs.Shown.{HoldsAs, Shows}
-use Rattle.aw_site.proofs.Coming.{call_fits, tell_fits, call_clashes, tell_clashes, fresh_ok, fresh_mine, fresh_free, reacts_to_call, reacts_to_tell, reacts_to_ask, on_ok}
+use Rattle.aw_site.proofs.Coming.{call_fits, tell_fits, call_clashes, tell_clashes, fresh_ok, fresh_mine, fresh_free, reacts_to_call, reacts_to_tell, on_ok}
 use Rattle.aw_site.proofs.Holding.{of_role}
 use Rattle.aw_site.proofs.receiving.react.Goals as goal
 

@@ -1,9 +1,8 @@
-use Rattle.std.proofs.Common.{◌≡◌, ◌∙◌, ◌++◌, sym, ap, map, refl, subst}
+use Rattle.std.proofs.Common.{◌∙◌, ◌++◌, sym, ap, map, refl, subst}
 use Rattle.std.proofs.lemmas.List.{append-nil}
 use Rattle.aw_grammar.specs.GrammarOf.{grammar_of}
 use Rattle.aw_apply.specs.Messages.{Received}
 use Rattle.aw_msg.specs.MessageView.{message_of}
-use Rattle.aw_react.specs.Reacting.{receive}
 use Rattle.aw_react.specs.SiteEvents.{after_message}
 use Rattle.aw_react.specs.Sites.{Reaction}
 use Rattle.aw_site.specs.Answers.{IsReceived, sent_for}

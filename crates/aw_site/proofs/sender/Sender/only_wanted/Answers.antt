@@ -1,7 +1,5 @@
-use Rattle.std.proofs.Common.{◌≡◌, ◌∙◌, ◌++◌, ◌∷◌, [], ap, sym, map, filter, refl}
-use Rattle.std.proofs.lemmas.List.{drop_all}
+use Rattle.std.proofs.Common.{filter}
 use Rattle.aw_grammar.specs.GrammarOf.{grammar_of}
-use Rattle.aw_msg.specs.MessageView.{message_of}
 use Rattle.aw_site.proofs.Steps.{drop_here}
 use Rattle.aw_react.specs.Asking.{is_wanted}
 use Rattle.aw_site.proofs.SentLists.{pushed_more, filter_split}

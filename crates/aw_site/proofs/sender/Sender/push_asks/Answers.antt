@@ -1,4 +1,4 @@
-use Rattle.std.proofs.Common.{◌≡◌, ◌∙◌, ◌++◌, ◌∷◌, [], ap, sym, map, filter, refl}
+use Rattle.std.proofs.Common.{◌∙◌, ap, sym, refl}
 use Rattle.std.proofs.lemmas.List.{drop_all}
 use Rattle.aw_grammar.specs.GrammarOf.{grammar_of}
 use Rattle.aw_msg.specs.MessageView.{message_of}

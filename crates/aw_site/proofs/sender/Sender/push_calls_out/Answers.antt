@@ -1,7 +1,6 @@
-use Rattle.std.proofs.Common.{◌≡◌, ◌∙◌, ◌++◌, ◌∷◌, [], ap, sym, map, filter, refl}
+use Rattle.std.proofs.Common.{map, refl}
 use Rattle.std.proofs.lemmas.List.{drop_all}
 use Rattle.aw_grammar.specs.GrammarOf.{grammar_of}
-use Rattle.aw_msg.specs.MessageView.{message_of}
 use Rattle.aw_site.proofs.Steps.{drop_here}
 use Rattle.aw_react.specs.Telling.{calls_out}
 use Rattle.aw_site.specs.Views.{child_call}

@@ -1,6 +1,5 @@
-use Rattle.std.proofs.Common.{◌≡◌, ◌∙◌, ◌++◌, ◌∷◌, [], ap, sym, map, option_map, Some, None, refl}
+use Rattle.std.proofs.Common.{◌∙◌, ◌∷◌, [], ap, sym, option_map}
 use Rattle.aw_grammar.specs.GrammarOf.{grammar_of}
-use Rattle.aw_msg.specs.MessageView.{message_of}
 use Rattle.aw_store.specs.EquationView.{body_of}
 use Rattle.aw_react.specs.Telling.{tell, tell_back}
 use Rattle.aw_site.proofs.sender.Sender.tell_back.Goals as goal

@@ -1,4 +1,3 @@
-use Rattle.std.proofs.Common.{◌≡◌}
 use Rattle.std.specs.Option.{option_copied}
 use Rattle.aw_grammar.specs.GrammarOf.{grammar_of}
 use Rattle.aw_site.specs.Senders.{listed}
