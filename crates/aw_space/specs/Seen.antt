@@ -9,11 +9,11 @@ use Rattle.aw_space.specs.SpaceView.{space_of}
 
 -- its grammar
 abbrev pub grammar_in : {F : Type 0} (f : Ghosts F) → Space F f → Grammar
-grammar_in f s = grammar_of s.grammar.now
+grammar_in f s = grammar_of s.accepted.now.grammar
 
 -- its nodes, its choices and its equations
 abbrev pub space_seen : {F : Type 0} (f : Ghosts F) → Space F f → P.Space
-space_seen f s = space_of (grammar_of s.grammar.now) s.held.items s.choices.items (f.map s.facts)
+space_seen f s = space_of (grammar_of s.accepted.now.grammar) s.held.items s.choices.items (f.map s.facts)
 
 -- nodes, choices and equations are as they were
 pub record IsUnchanged {F : Type 0} (f : Ghosts F) (old new : Space F f) : Type 0 where

@@ -22,7 +22,6 @@ use crate::taking_in::take_in;
 use aw_accept::Accepted;
 use aw_apply::{Made, Steps};
 use aw_choice::{Choice, Worklist};
-use aw_grammar::Grammar;
 use aw_held::Held;
 use aw_kept::Kept;
 use aw_name::{Node, Refs};
@@ -33,15 +32,15 @@ use std::sync::ledger::Ledger;
 /// The nodes of one role, the choices taken on them, and all equations that are known to it.
 #[derive(Drop)]
 pub struct Space<'g, F: Facts> {
-    pub(crate) grammar: &'g Grammar,
+    pub(crate) accepted: &'g Accepted,
     pub(crate) role: u16,
     pub(crate) held: Vec<Held>,
     pub(crate) choices: Vec<Choice>,
     pub(crate) facts: F,
     pub(crate) kept: Kept,
-    pub ghost sound: { IsSound (grammar_of grammar.now) role held.items (F.map facts) (F.names facts) },
-    pub ghost valid: { IsValid (grammar_of grammar.now) held.items (F.map facts) },
-    pub ghost stands: { IsKept (grammar_of grammar.now) held.items (F.map facts) (F.names facts) kept },
+    pub ghost sound: { IsSound (grammar_of accepted.now.grammar) role held.items (F.map facts) (F.names facts) },
+    pub ghost valid: { IsValid (grammar_of accepted.now.grammar) held.items (F.map facts) },
+    pub ghost stands: { IsKept (grammar_of accepted.now.grammar) held.items (F.map facts) (F.names facts) kept },
 }
 
 impl<'g, F: Facts> Space<'g, F> {
@@ -55,7 +54,7 @@ impl<'g, F: Facts> Space<'g, F> {
     /// A space of a role that holds nothing, over a store without equations.
     pub fn new(alloc: Global, g: &'g Accepted, role: u16, facts: F) -> Space<'g, F>
         requires { F.map facts ≡ [] }
-        ensures grammar { result.grammar.now ≡ g.now.grammar }
+        ensures grammar { result.accepted.now.grammar ≡ g.now.grammar }
         ensures role { result.role ≡ role }
         ensures nodes { result.held.items ≡ [] }
         ensures choices { result.choices.items ≡ [] }
@@ -64,7 +63,7 @@ impl<'g, F: Facts> Space<'g, F> {
         let held = Vec::new(alloc);
         let kept = Kept::new(alloc);
         Space {
-            grammar: g.grammar(),
+            accepted: g,
             role,
             held,
             choices: Vec::new(alloc),
@@ -87,6 +86,13 @@ impl<'g, F: Facts> Space<'g, F> {
         &self.facts
     }
 
+    /// The grammar that it was made for.
+    pub fn accepted(&self) -> &'g Accepted
+        ensures { result.now ≡ self.now.accepted.now }
+    {
+        self.accepted
+    }
+
     /// The role whose nodes are held.
     pub fn role(&self) -> u16
         ensures { result ≡ self.now.role }
@@ -101,7 +107,7 @@ impl<'g, F: Facts> Space<'g, F> {
         choice: &Choice,
         steps: &mut Steps<L>,
     ) -> Result<Outcome, AllocError>
-        requires grammar { g.now.grammar ≡ self.now.grammar.now }
+        requires grammar { g.now.grammar ≡ self.now.accepted.now.grammar }
         requires ok { choice_ok (grammar_of g.now.grammar) (choice_of choice.now) ≡ true }
         requires here { is_home (grammar_of g.now.grammar) self.now.role (node_of (choice_of choice.now)) ≡ true }
         ensures outcome { IfOk result (λ o. IsOutcome o (choice_of choice.now) (outcome (grammar_of g.now.grammar) (space_seen ⟦<F as Facts>⟧ self.now) (choice_of choice.now))) }
@@ -126,10 +132,10 @@ impl<'g, F: Facts> Space<'g, F> {
         choice: &Choice,
         steps: &mut Steps<L>,
     ) -> Result<Outcome, AllocError>
-        requires grammar { g.now.grammar ≡ self.old.grammar.now }
+        requires grammar { g.now.grammar ≡ self.old.accepted.now.grammar }
         requires ok { choice_ok (grammar_of g.now.grammar) (choice_of choice.now) ≡ true }
         requires here { is_home (grammar_of g.now.grammar) self.old.role (node_of (choice_of choice.now)) ≡ true }
-        ensures grammar { self.new.grammar.now ≡ self.old.grammar.now }
+        ensures grammar { self.new.accepted.now.grammar ≡ self.old.accepted.now.grammar }
         ensures role { self.new.role ≡ self.old.role }
         ensures outcome { IfOk result (λ o. IsOutcome o (choice_of choice.now) (outcome (grammar_of g.now.grammar) (space_seen ⟦<F as Facts>⟧ self.old) (choice_of choice.now))) }
         ensures space { OnOk result (space_seen ⟦<F as Facts>⟧ self.new ≡ space_after (grammar_of g.now.grammar) self.old.role (space_seen ⟦<F as Facts>⟧ self.old) (choice_of choice.now)) }
@@ -155,12 +161,12 @@ impl<'g, F: Facts> Space<'g, F> {
         made: &Made,
         steps: &mut Steps<L>,
     ) -> Result<(), AllocError>
-        requires grammar { g.now.grammar ≡ self.old.grammar.now }
+        requires grammar { g.now.grammar ≡ self.old.accepted.now.grammar }
         requires ok { choice_ok (grammar_of g.now.grammar) (choice_of choice.now) ≡ true }
         requires here { is_home (grammar_of g.now.grammar) self.old.role (node_of (choice_of choice.now)) ≡ true }
         requires taken { plain_answer (outcome (grammar_of g.now.grammar) (space_seen ⟦<F as Facts>⟧ self.old) (choice_of choice.now)) ≡ Taken }
         requires made { IsMade made.now (choice_of choice.now) (outcome (grammar_of g.now.grammar) (space_seen ⟦<F as Facts>⟧ self.old) (choice_of choice.now)) }
-        ensures grammar { self.new.grammar.now ≡ self.old.grammar.now }
+        ensures grammar { self.new.accepted.now.grammar ≡ self.old.accepted.now.grammar }
         ensures role { self.new.role ≡ self.old.role }
         ensures space { OnOk result (space_seen ⟦<F as Facts>⟧ self.new ≡ space_after (grammar_of g.now.grammar) self.old.role (space_seen ⟦<F as Facts>⟧ self.old) (choice_of choice.now)) }
         ensures err { OnErr result (IsUnchanged ⟦<F as Facts>⟧ self.old self.new) }
@@ -188,9 +194,9 @@ impl<'g, F: Facts> Space<'g, F> {
         inherited: &Refs,
         steps: &mut Steps<L>,
     ) -> Result<Placed, AllocError>
-        requires grammar { g.now.grammar ≡ self.old.grammar.now }
+        requires grammar { g.now.grammar ≡ self.old.accepted.now.grammar }
         requires call { MayBeCalled (grammar_of g.now.grammar) self.old.role (call_of (grammar_of g.now.grammar) node.now inherited.now) }
-        ensures grammar { self.new.grammar.now ≡ self.old.grammar.now }
+        ensures grammar { self.new.accepted.now.grammar ≡ self.old.accepted.now.grammar }
         ensures role { self.new.role ≡ self.old.role }
         ensures placed { IfOk result (λ p. Places (space_seen ⟦<F as Facts>⟧ self.old).held (call_of (grammar_of g.now.grammar) node.now inherited.now) p (space_seen ⟦<F as Facts>⟧ self.new).held) }
         ensures choices { self.new.choices.items ≡ self.old.choices.items }
@@ -218,10 +224,10 @@ impl<'g, F: Facts> Space<'g, F> {
         e: Equation,
         steps: &mut Steps<L>,
     ) -> Result<Added, AllocError>
-        requires grammar { g.now.grammar ≡ self.old.grammar.now }
+        requires grammar { g.now.grammar ≡ self.old.accepted.now.grammar }
         requires ok { equation_ok (grammar_of g.now.grammar) (equation_of e) ≡ true }
         requires other { is_home (grammar_of g.now.grammar) self.old.role e.left.node ≡ false }
-        ensures grammar { self.new.grammar.now ≡ self.old.grammar.now }
+        ensures grammar { self.new.accepted.now.grammar ≡ self.old.accepted.now.grammar }
         ensures role { self.new.role ≡ self.old.role }
         ensures added { IfOk result (λ added. Adds (F.map self.old.facts) e added (F.map self.new.facts)) }
         ensures nodes { self.new.held.items ≡ self.old.held.items }
@@ -242,11 +248,11 @@ impl<'g, F: Facts> Space<'g, F> {
         es: &Equations,
         steps: &mut Steps<L>,
     ) -> Result<(), AllocError>
-        requires grammar { g.now.grammar ≡ self.old.grammar.now }
+        requires grammar { g.now.grammar ≡ self.old.accepted.now.grammar }
         requires call { MayBeCalledIf (grammar_of g.now.grammar) self.old.role (option_map (placed_call (grammar_of g.now.grammar)) (option_copied call)) }
         requires ok { MayBeLearnt (grammar_of g.now.grammar) self.old.role (list_map equation_of es.now) }
         requires free { clash_with (option_map (placed_call (grammar_of g.now.grammar)) (option_copied call)) (list_map equation_of es.now) (space_seen ⟦<F as Facts>⟧ self.old) ≡ None }
-        ensures grammar { self.new.grammar.now ≡ self.old.grammar.now }
+        ensures grammar { self.new.accepted.now.grammar ≡ self.old.accepted.now.grammar }
         ensures role { self.new.role ≡ self.old.role }
         ensures space { OnOk result (space_seen ⟦<F as Facts>⟧ self.new ≡ taken_in (option_map (placed_call (grammar_of g.now.grammar)) (option_copied call.entry)) (list_map equation_of es.now) (space_seen ⟦<F as Facts>⟧ self.old)) }
         ensures err { OnErr result (IsUnchanged ⟦<F as Facts>⟧ self.old self.new) }
@@ -271,7 +277,7 @@ impl<'g, F: Facts> Space<'g, F> {
         g: &Accepted,
         steps: &mut Steps<L>,
     ) -> Result<Worklist, AllocError>
-        requires { g.now.grammar ≡ self.now.grammar.now }
+        requires { g.now.grammar ≡ self.now.accepted.now.grammar }
         ensures items { IfOk result (λ items. list_map item_of items ≡ worklist (grammar_of g.now.grammar) (space_seen ⟦<F as Facts>⟧ self.now)) }
         ensures steps { steps.new ≡ steps.old }
     {

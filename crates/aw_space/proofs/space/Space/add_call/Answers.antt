@@ -27,7 +27,7 @@ place_call-requires-clause-stands g c =
 pub invariant_of-self : goal.invariant_of-self
 invariant_of-self g c =
     let old = c.args.self.now in
-    let gr = grammar_of old.grammar.now in
+    let gr = grammar_of old.accepted.now.grammar in
     let n = c.args.node.now in
     let rs = c.args.inherited.now in
     let hs = c.place_call.new.held.items in
@@ -44,12 +44,12 @@ invariant_of-self g c =
 
 pub returns-clause-placed : goal.returns-clause-placed
 returns-clause-placed g c =
-    places_placed (grammar_of c.args.self.now.grammar.now) (grammar_of c.args.g.now.grammar) c.args.self.now.held.items c.place_call.new.held.items (g.F.Facts.names c.place_call.new.facts) c.args.node.now c.args.inherited.now
+    places_placed (grammar_of c.args.self.now.accepted.now.grammar) (grammar_of c.args.g.now.grammar) c.args.self.now.held.items c.place_call.new.held.items (g.F.Facts.names c.place_call.new.facts) c.args.node.now c.args.inherited.now
     c.place_call.result (ap grammar_of (sym c.requires.grammar)) c.place_call.ensures.placed
 
 pub returns-clause-nodes : goal.returns-clause-nodes
 returns-clause-nodes g c =
-    nodes_placed (grammar_of c.args.self.now.grammar.now) c.args.self.now.held.items c.place_call.new.held.items (g.F.Facts.names c.place_call.new.facts) c.args.node.now c.args.inherited.now
+    nodes_placed (grammar_of c.args.self.now.accepted.now.grammar) c.args.self.now.held.items c.place_call.new.held.items (g.F.Facts.names c.place_call.new.facts) c.args.node.now c.args.inherited.now
     c.place_call.result c.place_call.ensures.placed c.place_call.ensures.err
 
 pub returns-clause-steps : goal.returns-clause-steps

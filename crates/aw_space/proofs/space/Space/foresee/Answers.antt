@@ -18,6 +18,6 @@ returns-clause-outcome g c =
     let s = r ∙ c.requires.grammar in
     IfOk-weaker c.foresee.result
     (λ (o : Outcome). IsOutcome o ch (outcome_in (all_of (grammar_of c.grammar.result.now) c.as_slice.result.now) k (grammar_of c.grammar.result.now) ch))
-    (λ (o : Outcome). IsOutcome o ch (outcome_in (all_of (grammar_of old.grammar.now) hs) k (grammar_of c.args.g.now.grammar) ch))
+    (λ (o : Outcome). IsOutcome o ch (outcome_in (all_of (grammar_of old.accepted.now.grammar) hs) k (grammar_of c.args.g.now.grammar) ch))
     (λ o w. subst (λ x. IsOutcome o ch x) (λ i. outcome_in (all_of (grammar_of (s i)) (c.as_slice.ensures.value i)) k (grammar_of (r i)) ch) w)
     c.foresee.ensures.outcome

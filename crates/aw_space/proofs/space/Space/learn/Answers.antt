@@ -37,7 +37,7 @@ returns-clause-steps g c =
 pub invariant_of-self : goal.invariant_of-self
 invariant_of-self g c =
     let old = c.args.self.now in
-    let gr = grammar_of old.grammar.now in
+    let gr = grammar_of old.accepted.now.grammar in
     let s = c.grammar.ensures.value ∙ c.requires.grammar in
     let hs = old.held.items in
     let facts = c.learn.new.facts in

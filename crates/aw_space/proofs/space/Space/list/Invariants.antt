@@ -7,4 +7,4 @@ use Rattle.aw_space.proofs.space.Space.list.Given as goal
 
 abbrev pub invariant-loop-at : goal.invariant-loop-at
 invariant-loop-at g l =
-    map item_of l.items.items ≡ site_worklist (grammar_of l.self.grammar.now) (g.F.Facts.map l.self.facts) (all_of (grammar_of l.self.grammar.now) (take l.at l.self.held.items))
+    map item_of l.items.items ≡ site_worklist (grammar_of l.self.accepted.now.grammar) (g.F.Facts.map l.self.facts) (all_of (grammar_of l.self.accepted.now.grammar) (take l.at l.self.held.items))

@@ -35,7 +35,7 @@ take_in-requires-clause-stands g c =
 pub invariant_of-self : goal.invariant_of-self
 invariant_of-self g c =
     let old = c.args.self.now in
-    let gr = grammar_of old.grammar.now in
+    let gr = grammar_of old.accepted.now.grammar in
     let p = option_copied c.args.call in
     let es = map equation_of c.args.es.now in
     let call = subst (λ x. MayBeCalledIf (grammar_of x) old.role (option_map (placed_call (grammar_of x)) p)) c.requires.grammar c.requires.call in
@@ -51,19 +51,19 @@ invariant_of-self g c =
 pub returns-clause-space : goal.returns-clause-space
 returns-clause-space g c =
     let old = c.args.self.now in
-    taken_space (grammar_of old.grammar.now) old.role old.held.items c.take_in.new.held.items (g.F.Facts.map old.facts) (g.F.Facts.map c.take_in.new.facts) (option_copied c.args.call) (map equation_of c.args.es.now) c.take_in.result
+    taken_space (grammar_of old.accepted.now.grammar) old.role old.held.items c.take_in.new.held.items (g.F.Facts.map old.facts) (g.F.Facts.map c.take_in.new.facts) (option_copied c.args.call) (map equation_of c.args.es.now) c.take_in.result
     (grammar_of c.args.g.now.grammar) old.choices.items (ap grammar_of (sym c.requires.grammar)) c.take_in.ensures.held c.take_in.ensures.map
 
 pub returns-clause-facts : goal.returns-clause-facts
 returns-clause-facts g c =
     let old = c.args.self.now in
-    taken_facts (grammar_of old.grammar.now) old.role old.held.items c.take_in.new.held.items (g.F.Facts.map old.facts) (g.F.Facts.map c.take_in.new.facts) (option_copied c.args.call) (map equation_of c.args.es.now) c.take_in.result
+    taken_facts (grammar_of old.accepted.now.grammar) old.role old.held.items c.take_in.new.held.items (g.F.Facts.map old.facts) (g.F.Facts.map c.take_in.new.facts) (option_copied c.args.call) (map equation_of c.args.es.now) c.take_in.result
     c.take_in.ensures.map c.take_in.ensures.err_map
 
 pub returns-clause-nodes : goal.returns-clause-nodes
 returns-clause-nodes g c =
     let old = c.args.self.now in
-    taken_nodes (grammar_of old.grammar.now) old.role old.held.items c.take_in.new.held.items (g.F.Facts.map old.facts) (g.F.Facts.map c.take_in.new.facts) (option_copied c.args.call) (map equation_of c.args.es.now) c.take_in.result
+    taken_nodes (grammar_of old.accepted.now.grammar) old.role old.held.items c.take_in.new.held.items (g.F.Facts.map old.facts) (g.F.Facts.map c.take_in.new.facts) (option_copied c.args.call) (map equation_of c.args.es.now) c.take_in.result
     c.take_in.ensures.held c.take_in.ensures.err_held
 
 pub returns-clause-steps : goal.returns-clause-steps

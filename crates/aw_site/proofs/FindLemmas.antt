@@ -1,0 +1,56 @@
+-- Finding in a store by names, and in two lists.
+use Rattle.std.proofs.Common.{◌≡◌, Bool, true, false, cond, List, [], ◌∷◌, ◌++◌, Option, Some, None, refl, ap, ◌∙◌}
+use Rattle.std.specs.Prelude.{◌||◌, is_some}
+use Rattle.std.proofs.lemmas.Bool.{and_parts}
+use Rattle.aw_term.specs.Trees as T
+use Rattle.aw_term.specs.Names.{Ref, ref_eq}
+use Rattle.aw_term.proofs.RefTests.{ref_eq-true}
+use Rattle.aw_store.specs.Equations.{Body, Same, Is, Map, find}
+use Rattle.aw_store.specs.NamedRefs.{is_named, has_names}
+use Rattle.aw_store.specs.StoreView.{IsKindOf}
+use Rattle.aw_store.specs.declared.facts.Kind.{Kind}
+use Rattle.aw_store.specs.declared.facts.Kind.TheVariants as kind
+
+unnamed_cases : (b : Bool) (x : Body) (o : Option Body) → b ≡ false → o ≡ None → cond b (Some x) o ≡ None
+unnamed_cases true x o e f = absurd cc
+unnamed_cases false x o e f = f
+
+not_left : (names : List Ref) (r l : Ref) (b : Bool) → ref_eq r l ≡ b → is_named names l ≡ true → is_named names r ≡ false → b ≡ false
+not_left names r l true e f n = let t : is_named names r ≡ true = ap (is_named names) (ref_eq-true r l e) ∙ f in absurd cc
+not_left names r l false e f n = refl
+
+-- what is not named has no equation
+pub find_unnamed : (names : List Ref) (k : Map) (r : Ref) → has_names names k ≡ true → is_named names r ≡ false → find k r ≡ None
+find_unnamed names [] r h n = refl
+find_unnamed names (e ∷ k) r h n =
+    let (x, y) = and_parts _ _ h in
+    unnamed_cases (ref_eq r e.left) e.body (find k r) (not_left names r e.left (ref_eq r e.left) refl (and_parts _ _ x).0 n) (find_unnamed names k r y n)
+
+-- a kind that is not Missing
+abbrev pub is_there : Kind → Bool
+is_there kind.Missing = false
+is_there _ = true
+
+pub kind_there : (names : List Ref) (o : Option Body) (k : Kind) → IsKindOf names o k → is_some o ≡ is_there k
+kind_there names None kind.Missing h = refl
+kind_there names None (kind.Same slot) h = elim h [ ]
+kind_there names None (kind.Con c n) h = elim h [ ]
+kind_there names None (kind.Num n) h = elim h [ ]
+kind_there names None kind.Text h = elim h [ ]
+kind_there names (Some (Same r)) kind.Missing h = elim h [ ]
+kind_there names (Some (Is (T.Con c) parts)) kind.Missing h = elim h [ ]
+kind_there names (Some (Is (T.Num c) parts)) kind.Missing h = elim h [ ]
+kind_there names (Some (Is (T.Text c) parts)) kind.Missing h = elim h [ ]
+kind_there names (Some b) (kind.Same slot) h = refl
+kind_there names (Some b) (kind.Con c n) h = refl
+kind_there names (Some b) (kind.Num n) h = refl
+kind_there names (Some b) kind.Text h = refl
+
+some_cases : (b : Bool) (x : Body) (o p : Option Body) (q : Bool) → is_some p ≡ (is_some o || q) → is_some (cond b (Some x) p) ≡ (is_some (cond b (Some x) o) || q)
+some_cases true x o p q e = refl
+some_cases false x o p q e = e
+
+-- an equation stands in one of two lists
+pub found_in_both : (k es : Map) (r : Ref) → is_some (find (k ++ es) r) ≡ (is_some (find k r) || is_some (find es r))
+found_in_both [] es r = refl
+found_in_both (e ∷ k) es r = some_cases (ref_eq r e.left) e.body (find k r) (find (k ++ es) r) (is_some (find es r)) (found_in_both k es r)

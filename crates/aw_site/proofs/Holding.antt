@@ -1,0 +1,119 @@
+-- What a plain site holds, by the site of the program that shows it.
+use Rattle.std.proofs.Common.{◌≡◌, ℕ, Bool, true, List, [], ◌++◌, map, Option, option_map, length, ap, sym, ◌∙◌, subst}
+use Rattle.std.proofs.lemmas.Bool.{and_parts}
+use Rattle.std.proofs.lemmas.List.{length-map, map-append}
+use Rattle.aw_term.specs.Names.{Ref}
+use Rattle.aw_term.specs.Rules.{Grammar}
+use Rattle.aw_held.specs.declared.held.Held.{Held as Node}
+use Rattle.aw_grammar.specs.declared.grammar.Grammar as program
+use Rattle.aw_grammar.specs.GrammarOf.{grammar_of}
+use Rattle.aw_held.specs.HeldView.{all_of}
+use Rattle.aw_store.specs.declared.facts.Facts.{Ghosts}
+use Rattle.aw_subs.specs.declared.subs.Subs.{Subs}
+use Rattle.aw_msg.specs.declared.message.Message.{Message}
+use Rattle.aw_msg.specs.declared.message.MsgKind.{MsgKind}
+use Rattle.aw_msg.specs.MessageView.{message_of, plain_kind}
+use Rattle.aw_react.specs.Receiving.{is_mine, clash, is_repeat}
+use Rattle.aw_react.specs.Sites.{Watch, Site, Reaction}
+use Rattle.aw_react.specs.ValidNames.{message_ok}
+use Rattle.aw_space.specs.declared.space.Space.{Space}
+use Rattle.aw_space.specs.Spaces as S
+use Rattle.aw_space.specs.SpaceView.{space_of}
+use Rattle.aw_space.specs.Seen.{space_seen, IsUnchanged}
+use Rattle.aw_site.specs.declared.plan.Plan.{Plan}
+use Rattle.aw_site.specs.Doing.{doing_planned, IsPlanned}
+use Rattle.aw_site.specs.Holders.{holder, IsOfRole, ShowsAsked, ShowsWatchers}
+use Rattle.aw_site.specs.Shown.{space_in, HoldsAs, Shows}
+use Rattle.aw_site.specs.Views.{clash_of, kind_of}
+use Rattle.aw_site.specs.declared.clashes.Clash.{Clash}
+use Rattle.aw_site.proofs.Receptions.{clash_same, repeat_same, asks_of_role}
+
+-- ---- what is held
+
+module _ {F : Type 0} (f : Ghosts F) (space : Space F f) (subs : Subs) (loads : Bool) (s : Site) (g : program.Grammar) (same : g ≡ space.accepted.now.grammar) (h : HoldsAs f space subs loads s) where
+  pub seen_by : space_in s ≡ space_of (grammar_of g) space.held.items space.choices.items (f.map space.facts)
+  seen_by = subst (λ (x : program.Grammar). space_in s ≡ space_of (grammar_of x) space.held.items space.choices.items (f.map space.facts)) (sym same) h.holds
+
+  pub held_by : s.held ≡ all_of (grammar_of g) space.held.items
+  held_by = ap (λ (sp : S.Space). sp.held) seen_by
+
+  pub equations_by : s.equations ≡ f.map space.facts
+  equations_by = ap (λ (sp : S.Space). sp.equations) seen_by
+
+  -- tests of a message
+  pub ok_by : (m : Message) (other : program.Grammar) (role : ℕ) (b : Bool) → other ≡ g → role ≡ space.role → b ≡ message_ok (grammar_of other) role (message_of (grammar_of other) m) → message_ok (grammar_of g) s.role (message_of (grammar_of g) m) ≡ b
+  ok_by m other role b e r v = sym (v ∙ (λ i. message_ok (grammar_of (e i)) ((r ∙ sym h.role) i) (message_of (grammar_of (e i)) m)))
+
+  pub mine_by : (m : Message) (other : program.Grammar) (role : ℕ) (b : Bool) → other ≡ g → role ≡ space.role → b ≡ is_mine (grammar_of other) role (message_of (grammar_of other) m) → is_mine (grammar_of g) s.role (message_of (grammar_of g) m) ≡ b
+  mine_by m other role b e r v = sym (v ∙ (λ i. is_mine (grammar_of (e i)) ((r ∙ sym h.role) i) (message_of (grammar_of (e i)) m)))
+
+  pub clash_by : (kind : MsgKind) (nodes : List Node) (facts : F) (o : Option Clash) → nodes ≡ space.held.items → facts ≡ space.facts
+      → ((gr : Grammar) → option_map clash_of o ≡ clash (holder (all_of gr nodes) (f.map facts) []) (kind_of gr kind)) → clash s (kind_of (grammar_of g) kind) ≡ option_map clash_of o
+  clash_by kind nodes facts o n e v =
+      sym (v (grammar_of g)
+      ∙ (λ i. clash (holder (all_of (grammar_of g) (n i)) (f.map (e i)) []) (kind_of (grammar_of g) kind))
+      ∙ clash_same s (all_of (grammar_of g) space.held.items) (f.map space.facts) [] (kind_of (grammar_of g) kind) held_by equations_by)
+
+  pub repeat_by : (kind : MsgKind) (nodes : List Node) (facts : F) (b : Bool) → nodes ≡ space.held.items → facts ≡ space.facts
+      → ((gr : Grammar) (ws : List Watch) → ShowsWatchers subs ws → b ≡ is_repeat (holder (all_of gr nodes) (f.map facts) ws) (kind_of gr kind)) → is_repeat s (kind_of (grammar_of g) kind) ≡ b
+  repeat_by kind nodes facts b n e v =
+      sym (v (grammar_of g) s.watchers h.watchers
+      ∙ (λ i. is_repeat (holder (all_of (grammar_of g) (n i)) (f.map (e i)) s.watchers) (kind_of (grammar_of g) kind))
+      ∙ repeat_same s (all_of (grammar_of g) space.held.items) (f.map space.facts) (kind_of (grammar_of g) kind) held_by equations_by)
+
+-- a question in a valid message is of a role
+pub of_role : (g : program.Grammar) (role : ℕ) (m : Message) → message_ok (grammar_of g) role (message_of (grammar_of g) m) ≡ true → IsOfRole (plain_kind m.kind)
+of_role g role m ok =
+    let (a, b) = and_parts _ _ ok in
+    let (names, c) = and_parts _ _ b in
+    asks_of_role g m.kind names
+
+-- ---- what stays as it was
+
+module _ {F : Type 0} (f : Ghosts F) (old new : Space F f) (old_subs new_subs : Subs) (loads : Bool)
+    (grammar : new.accepted.now.grammar ≡ old.accepted.now.grammar) (role : new.role ≡ old.role) (space : space_seen f new ≡ space_seen f old)
+    (asked : (rs : List Ref) → ShowsAsked old_subs rs → ShowsAsked new_subs rs) (s : Site) where
+  still_seen : HoldsAs f old old_subs loads s → ShowsWatchers new_subs s.watchers → HoldsAs f new new_subs loads s
+  still_seen h w = record { role = h.role ∙ sym role; flag = h.flag; holds = h.holds ∙ sym space; asked = asked s.asked h.asked; watchers = w }
+
+  pub still_shown : (old_outbox new_outbox : List Message) → new_outbox ≡ old_outbox → Shows f old old_subs old_outbox loads s → ShowsWatchers new_subs s.watchers → Shows f new new_subs new_outbox loads s
+  still_shown old_outbox new_outbox e h w = record {
+    holds = still_seen h.holds w;
+    sent = h.sent ∙ (λ i. map (message_of (grammar_of (sym grammar i))) (sym e i));
+  }
+
+pub seen_unchanged : {F : Type 0} (f : Ghosts F) (old new : Space F f) → new.accepted.now.grammar ≡ old.accepted.now.grammar → IsUnchanged f old new → space_seen f new ≡ space_seen f old
+seen_unchanged f old new e u = λ i. space_of (grammar_of (e i)) (u.nodes i) (u.choices i) (u.equations i)
+
+-- ---- what was planned is done
+
+pub count_planned : (g : program.Grammar) (t : Site) (x : Reaction) (p : Plan) (copies : List Message) (n : ℕ) → n ≡ length copies → copies ≡ p.sent.items → IsPlanned (grammar_of g) t x p → n ≡ length x.sent
+count_planned g t x p copies n l c e =
+    l ∙ ap length c ∙ sym (length-map p.sent.items (message_of (grammar_of g))) ∙ ap (λ (y : Reaction). length y.sent) (sym e)
+
+pub copy_planned : (g : program.Grammar) (t : Site) (x : Reaction) (p : Plan) (old room new copies : List Message) → room ≡ old → new ≡ room ++ copies → copies ≡ p.sent.items → IsPlanned (grammar_of g) t x p
+    → map (message_of (grammar_of g)) new ≡ map (message_of (grammar_of g)) old ++ x.sent
+copy_planned g t x p old room new copies r n c e =
+    ap (map (message_of (grammar_of g))) (n ∙ (λ i. r i ++ c i))
+    ∙ map-append (message_of (grammar_of g)) old p.sent.items
+    ∙ ap (λ (y : Reaction). map (message_of (grammar_of g)) old ++ y.sent) (sym e)
+
+outbox_planned : (g : program.Grammar) (p : Plan) (old room new : List Message) → room ≡ old → new ≡ room ++ p.sent.items
+    → map (message_of (grammar_of g)) old ++ map (message_of (grammar_of g)) p.sent.items ≡ map (message_of (grammar_of g)) new
+outbox_planned g p old room new r n =
+    sym (map-append (message_of (grammar_of g)) old p.sent.items)
+    ∙ ap (map (message_of (grammar_of g))) (sym (n ∙ (λ i. r i ++ p.sent.items)))
+
+-- the site that did all else is shown, and then what was planned is done
+pub shown_planned : {F : Type 0} (f : Ghosts F) (space : Space F f) (subs : Subs) (loads : Bool) (g : program.Grammar) (t : Site) (x : Reaction) (p : Plan) (old room new : List Message)
+    → g ≡ space.accepted.now.grammar → t.role ≡ space.role → t.loads ≡ loads → space_in t ≡ space_seen f space → ShowsAsked subs (t.asked ++ p.wanted) → ShowsWatchers subs t.watchers
+    → t.outbox ≡ map (message_of (grammar_of g)) old → room ≡ old → new ≡ room ++ p.sent.items → IsPlanned (grammar_of g) t x p → Shows f space subs new loads x.site
+shown_planned f space subs loads g t x p old room new same role flag holds asked watchers outbox r n e =
+    let done : Shows f space subs new loads (doing_planned (grammar_of g) t p).site = record {
+      holds = record { role = role; flag = flag; holds = holds; asked = asked; watchers = watchers };
+      sent =
+          ap (λ ms. ms ++ map (message_of (grammar_of g)) p.sent.items) outbox
+          ∙ outbox_planned g p old room new r n
+          ∙ (λ i. map (message_of (grammar_of (same i))) new);
+    } in
+    subst (λ (y : Reaction). Shows f space subs new loads y.site) (sym e) done

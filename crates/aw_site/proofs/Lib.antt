@@ -1,0 +1,14 @@
+pub mod Steps
+pub mod FindLemmas
+pub mod Clashing
+pub mod Walking
+pub mod SentLists
+pub mod Ordering
+pub mod Noting
+pub mod HeldTests
+pub mod FrontLemmas
+pub mod ChosenSites
+pub mod Receptions
+pub mod Holding
+pub mod Coming
+pub mod Beginning

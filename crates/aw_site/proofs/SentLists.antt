@@ -1,0 +1,85 @@
+-- Lists of messages that grow by one item after the other.
+use Rattle.std.proofs.Common.{◌≡◌, ℕ, suc, ◌+◌, ◌-◌, ◌<◌, ◌≤◌, Bool, true, false, cond, List, [], ◌∷◌, ◌++◌, map, filter, nat_eq, refl, ap, sym, ◌∙◌, append_assoc, add-one, arith}
+use Rattle.std.proofs.lemmas.List.{append-nil, map-append}
+use Rattle.aw_term.specs.Names.{Ref}
+use Rattle.aw_term.specs.Rules.{Grammar}
+use Rattle.aw_term.specs.Held.{Held}
+use Rattle.aw_joint.specs.Joint.{called_held}
+use Rattle.aw_store.specs.Equations.{Equation}
+use Rattle.aw_apply.specs.Made.{Call}
+use Rattle.aw_apply.specs.Messages.{Message}
+use Rattle.aw_react.specs.Asking.{all_inherited}
+use Rattle.aw_react.specs.Homes.{home}
+use Rattle.aw_react.specs.Sites.{Watch, Site}
+use Rattle.aw_react.specs.Telling.{has_watch, watchers_from, tell, tells, call_out, calls_out, calls_in}
+
+-- one item further, where what a list makes is what its first makes before what the rest makes
+pub pushed_more : {A M : Type 0} (F : List A → List M) → ((x : A) (xs : List A) → F (x ∷ xs) ≡ F (x ∷ []) ++ F xs) → (before after whole : List M) (rest xs : List A) (x : A)
+    → rest ≡ x ∷ xs → before ++ F rest ≡ whole → after ≡ before ++ F (x ∷ []) → after ++ F xs ≡ whole
+pushed_more F split before after whole rest xs x r b a =
+    ap (λ ys. ys ++ F xs) a
+    ∙ append_assoc before (F (x ∷ [])) (F xs)
+    ∙ ap (λ ys. before ++ ys) (sym (split x xs) ∙ ap F (sym r))
+    ∙ b
+
+-- the last item
+pub pushed_all : {A M : Type 0} (F : List A → List M) → F [] ≡ [] → (after whole : List M) (rest : List A) → rest ≡ [] → after ++ F rest ≡ whole → after ≡ whole
+pushed_all F none after whole rest r e = sym (append-nil after) ∙ ap (λ ys. after ++ ys) (sym (ap F r ∙ none)) ∙ e
+
+split_cases : {M : Type 0} (b : Bool) (x : M) (xs : List M) → cond b xs (x ∷ xs) ≡ cond b [] (x ∷ []) ++ xs
+split_cases true x xs = refl
+split_cases false x xs = refl
+
+pub calls_split : (g : Grammar) (s : Site) (c : Call) (cs : List Call) → calls_out g s (c ∷ cs) ≡ calls_out g s (c ∷ []) ++ calls_out g s cs
+calls_split g s c cs = split_cases (nat_eq (home g c.node) s.role) (call_out g s c) (calls_out g s cs)
+
+inherit_cases : (b : Bool) (h : Held) (hs : List Held) → all_inherited (cond b (h ∷ hs) hs) ≡ all_inherited (cond b (h ∷ []) []) ++ all_inherited hs
+inherit_cases true h hs = ap (λ rs. rs ++ all_inherited hs) (sym (append-nil h.inherited))
+inherit_cases false h hs = refl
+
+pub inherited_split : (g : Grammar) (role : ℕ) (c : Call) (cs : List Call) →
+    all_inherited (calls_in g role (c ∷ cs)) ≡ all_inherited (calls_in g role (c ∷ [])) ++ all_inherited (calls_in g role cs)
+inherited_split g role c cs = inherit_cases (nat_eq (home g c.node) role) (called_held c) (calls_in g role cs)
+
+told_cases : (tell : ℕ → Message) (b : Bool) (i : ℕ) (is : List ℕ) → map tell (cond b (i ∷ is) is) ≡ cond b (tell i ∷ []) [] ++ map tell is
+told_cases tell true i is = refl
+told_cases tell false i is = refl
+
+-- the loop over the roles that may watch
+pub told_next : (tell : ℕ → Message) (before after whole : List Message) (most i : ℕ) (r : Ref) (ws : List Watch) → i < most
+    → after ≡ before ++ cond (has_watch r i ws) (tell i ∷ []) [] → before ++ map tell (watchers_from (most - i) i r ws) ≡ whole
+    → after ++ map tell (watchers_from (most - (i + 1)) (i + 1) r ws) ≡ whole
+told_next tell before after whole most i r ws l a b =
+    let n = most - (i + 1) in
+    let count : most - i ≡ suc n = omega arith in
+    ap (λ ys. ys ++ map tell (watchers_from n (i + 1) r ws)) a
+    ∙ append_assoc before (cond (has_watch r i ws) (tell i ∷ []) []) (map tell (watchers_from n (i + 1) r ws))
+    ∙ ap (λ k. before ++ (cond (has_watch r i ws) (tell i ∷ []) [] ++ map tell (watchers_from n k r ws))) (add-one i)
+    ∙ ap (λ ys. before ++ ys) (sym (told_cases tell (has_watch r i ws) i (watchers_from n (suc i) r ws)))
+    ∙ ap (λ k. before ++ map tell (watchers_from k i r ws)) (sym count)
+    ∙ b
+
+pub told_last : (tell : ℕ → Message) (after whole : List Message) (most i : ℕ) (r : Ref) (ws : List Watch) → most ≤ i
+    → after ++ map tell (watchers_from (most - i) i r ws) ≡ whole → after ≡ whole
+told_last tell after whole most i r ws l e =
+    let count : most - i ≡ 0 = omega arith in
+    sym (append-nil after) ∙ ap (λ k. after ++ map tell (watchers_from k i r ws)) (sym count) ∙ e
+
+one_more : {M : Type 0} (xs ys : List M) → xs ++ ys ≡ (xs ++ []) ++ ys
+one_more xs zs = ap (λ ys. ys ++ zs) (sym (append-nil xs))
+
+pub tells_split : (g : Grammar) (s : Site) (e : Equation) (es : List Equation) → tells g s (e ∷ es) ≡ tells g s (e ∷ []) ++ tells g s es
+tells_split g s e es = one_more (map (tell g s e) (watchers_from 64 0 e.left s.watchers)) (tells g s es)
+
+pub tells_one : (g : Grammar) (s : Site) (e : Equation) (before after : List Message) → after ≡ before ++ map (tell g s e) (watchers_from 64 0 e.left s.watchers) → after ≡ before ++ tells g s (e ∷ [])
+tells_one g s e before after p = p ∙ ap (λ ys. before ++ ys) (sym (append-nil (map (tell g s e) (watchers_from 64 0 e.left s.watchers))))
+
+keep_cases : {M : Type 0} (b : Bool) (x : M) (xs : List M) → cond b (x ∷ xs) xs ≡ cond b (x ∷ []) [] ++ xs
+keep_cases true x xs = refl
+keep_cases false x xs = refl
+
+pub filter_split : {A : Type 0} (p : A → Bool) (x : A) (xs : List A) → filter p (x ∷ xs) ≡ filter p (x ∷ []) ++ filter p xs
+filter_split p x xs = keep_cases (p x) x (filter p xs)
+
+pub push_map : {A M : Type 0} (f : A → M) (xs ys : List A) (m : A) (z : M) → ys ≡ xs ++ m ∷ [] → f m ≡ z → map f ys ≡ map f xs ++ z ∷ []
+push_map f xs ys m z e q = ap (map f) e ∙ map-append f xs (m ∷ []) ∙ ap (λ y. map f xs ++ y ∷ []) q

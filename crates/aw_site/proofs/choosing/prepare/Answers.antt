@@ -1,0 +1,33 @@
+use Rattle.std.proofs.Common.{◌∙◌, sym, ap, subst}
+use Rattle.aw_choice.specs.ChoiceView.{choice_of}
+use Rattle.aw_term.specs.Choices.{answer_of}
+use Rattle.aw_grammar.specs.declared.grammar.Grammar as program
+use Rattle.aw_grammar.specs.GrammarOf.{grammar_of}
+use Rattle.aw_store.specs.Equations.{Map, find}
+use Rattle.aw_react.specs.Choosing.{outcome}
+use Rattle.aw_space.specs.Outcomes.{IsMade}
+use Rattle.aw_space.specs.Spaces as S
+use Rattle.aw_space.specs.SpaceView.{space_of}
+use Rattle.aw_site.specs.Chosen.{worked}
+use Rattle.aw_site.proofs.ChosenSites.{answered, equations_behind, plan_prepared}
+use Rattle.aw_site.proofs.Coming.{sends_as}
+use Rattle.aw_site.proofs.Holding.{seen_by}
+use Rattle.aw_site.proofs.choosing.prepare.Goals as goal
+
+pub returns : goal.returns
+returns g c = λ s h.
+    let gr = grammar_of c.args.g.now.grammar in
+    let space = c.args.space.now in
+    let ch = choice_of c.args.choice.now in
+    let k = g.F.Facts.map space.facts in
+    let made = c.in_ok-outcome.outcome.made in
+    let holds = seen_by g.F.Facts space c.args.subs.now c.args.loads s c.args.g.now.grammar c.requires.grammar h in
+    let foretold = subst (λ (x : program.Grammar). IsMade made ch (S.outcome gr (space_of (grammar_of x) space.held.items space.choices.items k) ch)) (sym c.requires.grammar) c.in_ok-outcome.ensures.made in
+    let t = worked gr s ch (outcome gr s ch) in
+    let behind = equations_behind gr s ch space.held.items space.choices.items k made holds c.requires.ok foretold in
+    let sends = sends_as g.F.Facts _ t k made.equations (h.role ∙ sym c.role.ensures) h.flag (λ r. ap (λ (m : Map). find m r) behind) (ap g.F.Facts.map c.facts.ensures) c.as_slice.ensures in
+    record {
+      answer = c.in_ok-outcome.ensures.answer ∙ ap (λ (sp : S.Space). answer_of (S.outcome gr sp ch)) (sym h.holds) ∙ sym (answered gr s ch);
+      plan = plan_prepared gr s ch space.held.items space.choices.items k made holds c.requires.ok foretold (grammar_of c.grammar.result.now) c.in_ok-plan.plan (ap grammar_of c.grammar.ensures.value)
+          (c.in_ok-plan.ensures.wanted t sends h.asked) (c.in_ok-plan.ensures.sent t sends h.watchers);
+    }

@@ -1,0 +1,7 @@
+use Rattle.std.proofs.Common.{sym}
+use Rattle.aw_site.proofs.FindLemmas.{find_unnamed}
+use Rattle.aw_site.proofs.finding.body_in.Goals as goal
+
+pub returns-in-None : goal.returns-in-None
+returns-in-None g c =
+    sym (find_unnamed (g.F.Facts.names c.args.facts.now) (g.F.Facts.map c.args.facts.now) c.args.r.now (g.met.F.Facts.all_named c.args.facts.now) c.in-None.ensures)

@@ -1,0 +1,24 @@
+use Rattle.std.proofs.Common.{◌∙◌, sym, map}
+use Rattle.aw_grammar.specs.GrammarOf.{grammar_of}
+use Rattle.aw_apply.specs.Messages.{Asks}
+use Rattle.aw_msg.specs.MessageView.{message_of}
+use Rattle.aw_react.specs.Reacting.{react}
+use Rattle.aw_site.specs.Came.{watching}
+use Rattle.aw_site.proofs.Holding.{equations_by, shown_planned}
+use Rattle.aw_site.proofs.Noting.{asked_same, watched_one}
+use Rattle.aw_site.proofs.receiving.answer_ask.Goals as goal
+
+pub returns-clause-site : goal.returns-clause-site
+returns-clause-site g c = λ s shows.
+    let gr = grammar_of c.args.g.now.grammar in
+    let h = shows.holds in
+    let r = c.args.r.now in
+    let from = c.args.from in
+    shown_planned g.F.Facts c.args.space.now c.carry_out.new.subs c.args.loads c.args.g.now.grammar (watching s r from) (react gr s (Asks r from)) c.in_ok-plan.plan
+    c.args.outbox.now.items c.make_room.new.outbox.items c.carry_out.new.outbox.items
+    c.requires.grammar h.role h.flag h.holds
+    (c.carry_out.ensures.asked s.asked (asked_same c.make_room.new.subs c.watch.new.self s.asked c.watch.ensures.asked (c.make_room.ensures.asked s.asked h.asked)))
+    (c.carry_out.ensures.watchers _ (watched_one c.make_room.new.subs c.watch.new.self r from s.watchers c.in_ok-watch.ensures.watchers (c.make_room.ensures.watchers s.watchers h.watchers)))
+    (shows.sent ∙ (λ i. map (message_of (grammar_of (sym c.requires.grammar i))) c.args.outbox.now.items))
+    c.make_room.ensures.outbox c.carry_out.ensures.outbox
+    (c.in_ok-plan.ensures.plan s h.role h.flag (equations_by g.F.Facts c.args.space.now c.args.subs.now c.args.loads s c.args.g.now.grammar c.requires.grammar h))

@@ -1,0 +1,11 @@
+pub mod Views
+pub mod Holders
+pub mod Senders
+pub mod Plans
+pub mod Shown
+pub mod Doing
+pub mod Answers
+pub mod Chosen
+pub mod Judged
+pub mod Came
+pub mod Seen

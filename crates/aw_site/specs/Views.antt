@@ -1,0 +1,25 @@
+-- The program's messages, children and clashes as plain ones.
+use Rattle.std.specs.Prelude.{List}
+use Rattle.aw_term.specs.Names.{Node, Ref}
+use Rattle.aw_term.specs.Rules.{Grammar}
+use Rattle.aw_apply.specs.Made.{Call}
+use Rattle.aw_apply.specs.Messages as P
+use Rattle.aw_apply.specs.declared.making.MadeChild.{MadeChild}
+use Rattle.aw_msg.specs.MessageView.{kind_with, content_of, sort_or_zero}
+use Rattle.aw_msg.specs.declared.message.MsgKind.{MsgKind}
+use Rattle.aw_site.specs.declared.clashes.Clash.{Clash}
+
+-- the call of a node with these references, with the sort that the grammar gives its name
+abbrev pub call_of : Grammar → Node → List Ref → Call
+call_of g n rs = record { node = n; sort = sort_or_zero g n; inherited = rs }
+
+-- a child that was made, as a call
+abbrev pub child_call : Grammar → MadeChild → Call
+child_call g c = call_of g c.node c.inherited
+
+-- what a message says, with the sort of the called node
+abbrev pub kind_of : Grammar → MsgKind → P.Kind
+kind_of g k = kind_with (sort_or_zero g) k
+
+abbrev pub clash_of : Clash → P.Clash
+clash_of c = record { kept = content_of c.kept; came = content_of c.came }

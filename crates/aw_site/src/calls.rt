@@ -1,0 +1,63 @@
+//! Calls of children that are of other roles.
+ghost use Rattle.std.specs.Prelude.{◌≡◌, ◌++◌, ◌∷◌, [], IfOk, OnOk, nat_eq, map as list_map, if◌then◌else◌};
+ghost use Rattle.aw_grammar.specs.GrammarOf.{grammar_of};
+ghost use Rattle.aw_msg.specs.MessageView.{message_of};
+ghost use Rattle.aw_react.specs.Homes.{home};
+ghost use Rattle.aw_react.specs.Sites as P;
+ghost use Rattle.aw_react.specs.Telling.{call_out, calls_out};
+ghost use Rattle.aw_site.specs.Senders.{SendsAs};
+ghost use Rattle.aw_site.specs.Views.{child_call};
+
+use crate::sender::Sender;
+use crate::validity::home;
+use aw_apply::MadeChild;
+use aw_msg::{Message, MsgKind};
+use aw_name::copy_node;
+use aw_store::Facts;
+use std::alloc::AllocError;
+
+impl<'a, F: Facts> Sender<'a, F> {
+    /// A child for its home, with its load.
+    fn call_out(&self, child: &MadeChild) -> Result<Message, AllocError>
+        ensures { IfOk result (λ m. (s : P.Site) → SendsAs ⟦<F as Facts>⟧ self.now s →
+            message_of (grammar_of self.now.grammar.now) m ≡ call_out (grammar_of self.now.grammar.now) s (child_call (grammar_of self.now.grammar.now) child.now)) }
+    {
+        let load = self.load(None, child.inherited.as_slice())?;
+        Ok(Message {
+            to: home(self.grammar, &child.node),
+            kind: MsgKind::Call {
+                node: copy_node(&child.node)?,
+                inherited: child.inherited.clone()?,
+                load,
+            },
+        })
+    }
+
+    /// Adds the call of a child, where it is of another role.
+    fn push_call_out(&self, sent: &mut Vec<Message>, child: &MadeChild) -> Result<(), AllocError>
+        ensures { OnOk result ((s : P.Site) → SendsAs ⟦<F as Facts>⟧ self.now s →
+            list_map (message_of (grammar_of self.now.grammar.now)) sent.new.items ≡ list_map (message_of (grammar_of self.now.grammar.now)) sent.old.items
+            ++ calls_out (grammar_of self.now.grammar.now) s (child_call (grammar_of self.now.grammar.now) child.now ∷ [])) }
+    {
+        if home(self.grammar, &child.node) != self.role {
+            sent.push(self.call_out(child)?)?;
+        }
+        Ok(())
+    }
+
+    /// Adds a call for each child of another role, in their order.
+    pub fn push_calls_out(
+        &self,
+        sent: &mut Vec<Message>,
+        children: &[MadeChild],
+    ) -> Result<(), AllocError>
+        ensures { OnOk result ((s : P.Site) → SendsAs ⟦<F as Facts>⟧ self.now s →
+            list_map (message_of (grammar_of self.now.grammar.now)) sent.new.items ≡ list_map (message_of (grammar_of self.now.grammar.now)) sent.old.items
+            ++ calls_out (grammar_of self.now.grammar.now) s (list_map (child_call (grammar_of self.now.grammar.now)) children.now)) }
+    {
+        for child in children {
+            self.push_call_out(sent, child)?;
+        }
+        Ok(())
+    }
+}

@@ -1,0 +1,106 @@
+//! A choice at a site, over the parts of the site.
+ghost use Rattle.std.specs.Prelude.{◌≡◌, ◌++◌, true, Bool, IfOk, OnOk, OnErr, length, map as list_map};
+ghost use Rattle.aw_choice.specs.ChoiceView.{choice_of, answer_of};
+ghost use Rattle.aw_grammar.specs.GrammarOf.{grammar_of};
+ghost use Rattle.aw_base.specs.ChoiceFits.{choice_ok};
+ghost use Rattle.aw_store.specs.EquationView.{equation_of};
+ghost use Rattle.aw_msg.specs.MessageView.{message_of};
+ghost use Rattle.aw_react.specs.Choosing.{answer_to, choose as plain_choose};
+ghost use Rattle.aw_react.specs.SiteEvents.{after_choice};
+ghost use Rattle.aw_react.specs.Sites as P;
+ghost use Rattle.aw_react.specs.Worlds.{node_of};
+ghost use Rattle.aw_space.specs.Keeping.{KeepsFacts, KeepsNodesBut};
+ghost use Rattle.aw_space.specs.Seen.{space_seen};
+ghost use Rattle.aw_space.specs.Spaces.{is_home};
+ghost use Rattle.aw_site.specs.Answers.{sent_by};
+ghost use Rattle.aw_site.specs.Chosen.{Prepares};
+ghost use Rattle.aw_site.specs.Shown.{HoldsAs, Shows};
+
+use crate::plan::Plan;
+use crate::sender::Sender;
+use crate::sending::{carry_out, make_room};
+use crate::uncounted;
+use aw_accept::Accepted;
+use aw_apply::Made;
+use aw_choice::{Answer, Choice};
+use aw_msg::Message;
+use aw_space::Space;
+use aw_store::Facts;
+use aw_subs::Subs;
+use std::alloc::{AllocError, Global};
+
+/// The answer to a choice, and what is to be sent where it is carried out.
+#[derive(Drop)]
+pub struct Prepared {
+    pub answer: Answer,
+    pub plan: Plan,
+}
+
+/// Foresees a choice, and makes what it sends.
+fn prepare<'g, F: Facts>(
+    alloc: Global,
+    g: &Accepted,
+    space: &Space<'g, F>,
+    subs: &Subs,
+    loads: bool,
+    choice: &Choice,
+) -> Result<Prepared, AllocError>
+    requires grammar { g.now.grammar ≡ space.now.accepted.now.grammar }
+    requires ok { choice_ok (grammar_of g.now.grammar) (choice_of choice.now) ≡ true }
+    requires here { is_home (grammar_of g.now.grammar) space.now.role (node_of (choice_of choice.now)) ≡ true }
+    ensures { IfOk result (λ p. (s : P.Site) → HoldsAs ⟦<F as Facts>⟧ space.now subs.now loads s → Prepares (grammar_of g.now.grammar) s (choice_of choice.now) p) }
+{
+    let outcome = uncounted::foresee(space, g, choice)?;
+    let sender = Sender {
+        alloc,
+        grammar: g.grammar(),
+        role: space.role(),
+        loads,
+        facts: space.facts(),
+        more: outcome.made.equations.as_slice(),
+    };
+    let plan = sender.plan_made(subs, &outcome.made)?;
+    Ok(Prepared {
+        answer: outcome.answer,
+        plan,
+    })
+}
+
+/// Answers a choice; how many messages it sent, which are added to the outbox and to a copy. Only `Taken` changes anything, and an error
+/// changes nothing.
+pub fn choose<'g, F: Facts>(
+    g: &Accepted,
+    space: &mut Space<'g, F>,
+    subs: &mut Subs,
+    outbox: &mut Vec<Message>,
+    loads: bool,
+    choice: &Choice,
+    copy: &mut Vec<Message>,
+) -> Result<(Answer, usize), AllocError>
+    requires grammar { g.now.grammar ≡ space.old.accepted.now.grammar }
+    requires ok { choice_ok (grammar_of g.now.grammar) (choice_of choice.now) ≡ true }
+    requires here { is_home (grammar_of g.now.grammar) space.old.role (node_of (choice_of choice.now)) ≡ true }
+    ensures grammar { space.new.accepted.now.grammar ≡ space.old.accepted.now.grammar }
+    ensures role { space.new.role ≡ space.old.role }
+    ensures answer { IfOk result (λ r. (s : P.Site) → Shows ⟦<F as Facts>⟧ space.old subs.old outbox.old.items loads s →
+        answer_of r.0 ≡ answer_to (plain_choose (grammar_of g.now.grammar) s (choice_of choice.now))) }
+    ensures count { IfOk result (λ r. (s : P.Site) → Shows ⟦<F as Facts>⟧ space.old subs.old outbox.old.items loads s →
+        r.1 ≡ length (sent_by (plain_choose (grammar_of g.now.grammar) s (choice_of choice.now)))) }
+    ensures site { OnOk result ((s : P.Site) → Shows ⟦<F as Facts>⟧ space.old subs.old outbox.old.items loads s →
+        Shows ⟦<F as Facts>⟧ space.new subs.new outbox.new.items loads (after_choice s (plain_choose (grammar_of g.now.grammar) s (choice_of choice.now)))) }
+    ensures copy { OnOk result ((s : P.Site) → Shows ⟦<F as Facts>⟧ space.old subs.old outbox.old.items loads s →
+        list_map (message_of (grammar_of g.now.grammar)) copy.new.items
+        ≡ list_map (message_of (grammar_of g.now.grammar)) copy.old.items ++ sent_by (plain_choose (grammar_of g.now.grammar) s (choice_of choice.now))) }
+    ensures err { OnErr result ((s : P.Site) → Shows ⟦<F as Facts>⟧ space.old subs.old outbox.old.items loads s → Shows ⟦<F as Facts>⟧ space.new subs.new outbox.new.items loads s) }
+    ensures err_copy { OnErr result (copy.new.items ≡ copy.old.items) }
+    ensures facts { KeepsFacts (F.map space.old.facts) (F.map space.new.facts) }
+    ensures nodes { KeepsNodesBut (node_of (choice_of choice.now)) (space_seen ⟦<F as Facts>⟧ space.old).held (space_seen ⟦<F as Facts>⟧ space.new).held }
+{
+    let alloc = *outbox.allocator();
+    let Prepared { answer, plan } = prepare(alloc, g, space, subs, loads, choice)?;
+    let copies = make_room(alloc, &plan, subs, outbox, copy)?;
+    let count = copies.len();
+    uncounted::choose(space, g, choice)?;
+    carry_out(plan, copies, subs, outbox, copy);
+    Ok((answer, count))
+}

@@ -1,0 +1,123 @@
+//! What a site makes of a message: the first of five answers that holds.
+ghost use Rattle.std.specs.Prelude.{◌≡◌, ◌<◌, Bool, true, ◌++◌, [], IfOk, OnOk, None, option_map, map as list_map};
+ghost use Rattle.aw_grammar.specs.GrammarOf.{grammar_of};
+ghost use Rattle.aw_held.specs.InOrder.{IsInOrder};
+ghost use Rattle.aw_held.specs.HeldView.{all_of};
+ghost use Rattle.aw_store.specs.EquationView.{equation_of};
+ghost use Rattle.aw_apply.specs.Messages.{carried};
+ghost use Rattle.aw_msg.specs.MessageView.{message_of};
+ghost use Rattle.aw_react.specs.Receiving.{clash as plain_clash};
+ghost use Rattle.aw_react.specs.Sites as P;
+ghost use Rattle.aw_site.specs.Holders.{holder};
+ghost use Rattle.aw_site.specs.Judged.{Judges};
+ghost use Rattle.aw_site.specs.Shown.{HoldsAs};
+ghost use Rattle.aw_site.specs.Views.{clash_of, kind_of};
+ghost use Rattle.aw_term.specs.Rules as T;
+
+use crate::belonging::is_mine;
+use crate::clashes::{Clash, call_clash, first_clash};
+use crate::known::is_repeat;
+use crate::validity::message_ok;
+use aw_accept::Accepted;
+use aw_held::Held;
+use aw_msg::{Message, MsgKind};
+use aw_space::Space;
+use aw_store::{Equation, Equations, Facts, copy_equation, copy_equations};
+use aw_subs::Subs;
+use std::alloc::{AllocError, Global};
+
+/// What a site makes of a message.
+#[derive(Drop)]
+pub enum Judged {
+    BadName,
+    NotMine,
+    Clashes(Clash),
+    Repeat,
+    /// Something of it is new.
+    Fresh,
+}
+
+/// Copies of the equations that a message carries: that of a tell, and the load.
+pub fn carried(alloc: Global, kind: &MsgKind) -> Result<Equations, AllocError>
+    ensures { IfOk result (λ es. (g : T.Grammar) → list_map equation_of es ≡ carried (kind_of g kind.now)) }
+{
+    match kind {
+        MsgKind::Call { load, .. } => {
+            Ok(Equations::from_vec(copy_equations(alloc, load.as_slice())?))
+        }
+        MsgKind::Ask { .. } => Ok(Equations::new(alloc)),
+        MsgKind::Tell { equation, load } => {
+            let mut es = Vec::new(alloc);
+            es.push(copy_equation(equation)?)?;
+            push_equations(&mut es, load.as_slice())?;
+            Ok(Equations::from_vec(es))
+        }
+    }
+}
+
+/// Adds copies of equations.
+fn push_equations(es: &mut Vec<Equation>, more: &[Equation]) -> Result<(), AllocError>
+    ensures { OnOk result (es.new.items ≡ es.old.items ++ more.now) }
+{
+    for e in more {
+        es.push(copy_equation(e)?)?;
+    }
+    Ok(())
+}
+
+/// The first contradiction between a message and what is held. These are the equations that it carries.
+fn clash<F: Facts>(
+    alloc: Global,
+    facts: &F,
+    held: &[Held],
+    kind: &MsgKind,
+    es: &Equations,
+) -> Result<Option<Clash>, AllocError>
+    requires ordered { IsInOrder held.now }
+    requires carried { (g : T.Grammar) → list_map equation_of es.now ≡ carried (kind_of g kind.now) }
+    ensures { IfOk result (λ c. (g : T.Grammar) → option_map clash_of c ≡ plain_clash (holder (all_of g held.now) (F.map facts.now) []) (kind_of g kind.now)) }
+{
+    match kind {
+        MsgKind::Call {
+            node,
+            inherited,
+            ..
+        } => match call_clash(held, node, inherited)? {
+            Some(clash) => Ok(Some(clash)),
+            None => first_clash(alloc, facts, es.as_slice()),
+        },
+        MsgKind::Ask { .. } => Ok(None),
+        MsgKind::Tell { .. } => first_clash(alloc, facts, es.as_slice()),
+    }
+}
+
+/// The first of the five answers to a message that holds.
+pub fn judge<'g, F: Facts>(
+    alloc: Global,
+    g: &Accepted,
+    space: &Space<'g, F>,
+    subs: &Subs,
+    m: &Message,
+    es: &Equations,
+) -> Result<Judged, AllocError>
+    requires grammar { g.now.grammar ≡ space.now.accepted.now.grammar }
+    requires carried { (g : T.Grammar) → list_map equation_of es.now ≡ carried (kind_of g m.now.kind) }
+    ensures { IfOk result (λ j. (loads : Bool) (s : P.Site) → HoldsAs ⟦<F as Facts>⟧ space.now subs.now loads s →
+        Judges (grammar_of g.now.grammar) s (message_of (grammar_of g.now.grammar) m.now) j) }
+{
+    let grammar = g.grammar();
+    let role = space.role();
+    if !message_ok(alloc, grammar, role, m)? {
+        return Ok(Judged::BadName);
+    }
+    if !is_mine(grammar, role, m) {
+        return Ok(Judged::NotMine);
+    }
+    if let Some(clash) = clash(alloc, space.facts(), space.nodes(), &m.kind, es)? {
+        return Ok(Judged::Clashes(clash));
+    }
+    if is_repeat(space.facts(), space.nodes(), subs, &m.kind) {
+        return Ok(Judged::Repeat);
+    }
+    Ok(Judged::Fresh)
+}

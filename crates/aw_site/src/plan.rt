@@ -1,0 +1,80 @@
+//! What a site sends, and asks for, made before anything of the site changes.
+ghost use Rattle.std.specs.Prelude.{◌≡◌, ◌++◌, [], IfOk, map as list_map};
+ghost use Rattle.aw_grammar.specs.GrammarOf.{grammar_of};
+ghost use Rattle.aw_store.specs.EquationView.{equation_of};
+ghost use Rattle.aw_msg.specs.MessageView.{message_of};
+ghost use Rattle.aw_react.specs.Asking.{all_mentions};
+ghost use Rattle.aw_react.specs.Sites as P;
+ghost use Rattle.aw_site.specs.Holders.{ShowsAsked, ShowsWatchers};
+ghost use Rattle.aw_site.specs.Plans.{wanted_of, asks_for, made_mentions, told};
+ghost use Rattle.aw_site.specs.Senders.{SendsAs};
+ghost use Rattle.aw_site.specs.Views.{child_call};
+
+use crate::sender::Sender;
+use crate::wanted::{push_mentions, push_refs};
+use aw_apply::Made;
+use aw_msg::Message;
+use aw_name::{Ref, Refs};
+use aw_store::{Equation, Facts};
+use aw_subs::Subs;
+use std::alloc::AllocError;
+
+/// Messages in the order in which they are sent, and the references that they ask for.
+#[derive(Drop)]
+pub struct Plan {
+    pub sent: Vec<Message>,
+    pub wanted: Refs,
+}
+
+impl<'a, F: Facts> Sender<'a, F> {
+    /// What is sent behind these messages: questions for those of the references that are wanted.
+    fn asking(&self, subs: &Subs, sent: Vec<Message>, refs: Vec<Ref>) -> Result<Plan, AllocError>
+        ensures wanted { IfOk result (λ p. (s : P.Site) → SendsAs ⟦<F as Facts>⟧ self.now s → ShowsAsked subs.now s.asked →
+            p.wanted ≡ wanted_of (grammar_of self.now.grammar.now) s refs.items) }
+        ensures sent { IfOk result (λ p. (s : P.Site) → SendsAs ⟦<F as Facts>⟧ self.now s →
+            list_map (message_of (grammar_of self.now.grammar.now)) p.sent.items
+            ≡ list_map (message_of (grammar_of self.now.grammar.now)) sent.items ++ asks_for (grammar_of self.now.grammar.now) s p.wanted) }
+    {
+        let mut sent = sent;
+        let wanted = self.wanted(subs, refs)?;
+        self.push_asks(&mut sent, wanted.as_slice())?;
+        Ok(Plan { sent, wanted })
+    }
+
+    /// What is sent where these equations and children were made here: calls of the children of other roles, tells of the equations that are
+    /// watched, and questions. The equations are those that come behind the store.
+    pub fn plan_made(&self, subs: &Subs, made: &Made) -> Result<Plan, AllocError>
+        ensures wanted { IfOk result (λ p. (s : P.Site) → SendsAs ⟦<F as Facts>⟧ self.now s → ShowsAsked subs.now s.asked →
+            p.wanted ≡ wanted_of (grammar_of self.now.grammar.now) s (made_mentions (grammar_of self.now.grammar.now) s
+            (list_map equation_of made.now.equations) (list_map (child_call (grammar_of self.now.grammar.now)) made.now.children))) }
+        ensures sent { IfOk result (λ p. (s : P.Site) → SendsAs ⟦<F as Facts>⟧ self.now s → ShowsWatchers subs.now s.watchers →
+            list_map (message_of (grammar_of self.now.grammar.now)) p.sent.items ≡ told (grammar_of self.now.grammar.now) s (list_map equation_of made.now.equations)
+            (list_map (child_call (grammar_of self.now.grammar.now)) made.now.children) ++ asks_for (grammar_of self.now.grammar.now) s p.wanted) }
+    {
+        let mut sent = Vec::new(self.alloc);
+        self.push_calls_out(&mut sent, made.children.as_slice())?;
+        self.push_tells(&mut sent, subs, made.equations.as_slice())?;
+        let mut refs = Vec::new(self.alloc);
+        push_mentions(&mut refs, made.equations.as_slice())?;
+        self.push_inherited(&mut refs, made.children.as_slice())?;
+        self.asking(subs, sent, refs)
+    }
+
+    /// What is sent where a node with these references and these equations came: questions.
+    pub fn plan_came(
+        &self,
+        subs: &Subs,
+        inherited: &[Ref],
+        es: &[Equation],
+    ) -> Result<Plan, AllocError>
+        ensures wanted { IfOk result (λ p. (s : P.Site) → SendsAs ⟦<F as Facts>⟧ self.now s → ShowsAsked subs.now s.asked →
+            p.wanted ≡ wanted_of (grammar_of self.now.grammar.now) s (inherited.now ++ all_mentions (list_map equation_of es.now))) }
+        ensures sent { IfOk result (λ p. (s : P.Site) → SendsAs ⟦<F as Facts>⟧ self.now s →
+            list_map (message_of (grammar_of self.now.grammar.now)) p.sent.items ≡ asks_for (grammar_of self.now.grammar.now) s p.wanted) }
+    {
+        let mut refs = Vec::new(self.alloc);
+        push_refs(&mut refs, inherited)?;
+        push_mentions(&mut refs, es)?;
+        self.asking(subs, Vec::new(self.alloc), refs)
+    }
+}

@@ -1,0 +1,273 @@
+//! A message at a site, over the parts of the site.
+ghost use Rattle.std.specs.Prelude.{◌≡◌, ◌++◌, ◌<◌, [], None, Bool, List, IfOk, OnOk, OnErr, length, map as list_map, option_map};
+ghost use Rattle.std.specs.Option.{option_copied};
+ghost use Rattle.aw_grammar.specs.GrammarOf.{grammar_of};
+ghost use Rattle.aw_store.specs.EquationView.{equation_of};
+ghost use Rattle.aw_apply.specs.Messages.{Asks};
+ghost use Rattle.aw_msg.specs.MessageView.{message_of};
+ghost use Rattle.aw_react.specs.Reacting.{receive as plain_receive, react as plain_react};
+ghost use Rattle.aw_react.specs.SiteEvents.{after_message};
+ghost use Rattle.aw_react.specs.Sites as P;
+ghost use Rattle.aw_space.specs.Keeping.{KeepsFacts, KeepsNodes};
+ghost use Rattle.aw_space.specs.Placings.{MayBeCalledIf, MayBeLearnt, placed_call};
+ghost use Rattle.aw_space.specs.Seen.{space_seen};
+ghost use Rattle.aw_space.specs.Spaces.{clash_with};
+ghost use Rattle.aw_site.specs.Answers.{sent_for, IsReceived};
+ghost use Rattle.aw_site.specs.Came.{came, holding, inherited_by, watching};
+ghost use Rattle.aw_site.specs.Doing.{IsPlanned};
+ghost use Rattle.aw_site.specs.Judged.{IsFresh};
+ghost use Rattle.aw_site.specs.Shown.{HoldsAs, Shows};
+ghost use Rattle.aw_site.specs.Senders.{listed};
+ghost use Rattle.aw_site.specs.Views.{kind_of};
+ghost use Rattle.aw_term.specs.Rules as T;
+ghost use Rattle.aw_apply.specs.Messages.{carried};
+
+use crate::judging::{Judged, carried, judge};
+use crate::plan::Plan;
+use crate::received::Received;
+use crate::sender::Sender;
+use crate::sending::{carry_out, make_room};
+use crate::uncounted;
+use aw_accept::Accepted;
+use aw_msg::{Message, MsgKind};
+use aw_name::{Ref, Refs, copy_node};
+use aw_space::{Placing, Space};
+use aw_store::{Equations, Facts};
+use aw_subs::Subs;
+use std::alloc::{AllocError, Global};
+
+/// The messages of a list of one, or of none.
+fn listed(alloc: Global, message: Option<Message>) -> Result<Vec<Message>, AllocError>
+    ensures { IfOk result (λ ms. ms.items ≡ listed message) }
+{
+    let mut messages = Vec::new(alloc);
+    if let Some(message) = message {
+        messages.push(message)?;
+    }
+    Ok(messages)
+}
+
+/// What is sent where a role asks: the equation, where it is here.
+fn plan_answer<'g, F: Facts>(
+    alloc: Global,
+    g: &Accepted,
+    space: &Space<'g, F>,
+    loads: bool,
+    r: &Ref,
+    from: u16,
+) -> Result<Plan, AllocError>
+    ensures nothing { IfOk result (λ p. p.wanted ≡ []) }
+    ensures plan { IfOk result (λ p. (s : P.Site) → s.role ≡ space.now.role → s.loads ≡ loads → s.equations ≡ F.map space.now.facts →
+        IsPlanned (grammar_of g.now.grammar) (watching s r.now from) (plain_react (grammar_of g.now.grammar) s (Asks r.now from)) p) }
+{
+    let sender = Sender {
+        alloc,
+        grammar: g.grammar(),
+        role: space.role(),
+        loads,
+        facts: space.facts(),
+        more: &[],
+    };
+    Ok(Plan {
+        sent: listed(alloc, sender.tell_back(r, from)?)?,
+        wanted: Refs::new(alloc),
+    })
+}
+
+/// Notes who asks, and answers where the equation is here; how many messages were sent. An error changes nothing.
+fn answer_ask<'g, F: Facts>(
+    g: &Accepted,
+    space: &Space<'g, F>,
+    subs: &mut Subs,
+    outbox: &mut Vec<Message>,
+    loads: bool,
+    r: &Ref,
+    from: u16,
+    copy: &mut Vec<Message>,
+) -> Result<usize, AllocError>
+    requires grammar { g.now.grammar ≡ space.now.accepted.now.grammar }
+    requires role { from < 64 }
+    ensures count { IfOk result (λ n. (s : P.Site) → Shows ⟦<F as Facts>⟧ space.now subs.old outbox.old.items loads s → n ≡ length (plain_react (grammar_of g.now.grammar) s (Asks r.now from)).sent) }
+    ensures site { OnOk result ((s : P.Site) → Shows ⟦<F as Facts>⟧ space.now subs.old outbox.old.items loads s →
+        Shows ⟦<F as Facts>⟧ space.now subs.new outbox.new.items loads (plain_react (grammar_of g.now.grammar) s (Asks r.now from)).site) }
+    ensures copy { OnOk result ((s : P.Site) → Shows ⟦<F as Facts>⟧ space.now subs.old outbox.old.items loads s →
+        list_map (message_of (grammar_of g.now.grammar)) copy.new.items
+        ≡ list_map (message_of (grammar_of g.now.grammar)) copy.old.items ++ (plain_react (grammar_of g.now.grammar) s (Asks r.now from)).sent) }
+    ensures err { OnErr result ((s : P.Site) → Shows ⟦<F as Facts>⟧ space.now subs.old outbox.old.items loads s → Shows ⟦<F as Facts>⟧ space.now subs.new outbox.new.items loads s) }
+    ensures err_copy { OnErr result (copy.new.items ≡ copy.old.items) }
+{
+    let alloc = *outbox.allocator();
+    let plan = plan_answer(alloc, g, space, loads, r, from)?;
+    let copies = make_room(alloc, &plan, subs, outbox, copy)?;
+    let count = copies.len();
+    subs.watch(r, from)?;
+    carry_out(plan, copies, subs, outbox, copy);
+    Ok(count)
+}
+
+/// Copies of the references of a call, if there is one.
+fn inherited_by(alloc: Global, call: Option<&Placing>) -> Result<Refs, AllocError>
+    ensures { IfOk result (λ rs. (g : T.Grammar) → rs ≡ inherited_by (option_map (placed_call g) (option_copied call.entry))) }
+{
+    match call {
+        Some(placing) => placing.inherited.clone(),
+        None => Ok(Refs::new(alloc)),
+    }
+}
+
+/// What is sent where a call, if there is one, and equations come.
+fn plan_came<'g, F: Facts>(
+    alloc: Global,
+    g: &Accepted,
+    space: &Space<'g, F>,
+    subs: &Subs,
+    loads: bool,
+    call: Option<&Placing>,
+    es: &Equations,
+) -> Result<Plan, AllocError>
+    requires { g.now.grammar ≡ space.now.accepted.now.grammar }
+    ensures { IfOk result (λ p. (s : P.Site) → HoldsAs ⟦<F as Facts>⟧ space.now subs.now loads s → IsPlanned (grammar_of g.now.grammar)
+        (holding s (option_map (placed_call (grammar_of g.now.grammar)) (option_copied call.entry)) (list_map equation_of es.now))
+        (came (grammar_of g.now.grammar) s (option_map (placed_call (grammar_of g.now.grammar)) (option_copied call.entry)) (list_map equation_of es.now)) p) }
+{
+    let inherited = inherited_by(alloc, call)?;
+    let sender = Sender {
+        alloc,
+        grammar: g.grammar(),
+        role: space.role(),
+        loads,
+        facts: space.facts(),
+        more: es.as_slice(),
+    };
+    sender.plan_came(subs, inherited.as_slice(), es.as_slice())
+}
+
+/// Takes in a call, if there is one, and equations, and asks for what is then wanted; how many messages were sent. An error changes
+/// nothing.
+fn take_in<'g, F: Facts>(
+    g: &Accepted,
+    space: &mut Space<'g, F>,
+    subs: &mut Subs,
+    outbox: &mut Vec<Message>,
+    loads: bool,
+    call: Option<&Placing>,
+    es: &Equations,
+    copy: &mut Vec<Message>,
+) -> Result<usize, AllocError>
+    requires grammar { g.now.grammar ≡ space.old.accepted.now.grammar }
+    requires call { MayBeCalledIf (grammar_of g.now.grammar) space.old.role (option_map (placed_call (grammar_of g.now.grammar)) (option_copied call)) }
+    requires ok { MayBeLearnt (grammar_of g.now.grammar) space.old.role (list_map equation_of es.now) }
+    requires free { clash_with (option_map (placed_call (grammar_of g.now.grammar)) (option_copied call)) (list_map equation_of es.now) (space_seen ⟦<F as Facts>⟧ space.old) ≡ None }
+    ensures grammar { space.new.accepted.now.grammar ≡ space.old.accepted.now.grammar }
+    ensures role { space.new.role ≡ space.old.role }
+    ensures count { IfOk result (λ n. (s : P.Site) → Shows ⟦<F as Facts>⟧ space.old subs.old outbox.old.items loads s →
+        n ≡ length (came (grammar_of g.now.grammar) s (option_map (placed_call (grammar_of g.now.grammar)) (option_copied call.entry)) (list_map equation_of es.now)).sent) }
+    ensures site { OnOk result ((s : P.Site) → Shows ⟦<F as Facts>⟧ space.old subs.old outbox.old.items loads s → Shows ⟦<F as Facts>⟧ space.new subs.new outbox.new.items loads
+        (came (grammar_of g.now.grammar) s (option_map (placed_call (grammar_of g.now.grammar)) (option_copied call.entry)) (list_map equation_of es.now)).site) }
+    ensures copy { OnOk result ((s : P.Site) → Shows ⟦<F as Facts>⟧ space.old subs.old outbox.old.items loads s →
+        list_map (message_of (grammar_of g.now.grammar)) copy.new.items ≡ list_map (message_of (grammar_of g.now.grammar)) copy.old.items
+        ++ (came (grammar_of g.now.grammar) s (option_map (placed_call (grammar_of g.now.grammar)) (option_copied call.entry)) (list_map equation_of es.now)).sent) }
+    ensures err { OnErr result ((s : P.Site) → Shows ⟦<F as Facts>⟧ space.old subs.old outbox.old.items loads s → Shows ⟦<F as Facts>⟧ space.new subs.new outbox.new.items loads s) }
+    ensures err_copy { OnErr result (copy.new.items ≡ copy.old.items) }
+    ensures facts { KeepsFacts (F.map space.old.facts) (F.map space.new.facts) }
+    ensures nodes { KeepsNodes (space_seen ⟦<F as Facts>⟧ space.old).held (space_seen ⟦<F as Facts>⟧ space.new).held }
+{
+    let alloc = *outbox.allocator();
+    let plan = plan_came(alloc, g, space, subs, loads, call, es)?;
+    let copies = make_room(alloc, &plan, subs, outbox, copy)?;
+    let count = copies.len();
+    uncounted::take_in(space, g, call, es)?;
+    carry_out(plan, copies, subs, outbox, copy);
+    Ok(count)
+}
+
+/// Does what a message asks for of which something is new; how many messages were sent. An error changes nothing.
+fn react<'g, F: Facts>(
+    g: &Accepted,
+    space: &mut Space<'g, F>,
+    subs: &mut Subs,
+    outbox: &mut Vec<Message>,
+    loads: bool,
+    m: &Message,
+    es: &Equations,
+    copy: &mut Vec<Message>,
+) -> Result<usize, AllocError>
+    requires grammar { g.now.grammar ≡ space.old.accepted.now.grammar }
+    requires carried { (g : T.Grammar) → list_map equation_of es.now ≡ carried (kind_of g m.now.kind) }
+    requires fresh { (s : P.Site) → HoldsAs ⟦<F as Facts>⟧ space.old subs.old loads s → IsFresh (grammar_of g.now.grammar) s (message_of (grammar_of g.now.grammar) m.now) }
+    requires holds { ∥ ((s : P.Site) × HoldsAs ⟦<F as Facts>⟧ space.old subs.old loads s) ∥₁ }
+    ensures grammar { space.new.accepted.now.grammar ≡ space.old.accepted.now.grammar }
+    ensures role { space.new.role ≡ space.old.role }
+    ensures count { IfOk result (λ n. (s : P.Site) → Shows ⟦<F as Facts>⟧ space.old subs.old outbox.old.items loads s →
+        n ≡ length (plain_react (grammar_of g.now.grammar) s (message_of (grammar_of g.now.grammar) m.now).kind).sent) }
+    ensures site { OnOk result ((s : P.Site) → Shows ⟦<F as Facts>⟧ space.old subs.old outbox.old.items loads s → Shows ⟦<F as Facts>⟧ space.new subs.new outbox.new.items loads
+        (plain_react (grammar_of g.now.grammar) s (message_of (grammar_of g.now.grammar) m.now).kind).site) }
+    ensures copy { OnOk result ((s : P.Site) → Shows ⟦<F as Facts>⟧ space.old subs.old outbox.old.items loads s →
+        list_map (message_of (grammar_of g.now.grammar)) copy.new.items ≡ list_map (message_of (grammar_of g.now.grammar)) copy.old.items
+        ++ (plain_react (grammar_of g.now.grammar) s (message_of (grammar_of g.now.grammar) m.now).kind).sent) }
+    ensures err { OnErr result ((s : P.Site) → Shows ⟦<F as Facts>⟧ space.old subs.old outbox.old.items loads s → Shows ⟦<F as Facts>⟧ space.new subs.new outbox.new.items loads s) }
+    ensures err_copy { OnErr result (copy.new.items ≡ copy.old.items) }
+    ensures facts { KeepsFacts (F.map space.old.facts) (F.map space.new.facts) }
+    ensures nodes { KeepsNodes (space_seen ⟦<F as Facts>⟧ space.old).held (space_seen ⟦<F as Facts>⟧ space.new).held }
+{
+    match &m.kind {
+        MsgKind::Call {
+            node,
+            inherited,
+            ..
+        } => {
+            let placing = Placing {
+                node: copy_node(node)?,
+                inherited: inherited.clone()?,
+            };
+            take_in(g, space, subs, outbox, loads, Some(&placing), es, copy)
+        }
+        MsgKind::Ask { reference, from } => {
+            answer_ask(g, space, subs, outbox, loads, reference, *from, copy)
+        }
+        MsgKind::Tell { .. } => take_in(g, space, subs, outbox, loads, None, es, copy),
+    }
+}
+
+/// Answers a message; the messages sent are added to the outbox and to a copy. Only `New` changes anything, and an error changes nothing.
+pub fn receive<'g, F: Facts>(
+    g: &Accepted,
+    space: &mut Space<'g, F>,
+    subs: &mut Subs,
+    outbox: &mut Vec<Message>,
+    loads: bool,
+    m: &Message,
+    copy: &mut Vec<Message>,
+) -> Result<Received, AllocError>
+    requires grammar { g.now.grammar ≡ space.old.accepted.now.grammar }
+    requires holds { ∥ ((s : P.Site) × HoldsAs ⟦<F as Facts>⟧ space.old subs.old loads s) ∥₁ }
+    ensures grammar { space.new.accepted.now.grammar ≡ space.old.accepted.now.grammar }
+    ensures role { space.new.role ≡ space.old.role }
+    ensures answer { IfOk result (λ r. (s : P.Site) → Shows ⟦<F as Facts>⟧ space.old subs.old outbox.old.items loads s →
+        IsReceived r (plain_receive (grammar_of g.now.grammar) s (message_of (grammar_of g.now.grammar) m.now))) }
+    ensures site { OnOk result ((s : P.Site) → Shows ⟦<F as Facts>⟧ space.old subs.old outbox.old.items loads s → Shows ⟦<F as Facts>⟧ space.new subs.new outbox.new.items loads
+        (after_message s (plain_receive (grammar_of g.now.grammar) s (message_of (grammar_of g.now.grammar) m.now)))) }
+    ensures copy { OnOk result ((s : P.Site) → Shows ⟦<F as Facts>⟧ space.old subs.old outbox.old.items loads s →
+        list_map (message_of (grammar_of g.now.grammar)) copy.new.items ≡ list_map (message_of (grammar_of g.now.grammar)) copy.old.items
+        ++ sent_for (plain_receive (grammar_of g.now.grammar) s (message_of (grammar_of g.now.grammar) m.now))) }
+    ensures err { OnErr result ((s : P.Site) → Shows ⟦<F as Facts>⟧ space.old subs.old outbox.old.items loads s → Shows ⟦<F as Facts>⟧ space.new subs.new outbox.new.items loads s) }
+    ensures err_copy { OnErr result (copy.new.items ≡ copy.old.items) }
+    ensures facts { KeepsFacts (F.map space.old.facts) (F.map space.new.facts) }
+    ensures nodes { KeepsNodes (space_seen ⟦<F as Facts>⟧ space.old).held (space_seen ⟦<F as Facts>⟧ space.new).held }
+{
+    let alloc = *outbox.allocator();
+    let es = carried(alloc, &m.kind)?;
+    match judge(alloc, g, space, subs, m, &es)? {
+        Judged::BadName => Ok(Received::BadName),
+        Judged::NotMine => Ok(Received::NotMine),
+        Judged::Clashes(clash) => Ok(Received::Conflict {
+            kept: clash.kept,
+            came: clash.came,
+        }),
+        Judged::Repeat => Ok(Received::Repeat),
+        Judged::Fresh => {
+            let count = react(g, space, subs, outbox, loads, m, &es, copy)?;
+            Ok(Received::New(count))
+        }
+    }
+}

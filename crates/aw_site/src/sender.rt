@@ -1,0 +1,180 @@
+//! What a role sends by, and the loads of its messages.
+ghost use Rattle.std.specs.Prelude.{◌≡◌, ◌++◌, ◌≤◌, ℕ, List, Option, Some, None, true, IfOk, OnOk, length, reverse, option_map, map as list_map};
+ghost use Rattle.std.specs.Option.{option_copied};
+ghost use Rattle.aw_grammar.specs.GrammarOf.{grammar_of};
+ghost use Rattle.aw_name.specs.declared.node.Ref.{Ref as RefName};
+ghost use Rattle.aw_store.specs.Equations.{find, mentions};
+ghost use Rattle.aw_store.specs.EquationView.{body_of, equation_of};
+ghost use Rattle.aw_react.specs.InOrder.{has_ref};
+ghost use Rattle.aw_react.specs.Loads.{Given, may_give, given_on, next_given, walk, load_of};
+ghost use Rattle.aw_react.specs.Sites as P;
+
+use crate::finding::{body_in_both, is_behind};
+use crate::validity::home;
+use aw_base::Grammar;
+use aw_name::{Ref, copy_ref};
+use aw_store::{Body, Equation, Equations, Facts};
+use aw_term::order::is_ref;
+use std::alloc::{AllocError, Global};
+
+/// The most equations that a message carries as its load.
+const MOST_LOADED: usize = 64;
+
+/// What a role sends by: its grammar, its number, whether its messages carry loads, its store, and equations that are to come behind those of
+/// the store.
+#[derive(Drop)]
+pub struct Sender<'a, F: Facts> {
+    pub alloc: Global,
+    pub grammar: &'a Grammar,
+    pub role: u16,
+    pub loads: bool,
+    pub facts: &'a F,
+    pub more: &'a [Equation],
+}
+
+/// Adds copies of references so that the first is the last.
+fn push_reversed(stack: &mut Vec<Ref>, refs: &[Ref]) -> Result<(), AllocError>
+    ensures { OnOk result (reverse stack.new.items ≡ refs.now ++ reverse stack.old.items) }
+{
+    for i in 0..refs.len() {
+        stack.push(copy_ref(&refs[refs.len() - 1 - i])?)?;
+    }
+    Ok(())
+}
+
+/// Adds copies of the references of a body so that the first is the last.
+fn push_mentions(stack: &mut Vec<Ref>, body: &Body) -> Result<(), AllocError>
+    ensures { OnOk result (reverse stack.new.items ≡ mentions (body_of body.now) ++ reverse stack.old.items) }
+{
+    match body {
+        Body::Same(r) => {
+            stack.push(copy_ref(r)?)?;
+            Ok(())
+        }
+        Body::Con(_, parts) => push_reversed(stack, parts.as_slice()),
+        Body::Num(_) | Body::Text(_) => Ok(()),
+    }
+}
+
+/// Whether a reference is the given one.
+fn is_first(first: Option<&Ref>, r: &Ref) -> bool
+    ensures { result ≡ has_ref r.now (listed (option_copied first.entry)) }
+{
+    match first {
+        Some(left) => is_ref(r, left),
+        None => false,
+    }
+}
+
+/// Whether a reference is a left side in a message: the given one, or one of its load.
+fn is_seen(first: Option<&Ref>, load: &[Equation], r: &Ref) -> bool
+    ensures { result ≡ has_ref r.now (seen_with load.now (listed (option_copied first.entry))) }
+{
+    is_first(first, r) || is_behind(load, r)
+}
+
+ghost use Rattle.aw_site.specs.Senders.{SendsAs, Gives, GivesFirst, listed, seen_with};
+
+impl<'a, F: Facts> Sender<'a, F> {
+    /// Whether a reference may give its equation to a load: it is this role's, and no left side in the message yet.
+    fn may_give(&self, first: Option<&Ref>, load: &[Equation], r: &Ref) -> bool
+        ensures { (s : P.Site) → SendsAs ⟦<F as Facts>⟧ self.now s →
+            result ≡ may_give (grammar_of self.now.grammar.now) s (seen_with load.now (listed (option_copied first.entry))) r.now }
+    {
+        home(self.grammar, &r.node) == self.role && !is_seen(first, load, r)
+    }
+
+    /// A copy of the body that a reference gives to a load, where it may give one and has an equation here.
+    fn given(
+        &self,
+        first: Option<&Ref>,
+        load: &[Equation],
+        r: &Ref,
+    ) -> Result<Option<Body>, AllocError>
+        ensures { IfOk result (λ body. (s : P.Site) → SendsAs ⟦<F as Facts>⟧ self.now s → (rs : List RefName) (later : Option Given) →
+            given_on (may_give (grammar_of self.now.grammar.now) s (seen_with load.now (listed (option_copied first.entry))) r.now) r.now (find s.equations r.now) rs later
+            ≡ given_on true r.now (option_map body_of body) rs later) }
+    {
+        if self.may_give(first, load, r) {
+            body_in_both(self.alloc, self.facts, self.more, r)
+        } else {
+            Ok(None)
+        }
+    }
+
+    /// The equation of a reference, where it gives one to a load; the references of its body are then looked at before those that stand there.
+    fn give(
+        &self,
+        first: Option<&Ref>,
+        load: &[Equation],
+        stack: &mut Vec<Ref>,
+        r: Ref,
+    ) -> Result<Option<Equation>, AllocError>
+        ensures gives { IfOk result (λ e. (s : P.Site) → SendsAs ⟦<F as Facts>⟧ self.now s → (later : Option Given) →
+            GivesFirst (given_on (may_give (grammar_of self.now.grammar.now) s (seen_with load.now (listed (option_copied first.entry))) r) r (find s.equations r) (reverse stack.old.items) later)
+            later e (reverse stack.new.items)) }
+        ensures none { IfOk result (λ e. e ≡ None → stack.new.items ≡ stack.old.items) }
+    {
+        match self.given(first, load, &r)? {
+            Some(body) => {
+                push_mentions(stack, &body)?;
+                Ok(Some(Equation { left: r, body }))
+            }
+            None => Ok(None),
+        }
+    }
+
+    /// The next equation of a load. The references that are to be looked at stand with the next one last; those that give nothing are taken away,
+    /// and where one gives its equation, the references of its body are put in its place.
+    fn next_given(
+        &self,
+        first: Option<&Ref>,
+        load: &[Equation],
+        stack: &mut Vec<Ref>,
+    ) -> Result<Option<Equation>, AllocError>
+        ensures { IfOk result (λ e. (s : P.Site) → SendsAs ⟦<F as Facts>⟧ self.now s →
+            Gives (next_given (grammar_of self.now.grammar.now) s (seen_with load.now (listed (option_copied first.entry))) (reverse stack.old.items)) e (reverse stack.new.items)) }
+    {
+        while let Some(r) = stack.pop() {
+            if let Some(e) = self.give(first, load, stack, r)? {
+                return Ok(Some(e));
+            }
+        }
+        Ok(None)
+    }
+
+    /// The equations that references lead to, depth first, a number of them at most.
+    fn walk(
+        &self,
+        first: Option<&Ref>,
+        refs: &[Ref],
+        most: usize,
+    ) -> Result<Vec<Equation>, AllocError>
+        ensures load { IfOk result (λ load. (s : P.Site) → SendsAs ⟦<F as Facts>⟧ self.now s →
+            list_map equation_of load.items ≡ walk most (grammar_of self.now.grammar.now) s (listed (option_copied first.entry)) refs.now) }
+    {
+        let mut stack = Vec::new(self.alloc);
+        push_reversed(&mut stack, refs)?;
+        let mut load = Vec::new(self.alloc);
+        for i in 0..most {
+            match self.next_given(first, load.as_slice(), &mut stack)? {
+                Some(e) => load.push(e)?,
+                None => return Ok(load),
+            }
+        }
+        Ok(load)
+    }
+
+    /// The load of a message with these references: the equations that they lead to, depth first, where this role sends loads. The given
+    /// reference is a left side in the message already.
+    pub fn load(&self, first: Option<&Ref>, refs: &[Ref]) -> Result<Equations, AllocError>
+        ensures { IfOk result (λ load. (s : P.Site) → SendsAs ⟦<F as Facts>⟧ self.now s →
+            list_map equation_of load ≡ load_of (grammar_of self.now.grammar.now) s (listed (option_copied first.entry)) refs.now) }
+    {
+        if self.loads {
+            Ok(Equations::from_vec(self.walk(first, refs, MOST_LOADED)?))
+        } else {
+            Ok(Equations::new(self.alloc))
+        }
+    }
+}

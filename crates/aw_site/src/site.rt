@@ -1,0 +1,193 @@
+//! The workspace of one role.
+ghost use Rattle.std.specs.Prelude.{◌≡◌, ◌++◌, [], true, Bool, IfOk, OnOk, OnErr, length, map as list_map};
+ghost use Rattle.aw_choice.specs.ChoiceView.{choice_of, answer_of};
+ghost use Rattle.aw_grammar.specs.GrammarOf.{grammar_of};
+ghost use Rattle.aw_base.specs.ChoiceFits.{choice_ok};
+ghost use Rattle.aw_msg.specs.MessageView.{message_of};
+ghost use Rattle.aw_react.specs.Sites as P;
+ghost use Rattle.aw_react.specs.Worlds.{node_of};
+ghost use Rattle.aw_space.specs.Keeping.{KeepsFacts, KeepsNodes, KeepsNodesBut};
+ghost use Rattle.aw_space.specs.Seen.{space_seen};
+ghost use Rattle.aw_space.specs.Spaces.{is_home};
+ghost use Rattle.aw_site.specs.Shown.{Shows};
+
+use crate::received::Received;
+use crate::{choosing, receiving};
+use aw_accept::Accepted;
+use aw_choice::{Answer, Choice};
+use aw_msg::{Message, Messages};
+use aw_space::Space;
+use aw_store::Facts;
+use aw_subs::Subs;
+use std::alloc::{AllocError, Global};
+
+/// What the workspace of one role holds, what it asked for and who asked it, and all messages that it sent.
+#[derive(Drop)]
+pub struct Site<'g, F: Facts> {
+    pub(crate) space: Space<'g, F>,
+    pub(crate) subs: Subs,
+    pub(crate) outbox: Vec<Message>,
+    pub(crate) loads: bool,
+    pub ghost shown: { ∥ ((s : P.Site) × Shows ⟦<F as Facts>⟧ space subs outbox.items loads s) ∥₁ },
+}
+
+impl<'g, F: Facts> Site<'g, F> {
+    ghost use Rattle.aw_react.specs.Choosing.{answer_to, choose as plain_choose};
+    ghost use Rattle.aw_react.specs.Reacting.{receive as plain_receive};
+    ghost use Rattle.aw_react.specs.SiteEvents.{after_choice, after_message};
+    ghost use Rattle.aw_react.specs.Sites.{empty_site};
+    ghost use Rattle.aw_site.specs.Answers.{sent_by, sent_for, IsReceived};
+    ghost use Rattle.aw_site.specs.Seen.{grammar_in, role_in, map_in, nodes_in, IsShown};
+
+    /// A site of a role that holds nothing, over a store without equations. Its messages carry loads, or none does.
+    pub fn new(alloc: Global, g: &'g Accepted, role: u16, facts: F, loads: bool) -> Site<'g, F>
+        requires { F.map facts ≡ [] }
+        ensures grammar { result.space.accepted.now.grammar ≡ g.now.grammar }
+        ensures role { role_in ⟦<F as Facts>⟧ result ≡ role }
+        ensures site { IsShown ⟦<F as Facts>⟧ result (empty_site loads role) }
+    {
+        Site {
+            space: Space::new(alloc, g, role, facts),
+            subs: Subs::new(alloc),
+            outbox: Vec::new(alloc),
+            loads,
+        }
+    }
+
+    /// All messages that it ever sent, in their order.
+    pub fn outbox(&self) -> &[Message]
+        ensures { result.now ≡ self.now.outbox.items }
+    {
+        self.outbox.as_slice()
+    }
+
+    /// What it holds.
+    pub fn space(&self) -> &Space<'g, F>
+        ensures { result.now ≡ self.now.space }
+    {
+        &self.space
+    }
+
+    /// The grammar that it was made for.
+    pub fn accepted(&self) -> &'g Accepted
+        ensures { result.now ≡ self.now.space.accepted.now }
+    {
+        self.space.accepted()
+    }
+
+    /// Its role.
+    pub fn role(&self) -> u16
+        ensures { result ≡ role_in ⟦<F as Facts>⟧ self.now }
+    {
+        self.space.role()
+    }
+
+    /// Answers a choice; how many messages it sent. Only `Taken` changes the site, and an error does not. The messages are added to
+    /// a copy of the outbox, too.
+    pub fn choose_into(
+        &mut self,
+        g: &Accepted,
+        choice: &Choice,
+        copy: &mut Messages,
+    ) -> Result<(Answer, usize), AllocError>
+        requires grammar { g.now.grammar ≡ self.old.space.accepted.now.grammar }
+        requires ok { choice_ok (grammar_of g.now.grammar) (choice_of choice.now) ≡ true }
+        requires here { is_home (grammar_of g.now.grammar) (role_in ⟦<F as Facts>⟧ self.old) (node_of (choice_of choice.now)) ≡ true }
+        ensures grammar { self.new.space.accepted.now.grammar ≡ self.old.space.accepted.now.grammar }
+        ensures role { role_in ⟦<F as Facts>⟧ self.new ≡ role_in ⟦<F as Facts>⟧ self.old }
+        ensures answer { IfOk result (λ r. (s : P.Site) → IsShown ⟦<F as Facts>⟧ self.old s → answer_of r.0 ≡ answer_to (plain_choose (grammar_of g.now.grammar) s (choice_of choice.now))) }
+        ensures count { IfOk result (λ r. (s : P.Site) → IsShown ⟦<F as Facts>⟧ self.old s → r.1 ≡ length (sent_by (plain_choose (grammar_of g.now.grammar) s (choice_of choice.now)))) }
+        ensures site { OnOk result ((s : P.Site) → IsShown ⟦<F as Facts>⟧ self.old s → IsShown ⟦<F as Facts>⟧ self.new (after_choice s (plain_choose (grammar_of g.now.grammar) s (choice_of choice.now)))) }
+        ensures copy { OnOk result ((s : P.Site) → IsShown ⟦<F as Facts>⟧ self.old s → list_map (message_of (grammar_of g.now.grammar)) copy.new
+            ≡ list_map (message_of (grammar_of g.now.grammar)) copy.old ++ sent_by (plain_choose (grammar_of g.now.grammar) s (choice_of choice.now))) }
+        ensures err { OnErr result ((s : P.Site) → IsShown ⟦<F as Facts>⟧ self.old s → IsShown ⟦<F as Facts>⟧ self.new s) }
+        ensures err_copy { OnErr result (copy.new ≡ copy.old) }
+        ensures facts { KeepsFacts (map_in ⟦<F as Facts>⟧ self.old) (map_in ⟦<F as Facts>⟧ self.new) }
+        ensures nodes { KeepsNodesBut (node_of (choice_of choice.now)) (nodes_in ⟦<F as Facts>⟧ self.old) (nodes_in ⟦<F as Facts>⟧ self.new) }
+    {
+        let alloc = copy.allocator();
+        let mut messages = std::mem::replace(copy, Messages::new(alloc)).into_vec();
+        let answered = choosing::choose(
+            g,
+            &mut self.space,
+            &mut self.subs,
+            &mut self.outbox,
+            self.loads,
+            choice,
+            &mut messages,
+        );
+        *copy = Messages::from_vec(messages);
+        answered
+    }
+
+    /// Answers a choice; how many messages it sent. Only `Taken` changes the site, and an error does not.
+    pub fn choose(&mut self, g: &Accepted, choice: &Choice) -> Result<(Answer, usize), AllocError>
+        requires grammar { g.now.grammar ≡ self.old.space.accepted.now.grammar }
+        requires ok { choice_ok (grammar_of g.now.grammar) (choice_of choice.now) ≡ true }
+        requires here { is_home (grammar_of g.now.grammar) (role_in ⟦<F as Facts>⟧ self.old) (node_of (choice_of choice.now)) ≡ true }
+        ensures grammar { self.new.space.accepted.now.grammar ≡ self.old.space.accepted.now.grammar }
+        ensures role { role_in ⟦<F as Facts>⟧ self.new ≡ role_in ⟦<F as Facts>⟧ self.old }
+        ensures answer { IfOk result (λ r. (s : P.Site) → IsShown ⟦<F as Facts>⟧ self.old s → answer_of r.0 ≡ answer_to (plain_choose (grammar_of g.now.grammar) s (choice_of choice.now))) }
+        ensures count { IfOk result (λ r. (s : P.Site) → IsShown ⟦<F as Facts>⟧ self.old s → r.1 ≡ length (sent_by (plain_choose (grammar_of g.now.grammar) s (choice_of choice.now)))) }
+        ensures site { OnOk result ((s : P.Site) → IsShown ⟦<F as Facts>⟧ self.old s → IsShown ⟦<F as Facts>⟧ self.new (after_choice s (plain_choose (grammar_of g.now.grammar) s (choice_of choice.now)))) }
+        ensures err { OnErr result ((s : P.Site) → IsShown ⟦<F as Facts>⟧ self.old s → IsShown ⟦<F as Facts>⟧ self.new s) }
+        ensures facts { KeepsFacts (map_in ⟦<F as Facts>⟧ self.old) (map_in ⟦<F as Facts>⟧ self.new) }
+        ensures nodes { KeepsNodesBut (node_of (choice_of choice.now)) (nodes_in ⟦<F as Facts>⟧ self.old) (nodes_in ⟦<F as Facts>⟧ self.new) }
+    {
+        let mut copy = Messages::new(*self.outbox.allocator());
+        self.choose_into(g, choice, &mut copy)
+    }
+
+    /// Answers a message. Only `New` changes the site, and an error does not. The messages that it sends are added to a copy of the
+    /// outbox, too. Whatever comes, forged or not: equations and nodes stay, and a guard that is decided stays so.
+    pub fn receive_into(
+        &mut self,
+        g: &Accepted,
+        m: &Message,
+        copy: &mut Messages,
+    ) -> Result<Received, AllocError>
+        requires { g.now.grammar ≡ self.old.space.accepted.now.grammar }
+        ensures grammar { self.new.space.accepted.now.grammar ≡ self.old.space.accepted.now.grammar }
+        ensures role { role_in ⟦<F as Facts>⟧ self.new ≡ role_in ⟦<F as Facts>⟧ self.old }
+        ensures answer { IfOk result (λ r. (s : P.Site) → IsShown ⟦<F as Facts>⟧ self.old s → IsReceived r (plain_receive (grammar_of g.now.grammar) s (message_of (grammar_of g.now.grammar) m.now))) }
+        ensures site { OnOk result ((s : P.Site) → IsShown ⟦<F as Facts>⟧ self.old s →
+            IsShown ⟦<F as Facts>⟧ self.new (after_message s (plain_receive (grammar_of g.now.grammar) s (message_of (grammar_of g.now.grammar) m.now)))) }
+        ensures copy { OnOk result ((s : P.Site) → IsShown ⟦<F as Facts>⟧ self.old s → list_map (message_of (grammar_of g.now.grammar)) copy.new
+            ≡ list_map (message_of (grammar_of g.now.grammar)) copy.old ++ sent_for (plain_receive (grammar_of g.now.grammar) s (message_of (grammar_of g.now.grammar) m.now))) }
+        ensures err { OnErr result ((s : P.Site) → IsShown ⟦<F as Facts>⟧ self.old s → IsShown ⟦<F as Facts>⟧ self.new s) }
+        ensures err_copy { OnErr result (copy.new ≡ copy.old) }
+        ensures facts { KeepsFacts (map_in ⟦<F as Facts>⟧ self.old) (map_in ⟦<F as Facts>⟧ self.new) }
+        ensures nodes { KeepsNodes (nodes_in ⟦<F as Facts>⟧ self.old) (nodes_in ⟦<F as Facts>⟧ self.new) }
+    {
+        let alloc = copy.allocator();
+        let mut messages = std::mem::replace(copy, Messages::new(alloc)).into_vec();
+        let received = receiving::receive(
+            g,
+            &mut self.space,
+            &mut self.subs,
+            &mut self.outbox,
+            self.loads,
+            m,
+            &mut messages,
+        );
+        *copy = Messages::from_vec(messages);
+        received
+    }
+
+    /// Answers a message. Only `New` changes the site, and an error does not. Whatever comes, forged or not: equations and nodes stay,
+    /// and a guard that is decided stays so.
+    pub fn receive(&mut self, g: &Accepted, m: &Message) -> Result<Received, AllocError>
+        requires { g.now.grammar ≡ self.old.space.accepted.now.grammar }
+        ensures grammar { self.new.space.accepted.now.grammar ≡ self.old.space.accepted.now.grammar }
+        ensures role { role_in ⟦<F as Facts>⟧ self.new ≡ role_in ⟦<F as Facts>⟧ self.old }
+        ensures answer { IfOk result (λ r. (s : P.Site) → IsShown ⟦<F as Facts>⟧ self.old s → IsReceived r (plain_receive (grammar_of g.now.grammar) s (message_of (grammar_of g.now.grammar) m.now))) }
+        ensures site { OnOk result ((s : P.Site) → IsShown ⟦<F as Facts>⟧ self.old s →
+            IsShown ⟦<F as Facts>⟧ self.new (after_message s (plain_receive (grammar_of g.now.grammar) s (message_of (grammar_of g.now.grammar) m.now)))) }
+        ensures err { OnErr result ((s : P.Site) → IsShown ⟦<F as Facts>⟧ self.old s → IsShown ⟦<F as Facts>⟧ self.new s) }
+        ensures facts { KeepsFacts (map_in ⟦<F as Facts>⟧ self.old) (map_in ⟦<F as Facts>⟧ self.new) }
+        ensures nodes { KeepsNodes (nodes_in ⟦<F as Facts>⟧ self.old) (nodes_in ⟦<F as Facts>⟧ self.new) }
+    {
+        let mut copy = Messages::new(*self.outbox.allocator());
+        self.receive_into(g, m, &mut copy)
+    }
+}

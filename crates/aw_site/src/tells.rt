@@ -1,0 +1,124 @@
+//! Equations for the roles that asked for them.
+ghost use Rattle.std.specs.Prelude.{◌≡◌, ◌≤◌, ◌<◌, ◌++◌, ◌∷◌, [], IfOk, OnOk, map as list_map, option_map, if◌then◌else◌};
+ghost use Rattle.aw_grammar.specs.GrammarOf.{grammar_of};
+ghost use Rattle.aw_store.specs.Equations.{find, mentions};
+ghost use Rattle.aw_store.specs.EquationView.{body_of, equation_of};
+ghost use Rattle.aw_msg.specs.MessageView.{message_of};
+ghost use Rattle.aw_react.specs.Loads.{load_of};
+ghost use Rattle.aw_react.specs.Sites as P;
+ghost use Rattle.aw_react.specs.Telling.{has_watch, watchers_from, tell, tells, tell_back};
+ghost use Rattle.aw_site.specs.Holders.{ShowsWatchers};
+ghost use Rattle.aw_site.specs.Senders.{SendsAs, listed};
+
+use crate::finding::body_in_both;
+use crate::known::is_watched_by;
+use crate::sender::Sender;
+use aw_msg::{Message, MsgKind};
+use aw_name::{Ref, copy_ref};
+use aw_store::{Body, Equation, Equations, Facts, copy_equation};
+use aw_subs::Subs;
+use std::alloc::AllocError;
+
+/// The most roles of a grammar.
+const MOST_ROLES: u16 = 64;
+
+impl<'a, F: Facts> Sender<'a, F> {
+    /// The load of an equation.
+    fn load_of_body(&self, left: &Ref, body: &Body) -> Result<Equations, AllocError>
+        ensures { IfOk result (λ load. (s : P.Site) → SendsAs ⟦<F as Facts>⟧ self.now s →
+            list_map equation_of load ≡ load_of (grammar_of self.now.grammar.now) s (left.now ∷ []) (mentions (body_of body.now))) }
+    {
+        match body {
+            Body::Same(r) => self.load(Some(left), &[copy_ref(r)?]),
+            Body::Con(_, parts) => self.load(Some(left), parts.as_slice()),
+            Body::Num(_) | Body::Text(_) => self.load(Some(left), &[]),
+        }
+    }
+
+    /// An equation for a role, with its load.
+    fn tell(&self, e: &Equation, role: u16) -> Result<Message, AllocError>
+        ensures { IfOk result (λ m. (s : P.Site) → SendsAs ⟦<F as Facts>⟧ self.now s →
+            message_of (grammar_of self.now.grammar.now) m ≡ tell (grammar_of self.now.grammar.now) s (equation_of e.now) role) }
+    {
+        let load = self.load_of_body(&e.left, &e.body)?;
+        Ok(Message {
+            to: role,
+            kind: MsgKind::Tell {
+                equation: copy_equation(e)?,
+                load,
+            },
+        })
+    }
+
+    /// Adds an equation for a role, where that watches its left side.
+    fn push_told_one(
+        &self,
+        sent: &mut Vec<Message>,
+        subs: &Subs,
+        e: &Equation,
+        role: u16,
+    ) -> Result<(), AllocError>
+        requires { role < 64 }
+        ensures { OnOk result ((s : P.Site) → SendsAs ⟦<F as Facts>⟧ self.now s → ShowsWatchers subs.now s.watchers →
+            list_map (message_of (grammar_of self.now.grammar.now)) sent.new.items ≡ list_map (message_of (grammar_of self.now.grammar.now)) sent.old.items
+            ++ (if has_watch e.now.left role s.watchers then tell (grammar_of self.now.grammar.now) s (equation_of e.now) role ∷ [] else [])) }
+    {
+        if is_watched_by(subs, &e.left, role) {
+            sent.push(self.tell(e, role)?)?;
+        }
+        Ok(())
+    }
+
+    /// Adds an equation for each role below a number that watches its left side, in the order of roles.
+    fn push_told(
+        &self,
+        sent: &mut Vec<Message>,
+        subs: &Subs,
+        e: &Equation,
+        most: u16,
+    ) -> Result<(), AllocError>
+        requires { most ≤ 64 }
+        ensures { OnOk result ((s : P.Site) → SendsAs ⟦<F as Facts>⟧ self.now s → ShowsWatchers subs.now s.watchers →
+            list_map (message_of (grammar_of self.now.grammar.now)) sent.new.items ≡ list_map (message_of (grammar_of self.now.grammar.now)) sent.old.items
+            ++ list_map (tell (grammar_of self.now.grammar.now) s (equation_of e.now)) (watchers_from most 0 e.now.left s.watchers)) }
+    {
+        for role in 0..most {
+            self.push_told_one(sent, subs, e, role)?;
+        }
+        Ok(())
+    }
+
+    /// Adds each equation for each role that watches its left side.
+    pub fn push_tells(
+        &self,
+        sent: &mut Vec<Message>,
+        subs: &Subs,
+        es: &[Equation],
+    ) -> Result<(), AllocError>
+        ensures { OnOk result ((s : P.Site) → SendsAs ⟦<F as Facts>⟧ self.now s → ShowsWatchers subs.now s.watchers →
+            list_map (message_of (grammar_of self.now.grammar.now)) sent.new.items ≡ list_map (message_of (grammar_of self.now.grammar.now)) sent.old.items
+            ++ tells (grammar_of self.now.grammar.now) s (list_map equation_of es.now)) }
+    {
+        for e in es {
+            self.push_told(sent, subs, e, MOST_ROLES)?;
+        }
+        Ok(())
+    }
+
+    /// The answer to a question: the equation, where it is here.
+    pub fn tell_back(&self, r: &Ref, from: u16) -> Result<Option<Message>, AllocError>
+        ensures { IfOk result (λ m. (s : P.Site) → SendsAs ⟦<F as Facts>⟧ self.now s →
+            listed (option_map (message_of (grammar_of self.now.grammar.now)) m) ≡ tell_back (grammar_of self.now.grammar.now) s (find s.equations r.now) r.now from) }
+    {
+        match body_in_both(self.alloc, self.facts, self.more, r)? {
+            Some(body) => {
+                let e = Equation {
+                    left: copy_ref(r)?,
+                    body,
+                };
+                Ok(Some(self.tell(&e, from)?))
+            }
+            None => Ok(None),
+        }
+    }
+}

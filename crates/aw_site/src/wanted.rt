@@ -1,0 +1,183 @@
+//! References that are asked for: another role's, without an equation here, and not asked for before.
+ghost use Rattle.std.specs.Prelude.{◌≡◌, ◌++◌, ◌∷◌, [], IfOk, OnOk, filter, map as list_map};
+ghost use Rattle.aw_grammar.specs.GrammarOf.{grammar_of};
+ghost use Rattle.aw_store.specs.Equations.{mentions};
+ghost use Rattle.aw_store.specs.EquationView.{body_of, equation_of};
+ghost use Rattle.aw_msg.specs.MessageView.{message_of};
+ghost use Rattle.aw_react.specs.Asking.{all_mentions, all_inherited, is_wanted, ask_message};
+ghost use Rattle.aw_react.specs.InOrder.{insert_ref, in_order};
+ghost use Rattle.aw_react.specs.Sites as P;
+ghost use Rattle.aw_react.specs.Telling.{calls_in};
+ghost use Rattle.aw_site.specs.Holders.{ShowsAsked};
+ghost use Rattle.aw_site.specs.Plans.{wanted_of, asks_for};
+ghost use Rattle.aw_site.specs.Senders.{SendsAs};
+ghost use Rattle.aw_site.specs.Views.{child_call};
+
+use crate::finding::has_equation_in_both;
+use crate::sender::Sender;
+use crate::validity::home;
+use aw_apply::MadeChild;
+use aw_msg::{Message, MsgKind};
+use aw_name::{Ref, Refs, copy_ref};
+use aw_store::{Body, Equation, Facts};
+use aw_subs::Subs;
+use aw_term::order::{is_ref, is_ref_before};
+use std::alloc::{AllocError, Global};
+
+/// Adds copies of references.
+pub fn push_refs(refs: &mut Vec<Ref>, more: &[Ref]) -> Result<(), AllocError>
+    ensures { OnOk result (refs.new.items ≡ refs.old.items ++ more.now) }
+{
+    for r in more {
+        refs.push(copy_ref(r)?)?;
+    }
+    Ok(())
+}
+
+/// Adds copies of the references of a body.
+fn push_body_refs(refs: &mut Vec<Ref>, body: &Body) -> Result<(), AllocError>
+    ensures { OnOk result (refs.new.items ≡ refs.old.items ++ mentions (body_of body.now)) }
+{
+    match body {
+        Body::Same(r) => {
+            refs.push(copy_ref(r)?)?;
+            Ok(())
+        }
+        Body::Con(_, parts) => push_refs(refs, parts.as_slice()),
+        Body::Num(_) | Body::Text(_) => Ok(()),
+    }
+}
+
+/// Adds copies of the references in the bodies of equations.
+pub fn push_mentions(refs: &mut Vec<Ref>, es: &[Equation]) -> Result<(), AllocError>
+    ensures { OnOk result (refs.new.items ≡ refs.old.items ++ all_mentions (list_map equation_of es.now)) }
+{
+    for e in es {
+        push_body_refs(refs, &e.body)?;
+    }
+    Ok(())
+}
+
+/// Puts a reference before the first that is after it, where it does not stand already.
+fn insert_ref(refs: &mut Vec<Ref>, r: Ref) -> Result<(), AllocError>
+    ensures { OnOk result (refs.new.items ≡ insert_ref r refs.old.items) }
+{
+    for i in 0..refs.len() {
+        if is_ref_before(&r, &refs[i]) {
+            refs.insert(i, r)?;
+            return Ok(());
+        }
+        if is_ref(&r, &refs[i]) {
+            return Ok(());
+        }
+    }
+    refs.push(r)?;
+    Ok(())
+}
+
+/// The same references in order, each once.
+fn in_order(alloc: Global, refs: Vec<Ref>) -> Result<Vec<Ref>, AllocError>
+    ensures { IfOk result (λ sorted. sorted.items ≡ in_order refs.items) }
+{
+    let mut refs = refs;
+    let mut sorted = Vec::new(alloc);
+    while let Some(r) = refs.pop() {
+        insert_ref(&mut sorted, r)?;
+    }
+    Ok(sorted)
+}
+
+impl<'a, F: Facts> Sender<'a, F> {
+    /// Whether a reference is another role's, has no equation here, and was not asked for.
+    fn is_wanted(&self, subs: &Subs, r: &Ref) -> bool
+        ensures { (s : P.Site) → SendsAs ⟦<F as Facts>⟧ self.now s → ShowsAsked subs.now s.asked → result ≡ is_wanted (grammar_of self.now.grammar.now) s r.now }
+    {
+        home(self.grammar, &r.node) != self.role
+            && !has_equation_in_both(self.facts, self.more, r)
+            && !subs.has_asked(r)
+    }
+
+    /// Adds a copy of a reference, where it is wanted.
+    fn push_wanted(&self, wanted: &mut Vec<Ref>, subs: &Subs, r: &Ref) -> Result<(), AllocError>
+        ensures { OnOk result ((s : P.Site) → SendsAs ⟦<F as Facts>⟧ self.now s → ShowsAsked subs.now s.asked →
+            wanted.new.items ≡ wanted.old.items ++ filter (is_wanted (grammar_of self.now.grammar.now) s) (r.now ∷ [])) }
+    {
+        if self.is_wanted(subs, r) {
+            wanted.push(copy_ref(r)?)?;
+        }
+        Ok(())
+    }
+
+    /// Those of the references that are wanted.
+    fn only_wanted(&self, subs: &Subs, refs: &[Ref]) -> Result<Vec<Ref>, AllocError>
+        ensures { IfOk result (λ wanted. (s : P.Site) → SendsAs ⟦<F as Facts>⟧ self.now s → ShowsAsked subs.now s.asked →
+            wanted.items ≡ filter (is_wanted (grammar_of self.now.grammar.now) s) refs.now) }
+    {
+        let mut wanted = Vec::new(self.alloc);
+        for r in refs {
+            self.push_wanted(&mut wanted, subs, r)?;
+        }
+        Ok(wanted)
+    }
+
+    /// Those of the references that are wanted, in order, each once.
+    pub fn wanted(&self, subs: &Subs, refs: Vec<Ref>) -> Result<Refs, AllocError>
+        ensures { IfOk result (λ wanted. (s : P.Site) → SendsAs ⟦<F as Facts>⟧ self.now s → ShowsAsked subs.now s.asked →
+            wanted ≡ wanted_of (grammar_of self.now.grammar.now) s refs.items) }
+    {
+        let sorted = in_order(self.alloc, refs)?;
+        let wanted = self.only_wanted(subs, sorted.as_slice())?;
+        Refs::from_vec(wanted)
+    }
+
+    /// The question for a reference.
+    fn ask(&self, r: &Ref) -> Result<Message, AllocError>
+        ensures { IfOk result (λ m. message_of (grammar_of self.now.grammar.now) m ≡ ask_message (grammar_of self.now.grammar.now) self.now.role r.now) }
+    {
+        Ok(Message {
+            to: home(self.grammar, &r.node),
+            kind: MsgKind::Ask {
+                reference: copy_ref(r)?,
+                from: self.role,
+            },
+        })
+    }
+
+    /// Adds a question for each of the references.
+    pub fn push_asks(&self, sent: &mut Vec<Message>, wanted: &[Ref]) -> Result<(), AllocError>
+        ensures { OnOk result ((s : P.Site) → SendsAs ⟦<F as Facts>⟧ self.now s →
+            list_map (message_of (grammar_of self.now.grammar.now)) sent.new.items
+            ≡ list_map (message_of (grammar_of self.now.grammar.now)) sent.old.items ++ asks_for (grammar_of self.now.grammar.now) s wanted.now) }
+    {
+        for r in wanted {
+            sent.push(self.ask(r)?)?;
+        }
+        Ok(())
+    }
+
+    /// Adds copies of what the children of this role inherit.
+    pub fn push_inherited(
+        &self,
+        refs: &mut Vec<Ref>,
+        children: &[MadeChild],
+    ) -> Result<(), AllocError>
+        ensures { OnOk result (refs.new.items ≡ refs.old.items
+            ++ all_inherited (calls_in (grammar_of self.now.grammar.now) self.now.role (list_map (child_call (grammar_of self.now.grammar.now)) children.now))) }
+    {
+        for child in children {
+            self.push_child_inherited(refs, child)?;
+        }
+        Ok(())
+    }
+
+    /// Adds copies of what a child inherits, where it is of this role.
+    fn push_child_inherited(&self, refs: &mut Vec<Ref>, child: &MadeChild) -> Result<(), AllocError>
+        ensures { OnOk result (refs.new.items ≡ refs.old.items
+            ++ all_inherited (calls_in (grammar_of self.now.grammar.now) self.now.role (child_call (grammar_of self.now.grammar.now) child.now ∷ []))) }
+    {
+        if home(self.grammar, &child.node) == self.role {
+            push_refs(refs, child.inherited.as_slice())?;
+        }
+        Ok(())
+    }
+}
