@@ -1,5 +1,5 @@
 -- Of two workspaces the one whose next node comes first.
-use Rattle.std.proofs.Common.{◌≡◌, ℕ, ◌+◌, ◌<◌, ◌≤◌, arith, Bool, true, false, List, ap, sym, ◌∙◌, refl, subst, Some, None}
+use Rattle.std.proofs.Common.{◌≡◌, ℕ, ◌+◌, ◌<◌, ◌≤◌, arith, Bool, true, false, List, refl, subst, Some, None}
 use borrow.Author.Count.{below_more}
 use Rattle.aw_term.specs.Names.{Node, node_lt}
 use Rattle.aw_term.proofs.NodeOrder.{node_order, node-no}

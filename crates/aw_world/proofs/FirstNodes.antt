@@ -1,6 +1,6 @@
 -- Lists of held nodes in order, put together: the first node of all, and what is left behind it.
-use Rattle.std.proofs.Common.{◌≡◌, ℕ, zero, suc, ◌+◌, ◌<◌, ◌≤◌, arith, Bool, true, false, cond, List, [], ◌∷◌, length, map, drop, replicate, ap, sym, ◌∙◌, refl, subst, Option, Some, None, slice_get}
-use Rattle.std.specs.Prelude.{option_and_then, slice_set}
+use Rattle.std.proofs.Common.{◌≡◌, ℕ, zero, suc, ◌<◌, arith, Bool, true, false, cond, List, [], ◌∷◌, length, drop, ap, sym, ◌∙◌, refl, subst, Option, Some, None, slice_get}
+use Rattle.std.specs.Prelude.{option_and_then}
 use Rattle.std.proofs.lemmas.Option.{same_Some}
 use Rattle.aw_term.specs.Names.{node_lt}
 use Rattle.aw_term.specs.WellFormed.{Each}

@@ -1,5 +1,5 @@
 -- What the sites of a plain world hold in order, of what the workspaces hold.
-use Rattle.std.proofs.Common.{◌≡◌, ℕ, zero, suc, true, List, [], ◌∷◌, ap, sym, ◌∙◌, refl}
+use Rattle.std.proofs.Common.{◌≡◌, ℕ, suc, true, List, [], ◌∷◌, ap, sym, ◌∙◌, refl}
 use Rattle.std.specs.Prelude.{slice_get, Some}
 use Rattle.aw_term.specs.Rules.{Grammar}
 use Rattle.aw_term.specs.SameGrammar.{same_grammar}

@@ -1,5 +1,5 @@
 -- What every step of a world keeps at its sites.
-use Rattle.std.proofs.Common.{◌≡◌, ℕ, zero, suc, false, List, [], ◌∷◌, ap, sym, ◌∙◌, refl, subst, inl, inr, ◌⊎◌}
+use Rattle.std.proofs.Common.{◌≡◌, ℕ, zero, suc, false, List, [], ◌∷◌, ap, sym, refl, subst, inl, inr, ◌⊎◌}
 use Rattle.std.specs.Prelude.{slice_get, slice_set, Option, Some, None}
 use Rattle.aw_term.specs.Rules.{Ground, Grammar, get}
 use Rattle.aw_term.specs.Configs.{Done}

@@ -14,3 +14,5 @@ pub mod Lines
 pub mod PrintProps
 pub mod QuietRows
 pub mod RowsAt
+pub mod HeldRows
+pub mod OwnGrammars

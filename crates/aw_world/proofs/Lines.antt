@@ -1,12 +1,12 @@
 -- Rows that are printed one after the other.
-use Rattle.std.proofs.Common.{◌≡◌, ℕ, zero, suc, ◌+◌, ◌<◌, ◌≤◌, arith, List, [], ◌∷◌, ◌++◌, length, take, drop, map, get_or, ap, sym, ◌∙◌, refl, subst, Option, Some, None, slice_get}
+use Rattle.std.proofs.Common.{◌≡◌, ℕ, zero, suc, ◌+◌, ◌≤◌, arith, List, [], ◌∷◌, ◌++◌, length, drop, map, ap, sym, ◌∙◌, refl, subst, Option, Some, slice_get}
 use Rattle.std.specs.Prelude.{Result, Ok, Err}
 use Rattle.std.proofs.lemmas.List.{length-map}
-use Rattle.std.proofs.lemmas.Option.{same_Some, slice_get-map}
+use Rattle.std.proofs.lemmas.Option.{same_Some}
 use Rattle.aw_accept.specs.Acyclic.{Pairs}
 use Rattle.aw_out.specs.declared.error.PrintFault.{PrintFault}
 use Rattle.aw_out.specs.Report.{Bounded, Prints}
-use Rattle.aw_out.proofs.Printing.{Prints-stopped, Prints-second, Prints-nothing}
+use Rattle.aw_out.proofs.Printing.{Prints-stopped, Prints-second}
 
 pub stops : (whole a b : List ℕ) (old new : Bounded) (r1 r : Result Unit PrintFault) (fault : PrintFault) → whole ≡ a ++ b → r1 ≡ Err fault → r ≡ Err fault → Prints a old new r1 → Prints whole old new r
 stops whole a b old new r1 r fault e err same first =

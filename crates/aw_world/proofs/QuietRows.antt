@@ -1,13 +1,11 @@
 -- What is printed of a quiet world.
-use Rattle.std.proofs.Common.{◌≡◌, ℕ, List, [], length, map, ap, sym, ◌∙◌, subst, Some, None, inl, inr}
+use Rattle.std.proofs.Common.{◌≡◌, ℕ, List, [], length, map, ap, sym, ◌∙◌, subst, Some, None}
 use Rattle.std.specs.Prelude.{Result}
 use Rattle.std.proofs.Math.Logic.{∥∥₁_elim}
 use Rattle.std.proofs.Math.Nat.{ℕ_set}
 use Rattle.aw_term.specs.Artifacts.{artifact_text}
 use Rattle.aw_term.specs.Choices.{Choice, undivided}
 use Rattle.aw_term.specs.Configs.{Config}
-use Rattle.aw_term.specs.Rules.{Grammar}
-use Rattle.aw_accept.specs.Acyclic.{Pairs}
 use Rattle.aw_grammar.specs.GrammarOf.{grammar_of, words_of}
 use Rattle.aw_choice.specs.ChoiceView.{choice_of}
 use Rattle.aw_joint.specs.Laws.{SameChoices}

@@ -1,5 +1,5 @@
 -- The row of a node at a place of a workspace.
-use Rattle.std.proofs.Common.{◌≡◌, ℕ, zero, suc, ◌+◌, ◌<◌, arith, false, List, [], ◌∷◌, ◌++◌, length, drop, map, get_or, ap, sym, ◌∙◌, refl, subst, Option, Some, None, slice_get, append_assoc}
+use Rattle.std.proofs.Common.{◌≡◌, ℕ, zero, suc, ◌+◌, ◌<◌, arith, false, List, [], ◌∷◌, ◌++◌, length, drop, ap, sym, ◌∙◌, refl, subst, Option, Some, None, slice_get, append_assoc}
 use Rattle.std.specs.Prelude.{Result, option_and_then, option_map, IsSome}
 use Rattle.std.proofs.lemmas.List.{length-map}
 use Rattle.std.proofs.lemmas.Option.{slice_get-map, slice_get_within}
@@ -9,7 +9,6 @@ use Rattle.aw_term.specs.Names.{Node}
 use Rattle.aw_term.specs.Rules.{get}
 use Rattle.aw_term.specs.Rules as R
 use Rattle.aw_term.proofs.GrammarTests.{grammars_are_one}
-use Rattle.aw_accept.specs.Acyclic.{Pairs}
 use Rattle.aw_grammar.specs.declared.grammar.Grammar.{Grammar}
 use Rattle.aw_grammar.specs.GrammarOf.{grammar_of, words_of}
 use Rattle.aw_held.specs.declared.held.Held.{Held}

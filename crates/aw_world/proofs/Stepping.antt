@@ -1,6 +1,6 @@
 -- What a choice and a delivery do to a world that is seen as a plain one.
-use Rattle.std.proofs.Common.{◌≡◌, ℕ, ◌+◌, ◌<◌, ◌≤◌, arith, Bool, true, false, List, [], ◌∷◌, ◌++◌, length, map, ap, sym, ◌∙◌, refl, subst, cond}
-use Rattle.std.specs.Prelude.{slice_set, Option, Some, None, nat_eq, if◌then◌else◌}
+use Rattle.std.proofs.Common.{◌≡◌, ℕ, ◌+◌, ◌<◌, ◌≤◌, arith, Bool, true, false, List, [], ◌∷◌, ◌++◌, length, map, ap, sym, ◌∙◌, refl, subst}
+use Rattle.std.specs.Prelude.{slice_set, if◌then◌else◌}
 use Rattle.std.proofs.lemmas.List.{length-map, length-append, map-append, append-nil}
 use Rattle.aw_accept.specs.Acyclic.{Pairs}
 use Rattle.aw_term.specs.Trees.{Never}

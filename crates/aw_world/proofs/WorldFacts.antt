@@ -1,20 +1,16 @@
 -- What holds of a world of the program because events lead to it.
-use Rattle.std.proofs.Common.{◌≡◌, ℕ, zero, suc, ◌<◌, ◌≤◌, arith, Bool, true, false, List, [], ◌∷◌, length, map, ap, sym, ◌∙◌, refl, subst, inl, inr, Some}
-use Rattle.std.specs.Prelude.{◌&&◌, slice_get, option_map, nat_eq}
+use Rattle.std.proofs.Common.{◌≡◌, ℕ, zero, suc, ◌≤◌, arith, Bool, false, List, [], ◌∷◌, length, map, ap, sym, ◌∙◌, refl, subst, Some}
+use Rattle.std.specs.Prelude.{slice_get, option_map}
 use Rattle.std.specs.Coded.{le_prop}
 use Rattle.std.proofs.Math.Logic.{∥∥₁_elim, ∥∥₁_map}
 use mathlib.Core.Logic.{∥∥₁_prop}
-use Rattle.std.proofs.Math.Bool.{Bool-set}
 use Rattle.std.proofs.Math.Nat.{ℕ_set}
-use Rattle.std.proofs.lemmas.Bool.{and_parts, and_from}
 use Rattle.std.proofs.lemmas.List.{length-map}
 use Rattle.std.proofs.lemmas.Option.{slice_get-map, same_Some}
-use Rattle.aw_text.specs.Spelling.{is_content}
-use Rattle.aw_term.specs.Trees.{Head, Con, Num, Text}
 use Rattle.aw_term.specs.Rules.{get}
 use Rattle.aw_term.specs.Rules as R
 use Rattle.aw_term.specs.Artifacts.{Words}
-use Rattle.aw_term.specs.WellFormed.{Each, head_fits}
+use Rattle.aw_term.specs.WellFormed.{Each}
 use Rattle.aw_term.specs.Held as P
 use Rattle.aw_term.proofs.GrammarTests.{grammars_are_one}
 use Rattle.aw_iograph.specs.Graphs.{Member}
@@ -25,52 +21,25 @@ use Rattle.aw_grammar.specs.declared.grammar.Grammar.{Grammar}
 use Rattle.aw_grammar.specs.GrammarOf.{grammar_of, words_of}
 use Rattle.aw_choice.specs.declared.choice.Choice.{Choice}
 use Rattle.aw_choice.specs.ChoiceView.{choice_of}
-use Rattle.aw_held.specs.declared.held.Held.{Held}
 use Rattle.aw_held.specs.HeldView.{held_of, all_of}
-use Rattle.aw_store.specs.Equations.{Body, Same, Is, Equation}
-use Rattle.aw_apply.specs.Messages as plain
-use Rattle.aw_apply.specs.Messages.{carried}
 use Rattle.aw_joint.specs.Laws.{IsAccepted}
 use Rattle.aw_react.specs.Homes.{home}
 use Rattle.aw_react.specs.Sites.{Site, empty_site}
-use Rattle.aw_react.specs.ValidNames.{equation_ok}
-use Rattle.aw_react.specs.ValidNames as names
 use Rattle.aw_react.specs.Bounds.{bound_of}
 use Rattle.aw_react.specs.Worlds as V
 use Rattle.aw_react.specs.Worlds.{MayCome, world_after}
-use Rattle.aw_merge.specs.Invariant.{sender}
-use Rattle.aw_merge.proofs.Learning.{find-member}
 use Rattle.aw_merge.proofs.Nearing.{within_bound}
 use Rattle.aw_merge.proofs.WorldLaws.{invariant_law, headline}
 use Rattle.aw_msg.specs.declared.message.Message.{Message}
 use Rattle.aw_msg.specs.MessageView.{message_of}
 use Rattle.aw_world.specs.declared.workspace.Workspace.{Ghosts}
-use Rattle.aw_world.specs.Contents.{head_ok, body_ok, bodies_ok, HasContents, HaveContents}
 use Rattle.aw_world.specs.Opened.{AreAtHome}
 use Rattle.aw_world.specs.Seen.{ArePlaced, IsReached}
 use Rattle.aw_world.specs.Staying.{IsConfigured}
 
--- ---- each text in a message is a content
-
-head_fine : (arities : List ℕ) (h : Head) (n : ℕ) → head_fits arities h n ≡ true → head_ok h ≡ true
-head_fine arities (Con c) n e = refl
-head_fine arities (Num k) n e = refl
-head_fine arities (Text t) n e = (and_parts (nat_eq n 0) (is_content t) e).1
-
-body_fine : (g : R.Grammar) (b : Body) → names.body_ok g b ≡ true → body_ok b ≡ true
-body_fine g (Same r) e = refl
-body_fine g (Is h rs) e = head_fine g.arities h (length rs) (and_parts _ _ e).0
-
-bodies_fine : (g : R.Grammar) (es : List Equation) → ((e : Equation) → Member e es → equation_ok g e ≡ true) → bodies_ok es ≡ true
-bodies_fine g [] f = refl
-bodies_fine g (e ∷ es) f = and_from (body_ok e.body) (bodies_ok es) (body_fine g e.body (and_parts _ _ (f e (inl refl))).1) (bodies_fine g es (λ x m. f x (inr m)))
+-- ---- what is known of the plain world
 
 module _ (words : Words) (g : R.Grammar) (accepted : IsAccepted words g) (loads : Bool) (es : List V.Move) (may : Each (MayCome g) es) where
-  contents_law : (k : ℕ) (m : plain.Message) → slice_get (world_after g loads es).messages k ≡ Some m → HasContents m
-  contents_law k m s =
-      let (x, I) = invariant_law words g accepted loads es may in
-      bodies_fine g (carried m.kind) (λ e i. I.valid.equations e (find-member x.equations e.left e.body (I.known (sender g m.kind) e.left e.body (I.sender_has k m s e i))))
-
   homes_law : (a : ℕ) (h : P.Held) → Member h (V.site_at (world_after g loads es) a).held → home g h.node ≡ a
   homes_law a h m = let (x, I) = invariant_law words g accepted loads es may in (I.held a h m).1
 
@@ -97,11 +66,6 @@ module _ {W : Type 0} (f : Ghosts W) (a : Accepted) (loads : Bool) (ws : List W)
 
   abbrev p : R.Grammar
   p = grammar_of a.grammar
-
-  pub reached_contents : HaveContents (grammar_of a.grammar) ms
-  reached_contents i m e =
-      ∥∥₁_elim d.well_formed (Bool-set _ _) (λ w. ∥∥₁_elim a.sound (Bool-set _ _) (λ s. ∥∥₁_elim h (Bool-set _ _) (λ r.
-      contents_law (words_of d) p (w, s) loads r.0 r.1 i (message_of p m) (ap (λ z. slice_get z i) r.2.messages ∙ slice_get-map (message_of p) ms i ∙ ap (option_map (message_of p)) e))))
 
   pub reached_homes : ((w : W) (s : Site) → f.shows w s → s.held ≡ all_of (f.its_grammar w) (f.its_nodes w)) → ArePlaced f a.grammar ws → AreAtHome f (grammar_of a.grammar) ws
   reached_homes hold placed i j w x e at =

@@ -1,5 +1,4 @@
 pub mod Marks
-pub mod Contents
 pub mod PrintedRows
 pub mod Reactions
 pub mod MoveView

@@ -3,9 +3,7 @@ ghost use Rattle.std.specs.Prelude.{◌≡◌, ◌<◌, ◌≤◌, if◌then◌e
 ghost use Rattle.aw_grammar.specs.GrammarOf.{grammar_of};
 ghost use Rattle.aw_term.specs.Rules.{get};
 ghost use Rattle.aw_react.specs.Sites as P;
-ghost use Rattle.aw_msg.specs.MessageView.{message_of};
 ghost use Rattle.aw_choice.specs.declared.choice.Choice.{Choice};
-ghost use Rattle.aw_world.specs.Contents.{HasContents, HaveContents};
 ghost use Rattle.aw_world.specs.Seen.{ArePlaced, AreAddressed, ShowEach, TakesInAt, Delivers, reply_for, SeenStill};
 
 use crate::marks::Marks;
@@ -25,7 +23,6 @@ fn receive_at<W: Workspace>(
 ) -> Result<bool, AllocError>
     requires placed { ArePlaced ⟦<W as Workspace>⟧ accepted.now.grammar sites.old.items }
     requires at { at < length sites.old.items }
-    requires contents { HasContents (message_of (grammar_of accepted.now.grammar) message.now) }
     ensures placed { ArePlaced ⟦<W as Workspace>⟧ accepted.now.grammar sites.new.items }
     ensures grows { length messages.old ≤ length messages.new }
     ensures got { IfOk result (λ new. TakesInAt ⟦<W as Workspace>⟧ accepted.now.grammar sites.old.items sites.new.items at messages.old messages.new message.now new) }
@@ -56,7 +53,6 @@ pub fn deliver_at<W: Workspace>(
 ) -> Result<bool, AllocError>
     requires placed { ArePlaced ⟦<W as Workspace>⟧ accepted.now.grammar sites.old.items }
     requires addressed { AreAddressed sites.old.items messages.old }
-    requires contents { HaveContents (grammar_of accepted.now.grammar) messages.old }
     requires marked { length marks.old.delivered.items ≤ length messages.old }
     requires at { at < length messages.old }
     ensures placed { ArePlaced ⟦<W as Workspace>⟧ accepted.now.grammar sites.new.items }
@@ -81,7 +77,6 @@ pub fn deliver<W: Workspace>(
 ) -> Result<Reply, AllocError>
     requires placed { ArePlaced ⟦<W as Workspace>⟧ accepted.now.grammar sites.old.items }
     requires addressed { AreAddressed sites.old.items messages.old }
-    requires contents { HaveContents (grammar_of accepted.now.grammar) messages.old }
     requires marked { length marks.old.delivered.items ≤ length messages.old }
     ensures placed { ArePlaced ⟦<W as Workspace>⟧ accepted.now.grammar sites.new.items }
     ensures marked { length marks.new.delivered.items ≤ length messages.new }

@@ -9,6 +9,7 @@ mod marks;
 mod merging;
 mod moves;
 mod settling;
+mod sites;
 mod workspace;
 mod world;
 
@@ -16,5 +17,6 @@ pub use listing::Nodes;
 pub use merging::Spot;
 pub use moves::{Move, Reply};
 pub use settling::settle;
+pub use sites::SiteWorld;
 pub use workspace::{Made, Workspace};
 pub use world::World;

@@ -10,13 +10,11 @@ ghost use Rattle.aw_react.specs.Sites as P;
 ghost use Rattle.aw_react.specs.Worlds.{node_of};
 ghost use Rattle.aw_react.specs.Choosing.{answer_to};
 ghost use Rattle.aw_react.specs.SiteEvents.{after_choice, after_message};
-ghost use Rattle.aw_msg.specs.MessageView.{message_of};
 ghost use Rattle.aw_choice.specs.ChoiceView.{item_of};
 ghost use Rattle.aw_held.specs.declared.held.Held.{Held as HeldValue};
 ghost use Rattle.aw_held.specs.InOrder.{IsInOrder};
 ghost use Rattle.aw_held.specs.HeldView.{all_of};
 ghost use Rattle.aw_react.specs.Worklists.{site_worklist};
-ghost use Rattle.aw_world.specs.Contents.{HasContents};
 ghost use Rattle.aw_world.specs.PrintedRows.{PrintsRow};
 ghost use Rattle.aw_world.specs.Reactions.{choice_at, message_at, all_messages};
 ghost use Rattle.aw_world.specs.SiteAnswers.{sent_by, sent_back, is_new};
@@ -55,21 +53,21 @@ pub trait Workspace: Drop {
         ensures grammar { its_grammar self.new ≡ its_grammar self.old }
         ensures role { its_role self.new ≡ its_role self.old }
         ensures answer { IfOk result (λ r. (s : P.Site) → shows self.old s → answer_of r.0 ≡ answer_to (choice_at accepted.now.grammar s choice.now)) }
+        ensures count { IfOk result (λ r. (s : P.Site) → shows self.old s → r.1 ≡ length (sent_by (choice_at accepted.now.grammar s choice.now))) }
         ensures site { OnOk result ((s : P.Site) → shows self.old s → shows self.new (after_choice s (choice_at accepted.now.grammar s choice.now))) }
         ensures sent { OnOk result ((s : P.Site) → shows self.old s → all_messages accepted.now.grammar copy.new ≡ all_messages accepted.now.grammar copy.old ++ sent_by (choice_at accepted.now.grammar s choice.now)) }
         ensures grows { length copy.old ≤ length copy.new }
         ensures err { OnErr result ((s : P.Site) → shows self.old s → shows self.new s) }
         ensures err_sent { OnErr result (copy.new ≡ copy.old) };
 
-    /// Takes in a message, and appends what it sends to a list. An error changes nothing.
+    /// Takes in a message, whatever it says, and appends what it sends to a list. An error changes nothing.
     fn receive_into(
         &mut self,
         accepted: &Accepted,
         message: &Message,
         copy: &mut Messages,
     ) -> Result<bool, AllocError>
-        requires grammar { same_grammar (its_grammar self.old) (grammar_of accepted.now.grammar) ≡ true }
-        requires contents { HasContents (message_of (grammar_of accepted.now.grammar) message.now) }
+        requires { same_grammar (its_grammar self.old) (grammar_of accepted.now.grammar) ≡ true }
         ensures grammar { its_grammar self.new ≡ its_grammar self.old }
         ensures role { its_role self.new ≡ its_role self.old }
         ensures new { IfOk result (λ new. (s : P.Site) → shows self.old s → new ≡ is_new (message_at accepted.now.grammar s message.now)) }

@@ -6,7 +6,6 @@ ghost use Rattle.aw_react.specs.Worlds.{count_set, count_open, MayCome};
 ghost use Rattle.aw_world.specs.Marks.{marks};
 ghost use Rattle.aw_choice.specs.ChoiceView.{choice_of};
 ghost use Rattle.aw_react.specs.Bounds.{bound_of};
-ghost use Rattle.aw_world.specs.Contents.{HaveContents};
 ghost use Rattle.aw_world.specs.Staying.{KeepsSites, IsConfigured};
 ghost use Rattle.aw_world.specs.MoveView.{move_of};
 ghost use Rattle.aw_world.specs.Seen.{ArePlaced, AreAddressed, IsReached, Moves, SeenStill};
@@ -47,7 +46,6 @@ fn step<W: Workspace>(
 ) -> Result<Reply, AllocError>
     requires placed { ArePlaced ⟦<W as Workspace>⟧ accepted.now.grammar sites.old.items }
     requires addressed { AreAddressed sites.old.items messages.old }
-    requires contents { HaveContents (grammar_of accepted.now.grammar) messages.old }
     requires marked { length marks.old.delivered.items ≤ length messages.old }
     requires may_come { MayCome (grammar_of accepted.now.grammar) (move_of event) }
     ensures placed { ArePlaced ⟦<W as Workspace>⟧ accepted.now.grammar sites.new.items }

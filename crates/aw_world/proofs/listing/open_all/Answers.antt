@@ -1,5 +1,3 @@
-use Rattle.std.proofs.Common.{◌≡◌, Some, sym, ◌∙◌}
-use Rattle.std.specs.Prelude.{slice_get}
 use Rattle.std.proofs.lemmas.Option.{slice_get-get_or}
 use Rattle.aw_world.specs.Merged.{merged, nodes_of, held_at}
 use Rattle.aw_world.proofs.Lines.{told_here}

@@ -1,8 +1,6 @@
-use Rattle.std.proofs.Common.{rules, ◌≡◌, ◌+◌, [], Some, Ok, drop, length, ap, sym, ◌∙◌, subst, arith, refl}
-use Rattle.std.specs.Prelude.{slice_index_or, slice_get}
+use Rattle.std.proofs.Common.{rules, ◌≡◌, ◌+◌, [], Ok, drop, ap, sym, subst, arith}
 use Rattle.std.proofs.lemmas.Option.{slice_get-get_or}
-use Rattle.aw_accept.specs.Acyclic.{Pairs}
-use Rattle.aw_grammar.specs.GrammarOf.{grammar_of, words_of}
+use Rattle.aw_grammar.specs.GrammarOf.{words_of}
 use Rattle.aw_out.specs.Report.{Prints}
 use Rattle.aw_out.proofs.Printing.{Prints-nothing}
 use Rattle.aw_term.specs.Artifacts.{artifact_text, row_text}

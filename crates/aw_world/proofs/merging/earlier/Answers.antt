@@ -1,4 +1,4 @@
-use Rattle.std.proofs.Common.{sym, ◌∙◌, refl}
+use Rattle.std.proofs.Common.{sym, ◌∙◌}
 use Rattle.aw_world.proofs.Earlier.{new_first, old_first, new_before}
 use Rattle.aw_world.proofs.merging.earlier.Goals as goal
 

@@ -1,6 +1,6 @@
-use Rattle.std.proofs.Common.{◌≡◌, ◌++◌, length, map, Some, ap, ◌∙◌}
+use Rattle.std.proofs.Common.{◌++◌, length, map, Some, ap, ◌∙◌}
 use Rattle.std.proofs.lemmas.List.{length-replicate}
-use Rattle.aw_world.specs.Merged.{merged, nodes_of, left_of, held_at}
+use Rattle.aw_world.specs.Merged.{merged, left_of, held_at}
 use Rattle.aw_world.proofs.Walking.{left_start}
 use Rattle.aw_world.proofs.merging.in_order.Goals as goal
 

@@ -1,4 +1,4 @@
-use Rattle.std.proofs.Common.{◌≡◌, refl}
+use Rattle.std.proofs.Common.{refl}
 use Rattle.aw_held.proofs.InOrderLemmas.{up_of}
 use Rattle.aw_world.proofs.Walking.{none_next, passes}
 use Rattle.aw_world.proofs.RowsAt.{there}

@@ -1,9 +1,8 @@
-use Rattle.std.proofs.Common.{◌≡◌, None, length, sym, ◌∙◌, subst}
+use Rattle.std.proofs.Common.{◌≡◌, None, length, subst}
 use Rattle.std.specs.Prelude.{IfOk}
 use Rattle.std.proofs.lemmas.Result.{IfOk-weaker}
-use Rattle.aw_grammar.specs.GrammarOf.{grammar_of}
 use Rattle.aw_react.specs.Worlds as V
-use Rattle.aw_world.specs.Opened.{AreAllInOrder, AreAtHome}
+use Rattle.aw_world.specs.Opened.{AreAllInOrder}
 use Rattle.aw_world.specs.Reactions.{HasRows}
 use Rattle.aw_world.specs.Shown.{Shows, first_open}
 use Rattle.aw_world.proofs.QuietRows.{quiet_length}

@@ -1,4 +1,4 @@
-use Rattle.std.proofs.Common.{◌≡◌, List, map}
+use Rattle.std.proofs.Common.{◌≡◌, map}
 use Rattle.std.proofs.lemmas.Result.{IfOk-weaker}
 use Rattle.aw_choice.specs.ChoiceView.{item_of}
 use Rattle.aw_grammar.specs.GrammarOf.{grammar_of}

@@ -1,4 +1,4 @@
-use Rattle.std.proofs.Common.{◌≡◌, ap, sym, ◌∙◌}
+use Rattle.std.proofs.Common.{ap, sym, ◌∙◌}
 use Rattle.aw_grammar.specs.GrammarOf.{grammar_of}
 use Rattle.aw_held.specs.HeldView.{all_of}
 use Rattle.aw_world.specs.Merged.{merged, nodes_of}

@@ -1,4 +1,4 @@
-use Rattle.std.proofs.Common.{sym, ◌∙◌, subst}
+use Rattle.std.proofs.Common.{sym, subst}
 use Rattle.aw_grammar.specs.GrammarOf.{grammar_of}
 use Rattle.aw_world.specs.Opened.{AreAtHome}
 use Rattle.aw_world.specs.Seen.{ShowEach}

@@ -1,4 +1,4 @@
-use Rattle.std.proofs.Common.{◌≡◌, ◌<◌, false, length, sym, ◌∙◌, subst, arith, refl}
+use Rattle.std.proofs.Common.{◌<◌, false, length, ◌∙◌, subst, arith, refl}
 use Rattle.std.proofs.lemmas.Option.{slice_get_read}
 use Rattle.aw_react.specs.Sites.{empty_site}
 use Rattle.aw_react.specs.Worlds as V

@@ -1,0 +1,163 @@
+//! Worlds whose workspaces are the sites of the program.
+ghost use Rattle.std.specs.Prelude.{◌≡◌, ◌<◌, true, IfOk, map as list_map};
+ghost use Rattle.std.proofs.Common.{ap};
+ghost use Rattle.aw_apply.specs.Messages.{Received as Answered};
+ghost use Rattle.aw_choice.specs.ChoiceView.{item_of};
+ghost use Rattle.aw_grammar.specs.GrammarOf.{grammar_of, words_of};
+ghost use Rattle.aw_held.specs.HeldView.{held_of};
+ghost use Rattle.aw_merge.specs.ReadRows.{IsRead};
+ghost use Rattle.aw_out.specs.Report.{Prints};
+ghost use Rattle.aw_react.specs.ValidNames.{takes_as};
+ghost use Rattle.aw_react.specs.Sites.{Reaction};
+ghost use Rattle.aw_site.specs.Answers.{IsReceived};
+ghost use Rattle.aw_site.specs.Seen.{IsShown};
+ghost use Rattle.aw_space.specs.Seen.{space_seen};
+ghost use Rattle.aw_space.specs.Spaces.{worklist};
+ghost use Rattle.aw_space.specs.Valid.{done_fits};
+ghost use Rattle.aw_term.specs.Artifacts.{row_text};
+ghost use Rattle.aw_term.specs.Configs.{Row};
+ghost use Rattle.aw_term.specs.Rules.{sort_of};
+ghost use Rattle.aw_world.specs.SiteAnswers.{is_new};
+
+use crate::workspace::{Made, Workspace};
+use crate::world::World;
+use aw_accept::Accepted;
+use aw_apply::Steps;
+use aw_cells::CellFacts;
+use aw_choice::{Answer, Choice, Worklist};
+use aw_grammar::Grammar;
+use aw_held::Held;
+use aw_msg::{Message, Messages};
+use aw_out::{PrintFault, Report};
+use aw_print::artifact_row;
+use aw_site::{Received, Site};
+use aw_space::Space;
+use aw_store::Facts;
+use std::alloc::{AllocError, Global};
+use std::marker::Brand;
+use std::sync::ledger::{Blank, Ledger};
+
+/// A world of sites, each over a store that finds references by hashes.
+pub type SiteWorld<'g> = World<'g, Site<'g, CellFacts>>;
+
+/// The worklist of a space, in a ledger of its own.
+fn list_in_ledger<L: Ledger>(
+    space: &Space<CellFacts>,
+    accepted: &Accepted,
+    blank: Blank,
+) -> Result<Worklist, AllocError>
+    requires name { blank.name ≡ L.name }
+    requires parts { blank.parts ≡ L.parts }
+    requires some { 0 < L.parts }
+    requires grammar { accepted.now.grammar ≡ space.now.accepted.now.grammar }
+    ensures { IfOk result (λ items. list_map item_of items ≡ worklist (grammar_of accepted.now.grammar) (space_seen ⟦<CellFacts as Facts>⟧ space.now)) }
+{
+    let mut steps = Steps::<L>::new(blank);
+    space.list(accepted, &mut steps)
+}
+
+/// The worklist of a space, where nobody counts the tests.
+fn list_uncounted(space: &Space<CellFacts>, accepted: &Accepted) -> Result<Worklist, AllocError>
+    requires { accepted.now.grammar ≡ space.now.accepted.now.grammar }
+    ensures { IfOk result (λ items. list_map item_of items ≡ worklist (grammar_of accepted.now.grammar) (space_seen ⟦<CellFacts as Facts>⟧ space.now)) }
+{
+    list_in_ledger::<Brand>(space, accepted, Blank::new(1))
+}
+
+/// Prints the artifact line of a held node.
+fn print_held(
+    alloc: Global,
+    g: &Grammar,
+    held: &Held,
+    facts: &CellFacts,
+    report: &mut Report,
+) -> Result<(), PrintFault>
+    requires named { takes_as (grammar_of g.now) (sort_of (grammar_of g.now) held.now.node) held.now.inherited ≡ true }
+    requires done { done_fits (grammar_of g.now) held.now.node held.now.done ≡ true }
+    ensures { (q : Row) → IsRead (grammar_of g.now) (⟦<CellFacts as Facts>⟧.map facts.now) (held_of (grammar_of g.now) held.now) q → Prints (row_text (words_of g.now) q) report.old report.new result }
+{
+    artifact_row(
+        alloc,
+        g,
+        &held.node,
+        &held.inherited,
+        &held.done,
+        facts,
+        report,
+    )
+}
+
+/// Whether something of a message was new.
+fn is_new(received: &Received) -> bool
+    ensures { (answer : Answered Reaction) → IsReceived received.now answer → result ≡ is_new answer }
+{
+    matches!(received, Received::New(_))
+}
+
+impl<'g> Workspace for Site<'g, CellFacts> {
+    ghost its_grammar = { λ w. grammar_of w.space.accepted.now.grammar };
+
+    ghost its_role = { λ w. w.space.role };
+
+    ghost its_nodes = { λ w. w.space.held.items };
+
+    ghost shows = { λ w s. IsShown ⟦<CellFacts as Facts>⟧ w s };
+
+    fn choose_into(
+        &mut self,
+        _accepted: &Accepted,
+        choice: &Choice,
+        copy: &mut Messages,
+    ) -> Result<(Answer, usize), AllocError> {
+        let own = self.accepted();
+        Site::choose_into(self, own, choice, copy)
+    }
+
+    fn receive_into(
+        &mut self,
+        _accepted: &Accepted,
+        message: &Message,
+        copy: &mut Messages,
+    ) -> Result<bool, AllocError> {
+        let own = self.accepted();
+        let received = Site::receive_into(self, own, message, copy)?;
+        Ok(is_new(&received))
+    }
+
+    fn list(&self, _accepted: &Accepted) -> Result<Worklist, AllocError> {
+        list_uncounted(self.space(), self.accepted())
+    }
+
+    fn nodes(&self) -> &[Held] {
+        self.space().nodes()
+    }
+
+    fn print_row(
+        &self,
+        alloc: Global,
+        accepted: &Accepted,
+        place: usize,
+        report: &mut Report,
+    ) -> Result<(), PrintFault> {
+        let space = self.space();
+        let held = &space.nodes()[place];
+        print_held(alloc, accepted.grammar(), held, space.facts(), report)
+    }
+
+    ghost has_role = { λ w s shown. shown.holds.role };
+
+    ghost in_order = { λ w. w.space.sound.ordered };
+
+    ghost holds = { λ w s shown. ap (λ x. x.held) shown.holds.holds };
+}
+
+impl<'g> Made<'g> for Site<'g, CellFacts> {
+    fn make(
+        alloc: Global,
+        accepted: &'g Accepted,
+        role: u16,
+        loads: bool,
+    ) -> Result<Self, AllocError> {
+        Ok(Site::new(alloc, accepted, role, CellFacts::new(alloc), loads))
+    }
+}
