@@ -1,8 +1,9 @@
-//! The program: its command line, and what it reads and writes.
+//! The program: its command line, what it reads and writes, and its sockets.
 #![tactic(auto)]
 
-use aw_out::{StdSink, StdSource, SureWire, Texts};
+use aw_out::{StdSink, StdSource};
 use aw_run::{Status, Word, run};
+use aw_wires::NetWire;
 use std::alloc::AllocError;
 use std::env;
 use std::io::ErrorKind;
@@ -30,7 +31,7 @@ fn main(rt: HostRuntime) -> ExitCode {
             &words,
             &mut StdSource::new(&rt),
             &mut StdSink::new(&rt),
-            &mut SureWire::new(Texts::new(rt.alloc())),
+            &mut NetWire::new(&rt),
         ),
         Err(_) => Status::NoMemory,
     };

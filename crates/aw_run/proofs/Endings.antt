@@ -1,18 +1,20 @@
 -- What follows from a reply.
-use Rattle.std.proofs.Common.{◌≡◌, ℕ, List, Some, None, sym, ap, ◌∙◌, subst, inl, inr, true, IfSome, IfOk}
+use Rattle.std.proofs.Common.{◌≡◌, ℕ, List, Some, None, sym, ap, ◌∙◌, subst, inl, inr, true, false, refl, IfSome, IfOk}
 use Rattle.std.specs.Prelude.{◌⊎◌}
 use Rattle.std.specs.declared.option.Option.{Option}
 use Rattle.std.specs.declared.result.Result.{Result}
 use Rattle.aw_run.specs.declared.words.Command.{Command}
-use Rattle.aw_run.specs.declared.words.Command.TheVariants.{Reads}
+use Rattle.aw_run.specs.declared.words.Command.TheVariants.{Reads, Serves}
 use Rattle.aw_run.specs.declared.words.Job.{Job}
 use Rattle.aw_run.specs.declared.reply.Reply.{Reply}
 use Rattle.aw_run.specs.declared.reply.Status.{Status}
 use Rattle.aw_run.specs.declared.reply.Status.TheVariants.{Done, NetFault, NoMemory, ReadFault, WriteFault}
-use Rattle.aw_run.specs.Words.{command_of}
-use Rattle.aw_run.specs.Output.{Output, Writes, PastInputLimit, BadSpecification, BadTypes, IsCircular, BadSchedule, PastOutputLimit, IsOutputOf}
-use Rattle.aw_run.specs.Replies.{ForInput, Replies, Devices, EndsWith, reply, reply_with, uses_wire, WritesSome, IsGood, Says, SaysAs}
+use Rattle.aw_run.specs.Words.{command_of, role_word}
+use Rattle.aw_run.specs.Output.{Output, Writes, PastInputLimit, BadSpecification, BadTypes, IsCircular, UnknownRole, BadSchedule, PastOutputLimit, IsOutputOf}
+use Rattle.aw_run.specs.Replies.{ForInput, Replies, Devices, EndsWith, reply, reply_with, uses_wire, WritesSome, IsGood, Says, SaysAs, WritesServing}
+use Rattle.aw_run.specs.Serving.{IsServingOutputOf}
 use Rattle.aw_run.specs.Laws.{HasOneReply}
+use Rattle.aw_run.proofs.GoodServed.{served-done}
 use Rattle.aw_run.proofs.OneOutputs.{one-output}
 
 -- a reply that is done has the text of its output
@@ -22,6 +24,7 @@ replies-done P said Q PastInputLimit holds is done text_has = absurd (cc (is, do
 replies-done P said Q (BadSpecification why) holds is done text_has = absurd (cc (is, done))
 replies-done P said Q (BadTypes why) holds is done text_has = absurd (cc (is, done))
 replies-done P said Q (IsCircular why) holds is done text_has = absurd (cc (is, done))
+replies-done P said Q UnknownRole holds is done text_has = absurd (cc (is, done))
 replies-done P said Q (BadSchedule why) holds is done text_has = absurd (cc (is, done))
 replies-done P said Q PastOutputLimit holds is done text_has = absurd (cc (is, done))
 
@@ -39,17 +42,38 @@ pub Says-job : (left : Option (List ℕ)) (job : Job) (words : List (List ℕ)) 
     command_of words ≡ Some (Reads job) → said.status ≡ Done → Q said.text → ForInput left (λ input. WritesSome job input Q)
 Says-job left job words = as-job left job (command_of words) words
 
+-- the same for a node
+input-served : (left : Option (List ℕ)) (name : List ℕ) (sessions : ℕ) (devices : Devices) (said : Reply) (Q : List ℕ → Type 0) → ForInput left (λ input. Replies (IsServingOutputOf name sessions devices input) said) →
+    said.status ≡ Done → Q said.text → ForInput left (λ input. WritesServing name sessions devices input Q)
+input-served None name sessions devices said Q says done text_has = (says.0, replies-done (IsServingOutputOf name sessions devices says.0) said Q says.1.0 says.1.1 says.1.2 done text_has)
+input-served (Some input) name sessions devices said Q says done text_has = replies-done (IsServingOutputOf name sessions devices input) said Q says.0 says.1 says.2 done text_has
+
+as-node : (left : Option (List ℕ)) (sessions : ℕ) (command : Option Command) (words : List (List ℕ)) (devices : Devices) (said : Reply) (Q : List ℕ → Type 0) → ForInput left (λ input. SaysAs command words input devices said) →
+    command ≡ Some (Serves sessions) → said.status ≡ Done → Q said.text → ForInput left (λ input. WritesServing (role_word words) sessions devices input Q)
+as-node left sessions command words devices said Q says is =
+    input-served left (role_word words) sessions devices said Q (subst (λ (c : Option Command). ForInput left (λ input. SaysAs c words input devices said)) is says)
+
+pub Says-node : (left : Option (List ℕ)) (sessions : ℕ) (words : List (List ℕ)) (devices : Devices) (said : Reply) (Q : List ℕ → Type 0) → ForInput left (λ input. Says words input devices said) →
+    command_of words ≡ Some (Serves sessions) → said.status ≡ Done → Q said.text → ForInput left (λ input. WritesServing (role_word words) sessions devices input Q)
+Says-node left sessions words = as-node left sessions (command_of words) words
+
 -- there is one reply
-one-as : (command : Option Command) (words : List (List ℕ)) (input : List ℕ) (devices : Devices) (a b : Reply) → SaysAs command words input devices a → SaysAs command words input devices b → a ≡ b
-one-as None words input devices a b says also = says ∙ sym also
-one-as (Some (Reads job)) words input devices a b says also = says.2 ∙ ap reply_with (one-output job input says.0 also.0 says.1 also.1) ∙ sym also.2
+one-as : (command : Option Command) (words : List (List ℕ)) (input : List ℕ) (devices : Devices) (a b : Reply) → uses_wire command ≡ false → SaysAs command words input devices a → SaysAs command words input devices b → a ≡ b
+one-as None words input devices a b no says also = says ∙ sym also
+one-as (Some (Reads job)) words input devices a b no says also = says.2 ∙ ap reply_with (one-output job input says.0 also.0 says.1 also.1) ∙ sym also.2
+one-as (Some (Serves sessions)) words input devices a b no says also = absurd (cc (no))
 
 pub one-reply : HasOneReply
 one-reply words = one-as (command_of words) words
 
 -- words that make a text of the input tell that they are done
+good-as : (command : Option Command) (words : List (List ℕ)) (input : List ℕ) (devices : Devices) (said : Reply) (text : List ℕ) → SaysAs command words input devices said → SaysAs command words input devices (reply Done text) → said.status ≡ Done
+good-as None words input devices said text says good = ap (λ (r : Reply). r.status) (one-as None words input devices said (reply Done text) refl says good)
+good-as (Some (Reads job)) words input devices said text says good = ap (λ (r : Reply). r.status) (one-as (Some (Reads job)) words input devices said (reply Done text) refl says good)
+good-as (Some (Serves sessions)) words input devices said text says good = served-done (role_word words) sessions devices input said text says good
+
 good-done : (words : List (List ℕ)) (input : List ℕ) (devices : Devices) (said : Reply) → Says words input devices said → IsGood words input devices → said.status ≡ Done
-good-done words input devices said says good = ap (λ (r : Reply). r.status) (one-reply words input devices said (reply Done good.0) says good.1)
+good-done words input devices said says good = good-as (command_of words) words input devices said good.0 says good.1
 
 -- the status that is told follows from the words and the bytes
 pub Says-cause : (left : Option (List ℕ)) (words : List (List ℕ)) (devices : Devices) (said : Reply) (told : Status) → ForInput left (λ input. Says words input devices said) → told ≡ said.status → ForInput left (λ input. EndsWith words input devices told)
@@ -68,3 +92,10 @@ pub replies-read : {E : Type 0} (result : Result Reply E) (left : Option (List �
     IfOk result (λ said. ForInput left (λ input. Replies (IsOutputOf job input) said)) → IfOk result (λ said. ForInput left (λ input. Says words input devices said))
 replies-read result left words devices job spelled replies =
     subst (λ (c : Option Command). IfOk result (λ said. ForInput left (λ input. SaysAs c words input devices said))) (sym spelled) replies
+
+-- and so is what a node replies
+pub replies-node : {E : Type 0} (result : Result Reply E) (left : Option (List ℕ)) (words : List (List ℕ)) (devices : Devices) (name : List ℕ) (sessions : ℕ) → name ≡ role_word words → command_of words ≡ Some (Serves sessions) →
+    IfOk result (λ said. ForInput left (λ input. Replies (IsServingOutputOf name sessions devices input) said)) → IfOk result (λ said. ForInput left (λ input. Says words input devices said))
+replies-node result left words devices name sessions named spelled replies =
+    subst (λ (c : Option Command). IfOk result (λ said. ForInput left (λ input. SaysAs c words input devices said))) (sym spelled)
+    (subst (λ n. IfOk result (λ said. ForInput left (λ input. Replies (IsServingOutputOf n sessions devices input) said))) named replies)

@@ -5,4 +5,7 @@ pub mod Outputs
 pub mod Verdicts
 pub mod Undivideds
 pub mod OneOutputs
+pub mod ServedOutputs
+pub mod GoodServed
+pub mod SessionLines
 pub mod Unreads

@@ -9,25 +9,38 @@ use Rattle.aw_run.specs.declared.source.TheConstants.{INPUT_LIMIT}
 use Rattle.aw_run.specs.declared.words.Job.{Job}
 use Rattle.aw_run.specs.declared.reply.Reply.{Reply}
 use Rattle.aw_run.specs.declared.reply.Stop.{Stop}
-use Rattle.aw_run.specs.Output.{PastInputLimit, IsOutputOf}
+use Rattle.aw_run.specs.Devices.{Devices}
+use Rattle.aw_run.specs.Output.{Output, PastInputLimit, IsOutputOf}
+use Rattle.aw_run.specs.Serving.{IsServingOutputOf}
 use Rattle.aw_run.specs.Replies.{ForInput, Replies, reply_with}
 use Rattle.aw_run.specs.Unread.{unread_gives}
 use Rattle.aw_run.proofs.Outputs.{output-past}
+use Rattle.aw_run.proofs.ServedOutputs.{served-past}
 
 longer : (limit : ℕ) (input bytes rest : List ℕ) → input ≡ bytes ++ rest → limit < length bytes → limit < length input
 longer limit input bytes rest same lt = let e : length input ≡ length bytes + length rest = ap length same ∙ length-append bytes rest in omega arith
 
--- more than the limit was left
-past-limit : (job : Job) (old new : Option (List ℕ)) → GivesSome old new (λ bytes. INPUT_LIMIT < length bytes) → ForInput old (λ input. Replies (IsOutputOf job input) (reply_with PastInputLimit))
-past-limit job None new some = (some.0, (PastInputLimit, output-past job some.0 some.1, refl))
-past-limit job (Some input) None some = let none : Some input ≡ None = some.2 in absurd (cc (none))
-past-limit job (Some input) (Some rest) some =
+-- more than the limit was left, and that has this output
+past-limit : (P : List ℕ → Output → Type 0) → ((input : List ℕ) → INPUT_LIMIT < length input → P input PastInputLimit) →
+    (old new : Option (List ℕ)) → GivesSome old new (λ bytes. INPUT_LIMIT < length bytes) → ForInput old (λ input. Replies (P input) (reply_with PastInputLimit))
+past-limit P holds None new some = (some.0, (PastInputLimit, holds some.0 some.1, refl))
+past-limit P holds (Some input) None some = let none : Some input ≡ None = some.2 in absurd (cc (none))
+past-limit P holds (Some input) (Some rest) some =
     let e : Some input ≡ Some (some.0 ++ rest) = some.2 in
     let same : input ≡ some.0 ++ rest = cc in
     let more : INPUT_LIMIT < length input = longer INPUT_LIMIT input some.0 rest same some.1 in
-    (PastInputLimit, output-past job input more, refl)
+    (PastInputLimit, holds input more, refl)
+
+unread-as : (P : List ℕ → Output → Type 0) → ((input : List ℕ) → INPUT_LIMIT < length input → P input PastInputLimit) → (error : ReadError) (result : Result Reply Stop) (old new : Option (List ℕ)) → result ≡ unread_gives error →
+    (error ≡ fault.TooLong → GivesSome old new (λ bytes. INPUT_LIMIT < length bytes)) → IfOk result (λ said. ForInput old (λ input. Replies (P input) said))
+unread-as P holds fault.TooLong result old new is past = rw is (past-limit P holds old new (past refl))
+unread-as P holds fault.ReadFault result old new is past = rw is tt
+unread-as P holds fault.NoMemory result old new is past = rw is tt
 
 pub unread-reply : (error : ReadError) (result : Result Reply Stop) (old new : Option (List ℕ)) (job : Job) → result ≡ unread_gives error → (error ≡ fault.TooLong → GivesSome old new (λ bytes. INPUT_LIMIT < length bytes)) → IfOk result (λ said. ForInput old (λ input. Replies (IsOutputOf job input) said))
-unread-reply fault.TooLong result old new job is past = rw is (past-limit job old new (past refl))
-unread-reply fault.ReadFault result old new job is past = rw is tt
-unread-reply fault.NoMemory result old new job is past = rw is tt
+unread-reply error result old new job = unread-as (IsOutputOf job) (output-past job) error result old new
+
+-- the same of a node, which no session had yet
+pub unread-served : (error : ReadError) (result : Result Reply Stop) (old new : Option (List ℕ)) (name : List ℕ) (sessions : ℕ) (devices : Devices) → result ≡ unread_gives error →
+    (error ≡ fault.TooLong → GivesSome old new (λ bytes. INPUT_LIMIT < length bytes)) → IfOk result (λ said. ForInput old (λ input. Replies (IsServingOutputOf name sessions devices input) said))
+unread-served error result old new name sessions devices = unread-as (IsServingOutputOf name sessions devices) (served-past name sessions devices) error result old new

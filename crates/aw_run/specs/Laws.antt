@@ -19,6 +19,7 @@ TellsUndivided = (w : Words) (g : Grammar) (choices : List Choice) → transcrip
 abbrev pub HasOneOutput : Type 0
 HasOneOutput = (job : Job) (input : List ℕ) (a b : Output) → IsOutputOf job input a → IsOutputOf job input b → a ≡ b
 
--- There is one reply to words, an input and what the devices tell.
+-- There is one reply to words and an input, where the command does not use the wire.
 abbrev pub HasOneReply : Type 0
-HasOneReply = (words : List (List ℕ)) (input : List ℕ) (devices : Devices) (a b : Reply) → Says words input devices a → Says words input devices b → a ≡ b
+HasOneReply = (words : List (List ℕ)) (input : List ℕ) (devices : Devices) (a b : Reply) →
+    uses_wire (command_of words) ≡ false → Says words input devices a → Says words input devices b → a ≡ b

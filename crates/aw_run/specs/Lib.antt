@@ -3,6 +3,8 @@ pub mod Statuses
 pub mod Refusals
 pub mod Transcript
 pub mod Output
+pub mod Devices
+pub mod Serving
 pub mod Replies
 pub mod Unread
 pub mod Laws

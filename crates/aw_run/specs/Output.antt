@@ -31,6 +31,7 @@ pub data Output : Type 0 where
   BadSpecification : (why : List ℕ) → Output
   BadTypes : (why : List ℕ) → Output
   IsCircular : (why : List ℕ) → Output
+  UnknownRole : Output
   BadSchedule : (why : List ℕ) → Output
   PastOutputLimit : Output
 

@@ -1,7 +1,8 @@
 -- What a run says to an input.
 use Rattle.std.specs.Prelude.{◌≡◌, ℕ, List, [], ◌++◌, Option, Some, None, codes, Bool, true, false}
 use Rattle.aw_out.specs.Edge.{Gets}
-use Rattle.aw_out.specs.Wires.{Content}
+use Rattle.aw_out.specs.Causes.{Rose}
+pub use Rattle.aw_run.specs.Devices.{Devices, with_wire}
 use Rattle.aw_grammar.specs.GrammarOf.{words_of}
 use Rattle.aw_accept.specs.declared.refused.Refused.{Refused}
 use Rattle.aw_accept.specs.declared.refused.Refused.TheVariants as refused
@@ -12,13 +13,14 @@ use Rattle.aw_typed.specs.declared.data.TypeFault.TheVariants as types
 use Rattle.aw_run.specs.Refusals.{types_text}
 use Rattle.aw_told.specs.Told.{circle_text}
 use Rattle.aw_run.specs.declared.words.Command.{Command}
-use Rattle.aw_run.specs.declared.words.Command.TheVariants.{Reads}
+use Rattle.aw_run.specs.declared.words.Command.TheVariants.{Reads, Serves}
 use Rattle.aw_run.specs.declared.words.Job.{Job}
 use Rattle.aw_run.specs.declared.reply.Reply.{Reply}
 use Rattle.aw_run.specs.declared.reply.Status.{Status}
 use Rattle.aw_run.specs.declared.reply.Status.TheVariants.{Done, Usage, BadSpec, Circular, BadSchedule as BadSched, TooLarge, TooLong, BadTypes as BadTyped}
-use Rattle.aw_run.specs.Words.{command_of}
-use Rattle.aw_run.specs.Output.{Output, Writes, PastInputLimit, BadSpecification, BadTypes, IsCircular, BadSchedule, PastOutputLimit, IsOutputOf}
+use Rattle.aw_run.specs.Words.{command_of, role_word}
+use Rattle.aw_run.specs.Output.{Output, Writes, PastInputLimit, BadSpecification, BadTypes, IsCircular, UnknownRole, BadSchedule, PastOutputLimit, IsOutputOf}
+use Rattle.aw_run.specs.Serving.{IsServingOutputOf}
 
 -- a status, and what is written with it
 abbrev pub reply : Status → List ℕ → Reply
@@ -31,6 +33,7 @@ reply_with PastInputLimit = reply TooLong []
 reply_with (BadSpecification why) = reply BadSpec (codes "bad specification " ++ (why ++ codes "\n"))
 reply_with (BadTypes why) = reply BadTyped (codes "bad types " ++ (why ++ codes "\n"))
 reply_with (IsCircular why) = reply Circular (codes "circular " ++ (why ++ codes "\n"))
+reply_with UnknownRole = reply Usage (codes "usage\n")
 reply_with (BadSchedule why) = reply BadSched (codes "bad schedule " ++ (why ++ codes "\n"))
 reply_with PastOutputLimit = reply TooLarge []
 
@@ -50,18 +53,11 @@ RefusesTypes w types.NoMemory said = ⊥
 abbrev pub Replies : (Output → Type 0) → Reply → Type 0
 Replies P said = (output : Output) × P output × (said ≡ reply_with output)
 
--- What the devices beside the source and the sink tell, before a run and after it: the contents of the wire.
-pub record Devices : Type 0 where
-  pub wire_before : Option Content
-  pub wire_after : Option Content
-
-abbrev pub with_wire : Option Content → Option Content → Devices
-with_wire before after = record { wire_before = before; wire_after = after }
-
 -- What a run of these words, which spell this command or none, may say to this input.
 abbrev pub SaysAs : Option Command → List (List ℕ) → List ℕ → Devices → Reply → Type 0
 SaysAs None words input devices said = said ≡ reply Usage (codes "usage\n")
 SaysAs (Some (Reads job)) words input devices said = Replies (IsOutputOf job input) said
+SaysAs (Some (Serves sessions)) words input devices said = Replies (IsServingOutputOf (role_word words) sessions devices input) said
 
 -- What a run of these words may say to this input.
 abbrev pub Says : List (List ℕ) → List ℕ → Devices → Reply → Type 0
@@ -83,16 +79,19 @@ IsGood words input devices = (text : List ℕ) × Says words input devices (repl
 abbrev pub reads : Option Command → Bool
 reads None = false
 reads (Some (Reads job)) = true
+reads (Some (Serves sessions)) = true
 
 -- whether a command uses the wire
 abbrev pub uses_wire : Option Command → Bool
 uses_wire None = false
 uses_wire (Some (Reads job)) = false
+uses_wire (Some (Serves sessions)) = true
 
--- Which counts of the wire rose where a command tells that the net failed, of openings that failed or of all its faults. No command of today tells it.
+-- Which counts of the wire rose where a command tells that the net failed, of openings that failed or of all its faults: a node tells that the next session could not be opened.
 abbrev pub NetFailed : Option Command → (openings_before : ℕ) → (openings_after : ℕ) → (faults_before : ℕ) → (faults_after : ℕ) → Type 0
 NetFailed None openings_before openings_after faults_before faults_after = ⊥
 NetFailed (Some (Reads job)) openings_before openings_after faults_before faults_after = ⊥
+NetFailed (Some (Serves sessions)) openings_before openings_after faults_before faults_after = Rose openings_before openings_after
 
 -- where the source tells what is left, that input has P, and otherwise some input has
 abbrev pub ForInput : Option (List ℕ) → (List ℕ → Type 0) → Type 0
@@ -107,3 +106,7 @@ pub record Replied (said : Reply) (status : Status) (old new : Option (List ℕ)
 -- the job makes a text of the input, and that text has P
 abbrev pub WritesSome : Job → List ℕ → (List ℕ → Type 0) → Type 0
 WritesSome j input P = (text : List ℕ) × IsOutputOf j input (Writes text) × P text
+
+-- the node of this role makes a text of the input and of what the devices tell, and that text has P
+abbrev pub WritesServing : (name : List ℕ) → (sessions : ℕ) → Devices → List ℕ → (List ℕ → Type 0) → Type 0
+WritesServing name sessions devices input P = (text : List ℕ) × IsServingOutputOf name sessions devices input (Writes text) × P text

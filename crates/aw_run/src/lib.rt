@@ -8,6 +8,8 @@ mod refusals;
 mod reply;
 mod running;
 mod schedule;
+mod serving;
+mod sessions;
 mod source;
 mod transcript;
 mod undivided;

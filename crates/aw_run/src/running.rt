@@ -2,14 +2,15 @@
 ghost use Rattle.std.specs.Prelude.{◌≡◌, ◌≢◌, ◌≤◌, ◌⊎◌, [], IfOk, IfSome, Some, false, true, length};
 ghost use Rattle.aw_out.specs.Causes.{Rose};
 ghost use Rattle.aw_out.specs.Edge.{IsUsedUp, GivesSome, Gets, GetsPrefix};
-ghost use Rattle.aw_run.specs.Words.{command_of};
+ghost use Rattle.aw_run.specs.Words.{command_of, role_word};
 ghost use Rattle.aw_run.specs.Statuses.{IsReply, IsPastReading, IsSilent};
-ghost use Rattle.aw_run.specs.Replies.{EndsWith, ForInput, IsGood, NetFailed, Replied, Says, SomeReply, WritesSome, reads, uses_wire, with_wire};
+ghost use Rattle.aw_run.specs.Replies.{EndsWith, ForInput, IsGood, NetFailed, Replied, Says, SomeReply, WritesServing, WritesSome, reads, uses_wire, with_wire};
 
 use crate::reading::reply_to_source;
 use crate::reply::{Reply, Status, Stop};
+use crate::serving::{Asked, serve_source};
 use crate::source::INPUT_LIMIT;
-use crate::words::{Command, Job, Telling, Word};
+use crate::words::{Command, Job, Telling, Word, role_word};
 use aw_out::{Sink, Source, Wire, write_all};
 use std::alloc::Global;
 
@@ -38,7 +39,13 @@ fn prepare<S: Source, W: Wire>(
     let Some(command) = Command::from_words(words) else {
         return Ok(Reply::line(alloc, Status::Usage, b"usage\n")?);
     };
-    reply_to_source(alloc, command.job(), src)
+    match command {
+        Command::Reads(job) => reply_to_source(alloc, job, src),
+        Command::Serves { sessions } => {
+            let role = role_word(words);
+            serve_source(alloc, Asked { role, sessions }, src, wire)
+        }
+    }
 }
 
 /// Writes the reply, and tells its status once it was written whole.
@@ -81,6 +88,9 @@ pub fn run<S: Source, K: Sink, W: Wire>(
         (λ input. WritesSome (Job.Tells Telling.Undivided) input (Gets (K.written out.old) (K.written out.new))) }
     ensures replay { command_of words.now ≡ Some (Command.Reads (Job.Tells Telling.Replayed)) → result ≡ Status.Done → ForInput (S.left src.old)
         (λ input. WritesSome (Job.Tells Telling.Replayed) input (Gets (K.written out.old) (K.written out.new))) }
+
+    ensures node { (n : ℕ) → command_of words.now ≡ Some (Command.Serves n) → result ≡ Status.Done → ForInput (S.left src.old) (λ input.
+        WritesServing (role_word words.now) n (with_wire (W.content wire.old) (W.content wire.new)) input (Gets (K.written out.old) (K.written out.new))) }
 
     // A command with a good input is done, unless memory runs out, the source fails or the sink does, or the wire of a command that uses it.
     ensures complete { IfSome (S.left src.old) (λ input. IsGood words.now input (with_wire (W.content wire.old) (W.content wire.new)) →

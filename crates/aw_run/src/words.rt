@@ -1,7 +1,8 @@
 //! The words of a command line.
 ghost use Rattle.std.specs.Prelude.{◌≡◌, IfOk};
-ghost use Rattle.aw_run.specs.Words.{command_of, command_named};
+ghost use Rattle.aw_run.specs.Words.{command_of, command_named, node_named, role_word, session_count};
 
+use aw_text::number_value;
 use std::alloc::{AllocError, Global};
 use std::marker::Model;
 
@@ -60,6 +61,31 @@ pub enum Job {
 pub enum Command {
     /// To read the source to its end, and to make this of it.
     Reads(Job),
+    /// To read the source to its end, and to serve a role of it in so many sessions. The role's name is the second word.
+    Serves { sessions: u32 },
+}
+
+/// The most sessions that a node serves.
+const MOST_SESSIONS: u64 = 1_000_000;
+
+/// How many sessions a word asks for: a number from 1 to the most that there may be.
+fn session_count(word: &[u8]) -> Option<u32>
+    ensures { result ≡ session_count word.now }
+{
+    match number_value(word) {
+        Some(count) if 1 <= count && count <= MOST_SESSIONS => Some(count as u32),
+        _ => None,
+    }
+}
+
+/// The word that names a role.
+pub fn role_word(words: &[Word]) -> &[u8]
+    ensures { result.now ≡ role_word words.now }
+{
+    match words {
+        [_, role, ..] => role.as_bytes(),
+        _ => b"",
+    }
 }
 
 impl Command {
@@ -69,17 +95,19 @@ impl Command {
     {
         match words {
             [word] => Command::from_word(word.as_bytes()),
+            [word, _, sessions] => Command::from_node(word.as_bytes(), sessions.as_bytes()),
             _ => None,
         }
     }
 
-    /// What is made of the input. Every command of today reads one.
-    pub fn job(self) -> Job
-        ensures { self ≡ Command.Reads result }
+    fn from_node(word: &[u8], sessions: &[u8]) -> Option<Command>
+        ensures { result ≡ node_named word.now sessions.now }
     {
-        match self {
-            Command::Reads(job) => job,
+        if word != b"node".as_slice() {
+            return None;
         }
+        let sessions = session_count(sessions)?;
+        Some(Command::Serves { sessions })
     }
 
     fn from_word(word: &[u8]) -> Option<Command>
