@@ -4,7 +4,7 @@ use Rattle.std.specs.Prelude.{◌⊎◌}
 use Rattle.std.specs.declared.option.Option.{Option}
 use Rattle.std.specs.declared.result.Result.{Result}
 use Rattle.aw_run.specs.declared.words.Command.{Command}
-use Rattle.aw_run.specs.declared.words.Command.TheVariants.{Reads, Serves}
+use Rattle.aw_run.specs.declared.words.Command.TheVariants.{Reads, Tries, Serves}
 use Rattle.aw_run.specs.declared.words.Job.{Job}
 use Rattle.aw_run.specs.declared.reply.Reply.{Reply}
 use Rattle.aw_run.specs.declared.reply.Status.{Status}
@@ -61,6 +61,7 @@ Says-node left sessions words = as-node left sessions (command_of words) words
 one-as : (command : Option Command) (words : List (List ℕ)) (input : List ℕ) (devices : Devices) (a b : Reply) → uses_wire command ≡ false → SaysAs command words input devices a → SaysAs command words input devices b → a ≡ b
 one-as None words input devices a b no says also = says ∙ sym also
 one-as (Some (Reads job)) words input devices a b no says also = says.2 ∙ ap reply_with (one-output job input says.0 also.0 says.1 also.1) ∙ sym also.2
+one-as (Some (Tries number)) words input devices a b no says also = says ∙ sym also
 one-as (Some (Serves sessions)) words input devices a b no says also = absurd (cc (no))
 
 pub one-reply : HasOneReply
@@ -70,6 +71,7 @@ one-reply words = one-as (command_of words) words
 good-as : (command : Option Command) (words : List (List ℕ)) (input : List ℕ) (devices : Devices) (said : Reply) (text : List ℕ) → SaysAs command words input devices said → SaysAs command words input devices (reply Done text) → said.status ≡ Done
 good-as None words input devices said text says good = ap (λ (r : Reply). r.status) (one-as None words input devices said (reply Done text) refl says good)
 good-as (Some (Reads job)) words input devices said text says good = ap (λ (r : Reply). r.status) (one-as (Some (Reads job)) words input devices said (reply Done text) refl says good)
+good-as (Some (Tries number)) words input devices said text says good = ap (λ (r : Reply). r.status) (one-as (Some (Tries number)) words input devices said (reply Done text) refl says good)
 good-as (Some (Serves sessions)) words input devices said text says good = served-done (role_word words) sessions devices input said text says good
 
 good-done : (words : List (List ℕ)) (input : List ℕ) (devices : Devices) (said : Reply) → Says words input devices said → IsGood words input devices → said.status ≡ Done

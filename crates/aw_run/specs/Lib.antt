@@ -5,6 +5,7 @@ pub mod Transcript
 pub mod Output
 pub mod Devices
 pub mod Serving
+pub mod Trials
 pub mod Replies
 pub mod Unread
 pub mod Laws

@@ -13,7 +13,7 @@ use Rattle.aw_typed.specs.declared.data.TypeFault.TheVariants as types
 use Rattle.aw_run.specs.Refusals.{types_text}
 use Rattle.aw_told.specs.Told.{circle_text}
 use Rattle.aw_run.specs.declared.words.Command.{Command}
-use Rattle.aw_run.specs.declared.words.Command.TheVariants.{Reads, Serves}
+use Rattle.aw_run.specs.declared.words.Command.TheVariants.{Reads, Tries, Serves}
 use Rattle.aw_run.specs.declared.words.Job.{Job}
 use Rattle.aw_run.specs.declared.reply.Reply.{Reply}
 use Rattle.aw_run.specs.declared.reply.Status.{Status}
@@ -21,6 +21,7 @@ use Rattle.aw_run.specs.declared.reply.Status.TheVariants.{Done, Usage, BadSpec,
 use Rattle.aw_run.specs.Words.{command_of, role_word}
 use Rattle.aw_run.specs.Output.{Output, Writes, PastInputLimit, BadSpecification, BadTypes, IsCircular, UnknownRole, BadSchedule, PastOutputLimit, IsOutputOf}
 use Rattle.aw_run.specs.Serving.{IsServingOutputOf}
+use Rattle.aw_run.specs.Trials.{trial_output}
 
 -- a status, and what is written with it
 abbrev pub reply : Status → List ℕ → Reply
@@ -57,6 +58,7 @@ Replies P said = (output : Output) × P output × (said ≡ reply_with output)
 abbrev pub SaysAs : Option Command → List (List ℕ) → List ℕ → Devices → Reply → Type 0
 SaysAs None words input devices said = said ≡ reply Usage (codes "usage\n")
 SaysAs (Some (Reads job)) words input devices said = Replies (IsOutputOf job input) said
+SaysAs (Some (Tries number)) words input devices said = said ≡ reply_with (trial_output number)
 SaysAs (Some (Serves sessions)) words input devices said = Replies (IsServingOutputOf (role_word words) sessions devices input) said
 
 -- What a run of these words may say to this input.
@@ -79,18 +81,21 @@ IsGood words input devices = (text : List ℕ) × Says words input devices (repl
 abbrev pub reads : Option Command → Bool
 reads None = false
 reads (Some (Reads job)) = true
+reads (Some (Tries number)) = false
 reads (Some (Serves sessions)) = true
 
 -- whether a command uses the wire
 abbrev pub uses_wire : Option Command → Bool
 uses_wire None = false
 uses_wire (Some (Reads job)) = false
+uses_wire (Some (Tries number)) = false
 uses_wire (Some (Serves sessions)) = true
 
 -- Which counts of the wire rose where a command tells that the net failed, of openings that failed or of all its faults: a node tells that the next session could not be opened.
 abbrev pub NetFailed : Option Command → (openings_before : ℕ) → (openings_after : ℕ) → (faults_before : ℕ) → (faults_after : ℕ) → Type 0
 NetFailed None openings_before openings_after faults_before faults_after = ⊥
 NetFailed (Some (Reads job)) openings_before openings_after faults_before faults_after = ⊥
+NetFailed (Some (Tries number)) openings_before openings_after faults_before faults_after = ⊥
 NetFailed (Some (Serves sessions)) openings_before openings_after faults_before faults_after = Rose openings_before openings_after
 
 -- where the source tells what is left, that input has P, and otherwise some input has

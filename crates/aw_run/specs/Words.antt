@@ -3,7 +3,7 @@ use Rattle.std.specs.Prelude.{ℕ, ◌&&◌, List, [], ◌∷◌, Option, Some, 
 use Rattle.std.specs.Str.{bytes_eq}
 use Rattle.aw_run.specs.declared.words.Command.{Command}
 use Rattle.aw_text.specs.Spelling.{number_of}
-use Rattle.aw_run.specs.declared.words.Command.TheVariants.{Reads, Serves}
+use Rattle.aw_run.specs.declared.words.Command.TheVariants.{Reads, Tries, Serves}
 use Rattle.aw_run.specs.declared.words.Job.TheVariants.{Check, Tells}
 use Rattle.aw_run.specs.declared.words.Telling.TheVariants.{Undivided, Replayed}
 
@@ -14,6 +14,10 @@ command_named word =
     else if bytes_eq word (codes "plain") then Some (Reads (Tells Undivided))
     else if bytes_eq word (codes "replay") then Some (Reads (Tells Replayed))
     else None
+
+-- the command that two words spell
+abbrev pub trial_named : List ℕ → List ℕ → Option Command
+trial_named word number = if bytes_eq word (codes "trial") then option_map Tries (number_of number) else None
 
 -- as many sessions as a node may be asked for
 abbrev pub as_session_count : ℕ → Option ℕ
@@ -31,7 +35,7 @@ node_named word sessions = if bytes_eq word (codes "node") then option_map Serve
 abbrev pub command_of : List (List ℕ) → Option Command
 command_of [] = None
 command_of (word ∷ []) = command_named word
-command_of (word ∷ next ∷ []) = None
+command_of (word ∷ number ∷ []) = trial_named word number
 command_of (word ∷ role ∷ sessions ∷ []) = node_named word sessions
 command_of (word ∷ role ∷ sessions ∷ next ∷ more) = None
 

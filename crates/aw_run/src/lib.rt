@@ -12,6 +12,7 @@ mod serving;
 mod sessions;
 mod source;
 mod transcript;
+mod trials;
 mod undivided;
 mod words;
 

@@ -2,6 +2,8 @@
 ghost use Rattle.std.specs.Prelude.{◌≡◌, ◌≢◌, ◌≤◌, ◌⊎◌, [], IfOk, IfSome, Some, false, true, length};
 ghost use Rattle.aw_out.specs.Causes.{Rose};
 ghost use Rattle.aw_out.specs.Edge.{IsUsedUp, GivesSome, Gets, GetsPrefix};
+ghost use Rattle.aw_trial.specs.Counts.{trial};
+ghost use Rattle.aw_trial.specs.Summaries.{summary_text};
 ghost use Rattle.aw_run.specs.Words.{command_of, role_word};
 ghost use Rattle.aw_run.specs.Statuses.{IsReply, IsPastReading, IsSilent};
 ghost use Rattle.aw_run.specs.Replies.{EndsWith, ForInput, IsGood, NetFailed, Replied, Says, SomeReply, WritesServing, WritesSome, reads, uses_wire, with_wire};
@@ -10,6 +12,7 @@ use crate::reading::reply_to_source;
 use crate::reply::{Reply, Status, Stop};
 use crate::serving::{Asked, serve_source};
 use crate::source::INPUT_LIMIT;
+use crate::trials::tell_trial;
 use crate::words::{Command, Job, Telling, Word, role_word};
 use aw_out::{Sink, Source, Wire, write_all};
 use std::alloc::Global;
@@ -41,6 +44,7 @@ fn prepare<S: Source, W: Wire>(
     };
     match command {
         Command::Reads(job) => reply_to_source(alloc, job, src),
+        Command::Tries { number } => Ok(tell_trial(alloc, number)?),
         Command::Serves { sessions } => {
             let role = role_word(words);
             serve_source(alloc, Asked { role, sessions }, src, wire)
@@ -89,6 +93,7 @@ pub fn run<S: Source, K: Sink, W: Wire>(
     ensures replay { command_of words.now ≡ Some (Command.Reads (Job.Tells Telling.Replayed)) → result ≡ Status.Done → ForInput (S.left src.old)
         (λ input. WritesSome (Job.Tells Telling.Replayed) input (Gets (K.written out.old) (K.written out.new))) }
 
+    ensures trial { (n : ℕ) → command_of words.now ≡ Some (Command.Tries n) → result ≡ Status.Done → Gets (K.written out.old) (K.written out.new) (summary_text n (trial n)) }
     ensures node { (n : ℕ) → command_of words.now ≡ Some (Command.Serves n) → result ≡ Status.Done → ForInput (S.left src.old) (λ input.
         WritesServing (role_word words.now) n (with_wire (W.content wire.old) (W.content wire.new)) input (Gets (K.written out.old) (K.written out.new))) }
 

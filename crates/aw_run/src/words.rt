@@ -1,6 +1,6 @@
 //! The words of a command line.
 ghost use Rattle.std.specs.Prelude.{◌≡◌, IfOk};
-ghost use Rattle.aw_run.specs.Words.{command_of, command_named, node_named, role_word, session_count};
+ghost use Rattle.aw_run.specs.Words.{command_of, command_named, node_named, role_word, session_count, trial_named};
 
 use aw_text::number_value;
 use std::alloc::{AllocError, Global};
@@ -61,6 +61,8 @@ pub enum Job {
 pub enum Command {
     /// To read the source to its end, and to make this of it.
     Reads(Job),
+    /// To make a trial, drawn from this number. Nothing is read.
+    Tries { number: u64 },
     /// To read the source to its end, and to serve a role of it in so many sessions. The role's name is the second word.
     Serves { sessions: u32 },
 }
@@ -95,9 +97,20 @@ impl Command {
     {
         match words {
             [word] => Command::from_word(word.as_bytes()),
+            [word, number] => Command::from_trial(word.as_bytes(), number.as_bytes()),
             [word, _, sessions] => Command::from_node(word.as_bytes(), sessions.as_bytes()),
             _ => None,
         }
+    }
+
+    fn from_trial(word: &[u8], number: &[u8]) -> Option<Command>
+        ensures { result ≡ trial_named word.now number.now }
+    {
+        if word != b"trial".as_slice() {
+            return None;
+        }
+        let number = number_value(number)?;
+        Some(Command::Tries { number })
     }
 
     fn from_node(word: &[u8], sessions: &[u8]) -> Option<Command>

@@ -1,0 +1,23 @@
+//! The command that makes a trial.
+ghost use Rattle.std.specs.Prelude.{◌≡◌, IfOk};
+ghost use Rattle.aw_run.specs.Replies.{reply_with};
+ghost use Rattle.aw_run.specs.Trials.{trial_output};
+
+use crate::reply::{Reply, Status};
+use aw_out::PrintFault;
+use aw_trial::{summary_text, trial};
+use std::alloc::{AllocError, Global};
+
+/// The summary of the trial that is drawn from a number.
+pub fn tell_trial(alloc: Global, number: u64) -> Result<Reply, AllocError>
+    ensures { IfOk result (λ reply. reply ≡ reply_with (trial_output number)) }
+{
+    match trial(alloc, number) {
+        Ok(summary) => Ok(Reply {
+            status: Status::Done,
+            text: summary_text(alloc, number, &summary)?,
+        }),
+        Err(PrintFault::TooLarge) => Ok(Reply::silent(alloc, Status::TooLarge)),
+        Err(PrintFault::NoMemory) => Err(AllocError),
+    }
+}
