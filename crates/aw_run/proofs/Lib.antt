@@ -1,5 +1,4 @@
 pub mod Endings
-pub mod Transcripts
 pub mod LineCounts
 pub mod Outputs
 pub mod Verdicts
@@ -9,3 +8,4 @@ pub mod ServedOutputs
 pub mod GoodServed
 pub mod SessionLines
 pub mod Unreads
+pub mod OneRoles

@@ -1,7 +1,7 @@
 pub mod Words
 pub mod Statuses
 pub mod Refusals
-pub mod Transcript
+pub mod ChoicesIn
 pub mod Output
 pub mod Devices
 pub mod Serving

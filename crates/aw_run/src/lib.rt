@@ -11,7 +11,6 @@ mod schedule;
 mod serving;
 mod sessions;
 mod source;
-mod transcript;
 mod trials;
 mod undivided;
 mod words;

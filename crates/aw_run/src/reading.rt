@@ -33,7 +33,7 @@ fn reply_to_typed(
     requires lines { spec.lines + length (lines_of schedule.now) < 2 ^ 64 }
     requires types { typed.now.types ≡ spec.types }
     requires made { IsMadeFor (grammar_of spec.grammar) typed.now }
-    ensures { IfOk result (λ reply. Replies (MakesTyped job (spec_seen spec) spec.lines (lines_of schedule.now)) reply) }
+    ensures { IfOk result (λ reply. Replies (MakesTyped job (spec_seen spec) spec.lines spec.loads (lines_of schedule.now)) reply) }
 {
     match job {
         Job::Check => check(alloc, spec),
@@ -51,7 +51,7 @@ fn reply_to_specification(
     requires lines { spec.lines + length (lines_of schedule.now) < 2 ^ 64 }
     requires sizes { AreFor (grammar_of spec.grammar) (types_of spec.types) }
     requires numbers { NumbersInRange (types_of spec.types) }
-    ensures { IfOk result (λ reply. Replies (Makes job (spec_seen spec) spec.lines (lines_of schedule.now)) reply) }
+    ensures { IfOk result (λ reply. Replies (Makes job (spec_seen spec) spec.lines spec.loads (lines_of schedule.now)) reply) }
 {
     match type_check(alloc, &spec.grammar, &spec.types) {
         Ok(typed) => reply_to_typed(alloc, job, spec, &typed, schedule),

@@ -18,10 +18,10 @@ reply_to_specification-requires-clause-lines c =
 pub returns-in-Ok : goal.returns-in-Ok
 returns-in-Ok c =
     let behind : lines_of c.split_at.result.1.now ≡ drop c.in-Ok.spec.lines (lines_of c.args.input.now) = ap lines_of c.split_at.ensures.back ∙ c.in-Ok.ensures.rest in
-    reply-map _ (Makes c.args.job (spec_seen c.in-Ok.spec) c.in-Ok.spec.lines (lines_of c.split_at.result.1.now)) (IsOutputOf c.args.job c.args.input.now)
+    reply-map _ (Makes c.args.job (spec_seen c.in-Ok.spec) c.in-Ok.spec.lines c.in-Ok.spec.loads (lines_of c.split_at.result.1.now)) (IsOutputOf c.args.job c.args.input.now)
     (λ output holds.
     output-read c.args.job c.args.input.now _ output c.requires c.in-Ok.ensures.exact
-    (subst (λ behind_it. Makes c.args.job (spec_seen c.in-Ok.spec) c.in-Ok.spec.lines behind_it output) behind holds))
+    (subst (λ behind_it. Makes c.args.job (spec_seen c.in-Ok.spec) c.in-Ok.spec.lines c.in-Ok.spec.loads behind_it output) behind holds))
     c.reply_to_specification.ensures
 
 pub returns-in-Err-Bad : goal.returns-in-Err-Bad

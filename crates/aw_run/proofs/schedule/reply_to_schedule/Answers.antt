@@ -31,7 +31,7 @@ returns-in-Ok c =
     let g = c.args.accepted.now.grammar in
     let read : read_lines (types_of c.args.typed.now.types) (declarations_of g) 1 (lines_of c.args.schedule.now) ≡ Events (map event_seen c.in-Ok.events) = rw c.grammar-g.ensures.value at c.in-Ok.ensures.answer in
     let good : read_lines (types_of c.args.typed.now.types) (declarations_of g) 1 (lines_of c.args.schedule.now) ≡ Events (map event_seen c.as_slice.result.now) = read ∙ ap (λ es. Events (map event_seen es)) (sym c.as_slice.ensures) in
-    IfOk-weaker c.reply_to_events.result _ _ (λ (said : Reply) w s same typed. w ∙ sym (ap reply_with (schedule-good c.args.telling s g c.args.before (lines_of c.args.schedule.now) _ c.args.typed.now.types same typed good))) c.reply_to_events.ensures
+    IfOk-weaker c.reply_to_events.result _ _ (λ (said : Reply) w s same typed. w ∙ sym (ap reply_with (schedule-good c.args.telling s g c.args.before c.args.loads (lines_of c.args.schedule.now) _ c.args.typed.now.types same typed good))) c.reply_to_events.ensures
 
 pub returns-in-Err-Bad : goal.returns-in-Err-Bad
 returns-in-Err-Bad c =
@@ -39,5 +39,5 @@ returns-in-Err-Bad c =
     let at_g : read_lines (types_of c.args.typed.now.types) (declarations_of c.grammar-g.result.now) 1 (lines_of c.args.schedule.now) ≡ FaultAt c.in-Err-Bad.line c.in-Err-Bad.kind = rw c.in-Err-Bad.field-0-is at c.in-Err-Bad.ensures.answer in
     let faulty : read_lines (types_of c.args.typed.now.types) (declarations_of g) 1 (lines_of c.args.schedule.now) ≡ FaultAt c.in-Err-Bad.line c.in-Err-Bad.kind = rw c.grammar-g.ensures.value at at_g in
     IfOk-weaker c.bad_schedule.result _ _
-    (λ (said : Reply) w s same typed. w ∙ sym (schedule-bad c.args.telling s (declarations_of g) c.args.before c.in-Err-Bad.line c.in-Err-Bad.kind (lines_of c.args.schedule.now) c.args.typed.now.types same typed faulty))
+    (λ (said : Reply) w s same typed. w ∙ sym (schedule-bad c.args.telling s (declarations_of g) c.args.before c.args.loads c.in-Err-Bad.line c.in-Err-Bad.kind (lines_of c.args.schedule.now) c.args.typed.now.types same typed faulty))
     (bad-event c.bad_schedule.result c.in-Err-Bad.line _ c.args.before c.in-Err-Bad.kind _ c.in-Err-Bad.line-is c.in-Err-Bad.kind-is c.bad_schedule.ensures)

@@ -9,7 +9,7 @@ pub returns-in-Ok : goal.returns-in-Ok
 returns-in-Ok c =
     let s = spec_seen c.args.spec in
     accepts-grammar _ s c.args.spec.grammar _ refl c.in-Ok.ensures.sound
-    (told-schedule _ c.args.telling s c.args.spec.lines (lines_of c.args.schedule.now)
+    (told-schedule _ c.args.telling s c.args.spec.lines c.args.spec.loads (lines_of c.args.schedule.now)
     (IfOk-weaker c.reply_to_schedule.result _ _ (λ said is. is s refl (sym c.requires.types)) (rw c.in-Ok.ensures.accepted at c.reply_to_schedule.ensures)))
 
 pub returns : goal.returns
