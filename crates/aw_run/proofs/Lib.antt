@@ -6,3 +6,5 @@ pub mod Undivideds
 pub mod OneOutputs
 pub mod Unreads
 pub mod OneRoles
+pub mod TypedChoices
+pub mod Promising

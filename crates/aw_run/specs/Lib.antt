@@ -5,4 +5,5 @@ pub mod ChoicesIn
 pub mod Output
 pub mod Replies
 pub mod Unread
+pub mod Promises
 pub mod Laws
