@@ -1,8 +1,10 @@
 pub mod Endings
-pub mod Transcripts
 pub mod LineCounts
 pub mod Outputs
 pub mod Verdicts
 pub mod Undivideds
 pub mod OneOutputs
 pub mod Unreads
+pub mod OneRoles
+pub mod TypedChoices
+pub mod Promising

@@ -39,13 +39,13 @@ by-types : (w : Words) (P : Output → Type 0) → One P → (found : Option Typ
 by-types w P one None a b x y = one a b x y
 by-types w P one (Some fault) a b x y = x ∙ sym y
 
-one-made : (job : Job) (s : Spec) (before : ℕ) (schedule : List (List ℕ)) → One (MakesTyped job s before schedule)
-one-made Check s before schedule = one-accepted s (TellsDependences s) (one-dependences s)
-one-made (Tells telling) s before schedule = one-accepted s (TellsSchedule telling s before schedule) (λ a b x y. x ∙ sym y)
+one-made : (job : Job) (s : Spec) (before : ℕ) (loads : Bool) (schedule : List (List ℕ)) → One (MakesTyped job s before loads schedule)
+one-made Check s before loads schedule = one-accepted s (TellsDependences s) (one-dependences s)
+one-made (Tells telling) s before loads schedule = one-accepted s (TellsSchedule telling s before loads schedule) (λ a b x y. x ∙ sym y)
 
 one-read : (job : Job) (lines : List (List ℕ)) (reading : Reading) → One (BySpecification job lines reading)
 one-read job lines (Good spec taken loads) =
-    by-types (words_in spec.declared) (MakesTyped job spec taken (drop taken lines)) (one-made job spec taken (drop taken lines)) (type_fault (types_of spec.types) (grammar_in spec.declared))
+    by-types (words_in spec.declared) (MakesTyped job spec taken loads (drop taken lines)) (one-made job spec taken loads (drop taken lines)) (type_fault (types_of spec.types) (grammar_in spec.declared))
 one-read job lines (Faulty line kind) = λ a b x y. x ∙ sym y
 
 pub one-output : HasOneOutput

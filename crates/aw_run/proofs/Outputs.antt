@@ -1,5 +1,5 @@
 -- What an input leads to, by what its specification and its schedule spell.
-use Rattle.std.proofs.Common.{◌≡◌, ℕ, ◌+◌, ◌≤◌, ◌<◌, List, length, MatchBool, refl, sym, ap, ◌∙◌, subst}
+use Rattle.std.proofs.Common.{◌≡◌, ℕ, ◌+◌, ◌≤◌, ◌<◌, Bool, List, length, MatchBool, refl, sym, ap, ◌∙◌, subst}
 use Rattle.std.proofs.lemmas.Bool.{lt-ltb, le-ltb}
 use Rattle.aw_lex.specs.Lines.{lines_of}
 use Rattle.aw_term.specs.Rules as P
@@ -20,22 +20,22 @@ use Rattle.aw_run.specs.declared.words.Telling.{Telling}
 use Rattle.aw_run.specs.declared.words.Job.{Job}
 use Rattle.aw_run.specs.Refusals.{at_line}
 use Rattle.aw_run.specs.Replies.{reply_with}
-use Rattle.aw_run.specs.Output.{Output, PastInputLimit, BadSchedule, by_events, by_schedule, BySpecification, IsOutputOf}
+use Rattle.aw_run.specs.Output.{Output, PastInputLimit, BadSchedule, told, within_limit, by_schedule, BySpecification, IsOutputOf}
 
 -- a good schedule
-pub schedule-good : (telling : Telling) (s : Spec) (g : Grammar) (before : ℕ) (schedule : List (List ℕ)) (events : List Event) (t : Types) → s.declared ≡ declarations_of g → s.types ≡ t → read_lines (types_of t) (declarations_of g) 1 schedule ≡ Events events →
-    by_schedule telling s before (read_lines (types_of s.types) s.declared 1 schedule) ≡ by_events telling (words_of g) (grammar_of g) events
-schedule-good telling s g before schedule events t same typed good =
-    ap (by_schedule telling s before) (ap (λ (u : Types). read_lines (types_of u) s.declared 1 schedule) typed ∙ ap (λ (d : Declarations). read_lines (types_of t) d 1 schedule) same ∙ good)
-    ∙ ap (λ (d : Declarations). by_events telling (words_in d) (grammar_in d) events) same
-    ∙ ap (λ (w : Words). by_events telling w (grammar_in (declarations_of g)) events) (sym (declared_words g))
-    ∙ ap (λ (h : P.Grammar). by_events telling (words_of g) h events) (sym (declared_grammar g))
+pub schedule-good : (telling : Telling) (s : Spec) (g : Grammar) (before : ℕ) (loads : Bool) (schedule : List (List ℕ)) (events : List Event) (t : Types) → s.declared ≡ declarations_of g → s.types ≡ t → read_lines (types_of t) (declarations_of g) 1 schedule ≡ Events events →
+    by_schedule telling s before loads (read_lines (types_of s.types) s.declared 1 schedule) ≡ within_limit (told telling (words_of g) (grammar_of g) loads events)
+schedule-good telling s g before loads schedule events t same typed good =
+    ap (by_schedule telling s before loads) (ap (λ (u : Types). read_lines (types_of u) s.declared 1 schedule) typed ∙ ap (λ (d : Declarations). read_lines (types_of t) d 1 schedule) same ∙ good)
+    ∙ ap (λ (d : Declarations). within_limit (told telling (words_in d) (grammar_in d) loads events)) same
+    ∙ ap (λ (w : Words). within_limit (told telling w (grammar_in (declarations_of g)) loads events)) (sym (declared_words g))
+    ∙ ap (λ (h : P.Grammar). within_limit (told telling (words_of g) h loads events)) (sym (declared_grammar g))
 
 -- a faulty one
-pub schedule-bad : (telling : Telling) (s : Spec) (d : Declarations) (before line : ℕ) (kind : SchedKind) (schedule : List (List ℕ)) (t : Types) → s.declared ≡ d → s.types ≡ t → read_lines (types_of t) d 1 schedule ≡ FaultAt line kind →
-    reply_with (by_schedule telling s before (read_lines (types_of s.types) s.declared 1 schedule)) ≡ reply_with (BadSchedule (at_line (before + line) (schedule_kind kind)))
-schedule-bad telling s d before line kind schedule t same typed faulty =
-    ap (λ r. reply_with (by_schedule telling s before r)) (ap (λ (u : Types). read_lines (types_of u) s.declared 1 schedule) typed ∙ ap (λ (e : Declarations). read_lines (types_of t) e 1 schedule) same ∙ faulty)
+pub schedule-bad : (telling : Telling) (s : Spec) (d : Declarations) (before : ℕ) (loads : Bool) (line : ℕ) (kind : SchedKind) (schedule : List (List ℕ)) (t : Types) → s.declared ≡ d → s.types ≡ t → read_lines (types_of t) d 1 schedule ≡ FaultAt line kind →
+    reply_with (by_schedule telling s before loads (read_lines (types_of s.types) s.declared 1 schedule)) ≡ reply_with (BadSchedule (at_line (before + line) (schedule_kind kind)))
+schedule-bad telling s d before loads line kind schedule t same typed faulty =
+    ap (λ r. reply_with (by_schedule telling s before loads r)) (ap (λ (u : Types). read_lines (types_of u) s.declared 1 schedule) typed ∙ ap (λ (e : Declarations). read_lines (types_of t) e 1 schedule) same ∙ faulty)
 
 -- an input within its limit, of which the specification is read
 pub output-read : (job : Job) (input : List ℕ) (reading : Reading) (output : Output) → length input ≤ INPUT_LIMIT → specification (lines_of input) ≡ reading → BySpecification job (lines_of input) reading output → IsOutputOf job input output

@@ -11,6 +11,7 @@ use Rattle.aw_run.specs.declared.reply.Reply.{Reply}
 use Rattle.aw_run.specs.declared.reply.Stop.{Stop}
 use Rattle.aw_run.specs.Output.{PastInputLimit, IsOutputOf}
 use Rattle.aw_run.specs.Replies.{ForInput, Replies, reply_with}
+use Rattle.aw_run.specs.Promises.{RepliesKeeping}
 use Rattle.aw_run.specs.Unread.{unread_gives}
 use Rattle.aw_run.proofs.Outputs.{output-past}
 
@@ -26,6 +27,16 @@ past-limit job (Some input) (Some rest) some =
     let same : input ≡ some.0 ++ rest = cc in
     let more : INPUT_LIMIT < length input = longer INPUT_LIMIT input some.0 rest same some.1 in
     (PastInputLimit, output-past job input more, refl)
+
+-- and that is not done
+not-done : (job : Job) (left : Option (List ℕ)) → ForInput left (λ input. Replies (IsOutputOf job input) (reply_with PastInputLimit)) → ForInput left (λ input. RepliesKeeping job input (reply_with PastInputLimit))
+not-done job None is = (is.0, (is.1, λ done. absurd (cc (done))))
+not-done job (Some input) is = (is, λ done. absurd (cc (done)))
+
+pub unread-kept : (error : ReadError) (result : Result Reply Stop) (old new : Option (List ℕ)) (job : Job) → result ≡ unread_gives error → (error ≡ fault.TooLong → GivesSome old new (λ bytes. INPUT_LIMIT < length bytes)) → IfOk result (λ said. ForInput old (λ input. RepliesKeeping job input said))
+unread-kept fault.TooLong result old new job is past = rw is (not-done job old (past-limit job old new (past refl)))
+unread-kept fault.ReadFault result old new job is past = rw is tt
+unread-kept fault.NoMemory result old new job is past = rw is tt
 
 pub unread-reply : (error : ReadError) (result : Result Reply Stop) (old new : Option (List ℕ)) (job : Job) → result ≡ unread_gives error → (error ≡ fault.TooLong → GivesSome old new (λ bytes. INPUT_LIMIT < length bytes)) → IfOk result (λ said. ForInput old (λ input. Replies (IsOutputOf job input) said))
 unread-reply fault.TooLong result old new job is past = rw is (past-limit job old new (past refl))

@@ -1,5 +1,5 @@
 -- Replies by what acceptance found.
-use Rattle.std.proofs.Common.{◌≡◌, ℕ, ◌+◌, List, None, Some, refl, sym, ap, ◌∙◌, subst, IfOk}
+use Rattle.std.proofs.Common.{◌≡◌, ℕ, ◌+◌, Bool, List, None, Some, refl, sym, ap, ◌∙◌, subst, IfOk}
 use Rattle.std.specs.declared.result.Result.{Result}
 use Rattle.std.proofs.lemmas.Result.{IfOk-weaker}
 use Rattle.aw_term.specs.Rules as R
@@ -98,9 +98,9 @@ pub reply-same : {E : Type 0} (result : Result Reply E) (P : Output → Type 0) 
 reply-same result P output holds = IfOk-weaker result _ _ (λ said is. (output, holds, is))
 
 -- the reply that tells a schedule
-pub told-schedule : {E : Type 0} (result : Result Reply E) (telling : Telling) (s : Spec) (before : ℕ) (schedule : List (List ℕ)) →
-    IfOk result (λ said. said ≡ reply_with (by_schedule telling s before (read_lines (types_of s.types) s.declared 1 schedule))) → IfOk result (λ said. Replies (TellsSchedule telling s before schedule) said)
-told-schedule result telling s before schedule = reply-same result (TellsSchedule telling s before schedule) (by_schedule telling s before (read_lines (types_of s.types) s.declared 1 schedule)) refl
+pub told-schedule : {E : Type 0} (result : Result Reply E) (telling : Telling) (s : Spec) (before : ℕ) (loads : Bool) (schedule : List (List ℕ)) →
+    IfOk result (λ said. said ≡ reply_with (by_schedule telling s before loads (read_lines (types_of s.types) s.declared 1 schedule))) → IfOk result (λ said. Replies (TellsSchedule telling s before loads schedule) said)
+told-schedule result telling s before loads schedule = reply-same result (TellsSchedule telling s before loads schedule) (by_schedule telling s before loads (read_lines (types_of s.types) s.declared 1 schedule)) refl
 
 -- the refusal of a line by another name
 pub bad-line : {E : Type 0} (result : Result Reply E) (line line' : ℕ) (kind kind' : SpecKind) → line' ≡ line → kind' ≡ kind →

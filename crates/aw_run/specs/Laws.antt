@@ -1,19 +1,22 @@
--- What holds of outputs and transcripts, apart from any code.
-use Rattle.std.specs.Prelude.{◌≡◌, ℕ, List, [], map}
+-- What holds of outputs, apart from any code.
+use Rattle.std.specs.Prelude.{◌≡◌, ℕ, Bool, true, List, map}
 use Rattle.aw_term.specs.Rules.{Grammar}
 use Rattle.aw_term.specs.Choices.{Choice}
 use Rattle.aw_term.specs.Artifacts.{Words}
-use Rattle.aw_term.specs.Runs.{plain_text}
+use Rattle.aw_term.specs.WellFormed.{Each}
+use Rattle.aw_base.specs.ChoiceFits.{choice_ok}
 use Rattle.aw_sched.specs.Events.{Chooses}
+use Rattle.aw_joint.specs.Laws.{IsAccepted}
 use Rattle.aw_run.specs.declared.words.Job.{Job}
+use Rattle.aw_run.specs.declared.words.Telling.TheVariants.{Undivided, Replayed}
 use Rattle.aw_run.specs.declared.reply.Reply.{Reply}
-use Rattle.aw_run.specs.Output.{Output, IsOutputOf}
+use Rattle.aw_run.specs.Output.{Output, IsOutputOf, told}
 use Rattle.aw_run.specs.Replies.{Devices, Says}
-use Rattle.aw_run.specs.Transcript.{transcript}
 
--- For choices alone just what the undivided run tells is written.
-abbrev pub TellsUndivided : Type 0
-TellsUndivided = (w : Words) (g : Grammar) (choices : List Choice) → transcript w g [] (map (λ x. Chooses x) choices) ≡ plain_text w g choices
+-- Choices alone are told of one role just as the undivided run tells them.
+abbrev pub TellsUndivided : Words → Grammar → Type 0
+TellsUndivided w g = g.roles ≡ 1 → (loads : Bool) (choices : List Choice) → Each (λ x. choice_ok g x ≡ true) choices →
+    told Replayed w g loads (map Chooses choices) ≡ told Undivided w g loads (map Chooses choices)
 
 -- An input has one output for each job.
 abbrev pub HasOneOutput : Type 0

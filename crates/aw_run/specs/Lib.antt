@@ -1,8 +1,9 @@
 pub mod Words
 pub mod Statuses
 pub mod Refusals
-pub mod Transcript
+pub mod ChoicesIn
 pub mod Output
 pub mod Replies
 pub mod Unread
+pub mod Promises
 pub mod Laws

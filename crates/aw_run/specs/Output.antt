@@ -1,9 +1,10 @@
 -- What an input leads to, for each command that reads it.
-use Rattle.std.specs.Prelude.{◌≡◌, ℕ, ◌+◌, Bool, false, List, [], length, drop, codes, nat_lt, if◌then◌else◌, Option, None, Some, MatchBool}
+use Rattle.std.specs.Prelude.{◌≡◌, ℕ, ◌+◌, Bool, List, length, drop, nat_lt, if◌then◌else◌, Option, None, Some, MatchBool}
 use Rattle.aw_lex.specs.Lines.{lines_of}
 use Rattle.aw_term.specs.Rules.{Grammar}
 use Rattle.aw_term.specs.Artifacts.{Words}
 use Rattle.aw_term.specs.Runs.{plain_text}
+use Rattle.aw_react.specs.Outputs.{output_of}
 use Rattle.aw_grammar.specs.Declarations.{grammar_in, words_in}
 use Rattle.aw_accept.specs.declared.refused.Fault.{Fault}
 use Rattle.aw_accept.specs.Circular.{LeastFault}
@@ -22,7 +23,7 @@ use Rattle.aw_sched.specs.KindNames.{kind_name as schedule_kind}
 use Rattle.aw_typed.specs.TypeFaults.{Fault as TypeFault, type_fault}
 use Rattle.aw_typed.specs.Typing.{types_of}
 use Rattle.aw_run.specs.Refusals.{at_line, types_text}
-use Rattle.aw_run.specs.Transcript.{choices_in, transcript}
+use Rattle.aw_run.specs.ChoicesIn.{choices_in}
 
 -- a text that is written, or why none is
 pub data Output : Type 0 where
@@ -38,24 +39,15 @@ pub data Output : Type 0 where
 abbrev pub within_limit : List ℕ → Output
 within_limit text = if nat_lt OUTPUT_LIMIT (length text) then PastOutputLimit else Writes text
 
--- what is written for events: choices alone, answered by the undivided run; or the lines of all
-abbrev pub told : Telling → Words → Grammar → List Event → List ℕ
-told Undivided w g events = plain_text w g (choices_in events)
-told Replayed w g events = transcript w g [] events
-
--- whether so many roles are more than are told: a replay knows no messages yet, and so it tells one role alone
-abbrev pub refuses_roles : Telling → ℕ → Bool
-refuses_roles Undivided count = false
-refuses_roles Replayed count = nat_lt 1 count
-
--- the events are told, or there are too many roles
-abbrev pub by_events : Telling → Words → Grammar → List Event → Output
-by_events telling w g events = if refuses_roles telling g.roles then BadSpecification (codes "roles") else within_limit (told telling w g events)
+-- what is written for events: choices alone, answered by the undivided run; or the lines of all and then the ending, over sites with loads or without
+abbrev pub told : Telling → Words → Grammar → (loads : Bool) → List Event → List ℕ
+told Undivided w g loads events = plain_text w g (choices_in events)
+told Replayed w g loads events = output_of w g loads events
 
 -- the schedule stands behind so many lines, and its own lines are counted on from there
-abbrev pub by_schedule : Telling → Spec → ℕ → Read → Output
-by_schedule telling s before (Events events) = by_events telling (words_in s.declared) (grammar_in s.declared) events
-by_schedule telling s before (FaultAt line kind) = BadSchedule (at_line (before + line) (schedule_kind kind))
+abbrev pub by_schedule : Telling → Spec → ℕ → (loads : Bool) → Read → Output
+by_schedule telling s before loads (Events events) = within_limit (told telling (words_in s.declared) (grammar_in s.declared) loads events)
+by_schedule telling s before loads (FaultAt line kind) = BadSchedule (at_line (before + line) (schedule_kind kind))
 
 -- the first fault in the types is told, and where there is none P says what comes
 abbrev pub ByTypes : Words → Option TypeFault → (Output → Type 0) → Output → Type 0
@@ -79,22 +71,22 @@ IfAccepted s P output = (found : Option Fault) × LeastFault (grammar_in s.decla
 abbrev pub TellsDependences : Spec → Output → Type 0
 TellsDependences s output = (text : List ℕ) × TellsAccepted (words_in s.declared) (grammar_in s.declared) text × (output ≡ Writes text)
 
--- the schedule that stands behind so many lines is told
-abbrev pub TellsSchedule : Telling → Spec → ℕ → List (List ℕ) → Output → Type 0
-TellsSchedule telling s before schedule output = output ≡ by_schedule telling s before (read_lines (types_of s.types) s.declared 1 schedule)
+-- the schedule that stands behind so many lines is told, with loads or without
+abbrev pub TellsSchedule : Telling → Spec → ℕ → (loads : Bool) → List (List ℕ) → Output → Type 0
+TellsSchedule telling s before loads schedule output = output ≡ by_schedule telling s before loads (read_lines (types_of s.types) s.declared 1 schedule)
 
--- What each job makes of a specification whose types have no fault, which takes so many lines, and of the lines behind it.
-abbrev pub MakesTyped : Job → Spec → ℕ → List (List ℕ) → Output → Type 0
-MakesTyped Check s before schedule = IfAccepted s (TellsDependences s)
-MakesTyped (Tells telling) s before schedule = IfAccepted s (TellsSchedule telling s before schedule)
+-- What each job makes of a specification whose types have no fault, which takes so many lines and asks for loads or not, and of the lines behind it.
+abbrev pub MakesTyped : Job → Spec → ℕ → (loads : Bool) → List (List ℕ) → Output → Type 0
+MakesTyped Check s before loads schedule = IfAccepted s (TellsDependences s)
+MakesTyped (Tells telling) s before loads schedule = IfAccepted s (TellsSchedule telling s before loads schedule)
 
--- What each job makes of a specification, which takes so many lines, and of the lines behind it: a fault in the types is told first.
-abbrev pub Makes : Job → Spec → ℕ → List (List ℕ) → Output → Type 0
-Makes job s before schedule = IfTyped s (MakesTyped job s before schedule)
+-- What each job makes of a specification, which takes so many lines and asks for loads or not, and of the lines behind it: a fault in the types is told first.
+abbrev pub Makes : Job → Spec → ℕ → (loads : Bool) → List (List ℕ) → Output → Type 0
+Makes job s before loads schedule = IfTyped s (MakesTyped job s before loads schedule)
 
 -- a good specification is taken on to its job, and of another its first faulty line is told
 abbrev pub BySpecification : Job → List (List ℕ) → Reading → Output → Type 0
-BySpecification job lines (Good spec taken loads) output = Makes job spec taken (drop taken lines) output
+BySpecification job lines (Good spec taken loads) output = Makes job spec taken loads (drop taken lines) output
 BySpecification job lines (Faulty line kind) output = output ≡ BadSpecification (at_line line (kind_name kind))
 
 -- The output of a job for an input: its lines are a specification, and then perhaps the line `schedule` and a schedule.

@@ -1,9 +1,12 @@
 //! What holds of the definitions, apart from any code.
+ghost use Rattle.aw_joint.specs.Laws.{IsAccepted};
+ghost use Rattle.aw_term.specs.Artifacts.{Words};
+ghost use Rattle.aw_term.specs.Rules as P;
 ghost use Rattle.aw_run.specs.Laws.{HasOneOutput, HasOneReply, TellsUndivided};
 
-/// A schedule of choices alone is told as the undivided run tells them.
+/// Where there is one role, a schedule of choices alone is replayed just as the undivided run tells it.
 pub fn choices_are_told_undivided()
-    ensures { TellsUndivided }
+    ensures { (w : Words) (g : P.Grammar) → IsAccepted w g → TellsUndivided w g }
 {}
 
 /// What a job makes of an input is determined by the input (`outputs`), and what is replied by the words, the input and what

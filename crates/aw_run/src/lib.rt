@@ -9,7 +9,6 @@ mod reply;
 mod running;
 mod schedule;
 mod source;
-mod transcript;
 mod undivided;
 mod words;
 

@@ -42,13 +42,6 @@ pub fn bad_specification(alloc: Global, line: u64, kind: SpecKind) -> Result<Rep
     })
 }
 
-/// The refusal of a specification with more than one role.
-pub fn too_many_roles(alloc: Global) -> Result<Reply, AllocError>
-    ensures { IfOk result (λ reply. reply ≡ reply_with (BadSpecification (codes "roles"))) }
-{
-    Reply::line(alloc, Status::BadSpec, b"bad specification roles\n")
-}
-
 /// The refusal of types, with what is named after a word.
 fn types_line(alloc: Global, word: &[u8], name: &[u8]) -> Result<Reply, AllocError>
     ensures { IfOk result (λ reply. reply ≡ reply_with (BadTypes (word.now ++ name.now))) }

@@ -9,7 +9,7 @@ ghost use Rattle.aw_grammar.specs.GrammarOf.{grammar_of, words_of};
 ghost use Rattle.aw_out.specs.Report.{Prints};
 ghost use Rattle.aw_sched.specs.Answers.{event_seen, MayCome};
 ghost use Rattle.aw_plain.specs.RowView.{config_of};
-ghost use Rattle.aw_run.specs.Transcript.{after_event, choice_lines, choices_in};
+ghost use Rattle.aw_run.specs.ChoicesIn.{after_event, choice_lines, choices_in};
 
 use aw_accept::Accepted;
 use aw_base::{Answer, Choice, Grammar, push_artifacts_line, push_choice_line};

@@ -42,7 +42,7 @@ impl Word {
 pub enum Telling {
     /// The choices alone, answered by the undivided run, and its artifacts.
     Undivided,
-    /// Each event.
+    /// Each event, done between one site for each role.
     Replayed,
 }
 

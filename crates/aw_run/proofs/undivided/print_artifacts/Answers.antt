@@ -1,4 +1,4 @@
-use Rattle.aw_run.proofs.Transcripts.{artifacts-printed}
+use Rattle.aw_run.proofs.Undivideds.{artifacts-printed}
 use Rattle.aw_run.proofs.undivided.print_artifacts.Goals as goal
 
 pub returns : goal.returns

@@ -6,7 +6,7 @@ use Rattle.aw_out.specs.Report.{Bounded, Prints}
 use Rattle.aw_term.specs.Runs.{plain_text}
 use Rattle.aw_sched.specs.Answers.{event_seen}
 use Rattle.aw_plain.specs.RowView.{config_of}
-use Rattle.aw_run.specs.Transcript.{choices_in}
+use Rattle.aw_run.specs.ChoicesIn.{choices_in}
 use Rattle.aw_run.proofs.Undivideds.{undivided_from}
 use Rattle.aw_run.proofs.undivided.print_undivided.Given as goal
 
