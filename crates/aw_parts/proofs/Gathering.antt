@@ -9,8 +9,8 @@ use Rattle.aw_modular.specs.Wholes.{ArePartsOf, HaveRoles, AreInOrder, IsPartOf}
 use Rattle.aw_parts.specs.Parts.{AreFirst}
 
 -- a copy of the part of a role is that part
-pub part_of_copy : (g : Grammar) (p : Part) (yes : RoleYes) (role : ℕ) → p.role ≡ role → p.grammar.roles ≡ g.roles → p.grammar.cons ≡ g.cons → p.grammar.sorts ≡ g.sorts → p.grammar.rules ≡ rules_at g.sorts role g.rules → IsCopy p yes.part → IsPartOf g role yes
-part_of_copy g p yes role at roles cons sorts rules copy =
+pub part_of_copy : (g : Grammar) (p : Part) (y : RoleYes) (role : ℕ) → p.role ≡ role → p.grammar.roles ≡ g.roles → p.grammar.cons ≡ g.cons → p.grammar.sorts ≡ g.sorts → p.grammar.rules ≡ rules_at g.sorts role g.rules → IsCopy p y.part → IsPartOf g role y
+part_of_copy g p y role at roles cons sorts rules copy =
     record { role = copy.role ∙ at; roles = copy.roles ∙ roles; cons = copy.cons ∙ cons; sorts = copy.sorts ∙ sorts; rules = copy.rules ∙ rules }
 
 -- one part more

@@ -7,7 +7,7 @@ use Rattle.aw_modular.specs.Wholes.{ArePartsOf, IsPartOf}
 -- the part of a role of the grammar, where there is one
 abbrev pub IfSomePart : Grammar → ℕ → Option RoleYes → Type 0
 IfSomePart g role None = Unit {0}
-IfSomePart g role (Some yes) = IsPartOf g role yes
+IfSomePart g role (Some y) = IsPartOf g role y
 
 -- the parts of its roles in order, where there are some
 abbrev pub IfSomeParts : Grammar → Option (List RoleYes) → Type 0
