@@ -1,9 +1,11 @@
 //! The commands that read the source to its end, and reply to what was read.
-ghost use Rattle.std.specs.Prelude.{◌≡◌, ◌≢◌, ◌≤◌, ◌+◌, ◌<◌, ◌^◌, [], IfOk, length};
+ghost use Rattle.std.specs.Prelude.{◌≡◌, ◌≢◌, ◌≤◌, ◌+◌, ◌<◌, ◌^◌, [], IfOk, None, length};
 ghost use Rattle.aw_lex.specs.Lines.{lines_of};
 ghost use Rattle.aw_grammar.specs.GrammarOf.{grammar_of};
 ghost use Rattle.aw_typed.specs.Types.{AreFor};
 ghost use Rattle.aw_typed.specs.Typing.{types_of, IsMadeFor, NumbersInRange};
+ghost use Rattle.aw_face.specs.Faces.{face_fault};
+ghost use Rattle.aw_spec.specs.TypesFit.{TypesFit};
 ghost use Rattle.aw_spec.specs.Views.{spec_seen};
 ghost use Rattle.aw_out.specs.Causes.{Rose};
 ghost use Rattle.aw_out.specs.Edge.{IsUsedUp, GivesSome};
@@ -34,6 +36,8 @@ fn reply_to_typed(
     requires lines { spec.lines + length (lines_of schedule.now) < 2 ^ 64 }
     requires types { typed.now.types ≡ spec.types }
     requires made { IsMadeFor (grammar_of spec.grammar) typed.now }
+    requires faces { face_fault (grammar_of spec.grammar) spec.faces.offers spec.faces.uses ≡ None }
+    requires fits { TypesFit (spec_seen spec) }
     ensures reply { IfOk result (λ reply. Replies (MakesTyped job (spec_seen spec) spec.lines spec.loads (lines_of schedule.now)) reply) }
     ensures promises { IfOk result (λ reply. reply.status ≡ Status.Done → IfTells job (OfSchedule Promises (spec_seen spec) spec.loads (lines_of schedule.now))) }
 {
@@ -53,6 +57,8 @@ fn reply_to_specification(
     requires lines { spec.lines + length (lines_of schedule.now) < 2 ^ 64 }
     requires sizes { AreFor (grammar_of spec.grammar) (types_of spec.types) }
     requires numbers { NumbersInRange (types_of spec.types) }
+    requires faces { face_fault (grammar_of spec.grammar) spec.faces.offers spec.faces.uses ≡ None }
+    requires fits { TypesFit (spec_seen spec) }
     ensures reply { IfOk result (λ reply. Replies (Makes job (spec_seen spec) spec.lines spec.loads (lines_of schedule.now)) reply) }
     ensures promises { IfOk result (λ reply. reply.status ≡ Status.Done → IfTells job (OfSchedule Promises (spec_seen spec) spec.loads (lines_of schedule.now))) }
 {
