@@ -1,2 +1,3 @@
 pub mod ApartTold
 pub mod Telling
+pub mod ApartLaws

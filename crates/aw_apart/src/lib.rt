@@ -2,9 +2,11 @@
 #![tactic(auto)]
 
 pub mod finding;
+pub mod law;
 mod roles;
 mod wait;
 
 pub use finding::Finding;
+pub use law::tellings_are_one;
 pub use roles::roles_text;
 pub use wait::wait_text;

@@ -1,5 +1,5 @@
 -- What follows from a reply.
-use Rattle.std.proofs.Common.{◌≡◌, ℕ, List, Some, None, sym, ap, ◌∙◌, subst, inl, inr, true, false, refl, IfSome, IfOk}
+use Rattle.std.proofs.Common.{◌≡◌, ℕ, Bool, List, Some, None, sym, ap, ◌∙◌, subst, inl, inr, true, false, refl, IfSome, IfOk}
 use Rattle.std.specs.Prelude.{◌⊎◌}
 use Rattle.std.specs.declared.option.Option.{Option}
 use Rattle.std.specs.declared.result.Result.{Result}
@@ -16,6 +16,14 @@ use Rattle.aw_run.specs.Serving.{IsServingOutputOf}
 use Rattle.aw_run.specs.Laws.{HasOneReply}
 use Rattle.aw_run.proofs.GoodServed.{served-done}
 use Rattle.aw_run.proofs.OneOutputs.{one-output}
+use Rattle.aw_run.proofs.Promising.{Fact, one-promise}
+use Rattle.aw_run.specs.Promises.{Promises, RepliesKeeping, WritesWith}
+use Rattle.aw_run.specs.declared.words.Job.TheVariants.{Tells}
+use Rattle.aw_run.specs.declared.words.Telling.{Telling}
+use Rattle.aw_sched.specs.Events.{Event}
+use Rattle.aw_term.specs.Artifacts.{Words}
+use Rattle.aw_term.specs.Rules.{Grammar}
+use Rattle.aw_typed.specs.Types.{Types}
 
 -- a reply that is done has the text of its output
 replies-done : (P : Output → Type 0) (said : Reply) (Q : List ℕ → Type 0) (output : Output) → P output → said ≡ reply_with output → said.status ≡ Done → Q said.text → (text : List ℕ) × P (Writes text) × Q text
@@ -101,3 +109,19 @@ pub replies-node : {E : Type 0} (result : Result Reply E) (left : Option (List �
 replies-node result left words devices name sessions named spelled replies =
     subst (λ (c : Option Command). IfOk result (λ said. ForInput left (λ input. SaysAs c words input devices said))) (sym spelled)
     (subst (λ n. IfOk result (λ said. ForInput left (λ input. Replies (IsServingOutputOf n sessions devices input) said))) named replies)
+
+-- a reply that is done and keeps the promises has the text of its output, and each promise holds
+kept-done : (F : Fact) → ((t : Types) (w : Words) (g : Grammar) (loads : Bool) (es : List Event) → Promises t w g loads es → F t w g loads es) → (telling : Telling) (input : List ℕ) (said : Reply) (Q : List ℕ → Type 0) →
+    RepliesKeeping (Tells telling) input said → said.status ≡ Done → Q said.text → WritesWith F (Tells telling) input Q
+kept-done F one telling input said Q kept done text_has =
+    (replies-done (IsOutputOf (Tells telling) input) said Q kept.0.0 kept.0.1 kept.0.2 done text_has, one-promise F one input (kept.1 done))
+
+pub Says-kept : (F : Fact) → ((t : Types) (w : Words) (g : Grammar) (loads : Bool) (es : List Event) → Promises t w g loads es → F t w g loads es) → (left : Option (List ℕ)) (telling : Telling) (said : Reply) (Q : List ℕ → Type 0) →
+    ForInput left (λ input. RepliesKeeping (Tells telling) input said) → said.status ≡ Done → Q said.text → ForInput left (λ input. WritesWith F (Tells telling) input Q)
+Says-kept F one None telling said Q kept done text_has = (kept.0, kept-done F one telling kept.0 said Q kept.1 done text_has)
+Says-kept F one (Some input) telling said Q kept done text_has = kept-done F one telling input said Q kept done text_has
+
+-- what is told was said, or the sink failed
+pub done-said : (said told : Status) → (told ≡ said) ⊎ (told ≡ WriteFault) → told ≡ Done → said ≡ Done
+done-said said told (inl is) done = sym is ∙ done
+done-said said told (inr failed) done = absurd (cc (failed, done))

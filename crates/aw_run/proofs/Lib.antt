@@ -2,6 +2,8 @@ pub mod Endings
 pub mod LineCounts
 pub mod Outputs
 pub mod Verdicts
+pub mod Checking
+pub mod OneChecked
 pub mod Undivideds
 pub mod OneOutputs
 pub mod ServedOutputs
@@ -9,3 +11,5 @@ pub mod GoodServed
 pub mod SessionLines
 pub mod Unreads
 pub mod OneRoles
+pub mod TypedChoices
+pub mod Promising

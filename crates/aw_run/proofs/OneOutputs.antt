@@ -4,7 +4,7 @@ use Rattle.aw_lex.specs.Lines.{lines_of}
 use Rattle.aw_term.specs.Artifacts.{Words}
 use Rattle.aw_grammar.specs.Declarations.{grammar_in, words_in}
 use Rattle.aw_accept.specs.declared.refused.Fault.{Fault}
-use Rattle.aw_told.proofs.OneTold.{one-found, one-text}
+use Rattle.aw_told.proofs.OneTold.{one-found}
 use Rattle.aw_typed.specs.TypeFaults.{Fault as TypeFault, type_fault}
 use Rattle.aw_typed.specs.Typing.{types_of}
 use Rattle.aw_spec.specs.Reading.{Spec, Reading, Good, Faulty, specification}
@@ -13,6 +13,7 @@ use Rattle.aw_run.specs.declared.words.Job.{Job}
 use Rattle.aw_run.specs.declared.words.Job.TheVariants.{Check, Tells}
 use Rattle.aw_run.specs.Output.{Output, Writes, PastInputLimit, ByFault, ByTypes, IfAccepted, TellsDependences, TellsSchedule, MakesTyped, BySpecification, IsOutputOf}
 use Rattle.aw_run.specs.Laws.{HasOneOutput}
+use Rattle.aw_run.proofs.OneChecked.{one-checked}
 
 -- P holds of one output at most
 abbrev pub One : (Output → Type 0) → Type 0
@@ -33,7 +34,7 @@ one-match true output P one a b x y = x ∙ sym y
 one-match false output P one a b x y = one a b x y
 
 one-dependences : (s : Spec) → One (TellsDependences s)
-one-dependences s a b x y = x.2 ∙ ap Writes (one-text (words_in s.declared) (grammar_in s.declared) x.0 y.0 x.1 y.1) ∙ sym y.2
+one-dependences s a b x y = x.2 ∙ ap Writes (one-checked s.depends s.offers s.free (words_in s.declared) (grammar_in s.declared) x.0 y.0 x.1 y.1) ∙ sym y.2
 
 by-types : (w : Words) (P : Output → Type 0) → One P → (found : Option TypeFault) → One (ByTypes w found P)
 by-types w P one None a b x y = one a b x y

@@ -13,6 +13,7 @@ use Rattle.aw_run.specs.Devices.{Devices}
 use Rattle.aw_run.specs.Output.{Output, PastInputLimit, IsOutputOf}
 use Rattle.aw_run.specs.Serving.{IsServingOutputOf}
 use Rattle.aw_run.specs.Replies.{ForInput, Replies, reply_with}
+use Rattle.aw_run.specs.Promises.{RepliesKeeping}
 use Rattle.aw_run.specs.Unread.{unread_gives}
 use Rattle.aw_run.proofs.Outputs.{output-past}
 use Rattle.aw_run.proofs.ServedOutputs.{served-past}
@@ -36,6 +37,16 @@ unread-as : (P : List ℕ → Output → Type 0) → ((input : List ℕ) → INP
 unread-as P holds fault.TooLong result old new is past = rw is (past-limit P holds old new (past refl))
 unread-as P holds fault.ReadFault result old new is past = rw is tt
 unread-as P holds fault.NoMemory result old new is past = rw is tt
+
+-- and that is not done
+not-done : (job : Job) (left : Option (List ℕ)) → ForInput left (λ input. Replies (IsOutputOf job input) (reply_with PastInputLimit)) → ForInput left (λ input. RepliesKeeping job input (reply_with PastInputLimit))
+not-done job None is = (is.0, (is.1, λ done. absurd (cc (done))))
+not-done job (Some input) is = (is, λ done. absurd (cc (done)))
+
+pub unread-kept : (error : ReadError) (result : Result Reply Stop) (old new : Option (List ℕ)) (job : Job) → result ≡ unread_gives error → (error ≡ fault.TooLong → GivesSome old new (λ bytes. INPUT_LIMIT < length bytes)) → IfOk result (λ said. ForInput old (λ input. RepliesKeeping job input said))
+unread-kept fault.TooLong result old new job is past = rw is (not-done job old (past-limit (IsOutputOf job) (output-past job) old new (past refl)))
+unread-kept fault.ReadFault result old new job is past = rw is tt
+unread-kept fault.NoMemory result old new job is past = rw is tt
 
 pub unread-reply : (error : ReadError) (result : Result Reply Stop) (old new : Option (List ℕ)) (job : Job) → result ≡ unread_gives error → (error ≡ fault.TooLong → GivesSome old new (λ bytes. INPUT_LIMIT < length bytes)) → IfOk result (λ said. ForInput old (λ input. Replies (IsOutputOf job input) said))
 unread-reply error result old new job = unread-as (IsOutputOf job) (output-past job) error result old new

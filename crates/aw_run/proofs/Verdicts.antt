@@ -14,7 +14,7 @@ use Rattle.aw_accept.specs.declared.refused.Refused.{Refused}
 use Rattle.aw_accept.specs.declared.refused.Refused.TheVariants.{Circular, NoMemory}
 use Rattle.aw_accept.specs.Circular.{LeastFault}
 use Rattle.aw_accept.specs.Refusals.{Tells}
-use Rattle.aw_told.specs.Told.{TellsAccepted, circle_text}
+use Rattle.aw_told.specs.Told.{circle_text}
 use Rattle.aw_spec.specs.KindNames.{kind_name}
 use Rattle.aw_spec.specs.Reading.{Spec}
 use Rattle.aw_spec.specs.declared.fault.SpecKind.{SpecKind}
@@ -27,11 +27,10 @@ use Rattle.aw_typed.specs.declared.data.TypeFault.{TypeFault}
 use Rattle.aw_typed.specs.declared.data.TypeFault.TheVariants as types
 use Rattle.aw_run.specs.Refusals.{at_line, types_text}
 use Rattle.aw_run.specs.declared.reply.Reply.{Reply}
-use Rattle.aw_run.specs.declared.reply.Status.TheVariants.{Done}
 use Rattle.aw_sched.specs.Schedules.{read_lines}
 use Rattle.aw_run.specs.declared.words.Telling.{Telling}
-use Rattle.aw_run.specs.Output.{Output, Writes, BadSpecification, BadTypes, IsCircular, BadSchedule, ByTypes, IfTyped, IfAccepted, TellsDependences, TellsSchedule, by_schedule}
-use Rattle.aw_run.specs.Replies.{Replies, RefusesGrammar, RefusesTypes, reply, reply_with}
+use Rattle.aw_run.specs.Output.{Output, BadSpecification, BadTypes, IsCircular, BadSchedule, ByTypes, IfTyped, IfAccepted, TellsSchedule, by_schedule}
+use Rattle.aw_run.specs.Replies.{Replies, RefusesGrammar, RefusesTypes, reply_with}
 
 -- the grammar is accepted
 pub accepted-then : (s : Spec) (g : Grammar) (P : Output → Type 0) (output : Output) → s.declared ≡ declarations_of g → HasNoCircle (grammar_of g) (IO (grammar_of g)) → P output → IfAccepted s P output
@@ -85,13 +84,6 @@ refuses-one types.NoMemory s g P said same tells is = absurd is
 
 pub refuses-types : {E : Type 0} (result : Result Reply E) (fault : TypeFault) (s : Spec) (g : Grammar) (P : Output → Type 0) → s.declared ≡ declarations_of g → TellsTypes (types_of s.types) (grammar_of g) fault → IfOk result (λ said. RefusesTypes (words_of g) fault said) → IfOk result (λ said. Replies (IfTyped s P) said)
 refuses-types result fault s g P same tells = IfOk-weaker result _ _ (λ said is. refuses-one fault s g P said same tells is)
-
--- the text of an accepted grammar is written
-pub writes-dependences : (s : Spec) (g : Grammar) (text : List ℕ) → s.declared ≡ declarations_of g → TellsAccepted (words_of g) (grammar_of g) text → Replies (TellsDependences s) (reply Done text)
-writes-dependences s g text same tells =
-    let told : TellsAccepted (words_of g) (grammar_in (declarations_of g)) text = subst (λ (h : R.Grammar). TellsAccepted (words_of g) h text) (declared_grammar g) tells in
-    let in_words : TellsAccepted (words_in (declarations_of g)) (grammar_in (declarations_of g)) text = subst (λ (w : Words). TellsAccepted w (grammar_in (declarations_of g)) text) (declared_words g) told in
-    (Writes text, (text, subst (λ (d : Declarations). TellsAccepted (words_in d) (grammar_in d) text) (sym same) in_words, refl), refl)
 
 -- a reply to an equal output
 pub reply-same : {E : Type 0} (result : Result Reply E) (P : Output → Type 0) (output : Output) → P output → IfOk result (λ said. said ≡ reply_with output) → IfOk result (λ said. Replies P said)

@@ -2,10 +2,12 @@ pub mod Words
 pub mod Statuses
 pub mod Refusals
 pub mod ChoicesIn
+pub mod Checked
 pub mod Output
 pub mod Devices
 pub mod Serving
 pub mod Trials
 pub mod Replies
 pub mod Unread
+pub mod Promises
 pub mod Laws

@@ -8,7 +8,8 @@ use Rattle.aw_react.specs.Outputs.{output_of}
 use Rattle.aw_grammar.specs.Declarations.{grammar_in, words_in}
 use Rattle.aw_accept.specs.declared.refused.Fault.{Fault}
 use Rattle.aw_accept.specs.Circular.{LeastFault}
-use Rattle.aw_told.specs.Told.{TellsAccepted, circle_text}
+use Rattle.aw_base.specs.declared.declared.Triple.{Triple}
+use Rattle.aw_told.specs.Told.{circle_text}
 use Rattle.aw_spec.specs.KindNames.{kind_name}
 use Rattle.aw_spec.specs.Reading.{Spec, Reading, Good, Faulty, specification}
 use Rattle.aw_sched.specs.Events.{Event}
@@ -24,6 +25,7 @@ use Rattle.aw_typed.specs.TypeFaults.{Fault as TypeFault, type_fault}
 use Rattle.aw_typed.specs.Typing.{types_of}
 use Rattle.aw_run.specs.Refusals.{at_line, types_text}
 use Rattle.aw_run.specs.ChoicesIn.{choices_in}
+use Rattle.aw_run.specs.Checked.{TellsChecked}
 
 -- a text that is written, or why none is
 pub data Output : Type 0 where
@@ -68,9 +70,13 @@ ByFault w (Some fault) P output = output ≡ IsCircular (circle_text w fault)
 abbrev pub IfAccepted : Spec → (Output → Type 0) → Output → Type 0
 IfAccepted s P output = (found : Option Fault) × LeastFault (grammar_in s.declared) found × ByFault (words_in s.declared) found P output
 
--- the dependences are told
+-- what is told of an accepted specification is written, with what it declares and offers, and whether it asks for waiting
+abbrev pub WritesChecked : (depends : List Triple) → (offers : List ℕ) → (free : Bool) → Words → Grammar → Output → Type 0
+WritesChecked depends offers free w g output = (text : List ℕ) × TellsChecked depends offers free w g text × (output ≡ Writes text)
+
+-- the dependences are told, and after them what the specification asks for: its roles checked apart, and waiting
 abbrev pub TellsDependences : Spec → Output → Type 0
-TellsDependences s output = (text : List ℕ) × TellsAccepted (words_in s.declared) (grammar_in s.declared) text × (output ≡ Writes text)
+TellsDependences s = WritesChecked s.depends s.offers s.free (words_in s.declared) (grammar_in s.declared)
 
 -- the schedule that stands behind so many lines is told, with loads or without
 abbrev pub TellsSchedule : Telling → Spec → ℕ → (loads : Bool) → List (List ℕ) → Output → Type 0

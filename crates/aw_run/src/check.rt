@@ -1,37 +1,111 @@
-//! The command that tells the dependences of a specification, or its least circle.
-ghost use Rattle.std.specs.Prelude.{◌≡◌, IfOk};
-ghost use Rattle.aw_grammar.specs.GrammarOf.{declarations_of};
-ghost use Rattle.aw_spec.specs.Reading.{Spec};
+//! The command that tells the dependences of a specification, its roles checked apart and its waiting, or its least circle.
+ghost use Rattle.std.specs.Prelude.{◌≡◌, None, IfOk};
+ghost use Rattle.aw_term.specs.WellFormed.{Each};
+ghost use Rattle.aw_grammar.specs.GrammarOf.{grammar_of, words_of};
+ghost use Rattle.aw_face.specs.Faces.{face_fault};
+ghost use Rattle.aw_modular.specs.Refusals.{IsPosition};
+ghost use Rattle.aw_spec.specs.TypesFit.{TypesFit};
 ghost use Rattle.aw_spec.specs.Views.{spec_seen};
 ghost use Rattle.aw_accept.specs.Circular.{IsRelation};
-ghost use Rattle.aw_run.specs.Output.{IfAccepted, TellsDependences};
+ghost use Rattle.aw_run.specs.Checked.{TellsApart, TellsFree, TellsChecked};
+ghost use Rattle.aw_run.specs.Output.{IfAccepted, TellsDependences, WritesChecked};
 ghost use Rattle.aw_run.specs.Replies.{Replies};
 
 use crate::refusals::not_accepted;
 use crate::reply::{Reply, Status};
 use aw_accept::{Accepted, accept};
+use aw_apart::{roles_text, wait_text};
+use aw_base::Declared;
+use aw_face::Faces;
+use aw_grammar::Grammar;
+use aw_list::Text;
 use aw_spec::SpecText;
 use aw_told::accepted_text;
 use std::alloc::{AllocError, Global};
 
+/// What is told of the roles checked apart: nothing, where no dependence is declared.
+fn apart_text(
+    alloc: Global,
+    g: &Grammar,
+    faces: &Faces,
+    depends: &Declared,
+) -> Result<Text, AllocError>
+    requires faces { face_fault (grammar_of g.now) faces.now.offers faces.now.uses ≡ None }
+    requires range { Each (IsPosition (grammar_of g.now).sorts) depends.now }
+    ensures { IfOk result (λ text. TellsApart depends.now faces.now.offers (words_of g.now) (grammar_of g.now) text) }
+{
+    if depends.is_empty() {
+        return Ok(Text::new(alloc));
+    }
+    roles_text(alloc, g, faces, depends)
+}
+
+/// What is told of waiting: nothing, where it is not asked for.
+fn free_text(alloc: Global, accepted: &Accepted, free: bool) -> Result<Text, AllocError>
+    ensures { IfOk result (λ text. TellsFree free (words_of accepted.now.grammar) (grammar_of accepted.now.grammar) text) }
+{
+    if free {
+        wait_text(alloc, accepted)
+    } else {
+        Ok(Text::new(alloc))
+    }
+}
+
+/// What is told of an accepted specification.
+fn checked_text(
+    alloc: Global,
+    accepted: &Accepted,
+    faces: &Faces,
+    depends: &Declared,
+    free: bool,
+) -> Result<Text, AllocError>
+    requires relation { IsRelation accepted.now.grammar accepted.now.io }
+    requires faces { face_fault (grammar_of accepted.now.grammar) faces.now.offers faces.now.uses ≡ None }
+    requires range { Each (IsPosition (grammar_of accepted.now.grammar).sorts) depends.now }
+    ensures { IfOk result (λ text. TellsChecked depends.now faces.now.offers free (words_of accepted.now.grammar) (grammar_of accepted.now.grammar) text) }
+{
+    let mut text = accepted_text(alloc, accepted)?;
+    let roles = apart_text(alloc, accepted.grammar(), faces, depends)?;
+    let waits = free_text(alloc, accepted, free)?;
+    text.push_bytes(roles.as_slice())?;
+    text.push_bytes(waits.as_slice())?;
+    Ok(text)
+}
+
 /// The reply to a specification that was accepted.
-fn tell_dependences(alloc: Global, accepted: &Accepted) -> Result<Reply, AllocError>
-    requires { IsRelation accepted.now.grammar accepted.now.io }
-    ensures { IfOk result (λ reply. (s : Spec) → s.declared ≡ declarations_of accepted.now.grammar → Replies (TellsDependences s) reply) }
+fn tell_dependences(
+    alloc: Global,
+    accepted: &Accepted,
+    faces: &Faces,
+    depends: &Declared,
+    free: bool,
+) -> Result<Reply, AllocError>
+    requires relation { IsRelation accepted.now.grammar accepted.now.io }
+    requires faces { face_fault (grammar_of accepted.now.grammar) faces.now.offers faces.now.uses ≡ None }
+    requires range { Each (IsPosition (grammar_of accepted.now.grammar).sorts) depends.now }
+    ensures { IfOk result (λ reply. Replies (WritesChecked depends.now faces.now.offers free (words_of accepted.now.grammar) (grammar_of accepted.now.grammar)) reply) }
 {
     Ok(Reply {
         status: Status::Done,
-        text: accepted_text(alloc, accepted)?,
+        text: checked_text(alloc, accepted, faces, depends, free)?,
     })
 }
 
 /// The reply to a good specification.
 pub fn check(alloc: Global, spec: SpecText) -> Result<Reply, AllocError>
+    requires faces { face_fault (grammar_of spec.grammar) spec.faces.offers spec.faces.uses ≡ None }
+    requires fits { TypesFit (spec_seen spec) }
     ensures { IfOk result (λ reply. Replies (IfAccepted (spec_seen spec) (TellsDependences (spec_seen spec))) reply) }
 {
-    let SpecText { grammar, .. } = spec;
+    let SpecText {
+        grammar,
+        faces,
+        depends,
+        free,
+        ..
+    } = spec;
     match accept(alloc, grammar) {
-        Ok(accepted) => tell_dependences(alloc, &accepted),
+        Ok(accepted) => tell_dependences(alloc, &accepted, &faces, &depends, free),
         Err(refused) => not_accepted(alloc, refused),
     }
 }

@@ -1,19 +1,22 @@
 //! The commands that read the source to its end, and reply to what was read.
-ghost use Rattle.std.specs.Prelude.{◌≡◌, ◌≢◌, ◌≤◌, ◌+◌, ◌<◌, ◌^◌, [], IfOk, length};
+ghost use Rattle.std.specs.Prelude.{◌≡◌, ◌≢◌, ◌≤◌, ◌+◌, ◌<◌, ◌^◌, [], IfOk, None, length};
 ghost use Rattle.aw_lex.specs.Lines.{lines_of};
 ghost use Rattle.aw_grammar.specs.GrammarOf.{grammar_of};
 ghost use Rattle.aw_typed.specs.Types.{AreFor};
 ghost use Rattle.aw_typed.specs.Typing.{types_of, IsMadeFor, NumbersInRange};
+ghost use Rattle.aw_face.specs.Faces.{face_fault};
+ghost use Rattle.aw_spec.specs.TypesFit.{TypesFit};
 ghost use Rattle.aw_spec.specs.Views.{spec_seen};
 ghost use Rattle.aw_out.specs.Causes.{Rose};
 ghost use Rattle.aw_out.specs.Edge.{IsUsedUp, GivesSome};
 ghost use Rattle.aw_run.specs.Output.{IsOutputOf, Makes, MakesTyped};
+ghost use Rattle.aw_run.specs.Promises.{IfTells, OfEvents, OfSchedule, Promises, RepliesKeeping};
 ghost use Rattle.aw_run.specs.Statuses.{IsReply, IsSilent, IsPastReading};
 ghost use Rattle.aw_run.specs.Replies.{ForInput, Replies};
 
 use crate::check::check;
 use crate::refusals::{bad_specification, bad_types};
-use crate::reply::{Reply, Stop};
+use crate::reply::{Reply, Status, Stop};
 use crate::schedule::tell_schedule;
 use crate::source::{INPUT_LIMIT, unread};
 use crate::words::Job;
@@ -33,7 +36,10 @@ fn reply_to_typed(
     requires lines { spec.lines + length (lines_of schedule.now) < 2 ^ 64 }
     requires types { typed.now.types ≡ spec.types }
     requires made { IsMadeFor (grammar_of spec.grammar) typed.now }
-    ensures { IfOk result (λ reply. Replies (MakesTyped job (spec_seen spec) spec.lines spec.loads (lines_of schedule.now)) reply) }
+    requires faces { face_fault (grammar_of spec.grammar) spec.faces.offers spec.faces.uses ≡ None }
+    requires fits { TypesFit (spec_seen spec) }
+    ensures reply { IfOk result (λ reply. Replies (MakesTyped job (spec_seen spec) spec.lines spec.loads (lines_of schedule.now)) reply) }
+    ensures promises { IfOk result (λ reply. reply.status ≡ Status.Done → IfTells job (OfSchedule Promises (spec_seen spec) spec.loads (lines_of schedule.now))) }
 {
     match job {
         Job::Check => check(alloc, spec),
@@ -51,7 +57,10 @@ fn reply_to_specification(
     requires lines { spec.lines + length (lines_of schedule.now) < 2 ^ 64 }
     requires sizes { AreFor (grammar_of spec.grammar) (types_of spec.types) }
     requires numbers { NumbersInRange (types_of spec.types) }
-    ensures { IfOk result (λ reply. Replies (Makes job (spec_seen spec) spec.lines spec.loads (lines_of schedule.now)) reply) }
+    requires faces { face_fault (grammar_of spec.grammar) spec.faces.offers spec.faces.uses ≡ None }
+    requires fits { TypesFit (spec_seen spec) }
+    ensures reply { IfOk result (λ reply. Replies (Makes job (spec_seen spec) spec.lines spec.loads (lines_of schedule.now)) reply) }
+    ensures promises { IfOk result (λ reply. reply.status ≡ Status.Done → IfTells job (OfSchedule Promises (spec_seen spec) spec.loads (lines_of schedule.now))) }
 {
     match type_check(alloc, &spec.grammar, &spec.types) {
         Ok(typed) => reply_to_typed(alloc, job, spec, &typed, schedule),
@@ -62,7 +71,8 @@ fn reply_to_specification(
 /// The reply to an input that is within its limit.
 fn reply_to(alloc: Global, job: Job, input: &[u8]) -> Result<Reply, AllocError>
     requires { length input.now ≤ INPUT_LIMIT }
-    ensures { IfOk result (λ reply. Replies (IsOutputOf job input.now) reply) }
+    ensures reply { IfOk result (λ reply. Replies (IsOutputOf job input.now) reply) }
+    ensures promises { IfOk result (λ reply. reply.status ≡ Status.Done → IfTells job (OfEvents Promises input.now)) }
 {
     match read_spec(alloc, input) {
         Ok(spec) => {
@@ -77,6 +87,7 @@ fn reply_to(alloc: Global, job: Job, input: &[u8]) -> Result<Reply, AllocError>
 /// Reads the source to its end, and makes the reply.
 pub fn reply_to_source<S: Source>(alloc: Global, job: Job, src: &mut S) -> Result<Reply, Stop>
     ensures reply { IfOk result (λ reply. ForInput (S.left src.old) (λ input. Replies (IsOutputOf job input) reply)) }
+    ensures promises { IfOk result (λ reply. ForInput (S.left src.old) (λ input. RepliesKeeping job input reply)) }
     ensures is_reply { IfOk result (λ reply. IsReply reply.status) }
     ensures silent { IfOk result (λ reply. IsSilent reply.status → reply.text ≡ []) }
     ensures end { IfOk result (λ reply. IsPastReading reply.status → IsUsedUp (S.left src.new)) }

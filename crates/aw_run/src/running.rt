@@ -6,6 +6,7 @@ ghost use Rattle.aw_trial.specs.Counts.{trial};
 ghost use Rattle.aw_trial.specs.Summaries.{summary_text};
 ghost use Rattle.aw_run.specs.Words.{command_of, role_word};
 ghost use Rattle.aw_run.specs.Statuses.{IsReply, IsPastReading, IsSilent};
+ghost use Rattle.aw_run.specs.Promises.{PlainIsTyped, ReplayIsTyped, RepliesKeeping, RulesStayEnabled, Settled, StartsStayEnabled, StaysAcyclic, WritesAnyOrder, WritesWith};
 ghost use Rattle.aw_run.specs.Replies.{EndsWith, ForInput, IsGood, NetFailed, Replied, Says, SomeReply, WritesServing, WritesSome, reads, uses_wire, with_wire};
 
 use crate::reading::reply_to_source;
@@ -26,6 +27,7 @@ fn prepare<S: Source, W: Wire>(
 ) -> Result<Reply, Stop>
     ensures reply { IfOk result (λ reply. ForInput (S.left src.old) (λ input.
         Says words.now input (with_wire (W.content wire.old) (W.content wire.new)) reply)) }
+    ensures promises { IfOk result (λ reply. (job : Job) → command_of words.now ≡ Some (Command.Reads job) → ForInput (S.left src.old) (λ input. RepliesKeeping job input reply)) }
     ensures is_reply { IfOk result (λ reply. IsReply reply.status) }
     ensures silent { IfOk result (λ reply. IsSilent reply.status → reply.text ≡ []) }
     ensures end { IfOk result (λ reply. IsPastReading reply.status → reads (command_of words.now) ≡ true → IsUsedUp (S.left src.new)) }
@@ -92,6 +94,26 @@ pub fn run<S: Source, K: Sink, W: Wire>(
         (λ input. WritesSome (Job.Tells Telling.Undivided) input (Gets (K.written out.old) (K.written out.new))) }
     ensures replay { command_of words.now ≡ Some (Command.Reads (Job.Tells Telling.Replayed)) → result ≡ Status.Done → ForInput (S.left src.old)
         (λ input. WritesSome (Job.Tells Telling.Replayed) input (Gets (K.written out.old) (K.written out.new))) }
+
+    // The events of a replay may be any choices and deliveries, late, repeated and out of order. At each moment the choices taken have an
+    // acyclic undivided configuration, and what is enabled stays so. Settling leaves no message, and where all were delivered the
+    // artifacts written are those of one undivided configuration of the same choices, in any order that it allows.
+    ensures acyclic { command_of words.now ≡ Some (Command.Reads (Job.Tells Telling.Replayed)) → result ≡ Status.Done → ForInput (S.left src.old)
+        (λ input. WritesWith StaysAcyclic (Job.Tells Telling.Replayed) input (Gets (K.written out.old) (K.written out.new))) }
+    ensures enabled { command_of words.now ≡ Some (Command.Reads (Job.Tells Telling.Replayed)) → result ≡ Status.Done → ForInput (S.left src.old)
+        (λ input. WritesWith RulesStayEnabled (Job.Tells Telling.Replayed) input (Gets (K.written out.old) (K.written out.new))) }
+    ensures started { command_of words.now ≡ Some (Command.Reads (Job.Tells Telling.Replayed)) → result ≡ Status.Done → ForInput (S.left src.old)
+        (λ input. WritesWith StartsStayEnabled (Job.Tells Telling.Replayed) input (Gets (K.written out.old) (K.written out.new))) }
+    ensures any_order { command_of words.now ≡ Some (Command.Reads (Job.Tells Telling.Replayed)) → result ≡ Status.Done → ForInput (S.left src.old)
+        (λ input. WritesWith WritesAnyOrder (Job.Tells Telling.Replayed) input (Gets (K.written out.old) (K.written out.new))) }
+    ensures settles { command_of words.now ≡ Some (Command.Reads (Job.Tells Telling.Replayed)) → result ≡ Status.Done → ForInput (S.left src.old)
+        (λ input. WritesWith Settled (Job.Tells Telling.Replayed) input (Gets (K.written out.old) (K.written out.new))) }
+
+    // Where there are types, each configuration that the choices taken lead to is well typed, a hole having the type of its result.
+    ensures typed_plain { command_of words.now ≡ Some (Command.Reads (Job.Tells Telling.Undivided)) → result ≡ Status.Done → ForInput (S.left src.old)
+        (λ input. WritesWith PlainIsTyped (Job.Tells Telling.Undivided) input (Gets (K.written out.old) (K.written out.new))) }
+    ensures typed_replay { command_of words.now ≡ Some (Command.Reads (Job.Tells Telling.Replayed)) → result ≡ Status.Done → ForInput (S.left src.old)
+        (λ input. WritesWith ReplayIsTyped (Job.Tells Telling.Replayed) input (Gets (K.written out.old) (K.written out.new))) }
 
     ensures trial { (n : ℕ) → command_of words.now ≡ Some (Command.Tries n) → result ≡ Status.Done → Gets (K.written out.old) (K.written out.new) (summary_text n (trial n)) }
     ensures node { (n : ℕ) → command_of words.now ≡ Some (Command.Serves n) → result ≡ Status.Done → ForInput (S.left src.old) (λ input.

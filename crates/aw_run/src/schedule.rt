@@ -11,6 +11,7 @@ ghost use Rattle.aw_sched.specs.Answers.{event_seen, MayCome};
 ghost use Rattle.aw_sched.specs.Schedules.{read_lines};
 ghost use Rattle.aw_run.specs.ChoicesIn.{choices_in};
 ghost use Rattle.aw_run.specs.Output.{IfAccepted, TellsSchedule, by_schedule, told, within_limit};
+ghost use Rattle.aw_run.specs.Promises.{OfSchedule, Promises};
 ghost use Rattle.aw_run.specs.Replies.{Replies, reply_with};
 
 use crate::refusals::{bad_schedule, not_accepted};
@@ -92,8 +93,9 @@ fn reply_to_schedule(
 ) -> Result<Reply, AllocError>
     requires lines { before + length (lines_of schedule.now) < 2 ^ 64 }
     requires made { IsMadeFor (grammar_of accepted.now.grammar) typed.now }
-    ensures { IfOk result (λ reply. (s : Spec) → s.declared ≡ declarations_of accepted.now.grammar → s.types ≡ typed.now.types →
+    ensures reply { IfOk result (λ reply. (s : Spec) → s.declared ≡ declarations_of accepted.now.grammar → s.types ≡ typed.now.types →
         reply ≡ reply_with (by_schedule telling s before loads (read_lines (types_of s.types) s.declared 1 (lines_of schedule.now)))) }
+    ensures promises { IfOk result (λ reply. (s : Spec) → s.declared ≡ declarations_of accepted.now.grammar → s.types ≡ typed.now.types → OfSchedule Promises s loads (lines_of schedule.now)) }
 {
     let g = accepted.grammar();
     match read_schedule(alloc, g, typed, schedule) {
@@ -114,7 +116,8 @@ pub fn tell_schedule(
     requires lines { spec.lines + length (lines_of schedule.now) < 2 ^ 64 }
     requires types { typed.now.types ≡ spec.types }
     requires made { IsMadeFor (grammar_of spec.grammar) typed.now }
-    ensures { IfOk result (λ reply. Replies (IfAccepted (spec_seen spec) (TellsSchedule telling (spec_seen spec) spec.lines spec.loads (lines_of schedule.now))) reply) }
+    ensures reply { IfOk result (λ reply. Replies (IfAccepted (spec_seen spec) (TellsSchedule telling (spec_seen spec) spec.lines spec.loads (lines_of schedule.now))) reply) }
+    ensures promises { IfOk result (λ reply. reply.status ≡ Status.Done → OfSchedule Promises (spec_seen spec) spec.loads (lines_of schedule.now)) }
 {
     let SpecText {
         grammar,

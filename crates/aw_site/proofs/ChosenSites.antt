@@ -102,7 +102,7 @@ still s = λ i. record s { asked = sym (append-nil s.asked) i; outbox = sym (app
 still_doing : (s t : Site) → s ≡ t → record { site = s; sent = [] } ≡ doing t [] []
 still_doing s t e = (λ i. record { site = (e ∙ still t) i; sent = [] })
 
-done_on : (g : Grammar) (s : Site) (c : Choice) (x : Outcome Ref Ref) → reaction_of s (choose_on g s c x) ≡ doing (worked g s c x) (asks_after g s c x) (sends_after g s c x)
+pub done_on : (g : Grammar) (s : Site) (c : Choice) (x : Outcome Ref Ref) → reaction_of s (choose_on g s c x) ≡ doing (worked g s c x) (asks_after g s c x) (sends_after g s c x)
 done_on g s (Start t k) (Refused a) = still_doing s s refl
 done_on g s (Start t k) Starts = still_doing (worked g s (Start t k) Starts) (worked g s (Start t k) Starts) refl
 done_on g s (Start t k) (Takes rule bound) = still_doing s s refl

@@ -12,3 +12,9 @@ pub mod Receptions
 pub mod Holding
 pub mod Coming
 pub mod Beginning
+pub mod SentNames
+pub mod MadeValid
+pub mod SentValid
+pub mod Outboxes
+pub mod InRange
+pub mod Listing

@@ -9,3 +9,4 @@ pub mod Chosen
 pub mod Judged
 pub mod Came
 pub mod Seen
+pub mod Sendable

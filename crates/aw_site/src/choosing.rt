@@ -14,6 +14,7 @@ ghost use Rattle.aw_space.specs.Seen.{space_seen};
 ghost use Rattle.aw_space.specs.Spaces.{is_home};
 ghost use Rattle.aw_site.specs.Answers.{sent_by};
 ghost use Rattle.aw_site.specs.Chosen.{Prepares};
+ghost use Rattle.aw_site.specs.Sendable.{all_short};
 ghost use Rattle.aw_site.specs.Shown.{HoldsAs, Shows};
 
 use crate::plan::Plan;
@@ -93,6 +94,7 @@ pub fn choose<'g, F: Facts>(
         ≡ list_map (message_of (grammar_of g.now.grammar)) copy.old.items ++ sent_by (plain_choose (grammar_of g.now.grammar) s (choice_of choice.now))) }
     ensures err { OnErr result ((s : P.Site) → Shows ⟦<F as Facts>⟧ space.old subs.old outbox.old.items loads s → Shows ⟦<F as Facts>⟧ space.new subs.new outbox.new.items loads s) }
     ensures err_copy { OnErr result (copy.new.items ≡ copy.old.items) }
+    ensures short { all_short outbox.old.items ≡ true → all_short outbox.new.items ≡ true }
     ensures facts { KeepsFacts (F.map space.old.facts) (F.map space.new.facts) }
     ensures nodes { KeepsNodesBut (node_of (choice_of choice.now)) (space_seen ⟦<F as Facts>⟧ space.old).held (space_seen ⟦<F as Facts>⟧ space.new).held }
 {

@@ -13,6 +13,7 @@ mod received;
 mod receiving;
 mod sender;
 mod sending;
+mod short;
 mod site;
 mod tells;
 mod uncounted;

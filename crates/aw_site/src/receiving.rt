@@ -1,5 +1,5 @@
 //! A message at a site, over the parts of the site.
-ghost use Rattle.std.specs.Prelude.{◌≡◌, ◌++◌, ◌<◌, [], None, Bool, List, IfOk, OnOk, OnErr, length, map as list_map, option_map};
+ghost use Rattle.std.specs.Prelude.{◌≡◌, ◌++◌, ◌<◌, [], None, true, Bool, List, IfOk, OnOk, OnErr, length, map as list_map, option_map};
 ghost use Rattle.std.specs.Option.{option_copied};
 ghost use Rattle.aw_grammar.specs.GrammarOf.{grammar_of};
 ghost use Rattle.aw_store.specs.EquationView.{equation_of};
@@ -16,6 +16,7 @@ ghost use Rattle.aw_site.specs.Answers.{sent_for, IsReceived};
 ghost use Rattle.aw_site.specs.Came.{came, holding, inherited_by, watching};
 ghost use Rattle.aw_site.specs.Doing.{IsPlanned};
 ghost use Rattle.aw_site.specs.Judged.{IsFresh};
+ghost use Rattle.aw_site.specs.Sendable.{all_short};
 ghost use Rattle.aw_site.specs.Shown.{HoldsAs, Shows};
 ghost use Rattle.aw_site.specs.Senders.{listed};
 ghost use Rattle.aw_site.specs.Views.{kind_of};
@@ -95,6 +96,7 @@ fn answer_ask<'g, F: Facts>(
         ≡ list_map (message_of (grammar_of g.now.grammar)) copy.old.items ++ (plain_react (grammar_of g.now.grammar) s (Asks r.now from)).sent) }
     ensures err { OnErr result ((s : P.Site) → Shows ⟦<F as Facts>⟧ space.now subs.old outbox.old.items loads s → Shows ⟦<F as Facts>⟧ space.now subs.new outbox.new.items loads s) }
     ensures err_copy { OnErr result (copy.new.items ≡ copy.old.items) }
+    ensures short { all_short outbox.old.items ≡ true → all_short outbox.new.items ≡ true }
 {
     let alloc = *outbox.allocator();
     let plan = plan_answer(alloc, g, space, loads, r, from)?;
@@ -169,6 +171,7 @@ fn take_in<'g, F: Facts>(
         ++ (came (grammar_of g.now.grammar) s (option_map (placed_call (grammar_of g.now.grammar)) (option_copied call.entry)) (list_map equation_of es.now)).sent) }
     ensures err { OnErr result ((s : P.Site) → Shows ⟦<F as Facts>⟧ space.old subs.old outbox.old.items loads s → Shows ⟦<F as Facts>⟧ space.new subs.new outbox.new.items loads s) }
     ensures err_copy { OnErr result (copy.new.items ≡ copy.old.items) }
+    ensures short { all_short outbox.old.items ≡ true → all_short outbox.new.items ≡ true }
     ensures facts { KeepsFacts (F.map space.old.facts) (F.map space.new.facts) }
     ensures nodes { KeepsNodes (space_seen ⟦<F as Facts>⟧ space.old).held (space_seen ⟦<F as Facts>⟧ space.new).held }
 {
@@ -207,6 +210,7 @@ fn react<'g, F: Facts>(
         ++ (plain_react (grammar_of g.now.grammar) s (message_of (grammar_of g.now.grammar) m.now).kind).sent) }
     ensures err { OnErr result ((s : P.Site) → Shows ⟦<F as Facts>⟧ space.old subs.old outbox.old.items loads s → Shows ⟦<F as Facts>⟧ space.new subs.new outbox.new.items loads s) }
     ensures err_copy { OnErr result (copy.new.items ≡ copy.old.items) }
+    ensures short { all_short outbox.old.items ≡ true → all_short outbox.new.items ≡ true }
     ensures facts { KeepsFacts (F.map space.old.facts) (F.map space.new.facts) }
     ensures nodes { KeepsNodes (space_seen ⟦<F as Facts>⟧ space.old).held (space_seen ⟦<F as Facts>⟧ space.new).held }
 {
@@ -252,6 +256,7 @@ pub fn receive<'g, F: Facts>(
         ++ sent_for (plain_receive (grammar_of g.now.grammar) s (message_of (grammar_of g.now.grammar) m.now))) }
     ensures err { OnErr result ((s : P.Site) → Shows ⟦<F as Facts>⟧ space.old subs.old outbox.old.items loads s → Shows ⟦<F as Facts>⟧ space.new subs.new outbox.new.items loads s) }
     ensures err_copy { OnErr result (copy.new.items ≡ copy.old.items) }
+    ensures short { all_short outbox.old.items ≡ true → all_short outbox.new.items ≡ true }
     ensures facts { KeepsFacts (F.map space.old.facts) (F.map space.new.facts) }
     ensures nodes { KeepsNodes (space_seen ⟦<F as Facts>⟧ space.old).held (space_seen ⟦<F as Facts>⟧ space.new).held }
 {

@@ -4,8 +4,10 @@ ghost use Rattle.aw_term.specs.Names.{Ref as RefName};
 ghost use Rattle.aw_react.specs.Sites.{Watch};
 ghost use Rattle.aw_subs.specs.Entries.{is_ready};
 ghost use Rattle.aw_site.specs.Holders.{ShowsAsked, ShowsWatchers};
+ghost use Rattle.aw_site.specs.Sendable.{all_short};
 
 use crate::plan::Plan;
+use crate::short::messages_are_short;
 use aw_msg::{Message, copy_message};
 use aw_name::Ref;
 use aw_subs::Subs;
@@ -85,7 +87,9 @@ pub fn make_room(
     ensures room { IfOk result (λ copies. vec_len outbox.new + vec_len plan.now.sent ≤ vec_capacity outbox.new) }
     ensures copy_room { IfOk result (λ copies. vec_len copy.new + vec_len copies ≤ vec_capacity copy.new) }
     ensures ready { IfOk result (λ copies. All (λ x. is_ready subs.new.subs x ≡ true) plan.now.wanted) }
+    ensures short { IfOk result (λ copies. all_short plan.now.sent.items ≡ true) }
 {
+    messages_are_short(plan.sent.as_slice());
     let copies = copy_messages(alloc, plan.sent.as_slice())?;
     outbox.reserve(plan.sent.len())?;
     copy.reserve(copies.len())?;

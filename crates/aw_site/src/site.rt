@@ -9,12 +9,13 @@ ghost use Rattle.aw_react.specs.Worlds.{node_of};
 ghost use Rattle.aw_space.specs.Keeping.{KeepsFacts, KeepsNodes, KeepsNodesBut};
 ghost use Rattle.aw_space.specs.Seen.{space_seen};
 ghost use Rattle.aw_space.specs.Spaces.{is_home};
+ghost use Rattle.aw_site.specs.Sendable.{all_sendable, all_short};
 ghost use Rattle.aw_site.specs.Shown.{Shows};
 
 use crate::received::Received;
-use crate::{choosing, receiving};
+use crate::{choosing, receiving, uncounted};
 use aw_accept::Accepted;
-use aw_choice::{Answer, Choice};
+use aw_choice::{Answer, Choice, Worklist};
 use aw_msg::{Message, Messages};
 use aw_space::Space;
 use aw_store::Facts;
@@ -29,13 +30,19 @@ pub struct Site<'g, F: Facts> {
     pub(crate) outbox: Vec<Message>,
     pub(crate) loads: bool,
     pub ghost shown: { ∥ ((s : P.Site) × Shows ⟦<F as Facts>⟧ space subs outbox.items loads s) ∥₁ },
+    pub ghost sendable: { all_sendable (grammar_of space.accepted.now.grammar) (list_map (message_of (grammar_of space.accepted.now.grammar)) outbox.items) ≡ true },
+    pub ghost short: { all_short outbox.items ≡ true },
 }
 
 impl<'g, F: Facts> Site<'g, F> {
     ghost use Rattle.aw_react.specs.Choosing.{answer_to, choose as plain_choose};
     ghost use Rattle.aw_react.specs.Reacting.{receive as plain_receive};
     ghost use Rattle.aw_react.specs.SiteEvents.{after_choice, after_message};
+    ghost use Rattle.aw_choice.specs.ChoiceView.{item_of};
     ghost use Rattle.aw_react.specs.Sites.{empty_site};
+    ghost use Rattle.aw_react.specs.Worklists.{site_worklist};
+    ghost use Rattle.aw_msg.specs.Messages.{MessageInRange};
+    ghost use Rattle.aw_term.specs.WellFormed.{Each};
     ghost use Rattle.aw_site.specs.Answers.{sent_by, sent_for, IsReceived};
     ghost use Rattle.aw_site.specs.Seen.{grammar_in, role_in, map_in, nodes_in, IsShown};
 
@@ -54,9 +61,10 @@ impl<'g, F: Facts> Site<'g, F> {
         }
     }
 
-    /// All messages that it ever sent, in their order.
+    /// All messages that it ever sent, in their order. Each has a spelling.
     pub fn outbox(&self) -> &[Message]
-        ensures { result.now ≡ self.now.outbox.items }
+        ensures items { result.now ≡ self.now.outbox.items }
+        ensures range { Each MessageInRange result.now }
     {
         self.outbox.as_slice()
     }
@@ -80,6 +88,14 @@ impl<'g, F: Facts> Site<'g, F> {
         ensures { result ≡ role_in ⟦<F as Facts>⟧ self.now }
     {
         self.space.role()
+    }
+
+    /// The worklist: each open node in order with each rule of its sort, and how it stands.
+    pub fn list(&self, g: &Accepted) -> Result<Worklist, AllocError>
+        requires { g.now.grammar ≡ self.now.space.accepted.now.grammar }
+        ensures { IfOk result (λ items. (s : P.Site) → IsShown ⟦<F as Facts>⟧ self.now s → list_map item_of items ≡ site_worklist (grammar_of g.now.grammar) s.equations s.held) }
+    {
+        uncounted::list(&self.space, g)
     }
 
     /// Answers a choice; how many messages it sent. Only `Taken` changes the site, and an error does not. The messages are added to

@@ -1,7 +1,7 @@
 //! Calls of a space where nobody counts the tests of guards.
 ghost use Rattle.std.specs.Prelude.{◌≡◌, ◌<◌, true, false, None, IfOk, OnOk, OnErr, map as list_map, option_map};
 ghost use Rattle.std.specs.Option.{option_copied};
-ghost use Rattle.aw_choice.specs.ChoiceView.{choice_of};
+ghost use Rattle.aw_choice.specs.ChoiceView.{choice_of, item_of};
 ghost use Rattle.aw_grammar.specs.GrammarOf.{grammar_of};
 ghost use Rattle.aw_base.specs.ChoiceFits.{choice_ok};
 ghost use Rattle.aw_store.specs.EquationView.{equation_of};
@@ -10,11 +10,11 @@ ghost use Rattle.aw_space.specs.Keeping.{KeepsFacts, KeepsNodes, KeepsNodesBut};
 ghost use Rattle.aw_space.specs.Outcomes.{IsOutcome};
 ghost use Rattle.aw_space.specs.Placings.{MayBeCalledIf, MayBeLearnt, placed_call};
 ghost use Rattle.aw_space.specs.Seen.{space_seen, IsUnchanged};
-ghost use Rattle.aw_space.specs.Spaces.{is_home, outcome, space_after, taken_in, clash_with};
+ghost use Rattle.aw_space.specs.Spaces.{is_home, outcome, space_after, taken_in, clash_with, worklist};
 
 use aw_accept::Accepted;
 use aw_apply::Steps;
-use aw_choice::Choice;
+use aw_choice::{Choice, Worklist};
 use aw_space::{Outcome, Placing, Space};
 use aw_store::{Equations, Facts};
 use std::alloc::AllocError;
@@ -141,4 +141,27 @@ pub fn take_in<'g, F: Facts>(
     ensures nodes { KeepsNodes (space_seen ⟦<F as Facts>⟧ space.old).held (space_seen ⟦<F as Facts>⟧ space.new).held }
 {
     take_in_ledger::<F, Brand>(space, g, call, es, Blank::new(1))
+}
+
+fn list_in_ledger<'g, F: Facts, L: Ledger>(
+    space: &Space<'g, F>,
+    g: &Accepted,
+    blank: Blank,
+) -> Result<Worklist, AllocError>
+    requires name { blank.name ≡ L.name }
+    requires parts { blank.parts ≡ L.parts }
+    requires some { 0 < L.parts }
+    requires grammar { g.now.grammar ≡ space.now.accepted.now.grammar }
+    ensures { IfOk result (λ items. list_map item_of items ≡ worklist (grammar_of g.now.grammar) (space_seen ⟦<F as Facts>⟧ space.now)) }
+{
+    let mut steps = Steps::<L>::new(blank);
+    space.list(g, &mut steps)
+}
+
+/// The worklist: each open node in order with each rule of its sort, and how it stands.
+pub fn list<'g, F: Facts>(space: &Space<'g, F>, g: &Accepted) -> Result<Worklist, AllocError>
+    requires { g.now.grammar ≡ space.now.accepted.now.grammar }
+    ensures { IfOk result (λ items. list_map item_of items ≡ worklist (grammar_of g.now.grammar) (space_seen ⟦<F as Facts>⟧ space.now)) }
+{
+    list_in_ledger::<F, Brand>(space, g, Blank::new(1))
 }

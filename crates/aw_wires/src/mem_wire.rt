@@ -52,6 +52,13 @@ impl MemWire {
         })
     }
 
+    /// How many sessions there were so far, the open one among them.
+    pub fn passed(&self) -> usize
+        ensures { result ≡ length self.now.sessions.passed }
+    {
+        self.sessions.passed()
+    }
+
     /// What was written in one of its sessions so far, counted from 0.
     pub fn written(&self, session: usize) -> &[u8]
         requires { session < length self.now.sessions.passed }

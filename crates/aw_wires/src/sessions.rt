@@ -66,6 +66,16 @@ impl Sessions {
         }
     }
 
+    /// How many sessions there were, the open one among them.
+    pub(crate) fn passed(&self) -> usize
+        ensures { result ≡ length self.now.passed }
+    {
+        match self.current {
+            Some(_) => self.ended.len() + 1,
+            None => self.ended.len(),
+        }
+    }
+
     /// Whether no session is to come.
     pub(crate) fn is_last(&self) -> bool
         ensures { IsTrue result ↔ (self.now.coming ≡ []) }

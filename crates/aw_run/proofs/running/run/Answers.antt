@@ -1,7 +1,10 @@
 use Rattle.std.proofs.Common.{◌≡◌, ◌∙◌, sym, inl, inr, rules}
 use Rattle.aw_run.specs.declared.reply.Status.TheVariants.{Done}
 use Rattle.aw_run.specs.Replies.{with_wire}
-use Rattle.aw_run.proofs.Endings.{Says-job, Says-cause, Says-complete}
+use Rattle.aw_run.proofs.Endings.{Says-job, Says-cause, Says-complete, Says-kept, done-said}
+use Rattle.aw_run.specs.declared.words.Job.TheVariants.{Tells}
+use Rattle.aw_run.specs.declared.words.Telling.TheVariants.{Undivided, Replayed}
+use Rattle.aw_run.specs.Promises.{PlainIsTyped, ReplayIsTyped, RulesStayEnabled, Settled, StartsStayEnabled, StaysAcyclic, WritesAnyOrder}
 use Rattle.aw_run.proofs.running.run.Goals as goal
 
 pub returns-in-Ok-clause-cause : goal.returns-in-Ok-clause-cause
@@ -26,3 +29,38 @@ returns-in-Ok-clause-replay g c = λ is done.
 
 pub returns-in-Ok-clause-complete : goal.returns-in-Ok-clause-complete
 returns-in-Ok-clause-complete g c = Says-complete _ c.args.words.now (with_wire (g.W.Wire.content c.args.wire.now) (g.W.Wire.content c.prepare.new.wire)) c.in-Ok.reply _ c.in-Ok.ensures.reply c.deliver.ensures.status
+
+pub returns-in-Ok-clause-acyclic : goal.returns-in-Ok-clause-acyclic
+returns-in-Ok-clause-acyclic g c = λ is done.
+    let said = done-said c.in-Ok.reply.status c.deliver.result c.deliver.ensures.status done in
+    Says-kept StaysAcyclic (λ t w h loads es p. p.acyclic) (g.S.Source.left c.args.src.now) Replayed c.in-Ok.reply _ (c.in-Ok.ensures.promises (Tells Replayed) is) said (search (rules, done))
+
+pub returns-in-Ok-clause-enabled : goal.returns-in-Ok-clause-enabled
+returns-in-Ok-clause-enabled g c = λ is done.
+    let said = done-said c.in-Ok.reply.status c.deliver.result c.deliver.ensures.status done in
+    Says-kept RulesStayEnabled (λ t w h loads es p. p.enabled) (g.S.Source.left c.args.src.now) Replayed c.in-Ok.reply _ (c.in-Ok.ensures.promises (Tells Replayed) is) said (search (rules, done))
+
+pub returns-in-Ok-clause-started : goal.returns-in-Ok-clause-started
+returns-in-Ok-clause-started g c = λ is done.
+    let said = done-said c.in-Ok.reply.status c.deliver.result c.deliver.ensures.status done in
+    Says-kept StartsStayEnabled (λ t w h loads es p. p.started) (g.S.Source.left c.args.src.now) Replayed c.in-Ok.reply _ (c.in-Ok.ensures.promises (Tells Replayed) is) said (search (rules, done))
+
+pub returns-in-Ok-clause-any_order : goal.returns-in-Ok-clause-any_order
+returns-in-Ok-clause-any_order g c = λ is done.
+    let said = done-said c.in-Ok.reply.status c.deliver.result c.deliver.ensures.status done in
+    Says-kept WritesAnyOrder (λ t w h loads es p. p.any_order) (g.S.Source.left c.args.src.now) Replayed c.in-Ok.reply _ (c.in-Ok.ensures.promises (Tells Replayed) is) said (search (rules, done))
+
+pub returns-in-Ok-clause-settles : goal.returns-in-Ok-clause-settles
+returns-in-Ok-clause-settles g c = λ is done.
+    let said = done-said c.in-Ok.reply.status c.deliver.result c.deliver.ensures.status done in
+    Says-kept Settled (λ t w h loads es p. p.settles) (g.S.Source.left c.args.src.now) Replayed c.in-Ok.reply _ (c.in-Ok.ensures.promises (Tells Replayed) is) said (search (rules, done))
+
+pub returns-in-Ok-clause-typed_plain : goal.returns-in-Ok-clause-typed_plain
+returns-in-Ok-clause-typed_plain g c = λ is done.
+    let said = done-said c.in-Ok.reply.status c.deliver.result c.deliver.ensures.status done in
+    Says-kept PlainIsTyped (λ t w h loads es p. p.typed_plain) (g.S.Source.left c.args.src.now) Undivided c.in-Ok.reply _ (c.in-Ok.ensures.promises (Tells Undivided) is) said (search (rules, done))
+
+pub returns-in-Ok-clause-typed_replay : goal.returns-in-Ok-clause-typed_replay
+returns-in-Ok-clause-typed_replay g c = λ is done.
+    let said = done-said c.in-Ok.reply.status c.deliver.result c.deliver.ensures.status done in
+    Says-kept ReplayIsTyped (λ t w h loads es p. p.typed_replay) (g.S.Source.left c.args.src.now) Replayed c.in-Ok.reply _ (c.in-Ok.ensures.promises (Tells Replayed) is) said (search (rules, done))

@@ -10,6 +10,7 @@ use Rattle.aw_site.specs.Chosen.{worked, reaction_of}
 use Rattle.aw_site.specs.Shown.{Shows}
 use Rattle.aw_site.proofs.ChosenSites.{site_reacted, sent_reacted}
 use Rattle.aw_site.proofs.Holding.{count_planned, copy_planned, shown_planned}
+use Rattle.aw_site.proofs.InRange.{short_more}
 use Rattle.aw_site.proofs.choosing.choose.Goals as goal
 
 pub returns-clause-count : goal.returns-clause-count
@@ -51,3 +52,7 @@ returns-clause-copy g c = λ s shows.
     copy_planned c.args.g.now.grammar t x c.in_ok-answer.field-0.plan c.args.copy.now.items c.make_room.new.copy.items c.carry_out.new.copy.items c.in_ok-copies.copies.items
     c.make_room.ensures.copy c.carry_out.ensures.copy c.in_ok-copies.ensures.copies planned
     ∙ ap (λ ms. map (message_of gr) c.args.copy.now.items ++ ms) (sent_reacted s (choose gr s ch))
+
+pub returns-clause-short : goal.returns-clause-short
+returns-clause-short g c =
+    short_more c.args.outbox.now.items c.make_room.new.outbox.items c.in_ok-answer.field-0.plan.sent.items c.carry_out.new.outbox.items c.make_room.ensures.outbox c.carry_out.ensures.outbox c.in_ok-copies.ensures.short

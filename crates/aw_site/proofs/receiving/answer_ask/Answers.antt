@@ -6,6 +6,7 @@ use Rattle.aw_react.specs.Reacting.{react}
 use Rattle.aw_site.specs.Came.{watching}
 use Rattle.aw_site.proofs.Holding.{equations_by, shown_planned}
 use Rattle.aw_site.proofs.Noting.{asked_same, watched_one}
+use Rattle.aw_site.proofs.InRange.{short_more}
 use Rattle.aw_site.proofs.receiving.answer_ask.Goals as goal
 
 pub returns-clause-site : goal.returns-clause-site
@@ -22,3 +23,7 @@ returns-clause-site g c = λ s shows.
     (shows.sent ∙ (λ i. map (message_of (grammar_of (sym c.requires.grammar i))) c.args.outbox.now.items))
     c.make_room.ensures.outbox c.carry_out.ensures.outbox
     (c.in_ok-plan.ensures.plan s h.role h.flag (equations_by g.F.Facts c.args.space.now c.args.subs.now c.args.loads s c.args.g.now.grammar c.requires.grammar h))
+
+pub returns-clause-short : goal.returns-clause-short
+returns-clause-short g c =
+    short_more c.args.outbox.now.items c.make_room.new.outbox.items c.in_ok-plan.plan.sent.items c.carry_out.new.outbox.items c.make_room.ensures.outbox c.carry_out.ensures.outbox c.in_ok-copies.ensures.short

@@ -7,6 +7,7 @@ use Rattle.aw_space.specs.Placings.{placed_call}
 use Rattle.aw_space.specs.Spaces.{taken_in}
 use Rattle.aw_site.specs.Came.{came, holding}
 use Rattle.aw_site.proofs.Holding.{shown_planned}
+use Rattle.aw_site.proofs.InRange.{short_more}
 use Rattle.aw_site.proofs.receiving.take_in.Goals as goal
 
 pub returns-clause-site : goal.returns-clause-site
@@ -23,3 +24,7 @@ returns-clause-site g c = λ s shows.
     (shows.sent ∙ (λ i. map (message_of (grammar_of (sym c.requires.grammar i))) c.args.outbox.now.items))
     c.make_room.ensures.outbox c.carry_out.ensures.outbox
     (c.in_ok-plan.ensures s h)
+
+pub returns-clause-short : goal.returns-clause-short
+returns-clause-short g c =
+    short_more c.args.outbox.now.items c.make_room.new.outbox.items c.in_ok-plan.plan.sent.items c.carry_out.new.outbox.items c.make_room.ensures.outbox c.carry_out.ensures.outbox c.in_ok-copies.ensures.short

@@ -8,6 +8,7 @@ use Rattle.aw_site.specs.Answers.{sent_by}
 use Rattle.aw_site.specs.Shown.{Shows}
 use Rattle.aw_site.proofs.Beginning.{shown_on}
 use Rattle.aw_site.proofs.Coming.{on_ok}
+use Rattle.aw_site.proofs.Outboxes.{sendable_on, choice_sends}
 use Rattle.aw_site.proofs.site.Site.choose_into.Goals as goal
 
 pub invariant_of-self : goal.invariant_of-self
@@ -17,6 +18,11 @@ invariant_of-self g c =
     record {
       shown = shown_on c.choose-answered.result (Shows g.F.Facts old.space old.subs old.outbox.items old.loads) (Shows g.F.Facts c.choose-answered.new.space c.choose-answered.new.subs c.choose-answered.new.outbox.items old.loads)
           (λ s. after_choice s (choose gr s (choice_of c.args.choice.now))) c.choose-answered.ensures.site c.choose-answered.ensures.err old.shown;
+      sendable = sendable_on g.F.Facts old.space c.choose-answered.new.space old.subs c.choose-answered.new.subs old.outbox.items c.choose-answered.new.outbox.items old.loads c.choose-answered.result
+          (λ s. after_choice s (choose gr s (choice_of c.args.choice.now))) (λ s. sent_by (choose gr s (choice_of c.args.choice.now))) (ap grammar_of c.choose-answered.ensures.grammar)
+          (λ s shows. choice_sends g.F.Facts old.space old.subs old.outbox.items old.loads s shows c.args.g.now.grammar (choice_of c.args.choice.now) c.requires.grammar c.requires.ok c.requires.here)
+          c.choose-answered.ensures.site c.choose-answered.ensures.err old.shown old.sendable;
+      short = c.choose-answered.ensures.short old.short;
     }
 
 pub returns-clause-copy : goal.returns-clause-copy

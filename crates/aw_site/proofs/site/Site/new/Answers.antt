@@ -1,4 +1,8 @@
+use Rattle.std.proofs.Common.{ap, map}
+use Rattle.aw_grammar.specs.GrammarOf.{grammar_of}
+use Rattle.aw_msg.specs.MessageView.{message_of}
 use Rattle.aw_react.specs.Sites.{empty_site}
+use Rattle.aw_site.specs.Sendable.{all_sendable, all_short}
 use Rattle.aw_site.proofs.Beginning.{new_shown}
 use Rattle.aw_site.proofs.site.Site.new.Goals as goal
 
@@ -9,4 +13,6 @@ invariant_of-result g c = record {
     new_shown g.F.Facts c.new.result c.new-2.result c.new-3.result.items c.args.loads c.args.role c.new.ensures.role c.new.ensures.nodes c.new.ensures.choices c.new.ensures.map
         c.new-2.ensures.asked c.new-2.ensures.watchers c.new-3.ensures.items,
   ) ∣₁;
+  sendable = ap (λ ms. all_sendable (grammar_of c.new.result.accepted.now.grammar) (map (message_of (grammar_of c.new.result.accepted.now.grammar)) ms)) c.new-3.ensures.items;
+  short = ap all_short c.new-3.ensures.items;
 }

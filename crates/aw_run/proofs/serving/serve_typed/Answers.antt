@@ -1,0 +1,11 @@
+use Rattle.std.proofs.Common.{refl, sym}
+use Rattle.std.proofs.lemmas.Result.{IfOk-weaker}
+use Rattle.aw_spec.specs.Views.{spec_seen}
+use Rattle.aw_run.proofs.Verdicts.{accepts-grammar, refuses-grammar}
+use Rattle.aw_run.proofs.serving.serve_typed.Goals as goal
+
+pub returns-in-Ok-clause-reply : goal.returns-in-Ok-clause-reply
+returns-in-Ok-clause-reply g c =
+    let s = spec_seen c.args.spec in
+    accepts-grammar _ s c.args.spec.grammar _ refl c.in-Ok.ensures.sound
+    (IfOk-weaker c.serve_named.result _ _ (λ said is. is s refl (sym c.requires.types)) (rw c.in-Ok.ensures.accepted at c.serve_named.ensures.reply))

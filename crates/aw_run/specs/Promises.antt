@@ -1,0 +1,114 @@
+-- What is promised of the events that an input spells behind a good specification, apart from what is written of them.
+use Rattle.std.specs.Prelude.{◌≡◌, ℕ, suc, Bool, true, List, [], ◌++◌, take, drop, Some, ◌⊎◌}
+use Rattle.aw_lex.specs.Lines.{lines_of}
+use Rattle.aw_term.specs.Trees.{Never}
+use Rattle.aw_term.specs.Names.{Node, Ref, root}
+use Rattle.aw_term.specs.Rules.{Ground, Rule, Grammar}
+use Rattle.aw_term.specs.Configs.{Config}
+use Rattle.aw_term.specs.Choices.{Choice, Start, Develop, Developed, Refused, Starts, Takes, undivided}
+use Rattle.aw_term.specs.Artifacts.{Words}
+use Rattle.aw_term.specs.Runs.{after_all, artifacts}
+use Rattle.aw_grammar.specs.Declarations.{grammar_in, words_in}
+use Rattle.aw_iograph.specs.Graphs.{Member}
+use Rattle.aw_iograph.specs.Dependence.{IO}
+use Rattle.aw_accept.specs.Acyclic.{IsAcyclic}
+use Rattle.aw_typed.specs.Types.{Types}
+use Rattle.aw_typed.specs.Typing.{types_of}
+use Rattle.aw_typed.specs.WellTyped.{IsWellTyped}
+use Rattle.aw_spec.specs.Reading.{Spec, Reading, Good, Faulty, specification}
+use Rattle.aw_sched.specs.Events.{Event}
+use Rattle.aw_sched.specs.Schedules.{Read, Events, FaultAt, read_lines}
+use Rattle.aw_joint.specs.Laws.{SameChoices}
+use Rattle.aw_react.specs.Homes.{home}
+use Rattle.aw_react.specs.Choosing.{outcome}
+use Rattle.aw_react.specs.Worlds.{Chooses, site_at, empty_world, IsQuiet}
+use Rattle.aw_react.specs.Outputs.{after_events, all_lines, all_moves, moment, output_of}
+use Rattle.aw_replay.specs.Telling.{SettlingEnds}
+use Rattle.aw_run.specs.ChoicesIn.{choices_in}
+use Rattle.aw_run.specs.Output.{IsOutputOf}
+use Rattle.aw_run.specs.Replies.{Replies, WritesSome}
+use Rattle.aw_run.specs.declared.reply.Reply.{Reply}
+use Rattle.aw_run.specs.declared.reply.Status.TheVariants.{Done}
+use Rattle.aw_run.specs.declared.words.Job.{Job}
+use Rattle.aw_run.specs.declared.words.Job.TheVariants.{Check, Tells}
+
+-- Of a specification with these types, words and grammar, with loads or without, and of the events behind it:
+
+-- At each moment the choices taken have an undivided configuration, and it is acyclic.
+abbrev pub StaysAcyclic : Types → Words → Grammar → (loads : Bool) → List Event → Type 0
+StaysAcyclic t w g loads es = ∥ ((n : ℕ) → (c : Config) × (undivided g [] (moment g loads es n).taken ≡ Some c) × IsAcyclic (IO g) c) ∥₁
+
+-- A rule that is enabled at a site is so at the next moment, with the same bound references, or its node is developed.
+abbrev pub RulesStayEnabled : Types → Words → Grammar → (loads : Bool) → List Event → Type 0
+RulesStayEnabled t w g loads es =
+    ∥ ((n a : ℕ) (node : Node) (r : ℕ) (args : List Ground) (rule : Rule) (bound : List Ref) →
+    outcome g (site_at (moment g loads es n) a) (Develop node r args) ≡ Takes rule bound →
+    (outcome g (site_at (moment g loads es (suc n)) a) (Develop node r args) ≡ Takes rule bound)
+    ⊎ (outcome g (site_at (moment g loads es (suc n)) a) (Develop node r args) ≡ Refused Developed)) ∥₁
+
+-- A start that is enabled is so at the next moment, if it was not chosen.
+abbrev pub StartsStayEnabled : Types → Words → Grammar → (loads : Bool) → List Event → Type 0
+StartsStayEnabled t w g loads es =
+    ∥ ((n s k : ℕ) →
+    outcome g (site_at (moment g loads es n) (home g (root s k))) (Start s k) ≡ Starts →
+    (Member (Chooses (Start s k)) (take (suc n) (all_moves g (empty_world g loads) es)) → Never) →
+    outcome g (site_at (moment g loads es (suc n)) (home g (root s k))) (Start s k) ≡ Starts) ∥₁
+
+-- Once every message was delivered, the artifacts behind the lines of all events are those of the same choices, undivided, in any order that is allowed.
+abbrev pub WritesAnyOrder : Types → Words → Grammar → (loads : Bool) → List Event → Type 0
+WritesAnyOrder t w g loads es =
+    ∥ (IsQuiet (after_events g (empty_world g loads) es) →
+    (ds : List Choice) → SameChoices (after_events g (empty_world g loads) es).taken ds → (d : Config) → undivided g [] ds ≡ Some d →
+    output_of w g loads es ≡ all_lines w g (empty_world g loads) es ++ artifacts w d) ∥₁
+
+-- Behind each settling no message is undelivered.
+abbrev pub Settled : Types → Words → Grammar → (loads : Bool) → List Event → Type 0
+Settled t w g loads es = SettlingEnds g loads es
+
+-- Where there are types, the undivided configuration that the first n choices leave is well typed, for each n.
+abbrev pub PlainIsTyped : Types → Words → Grammar → (loads : Bool) → List Event → Type 0
+PlainIsTyped t w g loads es = ∥ (t.typed ≡ true → (n : ℕ) → IsWellTyped t g (after_all g [] (take n (choices_in es)))) ∥₁
+
+-- Where there are types, the undivided configuration of the choices taken is well typed at each moment.
+abbrev pub ReplayIsTyped : Types → Words → Grammar → (loads : Bool) → List Event → Type 0
+ReplayIsTyped t w g loads es = ∥ (t.typed ≡ true → (n : ℕ) (c : Config) → undivided g [] (moment g loads es n).taken ≡ Some c → IsWellTyped t g c) ∥₁
+
+-- all of this
+pub record Promises (t : Types) (w : Words) (g : Grammar) (loads : Bool) (es : List Event) : Type 0 where
+  pub acyclic : StaysAcyclic t w g loads es
+  pub enabled : RulesStayEnabled t w g loads es
+  pub started : StartsStayEnabled t w g loads es
+  pub any_order : WritesAnyOrder t w g loads es
+  pub settles : Settled t w g loads es
+  pub typed_plain : PlainIsTyped t w g loads es
+  pub typed_replay : ReplayIsTyped t w g loads es
+
+-- P of the events of a schedule behind this specification, where no line of it is at fault
+abbrev pub OfRead : (Types → Words → Grammar → Bool → List Event → Type 0) → Spec → (loads : Bool) → Read → Type 0
+OfRead P s loads (Events es) = P (types_of s.types) (words_in s.declared) (grammar_in s.declared) loads es
+OfRead P s loads (FaultAt line kind) = Unit {0}
+
+abbrev pub OfSchedule : (Types → Words → Grammar → Bool → List Event → Type 0) → Spec → (loads : Bool) → List (List ℕ) → Type 0
+OfSchedule P s loads schedule = OfRead P s loads (read_lines (types_of s.types) s.declared 1 schedule)
+
+-- P of the schedule that these lines hold behind their specification, where that is good
+abbrev pub OfReading : (Types → Words → Grammar → Bool → List Event → Type 0) → List (List ℕ) → Reading → Type 0
+OfReading P lines (Good s taken loads) = OfSchedule P s loads (drop taken lines)
+OfReading P lines (Faulty line kind) = Unit {0}
+
+-- P of the specification and the events that an input spells, where it spells them
+abbrev pub OfEvents : (Types → Words → Grammar → Bool → List Event → Type 0) → List ℕ → Type 0
+OfEvents P input = OfReading P (lines_of input) (specification (lines_of input))
+
+-- a job that tells a schedule has P
+abbrev pub IfTells : Job → Type 0 → Type 0
+IfTells Check P = Unit {0}
+IfTells (Tells telling) P = P
+
+-- this is a reply of the job to the input, and where it is done and tells a schedule the promises hold
+abbrev pub RepliesKeeping : Job → List ℕ → Reply → Type 0
+RepliesKeeping job input said = Replies (IsOutputOf job input) said × (said.status ≡ Done → IfTells job (OfEvents Promises input))
+
+-- the job makes a text of the input, that text has P, and of the events that the input spells F holds
+abbrev pub WritesWith : (Types → Words → Grammar → Bool → List Event → Type 0) → Job → List ℕ → (List ℕ → Type 0) → Type 0
+WritesWith F job input P = WritesSome job input P × OfEvents F input
