@@ -9,7 +9,7 @@ use Rattle.aw_term.specs.WellFormed.{symbols_of}
 use Rattle.aw_base.specs.ChoiceFits.{ground_ok, grounds_ok, args_ok, choice_ok}
 use Rattle.aw_united.specs.United.{at_one_role, united}
 use Rattle.aw_united.proofs.SameMaps.{and_then_same}
-use Rattle.aw_united.proofs.SortsAt.{looked_up, start_same}
+use Rattle.aw_united.proofs.SortsAt.{start_same}
 
 sort_after_same : (g : Grammar) (s : ℕ) (steps : List Step) → sort_after (united g) s steps ≡ sort_after g s steps
 sort_after_same g s [] = refl

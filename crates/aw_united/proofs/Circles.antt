@@ -3,7 +3,7 @@ use Rattle.std.proofs.Common.{◌≡◌, ℕ, zero, suc, refl, sym, subst}
 use Rattle.std.specs.Prelude.{◌↔◌, Some}
 use Rattle.std.proofs.Math.Logic.{∥∥₁_elim}
 use Rattle.std.proofs.Props.{props}
-use Rattle.aw_term.specs.Rules.{Rule, Grammar}
+use Rattle.aw_term.specs.Rules.{Grammar}
 use Rattle.aw_iograph.specs.Graphs.{Member}
 use Rattle.aw_iograph.specs.Dependence.{io, IO, HasNoCircle}
 use Rattle.aw_iograph.proofs.Members.{never, member_got}

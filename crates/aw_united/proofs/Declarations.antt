@@ -1,5 +1,5 @@
 -- Declarations whose sorts are all at one role make the grammar with one role.
-use Rattle.std.proofs.Common.{◌≡◌, ℕ, List, [], ◌∷◌, map, length, slice_get, refl, sym, subst, ap, ◌∙◌}
+use Rattle.std.proofs.Common.{◌≡◌, ℕ, List, [], ◌∷◌, map, slice_get, refl, sym, subst, ap, ◌∙◌}
 use Rattle.std.proofs.Math.Logic.{∥∥₁_map}
 use Rattle.aw_term.specs.Rules as P
 use Rattle.aw_term.specs.Choices.{gives_of}
@@ -13,7 +13,7 @@ use Rattle.aw_grammar.specs.declared.rule.Child.{Child}
 use Rattle.aw_grammar.specs.declared.rule.Rule.{Rule}
 use Rattle.aw_grammar.specs.GrammarView.{sorts_of, sort_of, child_of, rule_of, plain_grammar, plain_words}
 use Rattle.aw_grammar.specs.Variables.{VariablesFit, AllVariablesFit}
-use Rattle.aw_united.specs.Declared.{seated, all_seated}
+use Rattle.aw_united.specs.Declared.{all_seated}
 use Rattle.aw_united.specs.United.{at_one_role, united, everyone, united_words}
 use Rattle.aw_united.proofs.SameMaps.{map_same}
 use Rattle.aw_united.proofs.SortsAt.{gives_same}

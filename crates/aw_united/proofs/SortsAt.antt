@@ -1,5 +1,5 @@
 -- What is looked up of a sort is the same where all sorts are at one role.
-use Rattle.std.proofs.Common.{◌≡◌, ℕ, Bool, List, map, Option, None, Some, slice_get, refl, ap, ◌∙◌}
+use Rattle.std.proofs.Common.{◌≡◌, ℕ, List, map, Option, None, Some, slice_get, refl, ap, ◌∙◌}
 use Rattle.std.specs.Prelude.{option_map}
 use Rattle.std.proofs.lemmas.Option.{slice_get-map}
 use Rattle.aw_term.specs.Rules.{Sort}
