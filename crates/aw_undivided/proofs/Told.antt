@@ -16,7 +16,7 @@ use Rattle.aw_united.specs.Laws.{TakesSameChoices}
 use Rattle.aw_united.specs.United.{united, united_words}
 use Rattle.aw_undivided.specs.ChoicesIn.{choices_in}
 use Rattle.aw_undivided.specs.Choosing.{choices_among}
-use Rattle.aw_undivided.specs.Laws.{TellsUndivided}
+use Rattle.aw_undivided.specs.Laws.{UnitedTellsUndivided}
 use Rattle.aw_undivided.proofs.Chosen.{chosen_seen, chosen_ok, chosen_may_come}
 
 texts : IsSet (List ℕ)
@@ -30,7 +30,7 @@ module _ (a one : Accepted) (words : words_of one.grammar ≡ united_words (word
       subst (λ h. Each (MayCome h) chosen) (sym grammar)
       (subst (Each (MayCome (united (grammar_of a.grammar)))) (sym among) (chosen_may_come (grammar_of a.grammar) same events may))
 
-  pub told : ((w : Words) (g : P.Grammar) → IsAccepted w g → TellsUndivided w g) →
+  pub told : ((w : Words) (g : P.Grammar) → IsAccepted w g → UnitedTellsUndivided w g) →
       output_of (words_of one.grammar) (grammar_of one.grammar) false (map event_seen chosen) ≡ plain_text (words_of a.grammar) (grammar_of a.grammar) (choices_in (map event_seen events))
   told law =
       let w = words_of a.grammar in

@@ -11,5 +11,5 @@ use Rattle.aw_react.specs.Outputs.{output_of}
 use Rattle.aw_united.specs.United.{united, united_words}
 
 -- where all sorts are at one role, the sites tell of choices what the undivided run tells of them
-abbrev pub TellsUndivided : Words → Grammar → Type 0
-TellsUndivided w g = (cs : List Choice) → Each (λ c. choice_ok g c ≡ true) cs → output_of (united_words w) (united g) false (map Chooses cs) ≡ plain_text w g cs
+abbrev pub UnitedTellsUndivided : Words → Grammar → Type 0
+UnitedTellsUndivided w g = (cs : List Choice) → Each (λ c. choice_ok g c ≡ true) cs → output_of (united_words w) (united g) false (map Chooses cs) ≡ plain_text w g cs
