@@ -1,11 +1,12 @@
-use Rattle.std.proofs.Common.{◌<◌, ◌∙◌, List, ℕ, length, subst}
-use Rattle.std.specs.Prelude.{◌≡◌, IfOk}
+use Rattle.std.proofs.Common.{◌≡◌, ℕ, ◌<◌, List, length, subst, ◌∙◌}
+use Rattle.std.specs.Prelude.{IfOk}
+use Rattle.aw_grammar.specs.GrammarOf.{grammar_of}
 use Rattle.aw_undivided.proofs.Told.{may_come, told}
 use Rattle.aw_undivided.proofs.running.run_undivided.Goals as goal
 
 pub replay_between_sites-requires : goal.replay_between_sites-requires
 replay_between_sites-requires c =
-    may_come c.args.accepted.now c.in_ok-one.one c.in_ok-one.ensures.words c.in_ok-one.ensures.grammar c.args.events.now c.as_slice.result.now (c.as_slice.ensures ∙ c.in_ok-choices.ensures) c.requires c.united_laws.ensures.choices
+    may_come c.args.accepted.now c.in_ok-one.one c.in_ok-one.ensures.words c.in_ok-one.ensures.grammar c.args.events.now c.as_slice.result.now (c.as_slice.ensures ∙ c.in_ok-choices.ensures) c.requires (c.united_laws.ensures.choices (grammar_of c.args.accepted.now.grammar))
 
 pub returns-clause-output : goal.returns-clause-output
 returns-clause-output c =
@@ -15,4 +16,4 @@ returns-clause-output c =
 pub returns-clause-too_large : goal.returns-clause-too_large
 returns-clause-too_large c large =
     let same = told c.args.accepted.now c.in_ok-one.one c.in_ok-one.ensures.words c.in_ok-one.ensures.grammar c.args.events.now c.as_slice.result.now (c.as_slice.ensures ∙ c.in_ok-choices.ensures) c.requires c.undivided_laws.ensures in
-    subst (λ (text : List ℕ). _ < length text) same (c.replay_between_sites.ensures.too_large large)
+    subst (λ (text : List ℕ). 67108864 < length text) same (c.replay_between_sites.ensures.too_large large)
