@@ -9,7 +9,6 @@ mod reply;
 mod running;
 mod schedule;
 mod source;
-mod undivided;
 mod words;
 
 pub use law::{choices_are_told_undivided, outputs_are_one};
