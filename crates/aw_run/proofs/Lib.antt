@@ -4,7 +4,6 @@ pub mod Outputs
 pub mod Verdicts
 pub mod Checking
 pub mod OneChecked
-pub mod Undivideds
 pub mod OneOutputs
 pub mod ServedOutputs
 pub mod GoodServed

@@ -1,7 +1,6 @@
 pub mod Words
 pub mod Statuses
 pub mod Refusals
-pub mod ChoicesIn
 pub mod Checked
 pub mod Output
 pub mod Devices

@@ -12,7 +12,6 @@ mod serving;
 mod sessions;
 mod source;
 mod trials;
-mod undivided;
 mod words;
 
 pub use law::{choices_are_told_undivided, outputs_are_one};

@@ -1,7 +1,6 @@
 //! Telling the schedule behind a specification.
 ghost use Rattle.std.specs.Prelude.{◌≡◌, ◌+◌, ◌<◌, ◌^◌, Err, IfOk, length, map};
 ghost use Rattle.aw_lex.specs.Lines.{lines_of};
-ghost use Rattle.aw_term.specs.Runs.{plain_text};
 ghost use Rattle.aw_term.specs.WellFormed.{Each};
 ghost use Rattle.aw_grammar.specs.GrammarOf.{grammar_of, words_of, declarations_of};
 ghost use Rattle.aw_typed.specs.Typing.{types_of, IsMadeFor};
@@ -9,37 +8,21 @@ ghost use Rattle.aw_spec.specs.Reading.{Spec};
 ghost use Rattle.aw_spec.specs.Views.{spec_seen};
 ghost use Rattle.aw_sched.specs.Answers.{event_seen, MayCome};
 ghost use Rattle.aw_sched.specs.Schedules.{read_lines};
-ghost use Rattle.aw_run.specs.ChoicesIn.{choices_in};
 ghost use Rattle.aw_run.specs.Output.{IfAccepted, TellsSchedule, by_schedule, told, within_limit};
 ghost use Rattle.aw_run.specs.Promises.{OfSchedule, Promises};
 ghost use Rattle.aw_run.specs.Replies.{Replies, reply_with};
 
 use crate::refusals::{bad_schedule, not_accepted};
 use crate::reply::{Reply, Status};
-use crate::undivided::print_undivided;
 use crate::words::Telling;
 use aw_accept::{Accepted, accept};
 use aw_out::{OUTPUT_LIMIT, PrintFault, Report};
-use aw_plain::Plain;
 use aw_replay::replay_between_sites;
 use aw_sched::{Event, SchedFault, read_schedule};
 use aw_spec::SpecText;
 use aw_typed::Typed;
+use aw_undivided::run_undivided;
 use std::alloc::{AllocError, Global};
-
-/// The undivided run of the choices among events, and its artifacts. It is too large only where the text would be longer than an
-/// output may be.
-fn run_undivided(alloc: Global, accepted: &Accepted, events: &[Event]) -> Result<Report, PrintFault>
-    requires { Each (MayCome (grammar_of accepted.now.grammar)) events.now }
-    ensures output { IfOk result (λ report. report.text ≡ plain_text (words_of accepted.now.grammar) (grammar_of accepted.now.grammar) (choices_in (map event_seen events.now))) }
-    ensures limit { IfOk result (λ report. report.limit ≡ OUTPUT_LIMIT) }
-    ensures too_large { result ≡ Err PrintFault.TooLarge → OUTPUT_LIMIT < length (plain_text (words_of accepted.now.grammar) (grammar_of accepted.now.grammar) (choices_in (map event_seen events.now))) }
-{
-    let mut report = Report::new(alloc, OUTPUT_LIMIT);
-    let mut plain = Plain::new(alloc, accepted);
-    print_undivided(alloc, accepted, &mut plain, events, &mut report)?;
-    Ok(report)
-}
 
 /// What is told of events. It is too large only where the text would be longer than an output may be.
 fn tell_events(

@@ -1,0 +1,12 @@
+-- The choices among the events of a schedule, which the undivided run answers.
+use Rattle.std.specs.Prelude.{List, [], ◌∷◌}
+use Rattle.aw_term.specs.Choices.{Choice}
+use Rattle.aw_choice.specs.Events.{Event, Chooses, Delivers, Settles, Lists}
+
+-- the choices among events, in their order
+abbrev pub choices_in : List Event → List Choice
+choices_in [] = []
+choices_in (Chooses x ∷ es) = x ∷ choices_in es
+choices_in (Delivers k ∷ es) = choices_in es
+choices_in (Settles ∷ es) = choices_in es
+choices_in (Lists role ∷ es) = choices_in es

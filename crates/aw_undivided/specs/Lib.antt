@@ -1,0 +1,3 @@
+pub mod ChoicesIn
+pub mod Choosing
+pub mod Laws

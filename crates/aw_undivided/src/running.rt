@@ -1,0 +1,35 @@
+//! The undivided run of the choices among events.
+ghost use Rattle.std.specs.Prelude.{◌≡◌, ◌<◌, length, map, Err, IfOk};
+ghost use Rattle.aw_grammar.specs.GrammarOf.{grammar_of, words_of};
+ghost use Rattle.aw_sched.specs.Answers.{event_seen, MayCome};
+ghost use Rattle.aw_term.specs.Runs.{plain_text};
+ghost use Rattle.aw_term.specs.WellFormed.{Each};
+ghost use Rattle.aw_undivided.specs.ChoicesIn.{choices_in};
+
+use crate::choosing::choices_among;
+use crate::laws::undivided_laws;
+use aw_accept::Accepted;
+use aw_out::{OUTPUT_LIMIT, PrintFault, Report};
+use aw_replay::replay_between_sites;
+use aw_sched::Event;
+use aw_united::{unite_accepted, united_laws};
+use std::alloc::Global;
+
+/// What the undivided run tells of the choices among events: the line of each, and then the artifacts. Deliveries, settlings and
+/// worklists are passed over. It is too large exactly where the text would be longer than an output may be.
+pub fn run_undivided(
+    alloc: Global,
+    accepted: &Accepted,
+    events: &[Event],
+) -> Result<Report, PrintFault>
+    requires { Each (MayCome (grammar_of accepted.now.grammar)) events.now }
+    ensures output { IfOk result (λ report. report.text ≡ plain_text (words_of accepted.now.grammar) (grammar_of accepted.now.grammar) (choices_in (map event_seen events.now))) }
+    ensures limit { IfOk result (λ report. report.limit ≡ OUTPUT_LIMIT) }
+    ensures too_large { result ≡ Err PrintFault.TooLarge → OUTPUT_LIMIT < length (plain_text (words_of accepted.now.grammar) (grammar_of accepted.now.grammar) (choices_in (map event_seen events.now))) }
+{
+    let one = unite_accepted(alloc, accepted)?;
+    let choices = choices_among(alloc, events)?;
+    united_laws();
+    undivided_laws();
+    replay_between_sites(alloc, &one, false, choices.as_slice())
+}
