@@ -1,8 +1,9 @@
 -- What a part of a trial does to a world of the program and to a tally.
-use Rattle.std.specs.Prelude.{◌≡◌, ℕ, suc, ◌≤◌}
+use Rattle.std.specs.Prelude.{◌≡◌, ℕ, suc, ◌≤◌, List}
 use Rattle.aw_term.specs.Rules.{Grammar}
 use Rattle.aw_term.specs.Artifacts.{Words}
 use Rattle.aw_grammar.specs.GrammarOf.{grammar_of, words_of}
+use Rattle.aw_choice.specs.Events.{Event}
 use Rattle.aw_react.specs.Worlds as V
 use Rattle.aw_world.specs.declared.workspace.Workspace.{Ghosts}
 use Rattle.aw_world.specs.declared.world.World.{World}
@@ -17,7 +18,7 @@ pub record Comes {W : Type 0} (f : Ghosts W) (w : World W f) (t : Tally) (s : St
 
 -- whatever plain world is seen before, the state behind this is seen after
 abbrev pub Does : {W : Type 0} (f : Ghosts W) → World W f → Tally → World W f → Tally → (State → State) → Type 0
-Does f old t new u go = (v : V.World) → Shows f old v → Comes f new u (go (record { world = v; tally = t }))
+Does f old t new u go = (v : V.World) (es : List Event) → Shows f old v → Comes f new u (go (record { world = v; tally = t; events = es }))
 
 -- no count is more than n
 pub record AreUpTo (n : ℕ) (t : Tally) : Type 0 where

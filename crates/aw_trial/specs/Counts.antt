@@ -17,7 +17,7 @@ tally_from n = record { seed = n; starts = 0; choices = 0; taken = 0; repeats = 
 
 -- no site holds anything, and messages carry no loads
 abbrev pub start_from : Grammar → ℕ → State
-start_from g n = record { world = empty_world g false; tally = tally_from n }
+start_from g n = record { world = empty_world g false; tally = tally_from n; events = [] }
 
 -- the configuration of the choices that were taken
 abbrev pub config_of : Grammar → World → Config

@@ -5,3 +5,4 @@ pub mod Counts
 pub mod Summaries
 pub mod Comes
 pub mod Told
+pub mod Laws

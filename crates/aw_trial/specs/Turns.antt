@@ -1,9 +1,11 @@
 -- The turns of a trial: each starts a case, makes a choice or delivers a message, as numbers are drawn.
-use Rattle.std.specs.Prelude.{ℕ, zero, suc, ◌+◌, Bool, true, false, List, [], ◌∷◌, length, Option, Some, None, slice_get, nat_eq, nat_le, if◌then◌else◌}
+use Rattle.std.specs.Prelude.{ℕ, zero, suc, ◌+◌, Bool, true, false, List, [], ◌∷◌, ◌++◌, length, Option, Some, None, slice_get, nat_eq, nat_le, if◌then◌else◌}
 use Rattle.aw_term.specs.Trees.{Num, Made, Nil}
 use Rattle.aw_term.specs.Names.{Node, Ref}
 use Rattle.aw_term.specs.Rules.{Ground, Rule, Grammar, get, sort_of}
 use Rattle.aw_term.specs.Choices.{Choice, Start, Develop}
+use Rattle.aw_choice.specs.Events as E
+use Rattle.aw_choice.specs.Events.{Event}
 use Rattle.aw_kept.specs.Records.{rules_of}
 use Rattle.aw_react.specs.Worlds as V
 use Rattle.aw_react.specs.Worlds.{World, Reply, Stepped, gather, step}
@@ -12,10 +14,11 @@ use Rattle.aw_world.specs.SiteAnswers.{is_taken}
 use Rattle.aw_trial.specs.Draws.{next_below, drew}
 use Rattle.aw_trial.specs.declared.tally.Tally.{Tally}
 
--- how far a trial came: its world, and its tally
+-- how far a trial came: its world, its tally, and the events so far
 pub record State : Type 0 where
   pub world : World
   pub tally : Tally
+  pub events : List Event
 
 -- one, where it is so
 abbrev pub one_if : Bool → ℕ
@@ -43,18 +46,22 @@ counts_start t = record t { starts = suc t.starts }
 
 -- the case is one of the first sort, and its number is that of the starts before
 abbrev pub start_case : Grammar → State → State
-start_case g s = record { world = (step g s.world (V.Chooses (Start 0 s.tally.starts))).world; tally = counts_start s.tally }
+start_case g s = record {
+  world = (step g s.world (V.Chooses (Start 0 s.tally.starts))).world;
+  tally = counts_start s.tally;
+  events = s.events ++ E.Chooses (Start 0 s.tally.starts) ∷ [];
+}
 
 -- ---- a choice is made
 -- the choice is counted, and once more where it was taken
 abbrev pub counts_choice : Tally → Reply → Tally
 counts_choice t r = record t { choices = suc t.choices; taken = t.taken + one_if (replies_taken r) }
 
-abbrev pub chosen : Tally → Stepped → State
-chosen t x = record { world = x.world; tally = counts_choice t x.reply }
+abbrev pub chosen : State → Choice → Stepped → State
+chosen s c x = record { world = x.world; tally = counts_choice s.tally x.reply; events = s.events ++ E.Chooses c ∷ [] }
 
 abbrev pub make_choice : Grammar → Choice → State → State
-make_choice g c s = chosen s.tally (step g s.world (V.Chooses c))
+make_choice g c s = chosen s c (step g s.world (V.Chooses c))
 
 -- how many parameters a rule has
 abbrev pub params_of : Option Rule → ℕ
@@ -105,13 +112,13 @@ choose_some g s = among_nodes g (open_nodes (gather s.world.sites)) s
 abbrev pub counts_delivery : Tally → Reply → Tally
 counts_delivery t r = record t { repeats = t.repeats + one_if (replies_again r) }
 
-abbrev pub delivered : Tally → Stepped → State
-delivered t x = record { world = x.world; tally = counts_delivery t x.reply }
+abbrev pub delivered : State → ℕ → Stepped → State
+delivered s k x = record { world = x.world; tally = counts_delivery (drew s.tally) x.reply; events = s.events ++ E.Delivers k ∷ [] }
 
 -- one of this many messages is drawn; nothing is done where there is none
 abbrev pub among_messages : Grammar → ℕ → State → State
 among_messages g zero s = s
-among_messages g (suc m) s = delivered (drew s.tally) (step g s.world (V.Delivers (next_below (suc m) s.tally)))
+among_messages g (suc m) s = delivered s (next_below (suc m) s.tally) (step g s.world (V.Delivers (next_below (suc m) s.tally)))
 
 -- one of those that were sent so far
 abbrev pub deliver_some : Grammar → State → State

@@ -119,12 +119,7 @@ fn two_words(alloc: Global, first: &[u8], second: &[u8]) -> Result<RawTerms, All
 }
 
 /// A list of one term: a constructor with two words.
-fn one_pair(
-    alloc: Global,
-    name: &[u8],
-    first: &[u8],
-    second: &[u8],
-) -> Result<RawTerms, AllocError>
+fn one_pair(alloc: Global, name: &[u8], first: &[u8], second: &[u8]) -> Result<RawTerms, AllocError>
     ensures { IfOk result (λ terms. map written_of terms ≡ apply_2 name.now (Word first.now) (Word second.now) ∷ []) }
 {
     let name = Text::from_bytes(alloc, name)?;
@@ -158,11 +153,7 @@ fn one_child(alloc: Global, child: RawChild) -> Result<RawChildren, AllocError>
 }
 
 /// A list of two subtasks.
-fn two_children(
-    alloc: Global,
-    first: RawChild,
-    second: RawChild,
-) -> Result<RawChildren, AllocError>
+fn two_children(alloc: Global, first: RawChild, second: RawChild) -> Result<RawChildren, AllocError>
     ensures { IfOk result (λ children. children ≡ first ∷ second ∷ []) }
 {
     let mut children = RawChildren::new(alloc);

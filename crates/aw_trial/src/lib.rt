@@ -4,6 +4,7 @@
 mod choosing;
 mod declaring;
 mod drawing;
+mod laws;
 mod making;
 mod rules;
 mod summary;
@@ -11,6 +12,7 @@ mod tally;
 mod trials;
 mod turning;
 
+pub use laws::trial_laws;
 pub use making::trial_accepted;
 pub use summary::{Summary, summary_text};
 pub use tally::Tally;

@@ -8,12 +8,7 @@ use aw_grammar::Grammar;
 use std::alloc::{AllocError, Global};
 
 /// Adds the number of a rule where it is of the sort.
-fn push_rule(
-    rules: &mut Vec<u16>,
-    g: &Grammar,
-    number: u16,
-    sort: u16,
-) -> Result<(), AllocError>
+fn push_rule(rules: &mut Vec<u16>, g: &Grammar, number: u16, sort: u16) -> Result<(), AllocError>
     ensures rules { OnOk result (rules.new.items ++ rules_of sort (number + 1) (drop (number + 1) (grammar_of g.now).rules)
         ≡ rules.old.items ++ rules_of sort number (drop number (grammar_of g.now).rules)) }
 {

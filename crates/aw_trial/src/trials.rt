@@ -1,6 +1,7 @@
 //! A whole trial.
-ghost use Rattle.std.specs.Prelude.{◌≡◌, ◌<◌, ◌≤◌, true, None, Err, IfOk, length, map, slice_get};
+ghost use Rattle.std.specs.Prelude.{◌≡◌, ◌<◌, ◌≤◌, List, true, None, Err, IfOk, length, map, slice_get};
 ghost use Rattle.aw_base.specs.NodeNames.{is_start};
+ghost use Rattle.aw_choice.specs.Events.{Event};
 ghost use Rattle.aw_choice.specs.ChoiceView.{choice_of};
 ghost use Rattle.aw_grammar.specs.GrammarOf.{grammar_of, words_of};
 ghost use Rattle.aw_react.specs.Worlds as V;
@@ -54,7 +55,7 @@ fn count_all<W: Workspace>(world: &World<W>, tally: &Tally) -> Result<Summary, P
 fn run_trial<W: Workspace>(world: &mut World<W>, tally: &mut Tally) -> Result<Summary, PrintFault>
     requires start { is_start (slice_get (plain_of world.old).sorts 0) ≡ true }
     requires new { AreUpTo 0 tally.old }
-    ensures { (v : V.World) → Shows ⟦<W as Workspace>⟧ world.old v → Tells (counted_after (named_by world.old) (plain_of world.old) (turns 2000 (plain_of world.old) (record { world = v; tally = tally.old }))) result }
+    ensures { (v : V.World) (es : List Event) → Shows ⟦<W as Workspace>⟧ world.old v → Tells (counted_after (named_by world.old) (plain_of world.old) (turns 2000 (plain_of world.old) (record { world = v; tally = tally.old; events = es }))) result }
 {
     turns(world, tally, TURNS)?;
     settle(world)?;
