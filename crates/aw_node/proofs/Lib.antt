@@ -2,3 +2,5 @@ pub mod Choices
 pub mod Homes
 pub mod NodeLemmas
 pub mod Replying
+pub mod Runs
+pub mod SiteReplies

@@ -1,2 +1,3 @@
 pub mod Serving
 pub mod TypedNodes
+pub mod TypedRuns

@@ -2,11 +2,14 @@
 #![tactic(auto)]
 
 pub mod handling;
+pub mod law;
 pub mod node;
 pub mod serving;
+pub mod sites;
 pub mod workspace;
 
 pub use handling::handle;
+pub use law::served_nodes;
 pub use node::Node;
-pub use serving::{ServeFault, serve_workspace};
+pub use serving::{ServeFault, serve, serve_workspace};
 pub use workspace::Workspace;

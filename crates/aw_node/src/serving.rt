@@ -1,17 +1,20 @@
 //! Serving a workspace.
-ghost use Rattle.std.specs.Prelude.{◌≡◌, ◌⊎◌, ◌<◌, ◌≤◌, length, IfOk, IfErr};
+ghost use Rattle.std.specs.Prelude.{◌≡◌, ◌⊎◌, ◌<◌, ◌≤◌, true, length, IfOk, IfErr};
 ghost use Rattle.aw_grammar.specs.GrammarOf.{grammar_of};
 ghost use Rattle.aw_node.specs.Serving.{Serves, Stops};
 ghost use Rattle.aw_node.specs.TypedNodes.{rules_of};
-ghost use Rattle.aw_react.specs.Sites.{Site};
+ghost use Rattle.aw_react.specs.Sites as S;
+ghost use Rattle.aw_react.specs.Sites.{empty_site};
 ghost use Rattle.aw_session.specs.Sessions.{NoneComes};
 ghost use Rattle.aw_typed.specs.Typing.{IsMadeFor};
 
 use crate::node::Node;
 use crate::workspace::Workspace;
 use aw_accept::Accepted;
+use aw_cells::CellFacts;
 use aw_out::Wire;
 use aw_session::{Log, Stopped, serve_sessions};
+use aw_site::Site;
 use aw_typed::Typed;
 use std::alloc::Global;
 
@@ -39,10 +42,10 @@ pub fn serve_workspace<W: Wire, P: Workspace + Drop>(
     requires role { role < 64 }
     requires made { P.grammar site ≡ g.now.grammar }
     requires types { IsMadeFor (grammar_of g.now.grammar) t.now }
-    ensures served { (s : Site) → P.shows site s → IfOk result (λ log. Serves W.content W.faults W.failed_openings (rules_of g.now.grammar t.now) role s wire.old wire.new log) }
+    ensures served { (s : S.Site) → P.shows site s → IfOk result (λ log. Serves W.content W.faults W.failed_openings (rules_of g.now.grammar t.now) role s wire.old wire.new log) }
     ensures most { IfOk result (λ log. length log ≤ sessions) }
     ensures all { IfOk result (λ log. (length log ≡ sessions) ⊎ NoneComes (W.content wire.new)) }
-    ensures stopped { (s : Site) → P.shows site s → IfErr result (Stops W.content W.failed_openings (rules_of g.now.grammar t.now) role s wire.old wire.new) }
+    ensures stopped { (s : S.Site) → P.shows site s → IfErr result (Stops W.content W.failed_openings (rules_of g.now.grammar t.now) role s wire.old wire.new) }
 {
     let mut node = Node::new(alloc, g, t, site);
     match serve_sessions(alloc, &mut node, role, sessions, wire) {
@@ -50,4 +53,28 @@ pub fn serve_workspace<W: Wire, P: Workspace + Drop>(
         Err(Stopped::NetFault) => Err(ServeFault::NetFault),
         Err(Stopped::Node(_)) => Err(ServeFault::NoMemory),
     }
+}
+
+/// Serves the site of a role, which holds nothing at first and sends loads, in so many sessions, or as many as come, and tells of each.
+/// The site goes on from session to session.
+///
+/// # Errors
+/// `NetFault` where the next session could not be opened, `NoMemory` where memory ran out. What was served before is as told.
+pub fn serve<W: Wire>(
+    alloc: Global,
+    g: &Accepted,
+    t: &Typed,
+    role: u16,
+    sessions: u32,
+    wire: &mut W,
+) -> Result<Log, ServeFault>
+    requires role { role < (grammar_of g.now.grammar).roles }
+    requires types { IsMadeFor (grammar_of g.now.grammar) t.now }
+    ensures served { IfOk result (λ log. Serves W.content W.faults W.failed_openings (rules_of g.now.grammar t.now) role (empty_site true role) wire.old wire.new log) }
+    ensures most { IfOk result (λ log. length log ≤ sessions) }
+    ensures all { IfOk result (λ log. (length log ≡ sessions) ⊎ NoneComes (W.content wire.new)) }
+    ensures stopped { IfErr result (Stops W.content W.failed_openings (rules_of g.now.grammar t.now) role (empty_site true role) wire.old wire.new) }
+{
+    let site = Site::new(alloc, g, role, CellFacts::new(alloc), true);
+    serve_workspace(alloc, g, t, site, role, sessions, wire)
 }

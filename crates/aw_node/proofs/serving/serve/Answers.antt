@@ -1,0 +1,12 @@
+use Rattle.std.proofs.Common.{true, arith}
+use Rattle.aw_react.specs.Sites.{empty_site}
+use Rattle.aw_node.proofs.SiteReplies.{few_roles}
+use Rattle.aw_node.proofs.serving.serve.Goals as goal
+
+pub serve_workspace-requires-clause-role : goal.serve_workspace-requires-clause-role
+serve_workspace-requires-clause-role g c =
+    let few = few_roles c.args.g.now.grammar in
+    omega (arith, few, c.requires.role)
+
+pub returns-clause-stopped : goal.returns-clause-stopped
+returns-clause-stopped g c = c.serve_workspace.ensures.stopped (empty_site true c.args.role) c.new-site.ensures.site

@@ -1,0 +1,11 @@
+use Rattle.aw_choice.specs.ChoiceView.{choice_of}
+use Rattle.aw_grammar.specs.GrammarOf.{grammar_of}
+use Rattle.aw_react.specs.Worlds.{node_of}
+use Rattle.aw_node.proofs.SiteReplies.{here_at, err_any}
+use Rattle.aw_node.proofs.sites.SiteWorkspace.choose.Goals as goal
+
+pub choose-requires-clause-here : goal.choose-requires-clause-here
+choose-requires-clause-here g c = here_at g.F.Facts c.args.self.now (grammar_of c.args.g.now.grammar) (node_of (choice_of c.args.c.now)) c.requires.here
+
+pub returns-in_err-answer-clause-err : goal.returns-in_err-answer-clause-err
+returns-in_err-answer-clause-err g c = λ s shown. err_any c.from_residual.result (c.in_err-answer.ensures.err s shown)
