@@ -2,7 +2,16 @@
 use Rattle.std.proofs.Common.{◌≡◌, ◌⊎◌, ℕ, ◌≤◌, ◌<◌, List, length, nat_lt, true, MatchBool, refl, sym, ap, ◌∙◌, subst, IfOk, Option, None, Some}
 use Rattle.std.specs.declared.result.Result.{Result}
 use Rattle.std.proofs.lemmas.Bool.{lt-ltb, le-ltb}
-use Rattle.std.proofs.lemmas.Result.{IfOk-weaker}
+use Rattle.std.specs.Prelude.{Ok, codes}
+use Rattle.aw_accept.specs.declared.refused.Refused.{Refused}
+use Rattle.aw_accept.specs.Refusals.{Tells}
+use Rattle.aw_sched.proofs.LookedUp.{named_within}
+use Rattle.aw_spec.specs.KindNames.{kind_name}
+use Rattle.aw_spec.specs.declared.fault.SpecKind.{SpecKind}
+use Rattle.aw_typed.specs.declared.data.TypeFault.{TypeFault}
+use Rattle.aw_typed.specs.Typing.{TellsTypes}
+use Rattle.aw_run.specs.Refusals.{at_line}
+use Rattle.aw_run.proofs.Verdicts.{refuses-grammar, refuses-types, reply-same, bad-line}
 use Rattle.aw_lex.specs.Lines.{lines_of}
 use Rattle.aw_term.specs.Artifacts.{Words}
 use Rattle.aw_term.specs.Rules as R
@@ -21,13 +30,13 @@ use Rattle.aw_node.specs.Serving.{Serves}
 use Rattle.aw_typed.specs.Types as T
 use Rattle.aw_typed.specs.Typing.{types_of}
 use Rattle.aw_typed.specs.declared.data.Typed.{Typed}
-use Rattle.aw_spec.specs.Reading.{Spec, Reading, specification}
+use Rattle.aw_spec.specs.Reading.{Spec, Reading, Faulty, specification}
 use Rattle.aw_run.specs.declared.source.TheConstants.{INPUT_LIMIT}
 use Rattle.aw_run.specs.declared.reply.Reply.{Reply}
-use Rattle.aw_run.specs.declared.reply.Status.TheVariants.{Done}
+use Rattle.aw_run.specs.declared.reply.Status.TheVariants.{Done, Usage}
 use Rattle.aw_run.specs.Devices.{Devices, with_wire}
-use Rattle.aw_run.specs.Output.{Output, Writes, PastInputLimit, UnknownRole}
-use Rattle.aw_run.specs.Replies.{Replies, reply, reply_with}
+use Rattle.aw_run.specs.Output.{Output, Writes, PastInputLimit, BadSpecification, UnknownRole, IfTyped, IfAccepted}
+use Rattle.aw_run.specs.Replies.{Replies, RefusesGrammar, RefusesTypes, reply, reply_with}
 use Rattle.aw_run.specs.Serving.{rules_in, session_lines, ServesRole, ServesNumber, ServesNamed, ServesBySpecification, IsServingOutputOf}
 
 with_parts : Words → T.Types → R.Grammar → Rules
@@ -49,12 +58,33 @@ serves-role content faults failed s g t role sessions u v logs text same typed (
     subst (λ r. AreServed (answers r) role (empty_site true role) is.sessions logs site) (rules-same s g t same typed) is.served in
     (Writes text, (record { served = is.sessions; logs = logs; site = site; are = are; told = is.told; most = most; all = all; writes = ap Writes lines }), refl)
 
+-- the number of a role that is found by its name
+pub named-at : (g : Grammar) (name : List ℕ) (role : ℕ) → Some role ≡ number_named (words_of g).roles name → role < (grammar_of g).roles
+named-at g name role is = named_within (words_of g).roles name role is
+
+found-in : (s : Spec) (g : Grammar) (name : List ℕ) (found : Option ℕ) → s.declared ≡ declarations_of g → found ≡ number_named (words_of g).roles name → found ≡ number_named (words_in s.declared).roles name
+found-in s g name found same is = is ∙ ap (λ (w : Words). number_named w.roles name) (declared_words g ∙ ap words_in (sym same))
+
+by-number : (said : Reply) (s : Spec) (g : Grammar) (name : List ℕ) (sessions : ℕ) (devices : Devices) (found : Option ℕ) → s.declared ≡ declarations_of g → found ≡ number_named (words_of g).roles name →
+    Replies (ServesNumber s sessions devices found) said → Replies (ServesNamed name sessions devices s) said
+by-number said s g name sessions devices found same is replies = subst (λ o. Replies (ServesNumber s sessions devices o) said) (found-in s g name found same is) replies
+
 -- the role of a name
-pub serves-number : {E : Type 0} (result : Result Reply E) (s : Spec) (g : Grammar) (name : List ℕ) (sessions : ℕ) (devices : Devices) (found : Option ℕ) → s.declared ≡ declarations_of g → number_named (words_of g).roles name ≡ found →
-    IfOk result (λ said. Replies (ServesNumber s sessions devices found) said) → IfOk result (λ said. Replies (ServesNamed name sessions devices s) said)
-serves-number result s g name sessions devices found same is =
-    let e : found ≡ number_named (words_in s.declared).roles name = sym is ∙ ap (λ (w : Words). number_named w.roles name) (declared_words g ∙ ap words_in (sym same)) in
-    subst (λ o. IfOk result (λ said. Replies (ServesNumber s sessions devices o) said)) e
+pub serves-some : (said : Reply) (s : Spec) (g : Grammar) (name : List ℕ) (sessions : ℕ) (devices : Devices) (role : ℕ) → s.declared ≡ declarations_of g → Some role ≡ number_named (words_of g).roles name →
+    Replies (ServesRole s role sessions devices) said → Replies (ServesNamed name sessions devices s) said
+serves-some said s g name sessions devices role same is replies = by-number said s g name sessions devices (Some role) same is replies
+
+-- a name of no role
+pub serves-none : (said : Reply) (s : Spec) (g : Grammar) (name : List ℕ) (sessions : ℕ) (devices : Devices) → s.declared ≡ declarations_of g → None ≡ number_named (words_of g).roles name →
+    said ≡ reply Usage (codes "usage\n") → Replies (ServesNamed name sessions devices s) said
+serves-none said s g name sessions devices same is told = by-number said s g name sessions devices None same is (UnknownRole, refl, told)
+
+-- the refusals of a grammar and of types, of one reply
+pub refused-served : (said : Reply) (refused : Refused) (s : Spec) (g : Grammar) (P : Output → Type 0) → s.declared ≡ declarations_of g → Tells g refused → RefusesGrammar refused said → Replies (IfAccepted s P) said
+refused-served said refused s g P same tells is = refuses-grammar {E = Unit {0}} (Ok said) refused s g P same tells is
+
+pub untyped-served : (said : Reply) (fault : TypeFault) (s : Spec) (g : Grammar) (P : Output → Type 0) → s.declared ≡ declarations_of g → TellsTypes (types_of s.types) (grammar_of g) fault → RefusesTypes (words_of g) fault said → Replies (IfTyped s P) said
+untyped-served said fault s g P same tells is = refuses-types {E = Unit {0}} (Ok said) fault s g P same tells is
 
 -- an input within its limit, of which the specification is read
 pub served-read : (name : List ℕ) (sessions : ℕ) (devices : Devices) (input : List ℕ) (reading : Reading) (output : Output) → length input ≤ INPUT_LIMIT → specification (lines_of input) ≡ reading →
@@ -69,3 +99,11 @@ pub served-past : (name : List ℕ) (sessions : ℕ) (devices : Devices) (input 
 unfolding IsServingOutputOf
 served-past name sessions devices input lt =
     subst (λ b. MatchBool b (PastInputLimit ≡ PastInputLimit) (ServesBySpecification name sessions devices (specification (lines_of input)) PastInputLimit)) (sym (lt-ltb INPUT_LIMIT (length input) lt)) refl
+
+-- a faulty line
+pub bad-served : (said : Reply) (name : List ℕ) (sessions : ℕ) (devices : Devices) (input : List ℕ) (line line' : ℕ) (kind kind' : SpecKind) → length input ≤ INPUT_LIMIT → specification (lines_of input) ≡ Faulty line kind → line' ≡ line → kind' ≡ kind →
+    said ≡ reply_with (BadSpecification (at_line line' (kind_name kind'))) → Replies (IsServingOutputOf name sessions devices input) said
+bad-served said name sessions devices input line line' kind kind' within faulty same_line same_kind is =
+    let output : Output = BadSpecification (at_line line (kind_name kind)) in
+    reply-same {E = Unit {0}} (Ok said) (IsServingOutputOf name sessions devices input) output (served-read name sessions devices input (Faulty line kind) output within faulty refl)
+    (bad-line {E = Unit {0}} (Ok said) line line' kind kind' same_line same_kind is)

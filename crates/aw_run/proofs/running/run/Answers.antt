@@ -1,7 +1,7 @@
 use Rattle.std.proofs.Common.{◌≡◌, ◌∙◌, sym, inl, inr, rules}
 use Rattle.aw_run.specs.declared.reply.Status.TheVariants.{Done}
 use Rattle.aw_run.specs.Replies.{with_wire}
-use Rattle.aw_run.proofs.Endings.{Says-job, Says-cause, Says-complete, Says-kept, done-said}
+use Rattle.aw_run.proofs.Endings.{Says-job, Says-cause, Says-complete, Says-kept, Says-node, Says-trial, done-said}
 use Rattle.aw_run.specs.declared.words.Job.TheVariants.{Tells}
 use Rattle.aw_run.specs.declared.words.Telling.TheVariants.{Undivided, Replayed}
 use Rattle.aw_run.specs.Promises.{PlainIsTyped, ReplayIsTyped, RulesStayEnabled, Settled, StartsStayEnabled, StaysAcyclic, WritesAnyOrder}
@@ -64,3 +64,13 @@ pub returns-in-Ok-clause-typed_replay : goal.returns-in-Ok-clause-typed_replay
 returns-in-Ok-clause-typed_replay g c = λ is done.
     let said = done-said c.in-Ok.reply.status c.deliver.result c.deliver.ensures.status done in
     Says-kept ReplayIsTyped (λ t w h loads es p. p.typed_replay) (g.S.Source.left c.args.src.now) Replayed c.in-Ok.reply _ (c.in-Ok.ensures.promises (Tells Replayed) is) said (search (rules, done))
+
+pub returns-in-Ok-clause-trial : goal.returns-in-Ok-clause-trial
+returns-in-Ok-clause-trial g c = λ n is done.
+    let told : c.in-Ok.reply.status ≡ Done = elim c.deliver.ensures.status [ inl e ↦ sym e ∙ done | inr e ↦ absurd (cc (e, done)) ] in
+    Says-trial _ n c.args.words.now (with_wire (g.W.Wire.content c.args.wire.now) (g.W.Wire.content c.prepare.new.wire)) c.in-Ok.reply _ c.in-Ok.ensures.reply is told (search (rules, done))
+
+pub returns-in-Ok-clause-node : goal.returns-in-Ok-clause-node
+returns-in-Ok-clause-node g c = λ n is done.
+    let told : c.in-Ok.reply.status ≡ Done = elim c.deliver.ensures.status [ inl e ↦ sym e ∙ done | inr e ↦ absurd (cc (e, done)) ] in
+    Says-node _ n c.args.words.now (with_wire (g.W.Wire.content c.args.wire.now) (g.W.Wire.content c.prepare.new.wire)) c.in-Ok.reply _ c.in-Ok.ensures.reply is told (search (rules, done))

@@ -1,5 +1,4 @@
 use Rattle.std.proofs.Common.{◌∙◌, ap, Err}
-use Rattle.aw_run.specs.Devices.{with_wire}
 use Rattle.aw_run.proofs.Unreads.{unread-served}
 use Rattle.aw_run.proofs.serving.serve_source.Goals as goal
 
