@@ -2,7 +2,8 @@
 use Rattle.std.specs.Prelude.{◌≡◌, ◌⊎◌, ◌≤◌, ℕ, suc, List, [], ◌∷◌, ◌++◌, true, length, codes, nat_lt, Option, None, Some, MatchBool}
 use Rattle.std.specs.Fmt.{decimal}
 use Rattle.aw_lex.specs.Lines.{lines_of}
-use Rattle.aw_grammar.specs.Declarations.{grammar_in, words_in, number_named}
+use Rattle.aw_grammar.specs.Declarations.{grammar_in, words_in}
+use Rattle.aw_grammar.specs.Named.{number_named}
 use Rattle.aw_out.specs.Wires.{Session, Both}
 use Rattle.aw_react.specs.Sites.{Site, empty_site}
 use Rattle.aw_session.specs.Served.{AreServed}

@@ -1,5 +1,5 @@
 //! The top call.
-ghost use Rattle.std.specs.Prelude.{◌≡◌, ◌≢◌, ◌≤◌, ◌⊎◌, [], IfOk, IfSome, Some, false, true, length};
+ghost use Rattle.std.specs.Prelude.{ℕ, ◌≡◌, ◌≢◌, ◌≤◌, ◌⊎◌, [], IfOk, IfSome, Some, false, true, length};
 ghost use Rattle.aw_out.specs.Causes.{Rose};
 ghost use Rattle.aw_out.specs.Edge.{IsUsedUp, GivesSome, Gets, GetsPrefix};
 ghost use Rattle.aw_trial.specs.Counts.{trial};
@@ -11,7 +11,7 @@ ghost use Rattle.aw_run.specs.Replies.{EndsWith, ForInput, IsGood, NetFailed, Re
 
 use crate::reading::reply_to_source;
 use crate::reply::{Reply, Status, Stop};
-use crate::serving::{Asked, serve_source};
+use crate::serving::serve_source;
 use crate::source::INPUT_LIMIT;
 use crate::trials::tell_trial;
 use crate::words::{Command, Job, Telling, Word, role_word};
@@ -48,8 +48,7 @@ fn prepare<S: Source, W: Wire>(
         Command::Reads(job) => reply_to_source(alloc, job, src),
         Command::Tries { number } => Ok(tell_trial(alloc, number)?),
         Command::Serves { sessions } => {
-            let role = role_word(words);
-            serve_source(alloc, Asked { role, sessions }, src, wire)
+            serve_source(alloc, role_word(words), sessions, src, wire)
         }
     }
 }

@@ -24,13 +24,6 @@ use aw_spec::{SpecFault, SpecText, read_spec};
 use aw_typed::{Typed, type_check};
 use std::alloc::Global;
 
-/// What a node is asked for: to serve the role of this name in so many sessions.
-#[derive(Clone, Copy)]
-pub struct Asked<'a> {
-    pub role: &'a [u8],
-    pub sessions: u32,
-}
-
 /// Serves a role, and tells its sessions.
 fn serve_role<W: Wire>(
     alloc: Global,
@@ -62,17 +55,18 @@ fn serve_named<W: Wire>(
     alloc: Global,
     accepted: &Accepted,
     typed: &Typed,
-    asked: Asked,
+    name: &[u8],
+    sessions: u32,
     wire: &mut W,
 ) -> Result<Reply, Stop>
     requires made { IsMadeFor (grammar_of accepted.now.grammar) typed.now }
     ensures reply { IfOk result (λ reply. (s : Spec) → s.declared ≡ declarations_of accepted.now.grammar → s.types ≡ typed.now.types →
-        Replies (ServesNamed asked.role.now asked.sessions (with_wire (W.content wire.old) (W.content wire.new)) s) reply) }
+        Replies (ServesNamed name.now sessions (with_wire (W.content wire.old) (W.content wire.new)) s) reply) }
     ensures net_cause { result ≡ Err Stop.NetFault → Rose (W.failed_openings wire.old) (W.failed_openings wire.new) }
     ensures no_read_fault { result ≢ Err Stop.ReadFault }
 {
-    match accepted.grammar().role_named(asked.role) {
-        Some(role) => serve_role(alloc, accepted, typed, role, asked.sessions, wire),
+    match accepted.grammar().role_named(name) {
+        Some(role) => serve_role(alloc, accepted, typed, role, sessions, wire),
         None => Ok(Reply::line(alloc, Status::Usage, b"usage\n")?),
     }
 }
@@ -82,19 +76,20 @@ fn serve_typed<W: Wire>(
     alloc: Global,
     spec: SpecText,
     typed: &Typed,
-    asked: Asked,
+    name: &[u8],
+    sessions: u32,
     wire: &mut W,
 ) -> Result<Reply, Stop>
     requires types { typed.now.types ≡ spec.types }
     requires made { IsMadeFor (grammar_of spec.grammar) typed.now }
     ensures reply { IfOk result (λ reply.
-        Replies (IfAccepted (spec_seen spec) (ServesNamed asked.role.now asked.sessions (with_wire (W.content wire.old) (W.content wire.new)) (spec_seen spec))) reply) }
+        Replies (IfAccepted (spec_seen spec) (ServesNamed name.now sessions (with_wire (W.content wire.old) (W.content wire.new)) (spec_seen spec))) reply) }
     ensures net_cause { result ≡ Err Stop.NetFault → Rose (W.failed_openings wire.old) (W.failed_openings wire.new) }
     ensures no_read_fault { result ≢ Err Stop.ReadFault }
 {
     let SpecText { grammar, .. } = spec;
     match accept(alloc, grammar) {
-        Ok(accepted) => serve_named(alloc, &accepted, typed, asked, wire),
+        Ok(accepted) => serve_named(alloc, &accepted, typed, name, sessions, wire),
         Err(refused) => Ok(not_accepted(alloc, refused)?),
     }
 }
@@ -103,18 +98,19 @@ fn serve_typed<W: Wire>(
 fn serve_specification<W: Wire>(
     alloc: Global,
     spec: SpecText,
-    asked: Asked,
+    name: &[u8],
+    sessions: u32,
     wire: &mut W,
 ) -> Result<Reply, Stop>
     requires sizes { AreFor (grammar_of spec.grammar) (types_of spec.types) }
     requires numbers { NumbersInRange (types_of spec.types) }
     ensures reply { IfOk result (λ reply.
-        Replies (IfTyped (spec_seen spec) (IfAccepted (spec_seen spec) (ServesNamed asked.role.now asked.sessions (with_wire (W.content wire.old) (W.content wire.new)) (spec_seen spec)))) reply) }
+        Replies (IfTyped (spec_seen spec) (IfAccepted (spec_seen spec) (ServesNamed name.now sessions (with_wire (W.content wire.old) (W.content wire.new)) (spec_seen spec)))) reply) }
     ensures net_cause { result ≡ Err Stop.NetFault → Rose (W.failed_openings wire.old) (W.failed_openings wire.new) }
     ensures no_read_fault { result ≢ Err Stop.ReadFault }
 {
     match type_check(alloc, &spec.grammar, &spec.types) {
-        Ok(typed) => serve_typed(alloc, spec, &typed, asked, wire),
+        Ok(typed) => serve_typed(alloc, spec, &typed, name, sessions, wire),
         Err(fault) => Ok(bad_types(alloc, &spec.grammar, fault)?),
     }
 }
@@ -123,17 +119,18 @@ fn serve_specification<W: Wire>(
 fn serve_input<W: Wire>(
     alloc: Global,
     input: &[u8],
-    asked: Asked,
+    name: &[u8],
+    sessions: u32,
     wire: &mut W,
 ) -> Result<Reply, Stop>
     requires within { length input.now ≤ INPUT_LIMIT }
     ensures reply { IfOk result (λ reply.
-        Replies (IsServingOutputOf asked.role.now asked.sessions (with_wire (W.content wire.old) (W.content wire.new)) input.now) reply) }
+        Replies (IsServingOutputOf name.now sessions (with_wire (W.content wire.old) (W.content wire.new)) input.now) reply) }
     ensures net_cause { result ≡ Err Stop.NetFault → Rose (W.failed_openings wire.old) (W.failed_openings wire.new) }
     ensures no_read_fault { result ≢ Err Stop.ReadFault }
 {
     match read_spec(alloc, input) {
-        Ok(spec) => serve_specification(alloc, spec, asked, wire),
+        Ok(spec) => serve_specification(alloc, spec, name, sessions, wire),
         Err(SpecFault::Bad { line, kind }) => Ok(bad_specification(alloc, line, kind)?),
         Err(SpecFault::NoMemory) => Err(Stop::NoMemory),
     }
@@ -142,12 +139,13 @@ fn serve_input<W: Wire>(
 /// Reads the source to its end, and serves a role of what was read.
 pub fn serve_source<S: Source, W: Wire>(
     alloc: Global,
-    asked: Asked,
+    name: &[u8],
+    sessions: u32,
     src: &mut S,
     wire: &mut W,
 ) -> Result<Reply, Stop>
     ensures reply { IfOk result (λ reply. ForInput (S.left src.old) (λ input.
-        Replies (IsServingOutputOf asked.role.now asked.sessions (with_wire (W.content wire.old) (W.content wire.new)) input) reply)) }
+        Replies (IsServingOutputOf name.now sessions (with_wire (W.content wire.old) (W.content wire.new)) input) reply)) }
     ensures is_reply { IfOk result (λ reply. IsReply reply.status) }
     ensures silent { IfOk result (λ reply. IsSilent reply.status → reply.text ≡ []) }
     ensures end { IfOk result (λ reply. IsPastReading reply.status → IsUsedUp (S.left src.new)) }
@@ -158,7 +156,7 @@ pub fn serve_source<S: Source, W: Wire>(
     ensures never_falls { S.faults src.old ≤ S.faults src.new }
 {
     match read_all(alloc, src, INPUT_LIMIT) {
-        Ok(input) => serve_input(alloc, input.as_slice(), asked, wire),
+        Ok(input) => serve_input(alloc, input.as_slice(), name, sessions, wire),
         Err(error) => unread(alloc, error),
     }
 }

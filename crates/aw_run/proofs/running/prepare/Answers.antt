@@ -29,4 +29,4 @@ returns-in-Tries-clause-reply g c =
 pub returns-in-Serves-clause-reply : goal.returns-in-Serves-clause-reply
 returns-in-Serves-clause-reply g c =
     let spelled : command_of c.args.words.now ≡ Some (Serves c.in-Serves.sessions) = sym c.from_words.ensures ∙ c.in-Some.is ∙ ap Some c.in-Serves.is in
-    replies-node c.serve_source.result _ c.args.words.now _ _ c.in-Serves.sessions c.role_word-role.ensures spelled c.serve_source.ensures.reply
+    replies-node c.serve_source.result _ c.args.words.now _ _ c.in-Serves.sessions c.role_word.ensures spelled c.serve_source.ensures.reply

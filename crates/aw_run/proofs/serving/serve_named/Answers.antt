@@ -9,14 +9,14 @@ use Rattle.aw_run.proofs.serving.serve_named.Goals as goal
 
 pub serve_role-requires-clause-role : goal.serve_role-requires-clause-role
 serve_role-requires-clause-role g c =
-    named-at c.args.accepted.now.grammar c.args.asked.role.now c.in-Some.role (rw c.grammar.ensures.value at c.in-Some.ensures)
+    named-at c.args.accepted.now.grammar c.args.name.now c.in-Some.role (rw c.grammar.ensures.value at c.in-Some.ensures)
 
 pub returns-in-Some-clause-reply : goal.returns-in-Some-clause-reply
 returns-in-Some-clause-reply g c =
     IfOk-weaker c.serve_role.result _ _
-    (λ said w s same typed. serves-some said s c.args.accepted.now.grammar c.args.asked.role.now c.args.asked.sessions _ c.in-Some.role same (rw c.grammar.ensures.value at c.in-Some.ensures) (w s same typed))
+    (λ said w s same typed. serves-some said s c.args.accepted.now.grammar c.args.name.now c.args.sessions _ c.in-Some.role same (rw c.grammar.ensures.value at c.in-Some.ensures) (w s same typed))
     c.serve_role.ensures.reply
 
 pub returns-in-None-clause-reply : goal.returns-in-None-clause-reply
 returns-in-None-clause-reply g c = λ s same typed.
-    serves-none _ s c.args.accepted.now.grammar c.args.asked.role.now c.args.asked.sessions _ same (rw c.grammar.ensures.value at c.in-None.ensures) c.in_ok-line.ensures
+    serves-none _ s c.args.accepted.now.grammar c.args.name.now c.args.sessions _ same (rw c.grammar.ensures.value at c.in-None.ensures) c.in_ok-line.ensures

@@ -4,4 +4,4 @@ use Rattle.aw_run.proofs.serving.serve_source.Goals as goal
 
 pub returns-in-Err-clause-reply : goal.returns-in-Err-clause-reply
 returns-in-Err-clause-reply g c =
-    unread-served c.in-Err.error c.unread.result _ _ c.args.asked.role.now c.args.asked.sessions _ c.unread.ensures (λ past. c.read_all.ensures.too_long (c.in-Err.is ∙ ap Err past))
+    unread-served c.in-Err.error c.unread.result _ _ c.args.name.now c.args.sessions _ c.unread.ensures (λ past. c.read_all.ensures.too_long (c.in-Err.is ∙ ap Err past))
