@@ -13,11 +13,8 @@ use Rattle.aw_run.specs.Words.{command_of, role_word}
 use Rattle.aw_run.specs.Output.{Output, Writes, PastInputLimit, BadSpecification, BadTypes, IsCircular, UnknownRole, BadSchedule, PastOutputLimit, IsOutputOf}
 use Rattle.aw_run.specs.Replies.{ForInput, Replies, Devices, EndsWith, reply, reply_with, uses_wire, WritesSome, IsGood, Says, SaysAs, WritesServing}
 use Rattle.aw_run.specs.Serving.{IsServingOutputOf}
-use Rattle.std.specs.Prelude.{nat_lt, if◌then◌else◌}
-use Rattle.aw_out.specs.declared.report.TheConstants.{OUTPUT_LIMIT}
-use Rattle.aw_trial.specs.Counts.{trial}
-use Rattle.aw_trial.specs.Summaries.{summary_text}
-use Rattle.aw_run.specs.Trials.{trial_output}
+use Rattle.aw_run.specs.Trials.{trial_output, trial_text}
+use Rattle.aw_run.proofs.TrialOutputs.{of-trial}
 use Rattle.aw_run.specs.Laws.{HasOneReply}
 use Rattle.aw_run.proofs.GoodServed.{served-done}
 use Rattle.aw_run.proofs.OneOutputs.{one-output}
@@ -70,21 +67,14 @@ pub Says-node : (left : Option (List ℕ)) (sessions : ℕ) (words : List (List 
     command_of words ≡ Some (Serves sessions) → said.status ≡ Done → Q said.text → ForInput left (λ input. WritesServing (role_word words) sessions devices input Q)
 Says-node left sessions words = as-node left sessions (command_of words) words
 
--- the same for a trial, whose text is there unless it is too long
-bounded-done : (past : Bool) (text : List ℕ) (said : Reply) (Q : List ℕ → Type 0) → said ≡ reply_with (if past then PastOutputLimit else Writes text) → said.status ≡ Done → Q said.text → Q text
-bounded-done true text said Q is done has = absurd (cc (is, done))
-bounded-done false text said Q is done has = let e : said.text ≡ text = cc (is) in subst Q e has
-
-of-trial : (number : ℕ) (said : Reply) (Q : List ℕ → Type 0) → said ≡ reply_with (trial_output number) → said.status ≡ Done → Q said.text → Q (summary_text number (trial number))
-of-trial number said Q is done has = bounded-done (nat_lt OUTPUT_LIMIT (trial number).bytes) (summary_text number (trial number)) said Q is done has
-
+-- the same for a trial
 as-trial : (left : Option (List ℕ)) (number : ℕ) (command : Option Command) (words : List (List ℕ)) (devices : Devices) (said : Reply) → ForInput left (λ input. SaysAs command words input devices said) →
     command ≡ Some (Tries number) → said ≡ reply_with (trial_output number)
 as-trial None number command words devices said says is = subst (λ (c : Option Command). SaysAs c words says.0 devices said) is says.1
 as-trial (Some input) number command words devices said says is = subst (λ (c : Option Command). SaysAs c words input devices said) is says
 
 pub Says-trial : (left : Option (List ℕ)) (number : ℕ) (words : List (List ℕ)) (devices : Devices) (said : Reply) (Q : List ℕ → Type 0) → ForInput left (λ input. Says words input devices said) →
-    command_of words ≡ Some (Tries number) → said.status ≡ Done → Q said.text → Q (summary_text number (trial number))
+    command_of words ≡ Some (Tries number) → said.status ≡ Done → Q said.text → Q (trial_text number)
 Says-trial left number words devices said Q says is = of-trial number said Q (as-trial left number (command_of words) words devices said says is)
 
 -- a trial is told whatever was left to read
@@ -94,10 +84,10 @@ for-any (Some other) words devices number input said spelled is = subst (λ (c :
 
 -- there is one reply
 one-as : (command : Option Command) (words : List (List ℕ)) (input : List ℕ) (devices : Devices) (a b : Reply) → uses_wire command ≡ false → SaysAs command words input devices a → SaysAs command words input devices b → a ≡ b
-one-as None words input devices a b no says also = says ∙ sym also
-one-as (Some (Reads job)) words input devices a b no says also = says.2 ∙ ap reply_with (one-output job input says.0 also.0 says.1 also.1) ∙ sym also.2
-one-as (Some (Tries number)) words input devices a b no says also = says ∙ sym also
-one-as (Some (Serves sessions)) words input devices a b no says also = absurd (cc (no))
+one-as None words input devices a b unwired says also = says ∙ sym also
+one-as (Some (Reads job)) words input devices a b unwired says also = says.2 ∙ ap reply_with (one-output job input says.0 also.0 says.1 also.1) ∙ sym also.2
+one-as (Some (Tries number)) words input devices a b unwired says also = says ∙ sym also
+one-as (Some (Serves sessions)) words input devices a b unwired says also = absurd (cc (unwired))
 
 pub one-reply : HasOneReply
 one-reply words = one-as (command_of words) words

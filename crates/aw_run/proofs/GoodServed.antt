@@ -11,13 +11,13 @@ use Rattle.aw_typed.specs.Typing.{types_of}
 use Rattle.aw_spec.specs.Reading.{Spec, Reading, Good, Faulty, specification}
 use Rattle.aw_run.specs.declared.source.TheConstants.{INPUT_LIMIT}
 use Rattle.aw_run.specs.declared.reply.Reply.{Reply}
-use Rattle.aw_run.specs.declared.reply.Status.TheVariants.{Done}
+use Rattle.aw_run.specs.declared.reply.Status.TheVariants.{Done, Usage, BadSpec, Circular, BadSchedule as BadSched, TooLarge, TooLong, BadTypes as BadTyped}
 use Rattle.aw_run.specs.Devices.{Devices}
 use Rattle.aw_run.specs.Output.{Output, Writes, PastInputLimit, BadSpecification, BadTypes, IsCircular, UnknownRole, BadSchedule, PastOutputLimit, ByFault, ByTypes, IfAccepted, IfTyped}
 use Rattle.aw_run.specs.Replies.{Replies, reply, reply_with}
 use Rattle.aw_run.specs.Serving.{session_lines, ServesNumber, ServesNamed, ServesBySpecification, IsServingOutputOf}
 
-IsText : Output → Type 0
+abbrev pub IsText : Output → Type 0
 IsText output = (text : List ℕ) × (output ≡ Writes text)
 
 -- if one output with P is a text, so is each
@@ -42,7 +42,7 @@ by-types w P alike None a b x y = alike a b x y
 by-types w P alike (Some fault) a b x y = same-text a b (x ∙ sym y)
 
 alike-number : (s : Spec) (sessions : ℕ) (devices : Devices) (found : Option ℕ) → Alike (ServesNumber s sessions devices found)
-alike-number s sessions devices None a b x y = same-text a b (x ∙ sym y)
+alike-number s sessions devices None a b x y written = same-text a b (x ∙ sym y) written
 alike-number s sessions devices (Some role) a b x y written = (session_lines 1 y.logs, y.writes)
 
 alike-match : (test : Bool) (output : Output) (P : Output → Type 0) → Alike P → Alike (λ a. MatchBool test (a ≡ output) (P a))
@@ -65,13 +65,13 @@ alike-served name sessions devices input =
 -- an output that is replied to by a done text is that text
 done-text : (output : Output) (text : List ℕ) → reply Done text ≡ reply_with output → IsText output
 done-text (Writes text') text is = (text', refl)
-done-text PastInputLimit text is = absurd (cc (is))
-done-text (BadSpecification why) text is = absurd (cc (is))
-done-text (BadTypes why) text is = absurd (cc (is))
-done-text (IsCircular why) text is = absurd (cc (is))
-done-text UnknownRole text is = absurd (cc (is))
-done-text (BadSchedule why) text is = absurd (cc (is))
-done-text PastOutputLimit text is = absurd (cc (is))
+done-text PastInputLimit text is = let e : Done ≡ TooLong = ap (λ (r : Reply). r.status) is in absurd (cc (e))
+done-text (BadSpecification why) text is = let e : Done ≡ BadSpec = ap (λ (r : Reply). r.status) is in absurd (cc (e))
+done-text (BadTypes why) text is = let e : Done ≡ BadTyped = ap (λ (r : Reply). r.status) is in absurd (cc (e))
+done-text (IsCircular why) text is = let e : Done ≡ Circular = ap (λ (r : Reply). r.status) is in absurd (cc (e))
+done-text UnknownRole text is = let e : Done ≡ Usage = ap (λ (r : Reply). r.status) is in absurd (cc (e))
+done-text (BadSchedule why) text is = let e : Done ≡ BadSched = ap (λ (r : Reply). r.status) is in absurd (cc (e))
+done-text PastOutputLimit text is = let e : Done ≡ TooLarge = ap (λ (r : Reply). r.status) is in absurd (cc (e))
 
 -- a node that may write a text of the input tells that it is done
 pub served-done : (name : List ℕ) (sessions : ℕ) (devices : Devices) (input : List ℕ) (said : Reply) (text : List ℕ) →

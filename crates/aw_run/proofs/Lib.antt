@@ -8,6 +8,7 @@ pub mod OneOutputs
 pub mod ServedOutputs
 pub mod GoodServed
 pub mod SessionLines
+pub mod TrialOutputs
 pub mod Unreads
 pub mod OneRoles
 pub mod TypedChoices

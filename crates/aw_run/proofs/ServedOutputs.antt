@@ -39,7 +39,7 @@ use Rattle.aw_run.specs.Output.{Output, Writes, PastInputLimit, BadSpecification
 use Rattle.aw_run.specs.Replies.{Replies, RefusesGrammar, RefusesTypes, reply, reply_with}
 use Rattle.aw_run.specs.Serving.{rules_in, session_lines, ServesRole, ServesNumber, ServesNamed, ServesBySpecification, IsServingOutputOf}
 
-with_parts : Words → T.Types → R.Grammar → Rules
+abbrev with_parts : Words → T.Types → R.Grammar → Rules
 with_parts w t g = record { words = w; types = t; grammar = g }
 
 -- a specification and the grammar that was made of it are served alike

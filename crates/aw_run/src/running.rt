@@ -2,8 +2,7 @@
 ghost use Rattle.std.specs.Prelude.{ℕ, ◌≡◌, ◌≢◌, ◌≤◌, ◌⊎◌, [], IfOk, IfSome, Some, false, true, length};
 ghost use Rattle.aw_out.specs.Causes.{Rose};
 ghost use Rattle.aw_out.specs.Edge.{IsUsedUp, GivesSome, Gets, GetsPrefix};
-ghost use Rattle.aw_trial.specs.Counts.{trial};
-ghost use Rattle.aw_trial.specs.Summaries.{summary_text};
+ghost use Rattle.aw_run.specs.Trials.{trial_text};
 ghost use Rattle.aw_run.specs.Words.{command_of, role_word};
 ghost use Rattle.aw_run.specs.Statuses.{IsReply, IsPastReading, IsSilent};
 ghost use Rattle.aw_run.specs.Promises.{PlainIsTyped, ReplayIsTyped, RepliesKeeping, RulesStayEnabled, Settled, StartsStayEnabled, StaysAcyclic, WritesAnyOrder, WritesWith};
@@ -39,6 +38,7 @@ fn prepare<S: Source, W: Wire>(
     ensures read_command { result ≡ Err Stop.ReadFault → reads (command_of words.now) ≡ true }
     ensures net_cause { result ≡ Err Stop.NetFault → NetFailed (command_of words.now) (W.failed_openings wire.old) (W.failed_openings wire.new) (W.faults wire.old) (W.faults wire.new) }
     ensures net_command { result ≡ Err Stop.NetFault → uses_wire (command_of words.now) ≡ true }
+    ensures net_end { result ≡ Err Stop.NetFault → IsUsedUp (S.left src.new) }
     ensures never_falls { S.faults src.old ≤ S.faults src.new }
 {
     let Some(command) = Command::from_words(words) else {
@@ -46,7 +46,7 @@ fn prepare<S: Source, W: Wire>(
     };
     match command {
         Command::Reads(job) => reply_to_source(alloc, job, src),
-        Command::Tries { number } => Ok(tell_trial(alloc, number)?),
+        Command::Tries { number } => tell_trial(alloc, number),
         Command::Serves { sessions } => {
             serve_source(alloc, role_word(words), sessions, src, wire)
         }
@@ -114,7 +114,7 @@ pub fn run<S: Source, K: Sink, W: Wire>(
     ensures typed_replay { command_of words.now ≡ Some (Command.Reads (Job.Tells Telling.Replayed)) → result ≡ Status.Done → ForInput (S.left src.old)
         (λ input. WritesWith ReplayIsTyped (Job.Tells Telling.Replayed) input (Gets (K.written out.old) (K.written out.new))) }
 
-    ensures trial { (n : ℕ) → command_of words.now ≡ Some (Command.Tries n) → result ≡ Status.Done → Gets (K.written out.old) (K.written out.new) (summary_text n (trial n)) }
+    ensures trial { (n : ℕ) → command_of words.now ≡ Some (Command.Tries n) → result ≡ Status.Done → Gets (K.written out.old) (K.written out.new) (trial_text n) }
     ensures node { (n : ℕ) → command_of words.now ≡ Some (Command.Serves n) → result ≡ Status.Done → ForInput (S.left src.old) (λ input.
         WritesServing (role_word words.now) n (with_wire (W.content wire.old) (W.content wire.new)) input (Gets (K.written out.old) (K.written out.new))) }
 

@@ -153,6 +153,7 @@ pub fn serve_source<S: Source, W: Wire>(
     ensures kept { result ≢ Err Stop.ReadFault → S.faults src.new ≡ S.faults src.old }
     ensures read_before { result ≡ Err Stop.ReadFault → GivesSome (S.left src.old) (S.left src.new) (λ bytes. length bytes ≤ INPUT_LIMIT) }
     ensures net_cause { result ≡ Err Stop.NetFault → Rose (W.failed_openings wire.old) (W.failed_openings wire.new) }
+    ensures net_end { result ≡ Err Stop.NetFault → IsUsedUp (S.left src.new) }
     ensures never_falls { S.faults src.old ≤ S.faults src.new }
 {
     match read_all(alloc, src, INPUT_LIMIT) {

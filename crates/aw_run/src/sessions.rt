@@ -20,12 +20,13 @@ fn how_name(how: How) -> &'static [u8]
     }
 }
 
-/// Adds the line of a session.
-fn push_session(text: &mut Text, number: u64, log: &SessionLog) -> Result<(), AllocError>
-    ensures { OnOk result (text.new ≡ text.old ++ session_line number log.now) }
+/// Adds the line of the session at a place, counted from 0.
+fn push_session(text: &mut Text, at: usize, log: &SessionLog) -> Result<(), AllocError>
+    requires { at < 2 ^ 32 }
+    ensures { OnOk result (text.new ≡ text.old ++ session_line (at + 1) log.now) }
 {
     text.push_bytes(b"session ")?;
-    push_number(text, number)?;
+    push_number(text, at as u64 + 1)?;
     text.push_bytes(b" frames ")?;
     push_number(text, log.frames)?;
     text.push_bytes(b" ")?;
@@ -40,7 +41,7 @@ pub fn session_lines(alloc: Global, logs: &[SessionLog]) -> Result<Text, AllocEr
 {
     let mut text = Text::new(alloc);
     for at in 0..logs.len() {
-        push_session(&mut text, at as u64 + 1, &logs[at])?;
+        push_session(&mut text, at, &logs[at])?;
     }
     Ok(text)
 }

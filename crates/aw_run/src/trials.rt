@@ -1,16 +1,21 @@
 //! The command that makes a trial.
-ghost use Rattle.std.specs.Prelude.{◌≡◌, IfOk};
+ghost use Rattle.std.specs.Prelude.{◌≡◌, ◌≢◌, [], Err, IfOk};
 ghost use Rattle.aw_run.specs.Replies.{reply_with};
+ghost use Rattle.aw_run.specs.Statuses.{IsReply, IsSilent};
 ghost use Rattle.aw_run.specs.Trials.{trial_output};
 
-use crate::reply::{Reply, Status};
+use crate::reply::{Reply, Status, Stop};
 use aw_out::PrintFault;
 use aw_trial::{summary_text, trial};
-use std::alloc::{AllocError, Global};
+use std::alloc::Global;
 
 /// The summary of the trial that is drawn from a number.
-pub fn tell_trial(alloc: Global, number: u64) -> Result<Reply, AllocError>
-    ensures { IfOk result (λ reply. reply ≡ reply_with (trial_output number)) }
+pub fn tell_trial(alloc: Global, number: u64) -> Result<Reply, Stop>
+    ensures reply { IfOk result (λ reply. reply ≡ reply_with (trial_output number)) }
+    ensures is_reply { IfOk result (λ reply. IsReply reply.status) }
+    ensures silent { IfOk result (λ reply. IsSilent reply.status → reply.text ≡ []) }
+    ensures no_read_fault { result ≢ Err Stop.ReadFault }
+    ensures no_net_fault { result ≢ Err Stop.NetFault }
 {
     match trial(alloc, number) {
         Ok(summary) => Ok(Reply {
@@ -18,6 +23,6 @@ pub fn tell_trial(alloc: Global, number: u64) -> Result<Reply, AllocError>
             text: summary_text(alloc, number, &summary)?,
         }),
         Err(PrintFault::TooLarge) => Ok(Reply::silent(alloc, Status::TooLarge)),
-        Err(PrintFault::NoMemory) => Err(AllocError),
+        Err(PrintFault::NoMemory) => Err(Stop::NoMemory),
     }
 }

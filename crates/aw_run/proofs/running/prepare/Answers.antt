@@ -24,7 +24,7 @@ returns-in-Reads-clause-promises g c =
 pub returns-in-Tries-clause-reply : goal.returns-in-Tries-clause-reply
 returns-in-Tries-clause-reply g c =
     let spelled : command_of c.args.words.now ≡ Some (Tries c.in-Tries.number) = sym c.from_words.ensures ∙ c.in-Some.is ∙ ap Some c.in-Tries.is in
-    for-any (g.S.Source.left c.args.src.now) c.args.words.now _ c.in-Tries.number [] _ spelled c.in_ok-tell_trial.ensures
+    IfOk-weaker c.tell_trial.result _ _ (λ said is. for-any (g.S.Source.left c.args.src.now) c.args.words.now _ c.in-Tries.number [] said spelled is) c.tell_trial.ensures.reply
 
 pub returns-in-Serves-clause-reply : goal.returns-in-Serves-clause-reply
 returns-in-Serves-clause-reply g c =

@@ -1,5 +1,6 @@
 use Rattle.std.proofs.Common.{◌≡◌, ◌∙◌, sym, inl, inr, rules}
 use Rattle.aw_run.specs.declared.reply.Status.TheVariants.{Done}
+use Rattle.aw_out.specs.Edge.{Gets}
 use Rattle.aw_run.specs.Replies.{with_wire}
 use Rattle.aw_run.proofs.Endings.{Says-job, Says-cause, Says-complete, Says-kept, Says-node, Says-trial, done-said}
 use Rattle.aw_run.specs.declared.words.Job.TheVariants.{Tells}
@@ -68,7 +69,8 @@ returns-in-Ok-clause-typed_replay g c = λ is done.
 pub returns-in-Ok-clause-trial : goal.returns-in-Ok-clause-trial
 returns-in-Ok-clause-trial g c = λ n is done.
     let told : c.in-Ok.reply.status ≡ Done = elim c.deliver.ensures.status [ inl e ↦ sym e ∙ done | inr e ↦ absurd (cc (e, done)) ] in
-    Says-trial _ n c.args.words.now (with_wire (g.W.Wire.content c.args.wire.now) (g.W.Wire.content c.prepare.new.wire)) c.in-Ok.reply _ c.in-Ok.ensures.reply is told (search (rules, done))
+    Says-trial _ n c.args.words.now (with_wire (g.W.Wire.content c.args.wire.now) (g.W.Wire.content c.prepare.new.wire)) c.in-Ok.reply
+    (λ text. Gets (g.K.Sink.written c.args.out.now) (g.K.Sink.written c.deliver.new.out) text) c.in-Ok.ensures.reply is told (c.deliver.ensures.whole (rw done tt))
 
 pub returns-in-Ok-clause-node : goal.returns-in-Ok-clause-node
 returns-in-Ok-clause-node g c = λ n is done.

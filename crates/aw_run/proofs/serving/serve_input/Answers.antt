@@ -13,10 +13,10 @@ use Rattle.aw_run.proofs.serving.serve_input.Goals as goal
 pub returns-in-Ok-clause-reply : goal.returns-in-Ok-clause-reply
 returns-in-Ok-clause-reply g c =
     reply-map c.serve_specification.result _ _
-    (λ output holds. served-read c.args.name.now c.args.sessions _ c.args.input.now _ output c.requires c.in-Ok.ensures.exact holds)
+    (λ output holds. served-read c.args.name.now c.args.sessions _ c.args.input.now _ output c.requires.within c.in-Ok.ensures.exact holds)
     c.serve_specification.ensures.reply
 
-pub returns-in-Err-Bad-clause-reply : goal.returns-in-Err-Bad-clause-reply
-returns-in-Err-Bad-clause-reply g c =
+pub returns-in_ok-bad_specification-in-Err-Bad-clause-reply : goal.returns-in_ok-bad_specification-in-Err-Bad-clause-reply
+returns-in_ok-bad_specification-in-Err-Bad-clause-reply g c =
     let faulty : specification (lines_of c.args.input.now) ≡ Faulty c.in-Err-Bad.line c.in-Err-Bad.kind = rw c.in-Err-Bad.field-0-is at c.in-Err-Bad.ensures.exact in
-    bad-served _ c.args.name.now c.args.sessions _ c.args.input.now c.in-Err-Bad.line _ c.in-Err-Bad.kind _ c.requires faulty c.in-Err-Bad.line-is c.in-Err-Bad.kind-is c.in_ok-bad_specification.ensures
+    bad-served _ c.args.name.now c.args.sessions _ c.args.input.now c.in-Err-Bad.line _ c.in-Err-Bad.kind _ c.requires.within faulty c.in-Err-Bad.line-is c.in-Err-Bad.kind-is c.in_ok-bad_specification-in-Err-Bad.ensures

@@ -17,6 +17,6 @@ returns-in-Some-clause-reply g c =
     (λ said w s same typed. serves-some said s c.args.accepted.now.grammar c.args.name.now c.args.sessions _ c.in-Some.role same (rw c.grammar.ensures.value at c.in-Some.ensures) (w s same typed))
     c.serve_role.ensures.reply
 
-pub returns-in-None-clause-reply : goal.returns-in-None-clause-reply
-returns-in-None-clause-reply g c = λ s same typed.
-    serves-none _ s c.args.accepted.now.grammar c.args.name.now c.args.sessions _ same (rw c.grammar.ensures.value at c.in-None.ensures) c.in_ok-line.ensures
+pub returns-in_ok-line-in-None-clause-reply : goal.returns-in_ok-line-in-None-clause-reply
+returns-in_ok-line-in-None-clause-reply g c = λ s same typed.
+    serves-none _ s c.args.accepted.now.grammar c.args.name.now c.args.sessions _ same (rw c.grammar.ensures.value at c.in-None.ensures) c.in_ok-line-in-None.ensures

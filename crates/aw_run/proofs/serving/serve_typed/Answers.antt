@@ -11,5 +11,5 @@ returns-in-Ok-clause-reply g c =
     accepts-grammar _ s c.args.spec.grammar _ refl c.in-Ok.ensures.sound
     (IfOk-weaker c.serve_named.result _ _ (λ said is. is s refl (sym c.requires.types)) (rw c.in-Ok.ensures.accepted at c.serve_named.ensures.reply))
 
-pub returns-in-Err-clause-reply : goal.returns-in-Err-clause-reply
-returns-in-Err-clause-reply g c = refused-served _ c.in-Err.refused (spec_seen c.args.spec) c.args.spec.grammar _ refl c.in-Err.ensures.circular c.in_ok-not_accepted.ensures
+pub returns-clause-reply : goal.returns-clause-reply
+returns-clause-reply g c = refused-served _ c.in-Err.refused (spec_seen c.args.spec) c.args.spec.grammar _ refl c.in-Err.ensures.circular c.in_ok-not_accepted-in-Err.ensures
