@@ -1,6 +1,6 @@
 use Rattle.std.proofs.Common.{◌∙◌, ap, Err, refl}
 use Rattle.aw_run.proofs.TrialOutputs.{told-trial, past-trial}
-use Rattle.aw_run.proofs.trials.tell_trial.Goals as goal
+use Rattle.aw_run.proofs.trials.summary_reply.Goals as goal
 
 pub returns-in_ok-summary_text-in-Ok-clause-reply : goal.returns-in_ok-summary_text-in-Ok-clause-reply
 returns-in_ok-summary_text-in-Ok-clause-reply c = told-trial c.args.number c.in-Ok.summary _ c.in-Ok.ensures.summary c.in-Ok.ensures.within c.in_ok-summary_text-in-Ok.ensures
