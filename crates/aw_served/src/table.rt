@@ -1,0 +1,148 @@
+//! The table: a specification, and behind it the cases.
+ghost use Rattle.std.specs.Prelude.{◌≡◌};
+ghost use Rattle.aw_grammar.specs.GrammarOf.{grammar_of};
+ghost use Rattle.aw_typed.specs.Types.{AreFor};
+ghost use Rattle.aw_typed.specs.Typing.{types_of, IsMadeFor, NumbersInRange};
+
+use crate::case::{Case, read_case};
+use crate::fault::TableFault;
+use crate::told::{push_session, push_written};
+use aw_accept::{Accepted, accept};
+use aw_list::Text;
+use aw_node::{ServeFault, serve};
+use aw_session::Log;
+use aw_spec::{SpecText, read_spec};
+use aw_typed::{Typed, type_check};
+use aw_wires::{MemWire, Numbers};
+use bstr::ByteSlice;
+use std::alloc::{AllocError, Global};
+
+/// What stands in front of a case's name.
+const MARK: &[u8] = b"=== ";
+
+/// Room for what a node writes in a case.
+const ROOM: usize = 65_536;
+
+/// The most sessions of a case.
+const MOST: usize = 64;
+
+/// Adds what is told of each session.
+fn push_log(alloc: Global, told: &mut Text, wire: &MemWire, log: &Log) -> Result<(), AllocError> {
+    for number in 0..log.len() {
+        if number < wire.passed() {
+            push_written(alloc, told, wire.written(number))?;
+        }
+        push_session(told, number + 1, *log.at(number))?;
+    }
+    Ok(())
+}
+
+/// A wire for the sessions of a case.
+fn wire_of(alloc: Global, case: Case) -> Result<MemWire, TableFault> {
+    let Case {
+        piece,
+        fails,
+        bytes,
+        ..
+    } = case;
+    if piece == 0 {
+        return Err(TableFault::Unreadable);
+    }
+    let mut pieces = Numbers::new(alloc);
+    pieces.push(piece)?;
+    Ok(MemWire::new(alloc, bytes, pieces, fails, ROOM, MOST)?)
+}
+
+/// Adds what is told of a case.
+fn push_case(
+    alloc: Global,
+    told: &mut Text,
+    g: &Accepted,
+    t: &Typed,
+    case: Case,
+) -> Result<(), TableFault>
+    requires { IsMadeFor (grammar_of g.now.grammar) t.now }
+{
+    let role = case.role;
+    let sessions = case.sessions;
+    if usize::from(role) >= g.grammar().roles.len() {
+        return Err(TableFault::Unreadable);
+    }
+    let mut wire = wire_of(alloc, case)?;
+    match serve(alloc, g, t, role, sessions, &mut wire) {
+        Ok(log) => Ok(push_log(alloc, told, &wire, &log)?),
+        Err(ServeFault::NetFault) => Ok(told.push_bytes(b"net fault\n")?),
+        Err(ServeFault::NoMemory) => Err(TableFault::NoMemory),
+    }
+}
+
+/// Adds a case's name and what is told of it.
+fn push_entry(
+    alloc: Global,
+    told: &mut Text,
+    g: &Accepted,
+    t: &Typed,
+    entry: &[u8],
+) -> Result<(), TableFault>
+    requires { IsMadeFor (grammar_of g.now.grammar) t.now }
+{
+    let Some((name, rest)) = entry.split_once_str(b"\n") else {
+        return Err(TableFault::Unreadable);
+    };
+    let Some((line, rest)) = rest.split_once_str(b"\n") else {
+        return Err(TableFault::Unreadable);
+    };
+    told.push_bytes(MARK)?;
+    told.push_bytes(name)?;
+    told.push_bytes(b"\n")?;
+    push_case(alloc, told, g, t, read_case(alloc, line, rest)?)
+}
+
+/// What is told of all cases.
+fn told_of(alloc: Global, g: &Accepted, t: &Typed, entries: &[u8]) -> Result<Text, TableFault>
+    requires { IsMadeFor (grammar_of g.now.grammar) t.now }
+{
+    let mut told = Text::new(alloc);
+    for entry in entries.split_str(MARK) {
+        push_entry(alloc, &mut told, g, t, entry)?;
+    }
+    Ok(told)
+}
+
+/// What is told of cases behind a specification whose types have no fault.
+fn told_typed(
+    alloc: Global,
+    spec: SpecText,
+    typed: &Typed,
+    entries: &[u8],
+) -> Result<Text, TableFault>
+    requires { IsMadeFor (grammar_of spec.grammar) typed.now }
+{
+    let SpecText { grammar, .. } = spec;
+    match accept(alloc, grammar) {
+        Ok(accepted) => told_of(alloc, &accepted, typed, entries),
+        Err(_) => Err(TableFault::Unreadable),
+    }
+}
+
+/// What is told of cases behind a specification.
+fn told_spec(alloc: Global, spec: SpecText, entries: &[u8]) -> Result<Text, TableFault>
+    requires sizes { AreFor (grammar_of spec.grammar) (types_of spec.types) }
+    requires numbers { NumbersInRange (types_of spec.types) }
+{
+    match type_check(alloc, &spec.grammar, &spec.types) {
+        Ok(typed) => told_typed(alloc, spec, &typed, entries),
+        Err(_) => Err(TableFault::Unreadable),
+    }
+}
+
+/// What is told of the cases behind a specification.
+pub fn table(alloc: Global, text: &[u8]) -> Result<Text, TableFault> {
+    let Some((declared, entries)) = text.split_once_str(MARK) else {
+        return Err(TableFault::Unreadable);
+    };
+    match read_spec(alloc, declared) {
+        Ok(spec) => told_spec(alloc, spec, entries),
+        Err(_) => Err(TableFault::Unreadable),
+    }
+}
