@@ -77,6 +77,22 @@ def starts_twice(count):
     return VISITS + line + line
 
 
+# Cases of two roles, whose messages are delivered one after the other.
+
+CLINIC = ["role clinic", "role lab", "con blood 1", "con report 2", "con found 2", "con none 0", "sort visit clinic 0 1",
+          "sort test lab 1 1", "start visit", "offer test", "use clinic test",
+          "rule admit {who} : visit()<report(who, r)> = test(blood(who))<r>",
+          "rule analyse {v} : test(blood(w))<found(w, v)>", "rule skip : test(x)<none>"]
+
+
+def by_post(count, end="schedule"):
+    """Visits that each send a test to the laboratory, and everything settled: six deliveries a visit, and two with loads."""
+    lines = CLINIC + [end]
+    for case in range(count):
+        lines += ["start visit %d" % case, 'choose visit#%d admit {"Ada"}' % case]
+    return text(lines + ["settle"])
+
+
 # One case.
 
 TREE = text(["role desk", "con leaf 0", "con pair 2", "sort task desk 0 1", "start task",
@@ -403,6 +419,10 @@ def growing_cases():
     for count in (1_000, 10_000, 30_000, 100_000):
         yield Input("starts with a choice each", count, "cases", BOTH, lambda count=count: visits(count), DONE)
     yield Input("starts with a choice each", 0, "cases, 16 MiB", BOTH, visits_to_the_limit, DONE)
+    for count in (1_000, 10_000, 30_000, 100_000):
+        yield Input("visits whose tests go by post", count, "cases", REPLAY, lambda count=count: by_post(count), DONE)
+    for count in (10_000, 30_000, 100_000):
+        yield Input("the same with loads", count, "cases", REPLAY, lambda count=count: by_post(count, "schedule 2"), DONE)
     for count in (1_000, 3_000, 10_000, 30_000):
         yield Input("starts in falling order", count, "cases", REPLAY, lambda count=count: falling_starts(count), DONE)
     for count in (10_000, 100_000):
@@ -418,7 +438,7 @@ def growing_values():
         yield Input("a value 31 deeper in each task", count, "tasks", REPLAY, lambda count=count: relay(count), status)
     for times, status in ((10, DONE), (16, DONE), (40, TOO_LARGE), (200, TOO_LARGE)):
         yield Input("a value doubled", times, "times", BOTH, lambda times=times: doubled(times), status)
-    for times, status in ((10, DONE), (14, DONE), (18, DONE), (20, DONE)):
+    for times, status in ((10, DONE), (14, DONE), (18, DONE), (22, TOO_LARGE), (40, TOO_LARGE), (200, TOO_LARGE)):
         yield Input("a missing value doubled", times, "times", REPLAY, lambda times=times: doubled_hole(times), status)
     for count in (1_000, 10_000, 100_000):
         yield Input("nodes fed by their own results", count, "cases", REPLAY, lambda count=count: self_fed(count), DONE)
