@@ -47,8 +47,11 @@ fn role_of_choice(g: &Grammar, c: &Choice) -> u16
     }
 }
 
-/// Asks a choice: one that does not fit is not valid, and one of another role is refused.
-fn choose<P: Workspace>(
+/// Asks a choice of a workspace: one that does not fit is not valid, and one of another role is refused.
+///
+/// # Errors
+/// Where memory runs out; the workspace is then as before.
+pub fn choose<P: Workspace>(
     g: &Accepted,
     t: &Typed,
     site: &mut P,

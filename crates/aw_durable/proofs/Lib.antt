@@ -1,0 +1,8 @@
+pub mod CutOffs
+pub mod Exits
+pub mod KeptSites
+pub mod Nodes
+pub mod Opening
+pub mod Redoing
+pub mod Runs
+pub mod Steps
