@@ -3,6 +3,6 @@ pub mod Exits
 pub mod KeptSites
 pub mod Nodes
 pub mod Opening
-pub mod Redoing
+pub mod RedoneLists
 pub mod Runs
 pub mod Steps

@@ -2,6 +2,7 @@
 ghost use Rattle.std.specs.Prelude.{◌≡◌};
 
 use aw_journal::{AppendFault, OpenFault};
+use std::alloc::AllocError;
 
 /// Why no further session was served.
 #[derive(Clone, Copy, Debug, PartialEq, Eq)]
@@ -17,6 +18,16 @@ pub enum KeptFault {
     /// The head, or the record of an event, would end past the limit.
     Full,
     NoMemory,
+}
+
+impl From<AllocError> for KeptFault {
+    ghost use Rattle.aw_durable.specs.declared.fault.KeptFault.TheVariants.{NoMemory};
+
+    ghost from_gives = { λ _ e. e ≡ NoMemory };
+
+    fn from(_: AllocError) -> Self {
+        KeptFault::NoMemory
+    }
 }
 
 impl From<OpenFault> for KeptFault {

@@ -34,7 +34,7 @@ pub struct KeptNode<'g, 'd, P, D> {
     journal: Journal,
     disk: &'d mut D,
     /// Why a frame got no reply: want of memory, until the journal says otherwise.
-    reason: AppendFault,
+    pub(crate) reason: AppendFault,
 }
 
 impl<'g, 'd, P, D> KeptNode<'g, 'd, P, D> {
