@@ -50,3 +50,7 @@ err-map (Err e) p f = f e p
 pub in-either : {A E T : Type 0} {P : A → Type 0} {Q : E → Type 0} (r : Result A E) → IfOk r P → IfErr r Q → ((x : A) → P x → T) → ((e : E) → Q e → T) → T
 in-either (Ok x) p q f h = f x p
 in-either (Err e) p q f h = h e q
+
+-- an error that is handed on
+pub err-passed : {A E : Type 0} (Q : E → Type 0) (r : Result A E) (e : E) → r ≡ Err e → Q e → IfErr r Q
+err-passed {A} {E} Q r e same q = subst (λ (x : Result A E). IfErr x Q) (sym same) q

@@ -1,6 +1,7 @@
 pub mod CutOffs
 pub mod Exits
 pub mod KeptSites
+pub mod Kept
 pub mod Nodes
 pub mod Opening
 pub mod RedoneLists

@@ -41,10 +41,10 @@ module _
   where
     -- ---- a node keeps its name
 
-    Anything : Unit {0} → Frame → List ℕ → Unit {0} → Type 0
+    abbrev Anything : Unit {0} → Frame → List ℕ → Unit {0} → Type 0
     Anything s f x t = Unit {0}
 
-    Named : T → N → Unit {0} → Type 0
+    abbrev Named : T → N → Unit {0} → Type 0
     Named x n s = name n ≡ x
 
     name-sim : (x : T) (n m : N) (s : Unit {0}) (f : Frame) (y : List ℕ) → A n f y m → Named x n s → (t : Unit {0}) × Anything s f y t × Named x m t
@@ -60,10 +60,10 @@ module _
 
     -- ---- it stands by its site
 
-    StandsBy : Origin D → N → KeptSite → Type 0
+    abbrev StandsBy : Origin D → N → KeptSite → Type 0
     StandsBy o n l = Stands d o (shows n) (journal n) (disk n) l × (rules n ≡ o.rules) × (reason n ≡ NoMemory)
 
-    HaltsBy : Origin D → N → KeptSite → Type 0
+    abbrev HaltsBy : Origin D → N → KeptSite → Type 0
     HaltsBy o n l = Halts d o (disk n) l (reason n)
 
     node-sim : (o : Origin D) (n m : N) (l : KeptSite) (f : Frame) (x : List ℕ) → A n f x m → StandsBy o n l → (t : KeptSite) × keeps o.rules l f x t × StandsBy o m t

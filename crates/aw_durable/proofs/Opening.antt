@@ -19,7 +19,7 @@ use Rattle.aw_session.specs.declared.log.SessionLog.{SessionLog}
 use Rattle.aw_session.specs.declared.serving.Stopped.{Stopped}
 use Rattle.aw_session.specs.declared.serving.Stopped.TheVariants as stopped
 use Rattle.aw_node.specs.TypedNodes.{Rules}
-use Rattle.aw_durable.specs.Exits.{IsOldOrBetween, IsLeft, Stands, Halts}
+use Rattle.aw_durable.specs.Exits.{IsOldOrBetween, IsLeft, Origin, Stands, Halts}
 use Rattle.aw_durable.specs.Faults.{of_opening, of_append}
 use Rattle.aw_durable.specs.KeptSites.{KeptSite, reopened}
 use Rattle.aw_durable.specs.Redone.{RedoesAll, StopsRedoing}
@@ -29,6 +29,11 @@ use Rattle.aw_durable.specs.declared.fault.KeptFault.{KeptFault}
 use Rattle.aw_durable.specs.declared.fault.KeptFault.TheVariants.{NetFault, DiskFault, BadHead, BadEvent, Full, NoMemory}
 use Rattle.aw_durable.proofs.Exits.{begins-same, between-one}
 use Rattle.aw_durable.proofs.Steps.{left-standing}
+
+-- what stands by some values stands by the same values under other names
+pub stands-here : {D P : Type 0} (d : disks.Ghosts D) (o : Origin D) (shows : P → Site → Type 0) (p q : P) (j k : Kept) (x y : D) (l : KeptSite) → p ≡ q → j ≡ k → x ≡ y → Stands d o (shows q) k y l → Stands d o (shows p) j x l
+stands-here {D} {P} d o shows p q j k x y l site journal disk h =
+    subst (λ (z : P). Stands d o (shows z) j x l) (sym site) (subst (λ (z : Kept). Stands d o (shows q) z x l) (sym journal) (subst (λ (z : D). Stands d o (shows q) k z l) (sym disk) h))
 
 module _ {W D : Type 0} (w : wires.Ghosts W) (d : disks.Ghosts D) (r : Rules) (role : ℕ) (text : List ℕ) (s : Site) (old : D) where
   -- the journal was not opened
@@ -91,25 +96,33 @@ module _ {W D : Type 0} (w : wires.Ghosts W) (d : disks.Ghosts D) (r : Rules) (r
       }
 
       -- no session could be opened
-      pub kept-unopened : (u v : W) (new : D) (events : List Event) (shows start : Site → Type 0) (j : Kept) (reason : AppendFault) → IsReopened d role text old events → RedoesAll r s events start →
-          StopsNode w d (begun_at r s role text events old) (reopened r s events) u v shows j new reason stopped.NetFault → IsKeptUnopened w d r role text s u v old new
-      kept-unopened u v new events shows start j reason is redone h = record {
-        events = events;
-        opened = is;
-        kept = redone.0;
-        after = h.0;
-        served = h.1;
-        made = h.2.made;
-        left = λ told. left-standing d (begun_at r s role text events old) reads counts shows j new h.0 h.2 told;
-      }
+      pub kept-unopened : (u v : W) (new : D) (events : List Event) (shows start : Site → Type 0) (j : Kept) (reason : AppendFault) (why : Stopped Unanswered) → why ≡ stopped.NetFault → IsReopened d role text old events → RedoesAll r s events start →
+          StopsNode w d (begun_at r s role text events old) (reopened r s events) u v shows j new reason why → IsKeptUnopened w d r role text s u v old new
+      kept-unopened u v new events shows start j reason why net is redone stops =
+          let h = subst (λ (x : Stopped Unanswered). StopsNode w d (begun_at r s role text events old) (reopened r s events) u v shows j new reason x) net stops in
+          record {
+            events = events;
+            opened = is;
+            kept = redone.0;
+            after = h.0;
+            served = h.1;
+            made = h.2.made;
+            left = λ told. left-standing d (begun_at r s role text events old) reads counts shows j new h.0 h.2 told;
+          }
 
       -- a frame got no reply
       kept-cut-off : (u v : W) (new : D) (events : List Event) (shows start : Site → Type 0) (j : Kept) (reason : AppendFault) (e : Unanswered) → IsReopened d role text old events → RedoesAll r s events start →
           StopsNode w d (begun_at r s role text events old) (reopened r s events) u v shows j new reason (stopped.Node e) → IsKeptCutOff w d r role text s u v old new reason
       kept-cut-off u v new events shows start j reason e is redone h = record { events = events; opened = is; kept = redone.0; after = h.0; served = h.1; halted = h.2 }
 
-      pub kept-stopped : (u v : W) (new : D) (events : List Event) (shows start : Site → Type 0) (j : Kept) (reason : AppendFault) (e : Unanswered) → IsReopened d role text old events → RedoesAll r s events start →
-          StopsNode w d (begun_at r s role text events old) (reopened r s events) u v shows j new reason (stopped.Node e) → StopsKept w d r role text s u v old new (of_append reason)
-      kept-stopped u v new events shows start j append.DiskFault e is redone h = (h.2.disk_fault refl, inr (kept-cut-off u v new events shows start j append.DiskFault e is redone h))
-      kept-stopped u v new events shows start j append.Full e is redone h = inr (kept-cut-off u v new events shows start j append.Full e is redone h)
-      kept-stopped u v new events shows start j append.NoMemory e is redone h = inr (kept-cut-off u v new events shows start j append.NoMemory e is redone h)
+      kept-fault : (u v : W) (new : D) (reason : AppendFault) → IsKeptCutOff w d r role text s u v old new reason → StopsKept w d r role text s u v old new (of_append reason)
+      kept-fault u v new append.DiskFault h = (h.halted.disk_fault refl, inr h)
+      kept-fault u v new append.Full h = inr h
+      kept-fault u v new append.NoMemory h = inr h
+
+      pub kept-stopped : (u v : W) (new : D) (events : List Event) (shows start : Site → Type 0) (j : Kept) (reason : AppendFault) (why : Stopped Unanswered) (e : Unanswered) (fault : KeptFault) → why ≡ stopped.Node e → fault ≡ of_append reason →
+          IsReopened d role text old events → RedoesAll r s events start →
+          StopsNode w d (begun_at r s role text events old) (reopened r s events) u v shows j new reason why → StopsKept w d r role text s u v old new fault
+      kept-stopped u v new events shows start j reason why e fault node from is redone stops =
+          let h = subst (λ (x : Stopped Unanswered). StopsNode w d (begun_at r s role text events old) (reopened r s events) u v shows j new reason x) node stops in
+          subst (λ (f : KeptFault). StopsKept w d r role text s u v old new f) (sym from) (kept-fault u v new reason (kept-cut-off u v new events shows start j reason e is redone h))

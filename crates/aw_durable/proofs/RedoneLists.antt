@@ -33,7 +33,7 @@ redone-more r s shows es i j e n l at kept h =
     (kept-push r s (events_seen (take i es)) (event_of e) kept h.0, subst shows (sym (by-push r s (events_seen (take i es)) (event_of e))) h.1)
 
 -- the parts in front of a place, at it, and behind it
-parts-at : (es : List NodeEvent) (i : ℕ) (e : NodeEvent) → i < length es → e ≡ get_or es i e → events_seen es ≡ events_seen (take i es) ++ event_of e ∷ events_seen (drop (i + 1) es)
+parts-at : (es : List NodeEvent) (i : ℕ) (e : NodeEvent) → i < length es → e ≡ get_or es i e → events_seen es ≡ events_seen (take i es) ++ event_of e ∷ events_seen (drop (suc i) es)
 parts-at [] i e l s = absurd (omega (arith, l))
 parts-at (x ∷ es) zero e l s = ap (λ (z : NodeEvent). event_of z ∷ events_seen es) (sym s)
 parts-at (x ∷ es) (suc i) e l s = ap (λ (xs : List Event). event_of x ∷ xs) (parts-at es i e (omega (arith, l)) s)
@@ -52,7 +52,7 @@ stopped-at r s es i number e BadHead n l at kept h = absurd h
 stopped-at r s es i number e (BadEvent k) n l at kept h = record {
   before = events_seen (take i es);
   bad = event_of e;
-  rest = events_seen (drop (i + 1) es);
+  rest = events_seen (drop (suc i) es);
   parts = parts-at es i e l at;
   counted = h.0 ∙ (n ∙ sym (long-at es i l));
   kept = kept;

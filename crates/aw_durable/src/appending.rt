@@ -1,6 +1,6 @@
 //! Appending the event that a frame was.
 ghost use Rattle.std.specs.Prelude.{◌≡◌, ⊤, IsTrue, IfOk, IfErr, OnOk, MatchOption, option_map};
-ghost use Rattle.aw_durable.specs.Appending.{Appends, Fails};
+ghost use Rattle.aw_durable.specs.Appending.{Appends, Fails, AnswersAndKeeps, FailsAsSeen};
 ghost use Rattle.aw_durable.specs.KeptEvents as kept;
 ghost use Rattle.aw_journal.specs.Events.{EventInRange};
 ghost use Rattle.aw_journal.specs.EventView.{event_of};
@@ -8,13 +8,20 @@ ghost use Rattle.aw_journal.specs.Journal.{IsSettled};
 ghost use Rattle.aw_msg.specs.Frames.{FrameInRange};
 ghost use Rattle.aw_msg.specs.FrameView.{frame_of};
 ghost use Rattle.aw_msg.specs.ResponseView.{response_of};
+ghost use Rattle.aw_grammar.specs.GrammarOf.{grammar_of};
+ghost use Rattle.aw_node.specs.TypedNodes.{rules_of};
 ghost use Rattle.aw_term.specs.Rules.{Grammar};
+ghost use Rattle.aw_typed.specs.Typing.{IsMadeFor};
 
+use aw_accept::Accepted;
 use aw_choice::{Answer, copy_choice};
 use aw_disk::Disk;
 use aw_journal::{AppendFault, Journal, NodeEvent};
-use aw_msg::{Answered, Frame, copy_message};
-use std::alloc::AllocError;
+use aw_list::Text;
+use aw_msg::{Answered, Frame, copy_message, reply_bytes};
+use aw_node::{Workspace, handle};
+use aw_typed::Typed;
+use std::alloc::{AllocError, Global};
 
 /// Whether a reply tells of an event: a message was new, or a choice was taken.
 pub(crate) fn is_news(answered: &Answered) -> bool
@@ -58,4 +65,30 @@ pub(crate) fn keep<D: Disk>(
         Some(event) => journal.append(disk, event),
         None => Ok(()),
     }
+}
+
+/// Answers a frame: what it was is on the disk before its reply is handed out.
+pub(crate) fn answer<P: Workspace, D: Disk>(
+    alloc: Global,
+    accepted: &Accepted,
+    typed: &Typed,
+    site: &mut P,
+    journal: &mut Journal,
+    disk: &mut D,
+    frame: &Frame,
+) -> Result<Text, AppendFault>
+    requires grammar { accepted.now.grammar ≡ P.grammar site.old }
+    requires types { IsMadeFor (grammar_of accepted.now.grammar) typed.now }
+    requires usable { IsTrue journal.old.usable }
+    requires settled { IsTrue (D.tells disk.old) → IsSettled D.seen D.may_leave disk.old journal.old }
+    requires range { FrameInRange (frame_of frame.now) }
+    ensures grammar { P.grammar site.new ≡ P.grammar site.old }
+    ensures usable { OnOk result (IsTrue journal.new.usable) }
+    ensures settled { OnOk result (IsTrue (D.tells disk.new) → IsSettled D.seen D.may_leave disk.new journal.new) }
+    ensures ok { IfOk result (AnswersAndKeeps ⟦<D as Disk>⟧ (rules_of accepted.now.grammar typed.now) (frame_of frame.now) (P.shows site.old) (P.shows site.new) journal.old journal.new disk.old disk.new) }
+    ensures err { IfErr result (FailsAsSeen ⟦<D as Disk>⟧ (rules_of accepted.now.grammar typed.now) (frame_of frame.now) (P.shows site.old) journal.old disk.old disk.new) }
+{
+    let answered = handle(accepted, typed, site, frame)?;
+    keep(journal, disk, frame, &answered)?;
+    Ok(reply_bytes(alloc, accepted.grammar(), &answered)?)
 }

@@ -3,13 +3,13 @@ ghost use Rattle.std.specs.Prelude.{◌≡◌, ⊤};
 ghost use Rattle.aw_grammar.specs.GrammarOf.{grammar_of};
 ghost use Rattle.aw_typed.specs.Typing.{IsMadeFor};
 
-use crate::appending::keep;
+use crate::appending::answer;
 use aw_accept::Accepted;
 use aw_disk::Disk;
 use aw_journal::{AppendFault, Journal};
 use aw_list::Text;
-use aw_msg::{Frame, reply_bytes};
-use aw_node::{Workspace, handle};
+use aw_msg::Frame;
+use aw_node::Workspace;
 use aw_session::Handles;
 use aw_typed::Typed;
 use std::alloc::{AllocError, Global};
@@ -86,11 +86,20 @@ impl<P: Workspace + Drop, D: Disk> Handles for KeptNode<'_, '_, P, D> {
         × (m.disk.ghost_name ≡ n.disk.ghost_name) };
 
     fn reply_to(&mut self, frame: &Frame) -> Result<Text, Unanswered> {
-        let answered = handle(self.accepted, self.typed, &mut self.site, frame)?;
-        if let Err(reason) = keep(&mut self.journal, self.disk, frame, &answered) {
-            self.reason = reason;
-            return Err(Unanswered);
+        match answer(
+            self.alloc,
+            self.accepted,
+            self.typed,
+            &mut self.site,
+            &mut self.journal,
+            self.disk,
+            frame,
+        ) {
+            Ok(reply) => Ok(reply),
+            Err(reason) => {
+                self.reason = reason;
+                Err(Unanswered)
+            }
         }
-        Ok(reply_bytes(self.alloc, self.accepted.grammar(), &answered)?)
     }
 }
