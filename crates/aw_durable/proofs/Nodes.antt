@@ -35,7 +35,7 @@ module _
     (name : N → T)
     (A : N → Frame → List ℕ → N → Type 0)
     (step : (n m : N) (f : Frame) (x : List ℕ) → A n f x m →
-        AnswersAndKeeps d (rules n) f (shows n) (shows m) (journal n) (journal m) (disk n) (disk m) x × (rules m ≡ rules n) × (name m ≡ name n) × (reason m ≡ reason n))
+    AnswersAndKeeps d (rules n) f (shows n) (shows m) (journal n) (journal m) (disk n) (disk m) x × (rules m ≡ rules n) × (name m ≡ name n) × (reason m ≡ reason n))
     (B : N → Frame → Unanswered → N → Type 0)
     (stop : (n m : N) (f : Frame) (e : Unanswered) → B n f e m → FailsAsSeen d (rules n) f (shows n) (journal n) (disk n) (disk m) (reason m) × (name m ≡ name n))
   where
@@ -95,10 +95,11 @@ module _
     pub stops-node : (o : Origin D) (role : ℕ) (n m : N) (k : KeptSite) (u v : W) (why : Stopped Unanswered) → o.role ≡ role → StopsServing A B w.content w.failed_openings role n m u v why → StandsBy o n k →
         StopsNode w d o k u v (shows m) (journal m) (disk m) (reason m) why
     stops-node o role n m k u v stopped.NetFault e h r =
-        let all = all-served-as N KeptSite A (keeps o.rules) (StandsBy o) (node-sim o) role n m k h.sessions h.log h.served r in
-        (all.0,
-         subst (λ (q : ℕ). IsUnopened (keeps o.rules) w.content w.failed_openings q k all.0 u v) (sym e) (record { log = h.log; sessions = h.sessions; served = all.1; told = h.told; rose = h.rose }),
-         all.2.0)
+        let all = all-served-as N KeptSite A (keeps o.rules) (StandsBy o) (node-sim o) role n m k h.sessions h.log h.served r in (
+          all.0,
+          subst (λ (q : ℕ). IsUnopened (keeps o.rules) w.content w.failed_openings q k all.0 u v) (sym e) (record { log = h.log; sessions = h.sessions; served = all.1; told = h.told; rose = h.rose }),
+          all.2.0,
+        )
     stops-node o role n m k u v (stopped.Node fault) e h r =
         let all = cut-off-with N KeptSite A (keeps o.rules) (StandsBy o) (node-sim o) B (HaltsBy o) (node-halts o) (node-still o) W w.content role n m k u v fault h r in
         (all.0, subst (λ (q : ℕ). IsCutOff {F = Unit {0}} (keeps o.rules) (λ s f e t. Unit {0}) w.content q k all.0 u v tt) (sym e) all.1, all.2)

@@ -24,14 +24,14 @@ impl From<AllocError> for Unanswered {
     }
 }
 
-/// A workspace of a role, with the grammar and the types that it was made for, its journal, and the disk that this stands on.
+/// A workspace of a role that is lent, with the grammar and the types that it was made for, its journal, and the disk that this stands on.
 #[derive(Drop)]
 pub struct KeptNode<'g, 'd, P, D> {
     alloc: Global,
     accepted: &'g Accepted,
     typed: &'g Typed,
-    site: P,
-    journal: Journal,
+    site: &'d mut P,
+    journal: &'d mut Journal,
     disk: &'d mut D,
     /// Why a frame got no reply: want of memory, until the journal says otherwise.
     pub(crate) reason: AppendFault,
@@ -43,14 +43,14 @@ impl<'g, 'd, P, D> KeptNode<'g, 'd, P, D> {
         alloc: Global,
         accepted: &'g Accepted,
         typed: &'g Typed,
-        site: P,
-        journal: Journal,
+        site: &'d mut P,
+        journal: &'d mut Journal,
         disk: &'d mut D,
     ) -> KeptNode<'g, 'd, P, D>
         ensures accepted { result.accepted.now ≡ accepted.now }
         ensures typed { result.typed.now ≡ typed.now }
-        ensures site { result.site ≡ site }
-        ensures journal { result.journal ≡ journal }
+        ensures site { result.site.now ≡ site.old }
+        ensures journal { result.journal.now ≡ journal.old }
         ensures disk { result.disk.now ≡ disk.old }
         ensures same_disk { result.disk.ghost_name ≡ disk.entry.ghost_name }
         ensures reason { result.reason ≡ AppendFault.NoMemory }
@@ -67,7 +67,7 @@ impl<'g, 'd, P, D> KeptNode<'g, 'd, P, D> {
     }
 }
 
-impl<P: Workspace + Drop, D: Disk> Handles for KeptNode<'_, '_, P, D> {
+impl<P: Workspace, D: Disk> Handles for KeptNode<'_, '_, P, D> {
     ghost use Rattle.std.specs.Prelude.{IsTrue};
     ghost use Rattle.aw_durable.specs.Appending.{AnswersAndKeeps, FailsAsSeen};
     ghost use Rattle.aw_journal.specs.Journal.{IsSettled};
@@ -76,13 +76,13 @@ impl<P: Workspace + Drop, D: Disk> Handles for KeptNode<'_, '_, P, D> {
 
     type Fault = Unanswered;
 
-    ghost ready = { λ n. (P.grammar n.site ≡ n.accepted.now.grammar) × IsMadeFor (grammar_of n.accepted.now.grammar) n.typed.now
-        × IsTrue n.journal.usable × (IsTrue (D.tells n.disk.now) → IsSettled D.seen D.may_leave n.disk.now n.journal) × (n.reason ≡ NoMemory) };
+    ghost ready = { λ n. (P.grammar n.site.now ≡ n.accepted.now.grammar) × IsMadeFor (grammar_of n.accepted.now.grammar) n.typed.now
+        × IsTrue n.journal.now.usable × (IsTrue (D.tells n.disk.now) → IsSettled D.seen D.may_leave n.disk.now n.journal.now) × (n.reason ≡ NoMemory) };
 
-    ghost answers = { λ n f x m. AnswersAndKeeps ⟦<D as Disk>⟧ (rules_of n.accepted.now.grammar n.typed.now) f (P.shows n.site) (P.shows m.site) n.journal m.journal n.disk.now m.disk.now x
+    ghost answers = { λ n f x m. AnswersAndKeeps ⟦<D as Disk>⟧ (rules_of n.accepted.now.grammar n.typed.now) f (P.shows n.site.now) (P.shows m.site.now) n.journal.now m.journal.now n.disk.now m.disk.now x
         × (m.accepted.now ≡ n.accepted.now) × (m.typed.now ≡ n.typed.now) × (m.disk.ghost_name ≡ n.disk.ghost_name) × (m.reason ≡ n.reason) };
 
-    ghost breaks = { λ n f e m. FailsAsSeen ⟦<D as Disk>⟧ (rules_of n.accepted.now.grammar n.typed.now) f (P.shows n.site) n.journal n.disk.now m.disk.now m.reason
+    ghost breaks = { λ n f e m. FailsAsSeen ⟦<D as Disk>⟧ (rules_of n.accepted.now.grammar n.typed.now) f (P.shows n.site.now) n.journal.now n.disk.now m.disk.now m.reason
         × (m.disk.ghost_name ≡ n.disk.ghost_name) };
 
     fn reply_to(&mut self, frame: &Frame) -> Result<Text, Unanswered> {
@@ -90,8 +90,8 @@ impl<P: Workspace + Drop, D: Disk> Handles for KeptNode<'_, '_, P, D> {
             self.alloc,
             self.accepted,
             self.typed,
-            &mut self.site,
-            &mut self.journal,
+            self.site,
+            self.journal,
             self.disk,
             frame,
         ) {

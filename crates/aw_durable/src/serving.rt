@@ -26,7 +26,7 @@ use std::alloc::Global;
 pub const JOURNAL_LIMIT: u64 = 1_099_511_627_776;
 
 /// Serves sessions with a node, which stays on its disk.
-fn serve_node<W: Wire, D: Disk, P: Workspace + Drop>(
+fn serve_node<W: Wire, D: Disk, P: Workspace>(
     alloc: Global,
     node: &mut KeptNode<'_, '_, P, D>,
     role: u16,
@@ -34,20 +34,20 @@ fn serve_node<W: Wire, D: Disk, P: Workspace + Drop>(
     wire: &mut W,
 ) -> Result<Log, Stopped<Unanswered>>
     requires role { role < 64 }
-    requires made { P.grammar node.old.site ≡ node.old.accepted.now.grammar }
+    requires made { P.grammar node.old.site.now ≡ node.old.accepted.now.grammar }
     requires types { IsMadeFor (grammar_of node.old.accepted.now.grammar) node.old.typed.now }
-    requires usable { IsTrue node.old.journal.usable }
-    requires settled { IsTrue (D.tells node.old.disk.now) → IsSettled D.seen D.may_leave node.old.disk.now node.old.journal }
+    requires usable { IsTrue node.old.journal.now.usable }
+    requires settled { IsTrue (D.tells node.old.disk.now) → IsSettled D.seen D.may_leave node.old.disk.now node.old.journal.now }
     requires reason { node.old.reason ≡ AppendFault.NoMemory }
     ensures same_disk { node.new.disk.ghost_name ≡ node.old.disk.ghost_name }
     ensures served { (o : Origin D) (k : KeptSite) → o.role ≡ role → o.rules ≡ rules_of node.old.accepted.now.grammar node.old.typed.now →
-        Stands ⟦<D as Disk>⟧ o (P.shows node.old.site) node.old.journal node.old.disk.now k →
-        IfOk result (GoesOn ⟦<W as Wire>⟧ ⟦<D as Disk>⟧ o k wire.old wire.new (P.shows node.new.site) node.new.journal node.new.disk.now) }
+        Stands ⟦<D as Disk>⟧ o (P.shows node.old.site.now) node.old.journal.now node.old.disk.now k →
+        IfOk result (GoesOn ⟦<W as Wire>⟧ ⟦<D as Disk>⟧ o k wire.old wire.new (P.shows node.new.site.now) node.new.journal.now node.new.disk.now) }
     ensures most { IfOk result (λ log. length log ≤ sessions) }
     ensures all { IfOk result (λ log. (length log ≡ sessions) ⊎ NoneComes (W.content wire.new)) }
     ensures stopped { (o : Origin D) (k : KeptSite) → o.role ≡ role → o.rules ≡ rules_of node.old.accepted.now.grammar node.old.typed.now →
-        Stands ⟦<D as Disk>⟧ o (P.shows node.old.site) node.old.journal node.old.disk.now k →
-        IfErr result (StopsNode ⟦<W as Wire>⟧ ⟦<D as Disk>⟧ o k wire.old wire.new (P.shows node.new.site) node.new.journal node.new.disk.now node.new.reason) }
+        Stands ⟦<D as Disk>⟧ o (P.shows node.old.site.now) node.old.journal.now node.old.disk.now k →
+        IfErr result (StopsNode ⟦<W as Wire>⟧ ⟦<D as Disk>⟧ o k wire.old wire.new (P.shows node.new.site.now) node.new.journal.now node.new.disk.now node.new.reason) }
 {
     serve_sessions(alloc, node, role, sessions, wire)
 }
@@ -78,10 +78,10 @@ pub fn serve_kept_workspace<W: Wire, D: Disk, P: Workspace + Drop>(
     ensures all { IfOk result (λ log. (length log ≡ sessions) ⊎ NoneComes (W.content wire.new)) }
     ensures stopped { (s : Site) → P.shows site s → IfErr result (StopsKept ⟦<W as Wire>⟧ ⟦<D as Disk>⟧ (rules_of g.now.grammar t.now) role text.now s wire.old wire.new disk.old disk.new) }
 {
-    let journal = Journal::reopen(alloc, disk, role, text, JOURNAL_LIMIT)?;
+    let mut journal = Journal::reopen(alloc, disk, role, text, JOURNAL_LIMIT)?;
     let mut site = site;
     redo_all(g, t, &mut site, journal.events())?;
-    let mut node = KeptNode::new(alloc, g, t, site, journal, disk);
+    let mut node = KeptNode::new(alloc, g, t, &mut site, &mut journal, disk);
     match serve_node(alloc, &mut node, role, sessions, wire) {
         Ok(log) => Ok(log),
         Err(Stopped::NetFault) => Err(KeptFault::NetFault),
