@@ -122,7 +122,8 @@ impl Journal {
 
     /// The events, in order.
     pub fn events(&self) -> &[NodeEvent]
-        ensures { result.now ≡ self.now.events }
+        ensures events { result.now ≡ self.now.events }
+        ensures all { AllEvents (events_seen result.now) }
     {
         self.events.as_slice()
     }
@@ -134,6 +135,7 @@ impl Journal {
         requires event { EventInRange (event_of event) }
         ensures acknowledged { OnOk result (self.new ≡ record self.old { events = self.old.events ++ event ∷ [] }) }
         ensures settled { OnOk result (IsTrue (D.tells disk.old) → IsSettled D.seen D.may_leave disk.new self.new) }
+        ensures durable { OnOk result (IsTrue (D.tells disk.old) → (c : List ℕ) → D.may_leave disk.new c → events_of c ≡ events_seen self.new.events) }
         // A crash at any moment of the call leaves the events from before it, with the new one or without.
         ensures any_moment { IsTrue (D.tells disk.old) → LeavesOnly D.moment D.left_since disk.old disk.new (IsBeforeOrAfter (events_seen self.old.events) (event_of event)) }
         ensures tells { D.tells disk.new ≡ D.tells disk.old }

@@ -1,7 +1,7 @@
 use Rattle.std.specs.Prelude.{◌≡◌, ℕ, ◌^◌, ◌<◌, List, [], ◌∷◌, ◌++◌, length}
 use Rattle.std.proofs.Common.{refl, sym, ◌∙◌, ap, subst, arith, inl, length-append}
 use Rattle.aw_disk.specs.Disk.{LeavesOnly}
-use Rattle.aw_journal.specs.Format.{front, record_of}
+use Rattle.aw_journal.specs.Format.{front, record_of, events_of}
 use Rattle.aw_journal.specs.Events.{Event, AllEvents, payload_of}
 use Rattle.aw_journal.proofs.Bytes.{length-spelled, all_push}
 use Rattle.aw_journal.specs.Journal.{Kept, kept, IsSettled, IsBeforeOrAfter, IsAround, StandsAt, behind_gate, end_after}
@@ -109,6 +109,29 @@ returns-in-Done-clause-settled g c told =
     let pushed : c.push.new.self.items ≡ c.self.inside.events.items ++ c.args.event ∷ [] =
     (rw c.unwrap.ensures at c.push.ensures.items) ∙ ap (λ (es : List NodeEvent). es ++ c.args.event ∷ []) c.reserve.ensures.items in
     subst (λ (es : List NodeEvent). IsSettled g.D.Disk.seen g.D.Disk.may_leave c.put_record.new.disk (record j { events = es })) (sym pushed) now
+
+pub returns-in-Done-clause-durable : goal.returns-in-Done-clause-durable
+returns-in-Done-clause-durable g c told =
+    let old = c.args.disk.now in
+    let j = kept c.self.inside in
+    let settled : IsSettled g.D.Disk.seen g.D.Disk.may_leave old j = subst (IsSettled g.D.Disk.seen g.D.Disk.may_leave old) (sym c.self.view_is) (c.requires.settled told) in
+    let fits : length (front j.role j.text (events_seen j.events)) < 2 ^ 64 = omega (arith, c.self.invariant.gate) in
+    let small : length (payload_of (event_of c.args.event)) < 2 ^ 64 = omega (arith, c.in-Some.ensures.0, c.payload_len-count.ensures) in
+    let bytes : c.as_slice.result.now ≡ record_of (event_of c.args.event) ++ 0 ∷ [] = c.as_slice.ensures ∙ c.in_ok-bytes.ensures.bytes in
+    let standing = stands g.D.Disk.tells g.D.Disk.seen g.D.Disk.may_leave old j c.self.inside.gate told c.self.invariant.gate settled in
+    let after = c.in-Done.ensures.done refl (front j.role j.text (events_seen j.events)) settled.file.rest settled.file.gate standing in
+    let after_bytes = subst (λ (b : List ℕ). StandsAt g.D.Disk.tells g.D.Disk.seen g.D.Disk.may_leave c.put_record.new.disk c.self.inside.gate (front j.role j.text (events_seen j.events)) (behind_gate b settled.file.rest) 1) bytes after in
+    let now = settled_after g.D.Disk.tells g.D.Disk.seen g.D.Disk.may_leave c.put_record.new.disk j c.self.inside.gate c.args.event settled.file.rest after_bytes in
+    let pushed : c.push.new.self.items ≡ c.self.inside.events.items ++ c.args.event ∷ [] =
+    (rw c.unwrap.ensures at c.push.ensures.items) ∙ ap (λ (es : List NodeEvent). es ++ c.args.event ∷ []) c.reserve.ensures.items in
+    let event = c.args.event in
+    let all = all_push (events_seen j.events) (event_of event) c.self.invariant.all (c.in_ok-bytes.ensures.sized, c.requires.event) in
+    let seen = events_push j.events event in
+    let long = length-front_push j.role j.text (events_seen j.events) (event_of event) in
+    let fits_now : length (front j.role j.text (events_seen (j.events ++ event ∷ []))) < 2 ^ 64 =
+    omega (arith, long, c.in-Some.ensures.0, c.payload_len-count.ensures, c.self.invariant.gate, ap (λ (es : List Event). length (front j.role j.text es)) seen) in
+    subst (λ (es : List NodeEvent). (f : List ℕ) → g.D.Disk.may_leave c.put_record.new.disk f → events_of f ≡ events_seen es) (sym pushed)
+    (settled_events g.D.Disk.tells g.D.Disk.seen g.D.Disk.may_leave c.put_record.new.disk (record j { events = j.events ++ event ∷ [] }) (subst AllEvents (sym seen) all) fits_now now)
 
 pub invariant_of-self-in-Done-1 : goal.invariant_of-self-in-Done-1
 invariant_of-self-in-Done-1 g c =

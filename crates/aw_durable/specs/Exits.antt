@@ -1,0 +1,79 @@
+-- What an exit of serving leaves on the disk.
+use Rattle.std.specs.Prelude.{◌≡◌, ◌⊎◌, ℕ, ◌+◌, ◌<◌, ◌≤◌, List, [], ◌∷◌, ◌++◌, IsTrue, length, Option, Some}
+use Rattle.aw_out.specs.Causes.{Rose}
+use Rattle.aw_react.specs.Sites.{Site}
+use Rattle.aw_disk.specs.Disk.{LeavesOnly}
+use Rattle.aw_disk.specs.declared.edge.Disk.{Ghosts}
+use Rattle.aw_journal.specs.Events.{Event}
+use Rattle.aw_journal.specs.EventView.{events_seen}
+use Rattle.aw_journal.specs.Format.{events_of, front}
+use Rattle.aw_journal.specs.Journal.{Kept}
+use Rattle.aw_journal.specs.declared.journal.AppendFault.{AppendFault}
+use Rattle.aw_journal.specs.declared.journal.AppendFault.TheVariants.{DiskFault, Full}
+use Rattle.aw_node.specs.TypedNodes.{Rules}
+use Rattle.aw_durable.specs.KeptEvents.{AreKept}
+use Rattle.aw_durable.specs.KeptSites.{KeptSite, IsMadeOf, with_event}
+
+-- the list begins with these
+abbrev pub Begins : List Event → List Event → Type 0
+Begins xs ys = (rest : List Event) × (ys ≡ xs ++ rest)
+
+-- a file whose events begin with the first ones, and with which the last ones begin
+pub record IsBetween (first last : List Event) (file : List ℕ) : Type 0 where
+  pub from : Begins first (events_of file)
+  pub to : Begins (events_of file) last
+
+-- the same, or a file that could be there before
+abbrev pub IsOldOrBetween : (List ℕ → Type 0) → List Event → List Event → List ℕ → Type 0
+IsOldOrBetween was first last file = was file ⊎ IsBetween first last file
+
+-- these events, or these and one in hand
+abbrev pub IsWithOneInHand : List Event → List Event → Type 0
+IsWithOneInHand events last = (last ≡ events) ⊎ ((e : Event) × (last ≡ events ++ e ∷ []))
+
+-- The first events are those of the file as the call found it, and the last ones those at its end with one in hand or without. A crash at any moment
+-- leaves a file that could be there before, or one between them; what a crash leaves at the end has all events of the frames that were answered.
+pub record IsLeft {D : Type 0} (d : Ghosts D) (first answered last : List Event) (old new : D) : Type 0 where
+  pub moments : LeavesOnly d.moment d.left_since old new (IsOldOrBetween (d.may_leave old) first last)
+  pub images : (c : List ℕ) → d.may_leave new c → IsBetween answered last c
+  pub reads : IsWithOneInHand (events_of (d.seen new)) last
+
+-- the journal of this head ends within the limit, or nothing was added to it
+abbrev pub IsWithin : ℕ → List ℕ → ℕ → List Event → List Event → Type 0
+IsWithin role text limit first last = (last ≡ first) ⊎ (length (front role text last) + 1 ≤ limit)
+
+-- where serving began: the rules, the first site, the head and the limit of the journal, the events that it had, and the disk at the call
+pub record Origin (D : Type 0) : Type 0 where
+  pub rules : Rules
+  pub start : Site
+  pub role : ℕ
+  pub text : List ℕ
+  pub limit : ℕ
+  pub first : List Event
+  pub disk : D
+
+-- While frames are answered: the site that is shown keeps the events that the journal has, and so does the disk, whatever a crash leaves.
+pub record Stands {D : Type 0} (d : Ghosts D) (o : Origin D) (shows : Site → Type 0) (j : Kept) (now : D) (k : KeptSite) : Type 0 where
+  pub shown : shows k.site
+  pub made : IsMadeOf o.rules o.start k
+  pub same : events_seen j.events ≡ k.events
+  pub same_role : j.role ≡ o.role
+  pub same_text : j.text ≡ o.text
+  pub same_limit : j.limit ≡ o.limit
+  pub begins : Begins o.first k.events
+  pub within : IsWithin o.role o.text o.limit o.first k.events
+  pub tells_same : d.tells now ≡ d.tells o.disk
+  pub never_falls : d.faults o.disk ≤ d.faults now
+  pub moments : IsTrue (d.tells o.disk) → LeavesOnly d.moment d.left_since o.disk now (IsOldOrBetween (d.may_leave o.disk) o.first k.events)
+  pub durable : IsTrue (d.tells o.disk) → (c : List ℕ) → d.may_leave now c → events_of c ≡ k.events
+
+-- Where a frame got no reply: the site before it, the event in hand, and the cause.
+pub record Halts {D : Type 0} (d : Ghosts D) (o : Origin D) (new : D) (k : KeptSite) (fault : AppendFault) : Type 0 where
+  pub made : IsMadeOf o.rules o.start k
+  pub in_hand : Option Event
+  pub kept : AreKept o.rules o.start (with_event k.events in_hand)
+  pub tells_same : d.tells new ≡ d.tells o.disk
+  pub never_falls : d.faults o.disk ≤ d.faults new
+  pub left : IsTrue (d.tells o.disk) → IsLeft d o.first k.events (with_event k.events in_hand) o.disk new
+  pub disk_fault : fault ≡ DiskFault → Rose (d.faults o.disk) (d.faults new)
+  pub full : fault ≡ Full → (e : Event) × (in_hand ≡ Some e) × (o.limit < length (front o.role o.text (k.events ++ e ∷ [])) + 1)

@@ -1,0 +1,62 @@
+-- What a node keeps: the choices that it takes, and the messages that are new to it.
+use Rattle.std.specs.Prelude.{◌≡◌, ℕ, Bool, true, false, List, [], ◌∷◌, ◌++◌, length, Option, None, Some, if◌then◌else◌}
+use Rattle.aw_term.specs.Choices.{Taken}
+use Rattle.aw_react.specs.Sites.{Site}
+use Rattle.aw_msg.specs.Frames as F
+use Rattle.aw_msg.specs.Responses as R
+use Rattle.aw_journal.specs.Events.{Event, Took, Got}
+use Rattle.aw_node.specs.TypedNodes.{Rules, told, handle}
+
+-- whether a reply tells of an event: a message was new, or a choice was taken
+abbrev pub is_news : R.Response → Bool
+is_news R.WasNew = true
+is_news (R.Answers Taken) = true
+is_news _ = false
+
+-- the event that a frame asks for, if any
+abbrev pub asked : F.Frame → Option Event
+asked (F.Push m) = Some (Got m)
+asked (F.Choose c) = Some (Took c)
+asked (F.Pull place) = None
+asked (F.Listed place) = None
+
+-- the event that a frame was by its reply, if it was one
+abbrev pub event_by : F.Frame → R.Response → Option Event
+event_by f x = if is_news x then asked f else None
+
+-- what a site keeps of a frame
+abbrev pub kept_of : Rules → Site → F.Frame → Option Event
+kept_of r s f = event_by f (told (handle r s f).response)
+
+-- the frame that asks for an event
+abbrev pub frame_for : Event → F.Frame
+frame_for (Took c) = F.Choose c
+frame_for (Got m) = F.Push m
+
+-- whether an event is one at this site: its choice is taken, or its message new
+abbrev pub is_kept : Rules → Site → Event → Bool
+is_kept r s e = is_news (told (handle r s (frame_for e)).response)
+
+-- the site after an event
+abbrev pub after_event : Rules → Site → Event → Site
+after_event r s e = (handle r s (frame_for e)).site
+
+-- the site that these events in turn make of a site
+abbrev pub site_by : Rules → Site → List Event → Site
+site_by r s [] = s
+site_by r s (e ∷ es) = site_by r (after_event r s e) es
+
+-- each of them is one when it comes
+abbrev pub AreKept : Rules → Site → List Event → Type 0
+AreKept r s [] = Unit {0}
+AreKept r s (e ∷ es) = (is_kept r s e ≡ true) × AreKept r (after_event r s e) es
+
+-- so many of them are, and the next one is none
+pub record IsFirstBad (r : Rules) (s : Site) (events : List Event) (number : ℕ) : Type 0 where
+  pub before : List Event
+  pub bad : Event
+  pub rest : List Event
+  pub parts : events ≡ before ++ bad ∷ rest
+  pub counted : number ≡ length before
+  pub kept : AreKept r s before
+  pub refused : is_kept r (site_by r s before) bad ≡ false

@@ -1,0 +1,94 @@
+//! Appending the event that a frame was.
+ghost use Rattle.std.specs.Prelude.{◌≡◌, ⊤, IsTrue, IfOk, IfErr, OnOk, MatchOption, option_map};
+ghost use Rattle.aw_durable.specs.Appending.{Appends, Fails, AnswersAndKeeps, FailsAsSeen};
+ghost use Rattle.aw_durable.specs.KeptEvents as kept;
+ghost use Rattle.aw_journal.specs.Events.{EventInRange};
+ghost use Rattle.aw_journal.specs.EventView.{event_of};
+ghost use Rattle.aw_journal.specs.Journal.{IsSettled};
+ghost use Rattle.aw_msg.specs.Frames.{FrameInRange};
+ghost use Rattle.aw_msg.specs.FrameView.{frame_of};
+ghost use Rattle.aw_msg.specs.ResponseView.{response_of};
+ghost use Rattle.aw_grammar.specs.GrammarOf.{grammar_of};
+ghost use Rattle.aw_node.specs.TypedNodes.{rules_of};
+ghost use Rattle.aw_term.specs.Rules.{Grammar};
+ghost use Rattle.aw_typed.specs.Typing.{IsMadeFor};
+
+use aw_accept::Accepted;
+use aw_choice::{Answer, copy_choice};
+use aw_disk::Disk;
+use aw_journal::{AppendFault, Journal, NodeEvent};
+use aw_list::Text;
+use aw_msg::{Answered, Frame, copy_message, reply_bytes};
+use aw_node::{Workspace, handle};
+use aw_typed::Typed;
+use std::alloc::{AllocError, Global};
+
+/// Whether a reply tells of an event: a message was new, or a choice was taken.
+pub(crate) fn is_news(answered: &Answered) -> bool
+    ensures { (g : Grammar) → result ≡ kept.is_news (response_of g answered.now) }
+{
+    matches!(answered, Answered::New | Answered::Answer(Answer::Taken))
+}
+
+/// The event that a frame was by its reply, if it was one.
+fn news(frame: &Frame, answered: &Answered) -> Result<Option<NodeEvent>, AllocError>
+    requires { FrameInRange (frame_of frame.now) }
+    ensures event { IfOk result (λ event. (g : Grammar) → option_map event_of event ≡ kept.event_by (frame_of frame.now) (response_of g answered.now)) }
+    ensures range { IfOk result (λ event. MatchOption event ⊤ (λ e. EventInRange (event_of e))) }
+{
+    if !is_news(answered) {
+        return Ok(None);
+    }
+    match frame {
+        Frame::Push(m) => Ok(Some(NodeEvent::Got(copy_message(m)?))),
+        Frame::Choose(c) => Ok(Some(NodeEvent::Took(copy_choice(c)?))),
+        Frame::Pull(_) | Frame::List(_) => Ok(None),
+    }
+}
+
+/// Appends the event that a frame was by its reply, if it was one.
+pub(crate) fn keep<D: Disk>(
+    journal: &mut Journal,
+    disk: &mut D,
+    frame: &Frame,
+    answered: &Answered,
+) -> Result<(), AppendFault>
+    requires usable { IsTrue journal.old.usable }
+    requires settled { IsTrue (D.tells disk.old) → IsSettled D.seen D.may_leave disk.old journal.old }
+    requires range { FrameInRange (frame_of frame.now) }
+    ensures usable { OnOk result (IsTrue journal.new.usable) }
+    ensures settled { OnOk result (IsTrue (D.tells disk.new) → IsSettled D.seen D.may_leave disk.new journal.new) }
+    ensures ok { (g : Grammar) → OnOk result (Appends ⟦<D as Disk>⟧ (kept.event_by (frame_of frame.now) (response_of g answered.now)) journal.old journal.new disk.old disk.new) }
+    ensures err { (g : Grammar) → IfErr result (Fails ⟦<D as Disk>⟧ (kept.event_by (frame_of frame.now) (response_of g answered.now)) journal.old disk.old disk.new) }
+{
+    match news(frame, answered)? {
+        Some(event) => journal.append(disk, event),
+        None => Ok(()),
+    }
+}
+
+/// Answers a frame: what it was is on the disk before its reply is handed out.
+pub(crate) fn answer<P: Workspace, D: Disk>(
+    alloc: Global,
+    accepted: &Accepted,
+    typed: &Typed,
+    site: &mut P,
+    journal: &mut Journal,
+    disk: &mut D,
+    frame: &Frame,
+) -> Result<Text, AppendFault>
+    requires grammar { accepted.now.grammar ≡ P.grammar site.old }
+    requires types { IsMadeFor (grammar_of accepted.now.grammar) typed.now }
+    requires usable { IsTrue journal.old.usable }
+    requires settled { IsTrue (D.tells disk.old) → IsSettled D.seen D.may_leave disk.old journal.old }
+    requires range { FrameInRange (frame_of frame.now) }
+    ensures grammar { P.grammar site.new ≡ P.grammar site.old }
+    ensures usable { OnOk result (IsTrue journal.new.usable) }
+    ensures settled { OnOk result (IsTrue (D.tells disk.new) → IsSettled D.seen D.may_leave disk.new journal.new) }
+    ensures ok { IfOk result (AnswersAndKeeps ⟦<D as Disk>⟧ (rules_of accepted.now.grammar typed.now) (frame_of frame.now) (P.shows site.old) (P.shows site.new) journal.old journal.new disk.old disk.new) }
+    ensures err { IfErr result (FailsAsSeen ⟦<D as Disk>⟧ (rules_of accepted.now.grammar typed.now) (frame_of frame.now) (P.shows site.old) journal.old disk.old disk.new) }
+{
+    let answered = handle(accepted, typed, site, frame)?;
+    keep(journal, disk, frame, &answered)?;
+    Ok(reply_bytes(alloc, accepted.grammar(), &answered)?)
+}
