@@ -1,0 +1,125 @@
+//! Thirty thousand cases of two roles, each of which sends a task to the other role, and all 180,000 messages delivered one after the
+//! other. Told is the status, the last line that `settled` begins, the line of the artifacts, and whether the artifacts are byte for byte
+//! those that the undivided run writes of the same choices.
+#![tactic(auto)]
+
+use aw_list::Text;
+use aw_out::{Calls, MemSink, MemSource, OUTPUT_LIMIT, Sizes, StdSink, SureWire, Texts, write_all};
+use aw_run::{Status, Word, run};
+use aw_text::push_number;
+use bstr::ByteSlice;
+use std::alloc::{AllocError, Global};
+use std::process::ExitCode;
+
+/// How many cases there are.
+const CASES: u64 = 30_000;
+
+/// No call has this number.
+const NEVER: usize = usize::MAX;
+
+/// In how many bytes an input is read and an output written.
+const PIECE: usize = 4096;
+
+/// The specification of a clinic and its laboratory.
+const CLINIC: &[u8] = b"role clinic
+role lab
+con blood 1
+con report 2
+con found 2
+con none 0
+sort visit clinic 0 1
+sort test lab 1 1
+start visit
+offer test
+use clinic test
+rule admit {who} : visit()<report(who, r)> = test(blood(who))<r>
+rule analyse {v} : test(blood(w))<found(w, v)>
+rule skip : test(x)<none>
+schedule
+";
+
+/// How a run came out.
+#[derive(Drop)]
+struct Outcome {
+    status: Status,
+    text: Text,
+}
+
+/// Adds the start of a case and its choice.
+fn push_case(text: &mut Text, case: u64) -> Result<(), AllocError> {
+    text.push_bytes(b"start visit ")?;
+    push_number(text, case)?;
+    text.push_bytes(b"\nchoose visit#")?;
+    push_number(text, case)?;
+    text.push_bytes(b" admit {\"Ada\"}\n")
+}
+
+/// The starts and choices of all cases, and a settling.
+fn input(alloc: Global) -> Result<Text, AllocError> {
+    let mut text = Text::from_bytes(alloc, CLINIC)?;
+    for case in 0..CASES {
+        push_case(&mut text, case)?;
+    }
+    text.push_bytes(b"settle\n")?;
+    Ok(text)
+}
+
+/// Runs one word on an input.
+fn run_word(alloc: Global, word: &[u8], input: &[u8]) -> Result<Outcome, AllocError> {
+    let mut words = Vec::new(alloc);
+    words.push(Word::from_bytes(alloc, word)?)?;
+    let pieces = Sizes::from_slice(alloc, &[PIECE])?;
+    let fails = Calls::from_slice(alloc, &[NEVER])?;
+    let mut src = MemSource::new(Text::from_bytes(alloc, input)?, pieces, fails);
+    let pieces = Sizes::from_slice(alloc, &[PIECE])?;
+    let fails = Calls::from_slice(alloc, &[NEVER])?;
+    let mut out = MemSink::new(alloc, pieces, fails, OUTPUT_LIMIT)?;
+    let mut wire = SureWire::new(Texts::new(alloc));
+    let status = run(alloc, words.as_slice(), &mut src, &mut out, &mut wire);
+    let text = Text::from_bytes(alloc, out.written())?;
+    Ok(Outcome { status, text })
+}
+
+/// The text from the last line on that these bytes begin.
+fn from_last<'a>(text: &'a [u8], begin: &[u8]) -> &'a [u8] {
+    match text.rsplit_once_str(begin) {
+        Some((_, behind)) => behind,
+        None => b"",
+    }
+}
+
+/// Adds these bytes and the rest of the line.
+fn push_line(told: &mut Text, begin: &[u8], behind: &[u8]) -> Result<(), AllocError> {
+    let (front, _) = behind.split_once_str(b"\n").unwrap_or((behind, b""));
+    told.push_bytes(begin)?;
+    told.push_bytes(front)?;
+    told.push_bytes(b"\n")
+}
+
+/// What is told of both runs.
+fn compared(alloc: Global) -> Result<Text, AllocError> {
+    let input = input(alloc)?;
+    let replayed = run_word(alloc, b"replay", input.as_slice())?;
+    let undivided = run_word(alloc, b"plain", input.as_slice())?;
+    let settled = from_last(replayed.text.as_slice(), b"settled ");
+    let artifacts = from_last(replayed.text.as_slice(), b"artifacts ");
+    let mut told = Text::from_bytes(alloc, b"status ")?;
+    push_number(&mut told, u64::from(replayed.status.code()))?;
+    told.push_bytes(b"\n")?;
+    push_line(&mut told, b"settled ", settled)?;
+    push_line(&mut told, b"artifacts ", artifacts)?;
+    if artifacts == from_last(undivided.text.as_slice(), b"artifacts ") {
+        told.push_bytes(b"the artifacts of the undivided run\n")?;
+    }
+    Ok(told)
+}
+
+fn main(rt: HostRuntime) -> ExitCode {
+    let Ok(told) = compared(rt.alloc()) else {
+        return ExitCode::from(10);
+    };
+    match write_all(&mut StdSink::new(&rt), told.as_slice()) {
+        Ok(()) => ExitCode::SUCCESS,
+        Err(_) => ExitCode::from(8),
+    }
+}
