@@ -93,6 +93,44 @@ def by_post(count, end="schedule"):
     return text(lines + ["settle"])
 
 
+def chains(count, steps=249, roles=8):
+    """Cases whose task is handed on from role to role, so many steps deep, the post delivered after each step. What is entered first
+    goes down, and what comes back up is made of it."""
+    lines = ["role r%d" % k for k in range(roles)] + ["con top 1", "sort case r0 0 1"]
+    lines += ["sort t%d r%d 1 1" % (k, k) for k in range(roles)] + ["start case"]
+    lines += ["offer t%d" % k for k in range(roles)]
+    lines += ["use r%d t%d" % (k, (k + 1) % roles) for k in range(roles)]
+    lines += ["rule g {v} : case()<y> = t0(v)<y>"]
+    for k in range(roles):
+        lines += ["rule m%d : t%d(x)<y> = t%d(x)<y>" % (k, k, (k + 1) % roles), "rule e%d : t%d(x)<top(x)>" % (k, k)]
+    lines += ["schedule"]
+    for case in range(count):
+        node = "case#%d/g.1" % case
+        lines += ["start case %d" % case, 'choose case#%d g {"v"}' % case, "settle"]
+        for step in range(steps - 1):
+            lines += ["choose %s m%d" % (node, step % roles), "settle"]
+            node += "/m%d.1" % (step % roles)
+        lines += ["choose %s e%d" % (node, (steps - 1) % roles), "settle"]
+    return text(lines)
+
+
+VERDICTS = ["role front", "role judge", "role desk", "con granted 1", "con denied 0", "con paid 1", "con none 0",
+            "sort case front 0 1", "sort verdict judge 0 1", "sort payment desk 1 1", "start case", "offer verdict",
+            "offer payment", "use front verdict", "use front payment",
+            "rule open : case()<p> = verdict()<v> ; payment(v)<p>", "rule grant {n} : verdict()<granted(n)>",
+            "rule pay : payment(granted(n))<paid(n)>", "rule close : payment(denied)<none>", "schedule"]
+
+
+def late_values(count):
+    """Tasks with two rules that wait for a value which comes once all tasks are there."""
+    lines = list(VERDICTS)
+    for case in range(count):
+        lines += ["start case %d" % case, "choose case#%d open" % case]
+    lines += ["settle"] + ["choose case#%d/open.1 grant {%d}" % (case, case) for case in range(count)]
+    lines += ["settle"] + ["choose case#%d/open.2 pay" % case for case in range(count)]
+    return text(lines + ["settle"])
+
+
 # One case.
 
 TREE = text(["role desk", "con leaf 0", "con pair 2", "sort task desk 0 1", "start task",
@@ -423,6 +461,10 @@ def growing_cases():
         yield Input("visits whose tests go by post", count, "cases", REPLAY, lambda count=count: by_post(count), DONE)
     for count in (10_000, 30_000, 100_000):
         yield Input("the same with loads", count, "cases", REPLAY, lambda count=count: by_post(count, "schedule 2"), DONE)
+    for count in (1, 3, 10):
+        yield Input("chains of 250 steps over eight roles", count, "cases", REPLAY, lambda count=count: chains(count), DONE)
+    for count in (1_000, 10_000, 30_000):
+        yield Input("rules that wait for a late value", count, "cases", REPLAY, lambda count=count: late_values(count), DONE)
     for count in (1_000, 3_000, 10_000, 30_000):
         yield Input("starts in falling order", count, "cases", REPLAY, lambda count=count: falling_starts(count), DONE)
     for count in (10_000, 100_000):
