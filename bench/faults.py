@@ -45,6 +45,7 @@ CASES = [
     ("a circle", "check", CIRCULAR),
     ("the dependences of an example", "check", CLINIC),
     ("the undivided run of an example", "plain", CLINIC),
+    ("the replay of an example of two roles", "replay", CLINIC),
     ("a worklist", "replay", MEMO + b"start task 2\nlist desk\n"),
     ("ten doublings", "replay", inputs.doubled(10)),
     ("a case of 30 forks", "replay", inputs.tree(30)),
