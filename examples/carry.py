@@ -10,7 +10,7 @@ how many rounds that took. It may be called again at any time: a message that co
 import struct
 import sys
 
-from client import Names, Node, Trouble, plain
+from client import Node, Trouble, call, names_in, plain
 
 
 def carry(names):
@@ -41,20 +41,8 @@ def carry(names):
 def main():
     if len(sys.argv) != 2:
         raise Trouble('Write: carry.py SPECIFICATION.')
-    try:
-        with open(sys.argv[1], encoding='utf-8', errors='surrogateescape') as file:
-            names = Names(file.read())
-    except OSError as error:
-        raise Trouble('The specification "%s" cannot be read (%s); give the path of its file.' % (sys.argv[1], error.strerror))
-    print('carried %d messages in %d rounds' % carry(names))
+    print('carried %d messages in %d rounds' % carry(names_in(sys.argv[1])))
 
 
 if __name__ == '__main__':
-    try:
-        main()
-    except Trouble as trouble:
-        print(trouble, file=sys.stderr)
-        sys.exit(1)
-    except OSError as error:
-        print('A session broke off (%s); call this again.' % error.strerror, file=sys.stderr)
-        sys.exit(1)
+    call(main, 'call this again')

@@ -293,15 +293,30 @@ def push(names, node, role, lines, all_are_meant):
             print('%s: %s' % (line.strip(), plain(*node.ask(1, data))))
 
 
+def names_in(path):
+    """The names that the specification at this path declares."""
+    try:
+        with open(path, encoding='utf-8', errors='surrogateescape') as file:
+            return Names(file.read())
+    except OSError as error:
+        raise Trouble('The specification "%s" cannot be read (%s); give the path of its file.' % (path, error.strerror))
+
+
+def call(program, advice):
+    """Runs a program, and ends with a sentence where it has trouble; the advice is for a session that broke off."""
+    try:
+        program()
+    except Trouble as trouble:
+        sys.exit(str(trouble))
+    except OSError as error:
+        sys.exit('The session broke off (%s); %s.' % (error.strerror, advice))
+
+
 def run(words):
     if len(words) < 3 or words[2] not in ('list', 'start', 'choose', 'pull', 'push'):
         raise Trouble('Write: client.py SPECIFICATION ROLE, and then list, start SORT NUMBER, choose NODE RULE {ARGUMENTS}, pull or push.')
     path, role, command = words[:3]
-    try:
-        with open(path, encoding='utf-8', errors='surrogateescape') as file:
-            names = Names(file.read())
-    except OSError as error:
-        raise Trouble('The specification "%s" cannot be read (%s); give the path of its file.' % (path, error.strerror))
+    names = names_in(path)
     names.number('role', role)
     said = Words(names, ' '.join(words[3:]))
     if command == 'list':
@@ -327,11 +342,4 @@ def run(words):
 
 
 if __name__ == '__main__':
-    try:
-        run(sys.argv[1:])
-    except Trouble as trouble:
-        print(trouble, file=sys.stderr)
-        sys.exit(1)
-    except OSError as error:
-        print('The session broke off (%s); ask again.' % error.strerror, file=sys.stderr)
-        sys.exit(1)
+    call(lambda: run(sys.argv[1:]), 'ask again')
