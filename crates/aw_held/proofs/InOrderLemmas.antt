@@ -9,7 +9,8 @@ use Rattle.aw_term.specs.ByNode.{IsOrderedBy}
 use Rattle.aw_term.specs.WellFormed.{Each, Later}
 use Rattle.aw_term.proofs.Eaches.{each_map}
 use Rattle.aw_term.proofs.NodeTests.{node_self}
-use Rattle.aw_term.proofs.NodeOrder.{node_order, node_tied, node-trans}
+use Rattle.std.proofs.lemmas.Option.{slice_get_within, get_or_from_slice_get}
+use Rattle.aw_term.proofs.NodeOrder.{node_order, node_tied, node-trans, node-no}
 use Rattle.aw_term.proofs.ByNodeLemmas.{other_before, other_after}
 use Rattle.aw_term.proofs.ByNodeLemmas as by
 use Rattle.aw_held.specs.declared.held.Held.{Held}
@@ -136,3 +137,39 @@ pub ordered_inserted : (h : Held) (hs : List Held) → Up hs → Lacks h.node hs
 ordered_inserted h [] up lacks = (tt, tt)
 ordered_inserted h (k ∷ ks) up lacks =
     ordered_cases (node_lt h.node k.node) h k ks refl lacks up (ordered_inserted h ks up.1 (lacks_cases h.node (node_eq h.node k.node) (place_in h.node ks) lacks).1)
+
+lacking : (n : Node) (hs : List Held) → Lacks n hs → (k : ℕ) (d : Held) → k < length hs → node_eq n (get_or hs k d).node ≡ false
+lacking n [] e k d l = absurd (omega (arith, l))
+lacking n (h ∷ hs) e zero d l = (lacks_cases n (node_eq n h.node) (place_in n hs) e).0
+lacking n (h ∷ hs) e (suc k) d l = lacking n hs (lacks_cases n (node_eq n h.node) (place_in n hs) e).1 k d (omega (arith, l))
+
+not_after : (n m : Node) (b : Bool) → node_lt n m ≡ b → node_lt m n ≡ true → b ≡ false
+not_after n m true e f = elim (node-no n (node-trans n m n e f)) [ ]
+not_after n m false e f = refl
+
+-- a node that is not held goes behind those that are before it
+pub inserted_before : (hs : List Held) (n : Node) (i : ℕ) → i ≤ length hs → AllWithin (λ h. node_lt h.node n ≡ true) hs 0 i →
+    AllWithin (λ h. node_lt h.node n ≡ false) hs i (length hs) → Lacks n hs → (h : Held) → h.node ≡ n → insert_in h hs ≡ insert hs i h
+inserted_before hs n i le low high lacks h e =
+    inserted_at hs n i le
+    (λ k d a b. ap not (not_after n (get_or hs k d).node _ refl (low k d a b)))
+    (λ k d a b. ap not (is_before n (get_or hs k d).node _ refl (high k d a b) (lacking n hs lacks k d b)))
+    h e
+
+-- all up to one that is before a node are before it
+pub front_to : (hs : List Held) (n : Node) (i : ℕ) (h : Held) → IsInOrder hs → slice_get hs i ≡ Some h → node_lt h.node n ≡ true →
+    AllWithin (λ h. node_lt h.node n ≡ true) hs 0 (i + 1)
+front_to hs n i h up e t =
+    λ k d a b. before_first hs n up k i d (omega (arith, b)) (slice_get_within hs i h e) (ap (λ (x : Held). node_lt x.node n) (get_or_from_slice_get hs i h d e) ∙ t)
+
+-- all from one that is not before a node are not before it
+pub rest_from : (hs : List Held) (n : Node) (i : ℕ) (h : Held) → IsInOrder hs → slice_get hs i ≡ Some h → node_lt h.node n ≡ false →
+    AllWithin (λ h. node_lt h.node n ≡ false) hs i (length hs)
+rest_from hs n i h up e t = λ k d a b. by k d a b (node_lt (get_or hs k d).node n) refl
+  where
+    by : (k : ℕ) (d : Held) → i ≤ k → k < length hs → (x : Bool) → node_lt (get_or hs k d).node n ≡ x → x ≡ false
+    by k d a b true f =
+        let here = before_first hs n up i k d a b f in
+        let there = ap (λ (x : Held). node_lt x.node n) (get_or_from_slice_get hs i h d e) ∙ t in
+        absurd cc
+    by k d a b false f = refl

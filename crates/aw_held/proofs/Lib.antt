@@ -1,2 +1,4 @@
 pub mod InOrderLemmas
 pub mod HeldViews
+pub mod Numbers
+pub mod PickedLemmas

@@ -1,2 +1,5 @@
 pub mod InOrder
 pub mod HeldView
+pub mod Row
+pub mod Picked
+pub mod Rows

@@ -2,5 +2,9 @@
 #![tactic(auto)]
 
 pub mod held;
+mod holding;
+mod placing;
 
-pub use held::{Held, copy_held, find_held, mark_done, put_all, put_between};
+pub use held::{Held, copy_held};
+pub use holding::Holding;
+pub use placing::{find_held, put_all, put_between};

@@ -14,8 +14,8 @@ use Rattle.aw_kept.specs.declared.record.Mark.{Mark}
 use Rattle.aw_kept.specs.declared.record.Record.{Record}
 use Rattle.aw_kept.specs.Records.{stand_at}
 use Rattle.aw_kept.specs.Due.{due_of, due_marks, due_record, due}
-use Rattle.aw_kept.specs.KeptStates.{AreApart}
-use Rattle.aw_kept.proofs.Places.{apart_head, apart_tail}
+use Rattle.aw_held.specs.Picked.{AreApart}
+use Rattle.aw_held.proofs.Numbers.{apart_head, apart_tail}
 
 module _ (p : Triple → Bool) where
   count-append : (ts us : List Triple) → count_by p (ts ++ us) ≡ count_by p ts + count_by p us

@@ -19,7 +19,8 @@ use Rattle.aw_kept.specs.Records.{IsFit, IsOf, AreTold, open_rules, mark_rule}
 use Rattle.aw_kept.specs.Due.{due_marks, due_record}
 use Rattle.aw_kept.specs.Tested.{AreTested}
 use Rattle.aw_kept.specs.KeptStates.{AreFit, AreKept}
-use Rattle.aw_kept.proofs.Places.{IsSetAt, StoodBefore, get-push, get-last, inserted_both, inserted_one, apart_inserted}
+use Rattle.aw_held.proofs.Numbers.{inserted_one, apart_inserted}
+use Rattle.aw_kept.proofs.Places.{IsSetAt, StoodBefore, get-push, get-last, inserted_both}
 use Rattle.aw_kept.proofs.DueLemmas.{due_more, due_inserted, same_others}
 use Rattle.aw_kept.proofs.KeptLemmas.{WasWritten, written}
 

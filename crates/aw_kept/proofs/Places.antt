@@ -1,7 +1,6 @@
 -- Lists by their places.
 use Rattle.std.proofs.Common.{◌≡◌, ◌≢◌, ℕ, zero, suc, ◌<◌, ◌⊎◌, inl, inr, List, [], ◌∷◌, ◌++◌, length, Some, slice_get, refl, sym, ap, ◌∙◌, arith}
 use Rattle.std.specs.Prelude.{slice_set, insert}
-use Rattle.aw_kept.specs.KeptStates.{AreApart}
 
 -- one place has this now, and each other has what it had
 pub record IsSetAt {A : Type 0} (old new : List A) (n : ℕ) (x : A) : Type 0 where
@@ -59,37 +58,3 @@ inserted_both (u ∷ xs) (v ∷ ys) zero x y zero a b l e f = inl (cc, cc)
 inserted_both (u ∷ xs) (v ∷ ys) zero x y (suc i) a b l e f = inr (i, e, f)
 inserted_both (u ∷ xs) (v ∷ ys) (suc at) x y zero a b l e f = inr (0, e, f)
 inserted_both (u ∷ xs) (v ∷ ys) (suc at) x y (suc i) a b l e f = later u v xs ys x y a b (inserted_both xs ys at x y i a b (omega (arith, l)) e f)
-
--- what is put in stands there, or stood before
-pub inserted_one : (ns : List ℕ) (at n i m : ℕ) → slice_get (insert ns at n) i ≡ Some m → (m ≡ n) ⊎ ((j : ℕ) × (slice_get ns j ≡ Some m))
-inserted_one ns at n i m e = one (inserted_both ns ns at n n i m m refl e e)
-  where
-    one : StoodBefore ns ns n n m m → (m ≡ n) ⊎ ((j : ℕ) × (slice_get ns j ≡ Some m))
-    one (inl (s, _)) = inl s
-    one (inr (j, f, _)) = inr (j, f)
-
--- apart stay those of which one is put in that was not there
-apart_cons : (m : ℕ) (ns : List ℕ) → ((j : ℕ) → slice_get ns j ≢ Some m) → AreApart ns → AreApart (m ∷ ns)
-apart_cons m ns lacks apart zero zero n e f = refl
-apart_cons m ns lacks apart zero (suc j) n e f = absurd (lacks j (f ∙ sym e))
-apart_cons m ns lacks apart (suc i) zero n e f = absurd (lacks i (e ∙ sym f))
-apart_cons m ns lacks apart (suc i) (suc j) n e f = ap suc (apart i j n e f)
-
-pub apart_tail : (m : ℕ) (ns : List ℕ) → AreApart (m ∷ ns) → AreApart ns
-apart_tail m ns apart i j n e f = omega (arith, apart (suc i) (suc j) n e f)
-
-pub apart_head : (m : ℕ) (ns : List ℕ) → AreApart (m ∷ ns) → (j : ℕ) → slice_get ns j ≢ Some m
-apart_head m ns apart j e = absurd (omega (arith, apart 0 (suc j) m refl e))
-
-pub apart_inserted : (ns : List ℕ) (at n : ℕ) → AreApart ns → ((j : ℕ) → slice_get ns j ≢ Some n) → AreApart (insert ns at n)
-apart_inserted [] zero n apart lacks = apart_cons n [] lacks apart
-apart_inserted [] (suc at) n apart lacks = apart_cons n [] lacks apart
-apart_inserted (m ∷ ns) zero n apart lacks = apart_cons n (m ∷ ns) lacks apart
-apart_inserted (m ∷ ns) (suc at) n apart lacks =
-    apart_cons m (insert ns at n)
-    (λ j e. absurd (other (inserted_one ns at n j m e)))
-    (apart_inserted ns at n (apart_tail m ns apart) (λ j. lacks (suc j)))
-  where
-    other : (m ≡ n) ⊎ ((j : ℕ) × (slice_get ns j ≡ Some m)) → ⊥
-    other (inl s) = lacks 0 (ap Some s)
-    other (inr (j, f)) = apart_head m ns apart j f

@@ -1,19 +1,16 @@
 -- What is kept for a list of held nodes: how each rule of its sort stands at each open node, and which of them wait.
-use Rattle.std.specs.Prelude.{◌≡◌, ℕ, ◌+◌, ◌<◌, ◌≤◌, false, List, [], length, vec_len, vec_capacity, None, Some, slice_get}
+use Rattle.std.specs.Prelude.{◌≡◌, ℕ, ◌^◌, ◌+◌, ◌<◌, ◌≤◌, false, List, [], length, vec_len, vec_capacity, None, Some, slice_get}
 use Rattle.aw_term.specs.Names.{Ref}
 use Rattle.aw_term.specs.Rules.{Grammar}
 use Rattle.aw_store.specs.Equations.{Map, find}
 use Rattle.aw_store.specs.NamedRefs.{is_named}
 use Rattle.aw_held.specs.declared.held.Held.{Held}
+use Rattle.aw_held.specs.Picked.{AreApart}
 use Rattle.aw_work.specs.declared.block.Triple.{Triple}
 use Rattle.aw_kept.specs.declared.record.Record.{Record}
 use Rattle.aw_kept.specs.declared.kept.Kept.{Kept}
 use Rattle.aw_kept.specs.Records.{IsFit, IsOf, AreTold, AreLive}
 use Rattle.aw_kept.specs.Due.{due, AreSame}
-
--- no two nodes have one number
-abbrev pub AreApart : List ℕ → Type 0
-AreApart ns = (i j n : ℕ) → slice_get ns i ≡ Some n → slice_get ns j ≡ Some n → i ≡ j
 
 -- Numbers that are apart, a fit record under each, and as what waits what the records say.
 pub record AreFit (g : Grammar) (names : List Ref) (ns : List ℕ) (xs : List Record) (ts : List Triple) : Type 0 where
@@ -42,10 +39,11 @@ IsKeptBut g hs k names late kept = AreKept g hs k names late kept.numbers.items 
 abbrev pub IsKept : Grammar → List Held → Map → List Ref → Kept → Type 0
 IsKept g hs k names kept = IsKeptBut g hs k names [] kept
 
--- there is room for so many more nodes, and for so many more rules to wait
+-- there is room for so many more nodes, which can have numbers, and for so many more rules to wait
 pub record HasRoom (kept : Kept) (nodes waits : ℕ) : Type 0 where
   pub places : vec_len kept.numbers + nodes ≤ vec_capacity kept.numbers
   pub entries : vec_len kept.records + nodes ≤ vec_capacity kept.records
+  pub few : vec_len kept.records + nodes ≤ 2 ^ 32
   pub spare : waits ≤ kept.work.spare
 
 -- each reference that got an equation from the one map to the other is among the later ones, as is each that was late before

@@ -22,11 +22,14 @@ use aw_work::{Pair, Work};
 use std::alloc::{AllocError, Global};
 use std::sync::ledger::Ledger;
 
+/// So many nodes can have a number.
+const MOST: usize = 1 << 32;
+
 /// How each rule of its sort stands at each open node, and which of them wait for what. A node's number, which stands at the
 /// place of the node, stays; its record is found by the number, and never moves.
 #[derive(Drop)]
 pub struct Kept {
-    pub(crate) numbers: Vec<usize>,
+    pub(crate) numbers: Vec<u32>,
     pub(crate) records: Vec<Record>,
     pub(crate) work: Work,
 }
@@ -49,6 +52,9 @@ impl Kept {
         ensures room { OnOk result (HasRoom self.new nodes waits) }
         ensures more { (n w : ℕ) → HasRoom self.old n w → HasRoom self.new n w }
     {
+        if self.records.len().saturating_add(nodes) > MOST {
+            return Err(AllocError);
+        }
         self.numbers.reserve(nodes)?;
         self.records.reserve(nodes)?;
         self.work.reserve(waits)
@@ -79,11 +85,11 @@ impl Kept {
         let number = self.records.len();
         let mut entry = entry;
         test_all(&mut entry, number, grammar, facts, &mut self.work, steps);
-        put_in(&mut self.numbers, at, number);
+        put_in(&mut self.numbers, at, number as u32);
         put_last(&mut self.records, entry);
     }
 
-    /// Lets go what is kept of the node at this place, which was developed: none of its rules waits any more.
+    /// Lets go what is kept of the node at this place, which was developed, with its memory: none of its rules waits any more.
     pub fn close(&mut self, at: usize)
         requires { at < vec_len self.old.numbers }
         ensures kept { (g : PlainGrammar) (hs : List HeldValue) (k : Map) (names late : List RefName) (c : ChoiceValue) →
@@ -92,9 +98,10 @@ impl Kept {
         ensures fewer { (q : ℕ) → waiting_at q self.new.work.waiting ≤ waiting_at q self.old.work.waiting }
     {
         let number = self.numbers[at];
-        self.work.drop_node(number);
-        if let Some(entry) = self.records.get_mut(number) {
+        self.work.drop_node(number as usize);
+        if let Some(entry) = self.records.get_mut(number as usize) {
             entry.marks.clear();
+            entry.marks.shrink_to_fit();
         }
     }
 
@@ -151,7 +158,7 @@ impl Kept {
 }
 
 /// Puts a number at a place, where there is room.
-fn put_in(numbers: &mut Vec<usize>, at: usize, number: usize)
+fn put_in(numbers: &mut Vec<u32>, at: usize, number: u32)
     requires within { at ≤ vec_len numbers.old }
     requires room { vec_len numbers.old < vec_capacity numbers.old }
     ensures items { numbers.new.items ≡ insert numbers.old.items at number }

@@ -73,7 +73,7 @@ impl Kept {
         ensures { OnOk result ((g : PlainGrammar) (hs : List HeldValue) (h : HeldValue) → slice_get hs at ≡ Some h → h.node ≡ node.now → IsKept g hs (F.map facts.now) (F.names facts.now) self.now →
             list_map item_of items.new.items ≡ list_map item_of items.old.items ++ open_items g (state_of h.done) (F.map facts.now) (held_of g h)) }
     {
-        match self.records.get(self.numbers[at]) {
+        match self.records.get(self.numbers[at] as usize) {
             Some(record) => push_marks(items, facts, node, record.marks.as_slice()),
             None => Ok(()),
         }

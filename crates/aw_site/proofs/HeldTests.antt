@@ -1,7 +1,7 @@
 -- Held nodes of the program, found as plain ones.
-use Rattle.std.proofs.Common.{◌≡◌, ℕ, true, false, cond, List, get_or, Option, Some, None, refl, ap, sym, ◌∙◌}
+use Rattle.std.proofs.Common.{◌≡◌, ℕ, true, false, cond, List, Option, Some, None, slice_get, refl, ap, sym, ◌∙◌}
 use Rattle.std.specs.Prelude.{is_some}
-use Rattle.std.proofs.lemmas.Option.{get_or_from_slice_get}
+use Rattle.std.proofs.lemmas.Option.{same_Some}
 use Rattle.aw_term.specs.Names.{Node, Ref}
 use Rattle.aw_term.specs.Rules.{Grammar}
 use Rattle.aw_term.specs.Held as P
@@ -24,17 +24,17 @@ held_view g n hs = held_cases g n hs (place_in n hs) refl
 pub nowhere_free : (g : Grammar) (n : Node) (rs : List Ref) (hs : List Held) → place_in n hs ≡ None → None ≡ call_clash (P.held_of n (all_of g hs)) (call_of g n rs) None
 nowhere_free g n rs hs e = ap (λ o. call_clash o (call_of g n rs) None) (sym (held_nowhere g n hs e))
 
-here_as : (g : Grammar) (n : Node) (hs : List Held) (i : ℕ) (h : Held) → place_in n hs ≡ Some i → h ≡ get_or hs i h → P.held_of n (all_of g hs) ≡ Some (held_of g h)
+here_as : (g : Grammar) (n : Node) (hs : List Held) (i : ℕ) (h : Held) → place_in n hs ≡ Some i → slice_get hs i ≡ Some h → P.held_of n (all_of g hs) ≡ Some (held_of g h)
 here_as g n hs i h e at =
     let w = held_here g n hs i e in
-    w.3 ∙ ap (λ k. Some (held_of g k)) (sym (at ∙ get_or_from_slice_get hs i w.0 h w.1))
+    w.3 ∙ ap (λ k. Some (held_of g k)) (same_Some _ _ (sym w.1 ∙ at))
 
-pub here_free : (g : Grammar) (n : Node) (rs : List Ref) (hs : List Held) (i : ℕ) (h : Held) → place_in n hs ≡ Some i → h ≡ get_or hs i h → refs_eq h.inherited rs ≡ true → None ≡ call_clash (P.held_of n (all_of g hs)) (call_of g n rs) None
+pub here_free : (g : Grammar) (n : Node) (rs : List Ref) (hs : List Held) (i : ℕ) (h : Held) → place_in n hs ≡ Some i → slice_get hs i ≡ Some h → refs_eq h.inherited rs ≡ true → None ≡ call_clash (P.held_of n (all_of g hs)) (call_of g n rs) None
 here_free g n rs hs i h e at same =
     sym (ap (λ b. cond b None (Some (record { kept = OfNode h.inherited; came = OfNode rs }))) same)
     ∙ ap (λ o. call_clash o (call_of g n rs) None) (sym (here_as g n hs i h e at))
 
-pub here_clash : (g : Grammar) (n : Node) (rs : List Ref) (hs : List Held) (i : ℕ) (h : Held) (kept came : List Ref) → place_in n hs ≡ Some i → h ≡ get_or hs i h → refs_eq h.inherited rs ≡ false → kept ≡ h.inherited → came ≡ rs
+pub here_clash : (g : Grammar) (n : Node) (rs : List Ref) (hs : List Held) (i : ℕ) (h : Held) (kept came : List Ref) → place_in n hs ≡ Some i → slice_get hs i ≡ Some h → refs_eq h.inherited rs ≡ false → kept ≡ h.inherited → came ≡ rs
     → Some (record { kept = OfNode kept; came = OfNode came }) ≡ call_clash (P.held_of n (all_of g hs)) (call_of g n rs) None
 here_clash g n rs hs i h kept came e at other k c =
     (λ j. Some (record { kept = OfNode (k j); came = OfNode (c j) }))

@@ -1,6 +1,8 @@
 -- Lists of messages that grow by one item after the other.
-use Rattle.std.proofs.Common.{◌≡◌, ℕ, suc, ◌+◌, ◌-◌, ◌<◌, ◌≤◌, Bool, true, false, cond, List, [], ◌∷◌, ◌++◌, map, filter, nat_eq, refl, ap, sym, ◌∙◌, append_assoc, add-one, arith}
+use Rattle.std.proofs.Common.{◌≡◌, ℕ, zero, suc, subst, ◌+◌, ◌-◌, ◌<◌, ◌≤◌, Bool, true, false, cond, List, [], ◌∷◌, ◌++◌, map, filter, nat_eq, refl, ap, sym, ◌∙◌, append_assoc, add-one, arith}
+use Rattle.std.specs.Int.{bit_at}
 use Rattle.std.proofs.lemmas.List.{append-nil, map-append}
+use Rattle.std.proofs.lemmas.Nat.Bits.{bit_at-zero}
 use Rattle.aw_term.specs.Names.{Ref}
 use Rattle.aw_term.specs.Rules.{Grammar}
 use Rattle.aw_term.specs.Held.{Held}
@@ -12,6 +14,7 @@ use Rattle.aw_react.specs.Asking.{all_inherited}
 use Rattle.aw_react.specs.Homes.{home}
 use Rattle.aw_react.specs.Sites.{Watch, Site}
 use Rattle.aw_react.specs.Telling.{has_watch, watchers_from, tell, tells, call_out, calls_out, calls_in}
+use Rattle.aw_site.specs.Holders.{AreWatchers}
 
 -- one item further, where what a list makes is what its first makes before what the rest makes
 pub pushed_more : {A M : Type 0} (F : List A → List M) → ((x : A) (xs : List A) → F (x ∷ xs) ≡ F (x ∷ []) ++ F xs) → (before after whole : List M) (rest xs : List A) (x : A)
@@ -64,6 +67,25 @@ pub told_last : (tell : ℕ → Message) (after whole : List Message) (most i : 
 told_last tell after whole most i r ws l e =
     let count : most - i ≡ 0 = omega arith in
     sym (append-nil after) ∙ ap (λ k. after ++ map tell (watchers_from k i r ws)) (sym count) ∙ e
+
+unwatched_on : (bit : ℕ) → bit ≡ 0 → nat_eq bit 1 ≡ false
+unwatched_on bit e = ap (λ n. nat_eq n 1) e
+
+-- where no bit is 1, no role watches
+pub none_watch : (n i : ℕ) (r : Ref) (ws : List Watch) → i + n ≤ 64 → AreWatchers 0 r ws → watchers_from n i r ws ≡ []
+none_watch zero i r ws few watch = refl
+none_watch (suc n) i r ws few watch =
+    let within : i < 64 = omega arith in
+    let rest : suc i + n ≤ 64 = omega arith in
+    let off : has_watch r i ws ≡ false = watch i within ∙ unwatched_on (bit_at 0 i) (bit_at-zero i) in
+    ap (λ b. cond b (i ∷ watchers_from n (suc i) r ws) (watchers_from n (suc i) r ws)) off ∙ none_watch n (suc i) r ws rest watch
+
+-- nothing is sent where no bit is 1
+pub told_none : (tell : ℕ → Message) (sent : List Message) (most roles : ℕ) (r : Ref) (ws : List Watch) → most ≤ 64 → roles ≡ 0 → AreWatchers roles r ws
+    → sent ≡ sent ++ map tell (watchers_from most 0 r ws)
+told_none tell sent most roles r ws few e watch =
+    let within : 0 + most ≤ 64 = omega arith in
+    sym (append-nil sent) ∙ ap (λ is. sent ++ map tell is) (sym (none_watch most 0 r ws within (subst (λ n. AreWatchers n r ws) e watch)))
 
 one_more : {M : Type 0} (xs ys : List M) → xs ++ ys ≡ (xs ++ []) ++ ys
 one_more xs zs = ap (λ ys. ys ++ zs) (sym (append-nil xs))

@@ -8,7 +8,7 @@ use Rattle.aw_react.specs.Sites.{Watch, Site, empty_site}
 use Rattle.aw_react.specs.InOrder.{has_ref}
 use Rattle.aw_react.specs.Telling.{has_watch}
 use Rattle.aw_subs.specs.declared.subs.Subs.{Subs}
-use Rattle.aw_subs.specs.Entries.{is_asked, watches}
+use Rattle.aw_subs.specs.Entries.{has_bit, is_asked, watches}
 
 -- a site of which nothing else counts
 abbrev pub holder : List Held → Map → List Watch → Site
@@ -21,6 +21,10 @@ ShowsAsked subs asked = (r : Ref) → has_ref r asked ≡ is_asked subs.subs r
 -- who watches; there are at most 64 roles
 abbrev pub ShowsWatchers : Subs → List Watch → Type 0
 ShowsWatchers subs ws = (r : Ref) (role : ℕ) → role < 64 → has_watch r role ws ≡ watches subs.subs r role
+
+-- these roles, one bit each, watch a reference
+abbrev pub AreWatchers : ℕ → Ref → List Watch → Type 0
+AreWatchers roles r ws = (role : ℕ) → role < 64 → has_watch r role ws ≡ has_bit roles role
 
 -- a question is of one of 64 roles
 abbrev pub IsOfRole : Kind → Type 0

@@ -10,7 +10,7 @@ ghost use Rattle.aw_react.specs.Receiving.{refs_eq, clash_on, first_clash, call_
 ghost use Rattle.aw_site.specs.Views.{call_of, clash_of};
 
 use crate::finding::body_in_both;
-use aw_held::{Held, find_held};
+use aw_held::{Holding, find_held};
 use aw_name::{Node, Refs};
 use aw_store::bodies::is_same_body;
 use aw_store::{Content, Equation, Facts, copy_body};
@@ -70,13 +70,17 @@ pub fn first_clash<F: Facts>(
 }
 
 /// Whether the node of a call is held with other references.
-pub fn call_clash(held: &[Held], node: &Node, inherited: &Refs) -> Result<Option<Clash>, AllocError>
-    requires { IsInOrder held.now }
-    ensures { IfOk result (λ c. (g : T.Grammar) → option_map clash_of c ≡ call_clash (held_of node.now (all_of g held.now)) (call_of g node.now inherited.now) None) }
+pub fn call_clash(
+    held: &Holding,
+    node: &Node,
+    inherited: &Refs,
+) -> Result<Option<Clash>, AllocError>
+    requires { IsInOrder held.now.items }
+    ensures { IfOk result (λ c. (g : T.Grammar) → option_map clash_of c ≡ call_clash (held_of node.now (all_of g held.now.items)) (call_of g node.now inherited.now) None) }
 {
     match find_held(held, node) {
         Some(at) => {
-            let kept = &held[at].inherited;
+            let kept = &held.at(at).inherited;
             if is_same_refs(kept, inherited) {
                 return Ok(None);
             }

@@ -19,7 +19,7 @@ use crate::clashes::{Clash, call_clash, first_clash};
 use crate::known::is_repeat;
 use crate::validity::message_ok;
 use aw_accept::Accepted;
-use aw_held::Held;
+use aw_held::Holding;
 use aw_msg::{Message, MsgKind};
 use aw_space::Space;
 use aw_store::{Equation, Equations, Facts, copy_equation, copy_equations};
@@ -69,13 +69,13 @@ fn push_equations(es: &mut Vec<Equation>, more: &[Equation]) -> Result<(), Alloc
 fn clash<F: Facts>(
     alloc: Global,
     facts: &F,
-    held: &[Held],
+    held: &Holding,
     kind: &MsgKind,
     es: &Equations,
 ) -> Result<Option<Clash>, AllocError>
-    requires ordered { IsInOrder held.now }
+    requires ordered { IsInOrder held.now.items }
     requires carried { (g : T.Grammar) → list_map equation_of es.now ≡ carried (kind_of g kind.now) }
-    ensures { IfOk result (λ c. (g : T.Grammar) → option_map clash_of c ≡ plain_clash (holder (all_of g held.now) (F.map facts.now) []) (kind_of g kind.now)) }
+    ensures { IfOk result (λ c. (g : T.Grammar) → option_map clash_of c ≡ plain_clash (holder (all_of g held.now.items) (F.map facts.now) []) (kind_of g kind.now)) }
 {
     match kind {
         MsgKind::Call {

@@ -7,11 +7,11 @@ ghost use Rattle.aw_msg.specs.MessageView.{message_of};
 ghost use Rattle.aw_react.specs.Loads.{load_of};
 ghost use Rattle.aw_react.specs.Sites as P;
 ghost use Rattle.aw_react.specs.Telling.{has_watch, watchers_from, tell, tells, tell_back};
-ghost use Rattle.aw_site.specs.Holders.{ShowsWatchers};
+ghost use Rattle.aw_site.specs.Holders.{AreWatchers, ShowsWatchers};
 ghost use Rattle.aw_site.specs.Senders.{SendsAs, listed};
 
 use crate::finding::body_in_both;
-use crate::known::is_watched_by;
+use crate::known::is_among;
 use crate::sender::Sender;
 use aw_msg::{Message, MsgKind};
 use aw_name::{Ref, copy_ref};
@@ -50,40 +50,43 @@ impl<'a, F: Facts> Sender<'a, F> {
         })
     }
 
-    /// Adds an equation for a role, where that watches its left side.
+    /// Adds an equation for a role, where that is one of those that watch its left side.
     fn push_told_one(
         &self,
         sent: &mut Vec<Message>,
-        subs: &Subs,
+        watchers: u64,
         e: &Equation,
         role: u16,
     ) -> Result<(), AllocError>
         requires { role < 64 }
-        ensures { OnOk result ((s : P.Site) → SendsAs ⟦<F as Facts>⟧ self.now s → ShowsWatchers subs.now s.watchers →
+        ensures { OnOk result ((s : P.Site) → SendsAs ⟦<F as Facts>⟧ self.now s → AreWatchers watchers e.now.left s.watchers →
             list_map (message_of (grammar_of self.now.grammar.now)) sent.new.items ≡ list_map (message_of (grammar_of self.now.grammar.now)) sent.old.items
             ++ (if has_watch e.now.left role s.watchers then tell (grammar_of self.now.grammar.now) s (equation_of e.now) role ∷ [] else [])) }
     {
-        if is_watched_by(subs, &e.left, role) {
+        if is_among(watchers, role) {
             sent.push(self.tell(e, role)?)?;
         }
         Ok(())
     }
 
-    /// Adds an equation for each role below a number that watches its left side, in the order of roles.
+    /// Adds an equation for each role below a number that is one of those that watch its left side, in the order of roles.
     fn push_told(
         &self,
         sent: &mut Vec<Message>,
-        subs: &Subs,
+        watchers: u64,
         e: &Equation,
         most: u16,
     ) -> Result<(), AllocError>
         requires { most ≤ 64 }
-        ensures { OnOk result ((s : P.Site) → SendsAs ⟦<F as Facts>⟧ self.now s → ShowsWatchers subs.now s.watchers →
+        ensures { OnOk result ((s : P.Site) → SendsAs ⟦<F as Facts>⟧ self.now s → AreWatchers watchers e.now.left s.watchers →
             list_map (message_of (grammar_of self.now.grammar.now)) sent.new.items ≡ list_map (message_of (grammar_of self.now.grammar.now)) sent.old.items
             ++ list_map (tell (grammar_of self.now.grammar.now) s (equation_of e.now)) (watchers_from most 0 e.now.left s.watchers)) }
     {
+        if watchers == 0 {
+            return Ok(());
+        }
         for role in 0..most {
-            self.push_told_one(sent, subs, e, role)?;
+            self.push_told_one(sent, watchers, e, role)?;
         }
         Ok(())
     }
@@ -100,7 +103,7 @@ impl<'a, F: Facts> Sender<'a, F> {
             ++ tells (grammar_of self.now.grammar.now) s (list_map equation_of es.now)) }
     {
         for e in es {
-            self.push_told(sent, subs, e, MOST_ROLES)?;
+            self.push_told(sent, subs.watchers_of(&e.left), e, MOST_ROLES)?;
         }
         Ok(())
     }

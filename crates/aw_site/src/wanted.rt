@@ -1,5 +1,5 @@
 //! References that are asked for: another role's, without an equation here, and not asked for before.
-ghost use Rattle.std.specs.Prelude.{◌≡◌, ◌++◌, ◌∷◌, [], IfOk, OnOk, filter, map as list_map};
+ghost use Rattle.std.specs.Prelude.{◌≡◌, ◌≤◌, ◌++◌, ◌∷◌, [], None, IfOk, IfSome, OnOk, filter, insert, length, map as list_map};
 ghost use Rattle.aw_grammar.specs.GrammarOf.{grammar_of};
 ghost use Rattle.aw_store.specs.Equations.{mentions};
 ghost use Rattle.aw_store.specs.EquationView.{body_of, equation_of};
@@ -9,6 +9,7 @@ ghost use Rattle.aw_react.specs.InOrder.{insert_ref, in_order};
 ghost use Rattle.aw_react.specs.Sites as P;
 ghost use Rattle.aw_react.specs.Telling.{calls_in};
 ghost use Rattle.aw_site.specs.Holders.{ShowsAsked};
+ghost use Rattle.aw_site.specs.Ordered.{AreInOrder};
 ghost use Rattle.aw_site.specs.Plans.{wanted_of, asks_for};
 ghost use Rattle.aw_site.specs.Senders.{SendsAs};
 ghost use Rattle.aw_site.specs.Views.{child_call};
@@ -58,20 +59,28 @@ pub fn push_mentions(refs: &mut Vec<Ref>, es: &[Equation]) -> Result<(), AllocEr
     Ok(())
 }
 
+/// Where a reference goes among references in order; `None` where it stands already.
+fn place_of(refs: &[Ref], r: &Ref) -> Option<usize>
+    requires { AreInOrder refs.now }
+    ensures within { IfSome result (λ at. at ≤ length refs.now) }
+    ensures goes { IfSome result (λ at. insert_ref r.now refs.now ≡ insert refs.now at r.now) }
+    ensures stands { result ≡ None → insert_ref r.now refs.now ≡ refs.now }
+{
+    let at = refs.partition_point(|x| is_ref_before(x, r));
+    match refs.get(at) {
+        Some(x) if is_ref(r, x) => None,
+        _ => Some(at),
+    }
+}
+
 /// Puts a reference before the first that is after it, where it does not stand already.
 fn insert_ref(refs: &mut Vec<Ref>, r: Ref) -> Result<(), AllocError>
+    requires { AreInOrder refs.old.items }
     ensures { OnOk result (refs.new.items ≡ insert_ref r refs.old.items) }
 {
-    for i in 0..refs.len() {
-        if is_ref_before(&r, &refs[i]) {
-            refs.insert(i, r)?;
-            return Ok(());
-        }
-        if is_ref(&r, &refs[i]) {
-            return Ok(());
-        }
+    if let Some(at) = place_of(refs.as_slice(), &r) {
+        refs.insert(at, r)?;
     }
-    refs.push(r)?;
     Ok(())
 }
 
@@ -125,9 +134,9 @@ impl<'a, F: Facts> Sender<'a, F> {
         ensures { IfOk result (λ wanted. (s : P.Site) → SendsAs ⟦<F as Facts>⟧ self.now s → ShowsAsked subs.now s.asked →
             wanted ≡ wanted_of (grammar_of self.now.grammar.now) s refs.items) }
     {
-        let sorted = in_order(self.alloc, refs)?;
-        let wanted = self.only_wanted(subs, sorted.as_slice())?;
-        Refs::from_vec(wanted)
+        let wanted = self.only_wanted(subs, refs.as_slice())?;
+        let sorted = in_order(self.alloc, wanted)?;
+        Refs::from_vec(sorted)
     }
 
     /// The question for a reference.

@@ -1,5 +1,5 @@
 -- What a call and equations cost, by the program's nodes and by the plain ones.
-use Rattle.std.proofs.Common.{◌≡◌, ℕ, ◌+◌, ◌≤◌, true, List, [], ◌∷◌, map, Option, Some, None, refl, ap, sym, subst, ◌∙◌, arith, All, filter, Vec}
+use Rattle.std.proofs.Common.{◌≡◌, ℕ, ◌+◌, ◌≤◌, true, List, [], ◌∷◌, map, Option, Some, None, refl, ap, sym, subst, ◌∙◌, arith, All, filter}
 use Rattle.std.specs.Prelude.{option_map}
 use Rattle.std.proofs.lemmas.Bool.{and_parts}
 use Rattle.std.proofs.lemmas.List.Elements.{All-nil, All-cons}
@@ -9,6 +9,7 @@ use Rattle.aw_apply.specs.declared.making.MadeChild.{MadeChild}
 use Rattle.aw_store.specs.Equations.{Equation, Map, find}
 use Rattle.aw_held.specs.declared.held.Held.{Held}
 use Rattle.aw_held.specs.HeldView.{all_of}
+use Rattle.aw_held.specs.Row.{Row}
 use Rattle.aw_held.specs.InOrder.{place_in}
 use Rattle.aw_react.specs.Receiving.{add_on}
 use Rattle.aw_react.specs.ValidNames.{takes_as, refs_ok}
@@ -77,14 +78,14 @@ own_openable g role cs own = open_children g role (filter (λ (c : MadeChild). i
 
 -- ---- the node of a call, if there is one
 
-pub ready_if_grows : {Z : Type 0} (g : Grammar) (names more : List Ref) (held : Vec Held Z) (kept : Kept) (o : Option Opening) → Grows names more → IsReadyIf g names held kept o → IsReadyIf g more held kept o
+pub ready_if_grows : (g : Grammar) (names more : List Ref) (held : Row) (kept : Kept) (o : Option Opening) → Grows names more → IsReadyIf g names held kept o → IsReadyIf g more held kept o
 ready_if_grows g names more held kept None grows r = tt
 ready_if_grows g names more held kept (Some o) grows r = (ready_grows g names more grows o r.0, r.1, r.2)
 
-pub ready_if_named : {Z : Type 0} (g : Grammar) (names : List Ref) (held : Vec Held Z) (kept : Kept) (o : Option Opening) → IsReadyIf g names held kept o → all_named names (inherited_by (option_map held_in o)) ≡ true
+pub ready_if_named : (g : Grammar) (names : List Ref) (held : Row) (kept : Kept) (o : Option Opening) → IsReadyIf g names held kept o → all_named names (inherited_by (option_map held_in o)) ≡ true
 ready_if_named g names held kept None r = refl
 ready_if_named g names held kept (Some o) r = ready_named g names o r.0
 
-pub tests_if_are : {Z : Type 0} (g : Grammar) (names : List Ref) (held : Vec Held Z) (kept : Kept) (o : Option Opening) → IsReadyIf g names held kept o → tests_if o ≡ rules_if g (option_map held_in o)
+pub tests_if_are : (g : Grammar) (names : List Ref) (held : Row) (kept : Kept) (o : Option Opening) → IsReadyIf g names held kept o → tests_if o ≡ rules_if g (option_map held_in o)
 tests_if_are g names held kept None r = refl
 tests_if_are g names held kept (Some o) r = tests_are g names o r.0

@@ -78,7 +78,16 @@ all_tests_are g names (o ∷ os) r =
 
 -- there is room for less
 pub less_room : (kept : Kept) (n m w v : ℕ) → HasRoom kept n w → m ≤ n → v ≤ w → HasRoom kept m v
-less_room kept n m w v r a b = record { places = omega (arith, r.places, a); entries = omega (arith, r.entries, a); spare = omega (arith, r.spare, b) }
+less_room kept n m w v r a b = record { places = omega (arith, r.places, a); entries = omega (arith, r.entries, a); few = omega (arith, r.few, a); spare = omega (arith, r.spare, b) }
+
+-- with a node that was put there is one more
+pub put_length : (h : Held) (hs : List Held) → length (insert_in h hs) ≡ suc (length hs)
+put_length h [] = refl
+put_length h (k ∷ ks) = by (put_length h ks) (node_lt h.node k.node)
+  where
+    by : length (insert_in h ks) ≡ suc (length ks) → (b : Bool) → length (cond b (h ∷ k ∷ ks) (k ∷ insert_in h ks)) ≡ suc (suc (length ks))
+    by e true = refl
+    by e false = ap suc e
 
 -- a node that was put has a place
 pub put_there : (h : Held) (hs : List Held) → place_in h.node (insert_in h hs) ≡ None → ⊥

@@ -1,10 +1,11 @@
 -- What is taken in with a call and equations, and how many guards are tested.
-use Rattle.std.specs.Prelude.{ℕ, ◌<◌, ◌+◌, List, Option, Some, None, Vec, vec_len, vec_capacity}
+use Rattle.std.specs.Prelude.{ℕ, ◌<◌, ◌+◌, List, Option, Some, None}
 use Rattle.aw_term.specs.Names.{Ref}
 use Rattle.aw_term.specs.Rules.{Grammar, sort_of}
 use Rattle.aw_store.specs.Equations.{Equation, Map}
 use Rattle.aw_held.specs.declared.held.Held.{Held}
 use Rattle.aw_held.specs.HeldView.{sort_or, all_of}
+use Rattle.aw_held.specs.Row.{Row}
 use Rattle.aw_kept.specs.declared.kept.Kept.{Kept}
 use Rattle.aw_kept.specs.KeptStates.{HasRoom}
 use Rattle.aw_space.specs.Costs.{rules_of}
@@ -19,9 +20,9 @@ IsOpenableIf g None = Unit {0}
 IsOpenableIf g (Some h) = IsOpenable g h
 
 -- what is to be kept of the node is ready, if there is one, and there is room for it
-abbrev pub IsReadyIf : {Z : Type 0} → Grammar → List Ref → Vec Held Z → Kept → Option Opening → Type 0
+abbrev pub IsReadyIf : Grammar → List Ref → Row → Kept → Option Opening → Type 0
 IsReadyIf g names held kept None = Unit {0}
-IsReadyIf g names held kept (Some o) = IsReady g names o × (vec_len held < vec_capacity held) × HasRoom kept 1 (tests_of o)
+IsReadyIf g names held kept (Some o) = IsReady g names o × (0 < held.room) × HasRoom kept 1 (tests_of o)
 
 -- how many rules are tested where it is opened
 abbrev pub tests_if : Option Opening → ℕ

@@ -15,7 +15,7 @@ use crate::opening::put_open;
 use crate::placing::Placed;
 use aw_apply::Steps;
 use aw_grammar::Grammar;
-use aw_held::{Held, find_held};
+use aw_held::{Held, Holding, find_held};
 use aw_kept::Kept;
 use aw_name::{Node, Refs, copy_node};
 use aw_store::Facts;
@@ -57,7 +57,7 @@ pub fn called(node: &Node, inherited: &Refs) -> Result<Held, AllocError>
 /// the store.
 fn hold<F: Facts, L: Ledger>(
     grammar: &Grammar,
-    held: &mut Vec<Held>,
+    held: &mut Holding,
     facts: &mut F,
     kept: &mut Kept,
     node: &Node,
@@ -86,7 +86,7 @@ fn hold<F: Facts, L: Ledger>(
 /// Holds a called node, where it is not held. An error and a conflict change nothing but the names of the store.
 pub fn place_call<F: Facts, L: Ledger>(
     grammar: &Grammar,
-    held: &mut Vec<Held>,
+    held: &mut Holding,
     facts: &mut F,
     kept: &mut Kept,
     node: &Node,
@@ -104,8 +104,8 @@ pub fn place_call<F: Facts, L: Ledger>(
     ensures stands { IsKept (grammar_of grammar.now) held.new.items (F.map facts.new) (F.names facts.new) kept.new }
     ensures steps { steps.new ≤ steps.old + rules_of (grammar_of grammar.now) (call_of (grammar_of grammar.now) node.now inherited.now).sort }
 {
-    match find_held(held.as_slice(), node) {
-        Some(at) => compare(&held[at].inherited, inherited),
+    match find_held(held, node) {
+        Some(at) => compare(&held.at(at).inherited, inherited),
         None => {
             hold(grammar, held, facts, kept, node, inherited, steps)?;
             Ok(Placed::New)

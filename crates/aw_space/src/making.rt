@@ -7,7 +7,7 @@ ghost use Rattle.aw_space.specs.Openings.{IsOpenable, IsReady, all_tests, held_i
 
 use crate::opening::{Opening, ready};
 use aw_grammar::Grammar;
-use aw_held::Held;
+use aw_held::{Held, Holding};
 use aw_kept::Kept;
 use aw_store::Facts;
 use std::alloc::{AllocError, Global};
@@ -16,7 +16,7 @@ use std::alloc::{AllocError, Global};
 pub fn make_ready<F: Facts>(
     grammar: &Grammar,
     facts: &mut F,
-    held: &mut Vec<Held>,
+    held: &mut Holding,
     kept: &mut Kept,
     node: Held,
 ) -> Result<Opening, AllocError>
@@ -24,14 +24,14 @@ pub fn make_ready<F: Facts>(
     requires stands { IsKept (grammar_of grammar.now) held.old.items (F.map facts.old) (F.names facts.old) kept.old }
     ensures node { IfOk result (λ o. o.held ≡ node) }
     ensures ready { IfOk result (λ o. IsReady (grammar_of grammar.now) (F.names facts.new) o) }
-    ensures place { OnOk result (vec_len held.new < vec_capacity held.new) }
+    ensures place { OnOk result (0 < held.new.room) }
     ensures room { IfOk result (λ o. HasRoom kept.new 1 (tests_of o)) }
     ensures held { held.new.items ≡ held.old.items }
     ensures map { F.map facts.new ≡ F.map facts.old }
     ensures names { Grows (F.names facts.old) (F.names facts.new) }
     ensures stands { IsKept (grammar_of grammar.now) held.new.items (F.map facts.new) (F.names facts.new) kept.new }
 {
-    let new = ready(*held.allocator(), grammar, facts, node)?;
+    let new = ready(held.allocator(), grammar, facts, node)?;
     held.reserve(1)?;
     kept.reserve(1, new.entry.rule_count())?;
     Ok(new)
@@ -101,7 +101,7 @@ fn count_tests(more: &[Opening]) -> Result<usize, AllocError>
 pub fn make_all_ready<F: Facts>(
     grammar: &Grammar,
     facts: &mut F,
-    held: &mut Vec<Held>,
+    held: &mut Holding,
     kept: &mut Kept,
     own: Vec<Held>,
 ) -> Result<Vec<Opening>, AllocError>
@@ -109,14 +109,14 @@ pub fn make_all_ready<F: Facts>(
     requires stands { IsKept (grammar_of grammar.now) held.old.items (F.map facts.old) (F.names facts.old) kept.old }
     ensures own { IfOk result (λ more. list_map held_in more.items ≡ own.items) }
     ensures ready { IfOk result (λ more. All (IsReady (grammar_of grammar.now) (F.names facts.new)) more.items) }
-    ensures place { IfOk result (λ more. vec_len held.new + vec_len more ≤ vec_capacity held.new) }
+    ensures place { IfOk result (λ more. vec_len more ≤ held.new.room) }
     ensures room { IfOk result (λ more. HasRoom kept.new (vec_len more) (all_tests more.items)) }
     ensures held { held.new.items ≡ held.old.items }
     ensures map { F.map facts.new ≡ F.map facts.old }
     ensures names { Grows (F.names facts.old) (F.names facts.new) }
     ensures stands { IsKept (grammar_of grammar.now) held.new.items (F.map facts.new) (F.names facts.new) kept.new }
 {
-    let more = all_ready(*held.allocator(), grammar, facts, own)?;
+    let more = all_ready(held.allocator(), grammar, facts, own)?;
     let waits = count_tests(more.as_slice())?;
     held.reserve(more.len())?;
     kept.reserve(more.len(), waits)?;

@@ -10,7 +10,7 @@ ghost use Rattle.aw_space.specs.Openings.{IsReady, all_tests, held_in, tests_of}
 
 use aw_apply::Steps;
 use aw_grammar::Grammar;
-use aw_held::{Held, find_held, put_between};
+use aw_held::{Held, Holding, find_held, put_between};
 use aw_kept::{Kept, Record, prepare};
 use aw_name::{Node, copy_node};
 use aw_store::Facts;
@@ -51,7 +51,7 @@ pub fn ready<F: Facts>(
 pub fn put_open<F: Facts, L: Ledger>(
     grammar: &Grammar,
     facts: &F,
-    held: &mut Vec<Held>,
+    held: &mut Holding,
     kept: &mut Kept,
     new: Opening,
     steps: &mut Steps<L>,
@@ -60,12 +60,11 @@ pub fn put_open<F: Facts, L: Ledger>(
     requires lacks { Lacks new.held.node held.old.items }
     requires ready { IsReady (grammar_of grammar.now) (F.names facts.now) new }
     requires stands { IsKept (grammar_of grammar.now) held.old.items (F.map facts.now) (F.names facts.now) kept.old }
-    requires place { vec_len held.old < vec_capacity held.old }
+    requires place { 0 < held.old.room }
     requires room { HasRoom kept.old 1 (tests_of new) }
     ensures items { held.new.items ≡ insert_in new.held held.old.items }
     ensures ordered { IsInOrder held.new.items }
-    ensures len { vec_len held.new ≡ vec_len held.old + 1 }
-    ensures place { vec_capacity held.old ≤ vec_capacity held.new }
+    ensures place { held.old.room ≤ held.new.room + 1 }
     ensures stands { IsKept (grammar_of grammar.now) held.new.items (F.map facts.now) (F.names facts.now) kept.new }
     ensures room { (n w : ℕ) → HasRoom kept.old (n + 1) (w + tests_of new) → HasRoom kept.new n w }
     ensures steps { steps.new ≡ steps.old + tests_of new }
@@ -76,7 +75,7 @@ pub fn put_open<F: Facts, L: Ledger>(
         entry,
     } = new;
     put_between(held, node);
-    match find_held(held.as_slice(), &name) {
+    match find_held(held, &name) {
         Some(at) => kept.open(at, entry, grammar, facts, steps),
         None => unreachable!(),
     }
@@ -86,7 +85,7 @@ pub fn put_open<F: Facts, L: Ledger>(
 pub fn put_all_open<F: Facts, L: Ledger>(
     grammar: &Grammar,
     facts: &F,
-    held: &mut Vec<Held>,
+    held: &mut Holding,
     kept: &mut Kept,
     more: Vec<Opening>,
     steps: &mut Steps<L>,
@@ -95,7 +94,7 @@ pub fn put_all_open<F: Facts, L: Ledger>(
     requires lacks { LackEach (list_map held_in more.items) held.old.items }
     requires ready { All (IsReady (grammar_of grammar.now) (F.names facts.now)) more.items }
     requires stands { IsKept (grammar_of grammar.now) held.old.items (F.map facts.now) (F.names facts.now) kept.old }
-    requires place { vec_len held.old + vec_len more ≤ vec_capacity held.old }
+    requires place { vec_len more ≤ held.old.room }
     requires room { HasRoom kept.old (vec_len more) (all_tests more.items) }
     ensures items { held.new.items ≡ insert_all_in (list_map held_in more.items) held.old.items }
     ensures ordered { IsInOrder held.new.items }

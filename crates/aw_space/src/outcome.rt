@@ -21,7 +21,7 @@ use crate::weighing::weigh;
 use aw_apply::{Made, Steps, Weighed, made};
 use aw_choice::{Answer, Choice};
 use aw_grammar::Grammar;
-use aw_held::{Held, find_held};
+use aw_held::{Holding, find_held};
 use aw_kept::Kept;
 use aw_list::Items;
 use aw_store::Facts;
@@ -64,15 +64,15 @@ pub fn foresee<F: Facts, L: Ledger>(
     alloc: Global,
     grammar: &Grammar,
     role: u16,
-    held: &[Held],
+    held: &Holding,
     facts: &F,
     choice: &Choice,
     steps: &mut Steps<L>,
 ) -> Result<Outcome, AllocError>
-    requires sound { IsSound (grammar_of grammar.now) role held.now (F.map facts.now) (F.names facts.now) }
+    requires sound { IsSound (grammar_of grammar.now) role held.now.items (F.map facts.now) (F.names facts.now) }
     requires ok { choice_ok (grammar_of grammar.now) (choice_of choice.now) ≡ true }
     ensures outcome { IfOk result (λ o. IsOutcome o (choice_of choice.now)
-        (outcome_in (all_of (grammar_of grammar.now) held.now) (F.map facts.now) (grammar_of grammar.now) (choice_of choice.now))) }
+        (outcome_in (all_of (grammar_of grammar.now) held.now.items) (F.map facts.now) (grammar_of grammar.now) (choice_of choice.now))) }
     ensures steps { steps.new ≤ steps.old + 1 }
 {
     match choice {
@@ -100,7 +100,7 @@ pub fn foresee<F: Facts, L: Ledger>(
 pub fn carry_out<F: Facts, L: Ledger>(
     grammar: &Grammar,
     role: u16,
-    held: &mut Vec<Held>,
+    held: &mut Holding,
     choices: &mut Vec<Choice>,
     facts: &mut F,
     kept: &mut Kept,
@@ -132,7 +132,7 @@ pub fn carry_out<F: Facts, L: Ledger>(
                 grammar, held, choices, facts, kept, choice, *sort, *case, steps,
             )
         }
-        Choice::Develop { node, .. } => match find_held(held.as_slice(), node) {
+        Choice::Develop { node, .. } => match find_held(held, node) {
             Some(at) => take_rule(
                 grammar, role, held, choices, facts, kept, at, choice, made, steps,
             ),

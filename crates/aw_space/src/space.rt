@@ -22,7 +22,7 @@ use crate::taking_in::take_in;
 use aw_accept::Accepted;
 use aw_apply::{Made, Steps};
 use aw_choice::{Choice, Worklist};
-use aw_held::Held;
+use aw_held::Holding;
 use aw_kept::Kept;
 use aw_name::{Node, Refs};
 use aw_store::{Added, Equation, Equations, Facts};
@@ -34,7 +34,7 @@ use std::sync::ledger::Ledger;
 pub struct Space<'g, F: Facts> {
     pub(crate) accepted: &'g Accepted,
     pub(crate) role: u16,
-    pub(crate) held: Vec<Held>,
+    pub(crate) held: Holding,
     pub(crate) choices: Vec<Choice>,
     pub(crate) facts: F,
     pub(crate) kept: Kept,
@@ -60,7 +60,7 @@ impl<'g, F: Facts> Space<'g, F> {
         ensures choices { result.choices.items ≡ [] }
         ensures map { F.map result.facts ≡ [] }
     {
-        let held = Vec::new(alloc);
+        let held = Holding::new(alloc);
         let kept = Kept::new(alloc);
         Space {
             accepted: g,
@@ -73,10 +73,10 @@ impl<'g, F: Facts> Space<'g, F> {
     }
 
     /// The held nodes, in their order.
-    pub fn nodes(&self) -> &[Held]
-        ensures { result.now ≡ self.now.held.items }
+    pub fn nodes(&self) -> &Holding
+        ensures { result.now.items ≡ self.now.held.items }
     {
-        self.held.as_slice()
+        &self.held
     }
 
     /// The store of equations, lent.
@@ -114,10 +114,10 @@ impl<'g, F: Facts> Space<'g, F> {
         ensures steps { steps.new ≤ steps.old + 1 }
     {
         foresee(
-            *self.held.allocator(),
+            self.held.allocator(),
             g.grammar(),
             self.role,
-            self.held.as_slice(),
+            &self.held,
             &self.facts,
             choice,
             steps,
@@ -281,10 +281,10 @@ impl<'g, F: Facts> Space<'g, F> {
         ensures items { IfOk result (λ items. list_map item_of items ≡ worklist (grammar_of g.now.grammar) (space_seen ⟦<F as Facts>⟧ self.now)) }
         ensures steps { steps.new ≡ steps.old }
     {
-        let mut items = Vec::new(*self.held.allocator());
+        let mut items = Vec::new(self.held.allocator());
         for at in 0..self.held.len() {
             self.kept
-                .push_items(at, &self.held[at].node, &self.facts, &mut items)?;
+                .push_items(at, &self.held.at(at).node, &self.facts, &mut items)?;
         }
         Ok(Worklist::from_vec(items))
     }

@@ -16,7 +16,7 @@ use crate::taking::push_choice;
 use aw_apply::Steps;
 use aw_choice::{Choice, copy_choice};
 use aw_grammar::Grammar;
-use aw_held::Held;
+use aw_held::{Held, Holding};
 use aw_kept::Kept;
 use aw_name::{Node, Refs, Trail};
 use aw_store::Facts;
@@ -38,7 +38,7 @@ pub fn root(alloc: Global, sort: u16, case: u64) -> Node
 /// the names of the store.
 pub fn take_start<F: Facts, L: Ledger>(
     grammar: &Grammar,
-    held: &mut Vec<Held>,
+    held: &mut Holding,
     choices: &mut Vec<Choice>,
     facts: &mut F,
     kept: &mut Kept,
@@ -61,7 +61,7 @@ pub fn take_start<F: Facts, L: Ledger>(
     ensures stands { IsKept (grammar_of grammar.now) held.new.items (F.map facts.new) (F.names facts.new) kept.new }
     ensures steps { steps.new ≤ steps.old + rules_of (grammar_of grammar.now) (sort_or (sort_of (grammar_of grammar.now) (plain_root sort case))) }
 {
-    let alloc = *held.allocator();
+    let alloc = held.allocator();
     let node = root(alloc, sort, case);
     let new = Held {
         node,

@@ -24,7 +24,7 @@ use aw_apply::{Made, MadeChild, Steps};
 use aw_base::home_of_valid;
 use aw_choice::{Choice, copy_choice};
 use aw_grammar::Grammar;
-use aw_held::{Held, mark_done};
+use aw_held::{Held, Holding};
 use aw_kept::Kept;
 use aw_name::{Node, copy_node};
 use aw_store::{Equation, Facts, add_all_ready, copy_equations};
@@ -98,7 +98,7 @@ pub fn push_choice(choices: &mut Vec<Choice>, choice: Choice)
 /// equations are known and each rule that waited for one of them is tested, and the children are held. Nothing can be refused.
 fn take_ready<F: Facts, L: Ledger>(
     grammar: &Grammar,
-    held: &mut Vec<Held>,
+    held: &mut Holding,
     facts: &mut F,
     kept: &mut Kept,
     at: usize,
@@ -116,7 +116,7 @@ fn take_ready<F: Facts, L: Ledger>(
     requires ready { (e : PlainEquation) → Contains (list_map equation_of told.now) e → F.is_ready facts.old e }
     requires lacks { LackEach (list_map held_in own.items) (done_at done at held.old.items) }
     requires own { All (IsReady (grammar_of grammar.now) (F.names facts.old)) own.items }
-    requires place { vec_len held.old + vec_len own ≤ vec_capacity held.old }
+    requires place { vec_len own ≤ held.old.room }
     requires room { HasRoom kept.old (vec_len own) (all_tests own.items) }
     requires stands { IsKept (grammar_of grammar.now) held.old.items (F.map facts.old) (F.names facts.old) kept.old }
     ensures held { held.new.items ≡ insert_all_in (list_map held_in own.items) (done_at done at held.old.items) }
@@ -127,7 +127,7 @@ fn take_ready<F: Facts, L: Ledger>(
     ensures steps { steps.new ≤ steps.old + (all_tests own.items
         + waiting_on_lefts (list_map equation_of told.now) (site_worklist (grammar_of grammar.now) (F.map facts.old) (all_of (grammar_of grammar.now) held.old.items))) }
 {
-    mark_done(held, at, done);
+    held.mark_done(at, done);
     kept.close(at);
     add_all_ready(facts, equations);
     wake_all(grammar, &*facts, kept, told, steps);
@@ -139,7 +139,7 @@ fn take_ready<F: Facts, L: Ledger>(
 pub fn take_rule<F: Facts, L: Ledger>(
     grammar: &Grammar,
     role: u16,
-    held: &mut Vec<Held>,
+    held: &mut Holding,
     choices: &mut Vec<Choice>,
     facts: &mut F,
     kept: &mut Kept,
@@ -169,7 +169,7 @@ pub fn take_rule<F: Facts, L: Ledger>(
     ensures steps { steps.new ≤ steps.old + (rules_at (grammar_of grammar.now) (all_of (grammar_of grammar.now) (plain_own (grammar_of grammar.now) role made.now.children))
         + waiting_on_lefts (list_map equation_of made.now.equations) (site_worklist (grammar_of grammar.now) (F.map facts.old) (all_of (grammar_of grammar.now) held.old.items))) }
 {
-    let alloc = *held.allocator();
+    let alloc = held.allocator();
     let children = own_children(alloc, grammar, role, made.children.as_slice())?;
     let equations = copy_equations(alloc, made.equations.as_slice())?;
     let done = copy_choice(choice)?;

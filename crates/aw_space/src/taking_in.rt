@@ -20,16 +20,16 @@ use crate::opening::{Opening, put_open};
 use crate::placing::Placing;
 use aw_apply::Steps;
 use aw_grammar::Grammar;
-use aw_held::{Held, find_held};
+use aw_held::{Held, Holding, find_held};
 use aw_kept::Kept;
 use aw_store::{Equations, Facts, copy_equations};
 use std::alloc::AllocError;
 use std::sync::ledger::Ledger;
 
 /// The node of a call as an open one, where it is not held.
-fn missing(held: &[Held], call: Option<&Placing>) -> Result<Option<Held>, AllocError>
-    requires { IsInOrder held.now }
-    ensures { IfOk result (λ new. new ≡ missing_node (option_copied call.entry) held.now) }
+fn missing(held: &Holding, call: Option<&Placing>) -> Result<Option<Held>, AllocError>
+    requires { IsInOrder held.now.items }
+    ensures { IfOk result (λ new. new ≡ missing_node (option_copied call.entry) held.now.items) }
 {
     match call {
         Some(call) => match find_held(held, &call.node) {
@@ -44,7 +44,7 @@ fn missing(held: &[Held], call: Option<&Placing>) -> Result<Option<Held>, AllocE
 fn make_ready_if<F: Facts>(
     grammar: &Grammar,
     facts: &mut F,
-    held: &mut Vec<Held>,
+    held: &mut Holding,
     kept: &mut Kept,
     new: Option<Held>,
 ) -> Result<Option<Opening>, AllocError>
@@ -67,7 +67,7 @@ fn make_ready_if<F: Facts>(
 fn put_if<F: Facts, L: Ledger>(
     grammar: &Grammar,
     facts: &F,
-    held: &mut Vec<Held>,
+    held: &mut Holding,
     kept: &mut Kept,
     new: Option<Opening>,
     steps: &mut Steps<L>,
@@ -91,7 +91,7 @@ fn put_if<F: Facts, L: Ledger>(
 /// comes. All memory is taken first, so an error changes nothing but the names of the store.
 pub fn take_in<F: Facts, L: Ledger>(
     grammar: &Grammar,
-    held: &mut Vec<Held>,
+    held: &mut Holding,
     facts: &mut F,
     kept: &mut Kept,
     call: Option<&Placing>,
@@ -113,8 +113,8 @@ pub fn take_in<F: Facts, L: Ledger>(
     ensures stands { IsKept (grammar_of grammar.now) held.new.items (F.map facts.new) (F.names facts.new) kept.new }
     ensures steps { steps.new ≤ steps.old + taken_cost (grammar_of grammar.now) (missing_node (option_copied call.entry) held.old.items) held.old.items (F.map facts.old) (list_map equation_of es.now) }
 {
-    let new = missing(held.as_slice(), call)?;
-    let more = copy_equations(*held.allocator(), es.as_slice())?;
+    let new = missing(held, call)?;
+    let more = copy_equations(held.allocator(), es.as_slice())?;
     let opening = make_ready_if(grammar, facts, held, kept, new)?;
     name_lefts(facts, es.as_slice())?;
     facts.reserve(es)?;

@@ -21,7 +21,7 @@ use aw_apply::{Steps, Weighed, test_rule, weigh_guard};
 use aw_base::sort_at;
 use aw_choice::Answer;
 use aw_grammar::{Grammar, Rule};
-use aw_held::{Held, find_held};
+use aw_held::{Held, Holding, find_held};
 use aw_name::Node;
 use aw_store::Facts;
 use aw_term::{Ground, Grounds};
@@ -93,22 +93,22 @@ pub fn weigh<F: Facts, L: Ledger>(
     alloc: Global,
     grammar: &Grammar,
     role: u16,
-    held: &[Held],
+    held: &Holding,
     facts: &F,
     node: &Node,
     number: u16,
     args: &Grounds,
     steps: &mut Steps<L>,
 ) -> Result<Weighed, AllocError>
-    requires sound { IsSound (grammar_of grammar.now) role held.now (F.map facts.now) (F.names facts.now) }
+    requires sound { IsSound (grammar_of grammar.now) role held.now.items (F.map facts.now) (F.names facts.now) }
     requires declared { is_some (slice_get grammar.now.rules number) ≡ true }
     ensures room { IfOk result (λ w. HasRoomFor grammar.now number node.now w) }
     ensures value { IfOk result (λ w. Weighs (grammar_of grammar.now) number w
-        (outcome_in (all_of (grammar_of grammar.now) held.now) (F.map facts.now) (grammar_of grammar.now) (Develop node.now number (map ground_of args.now)))) }
+        (outcome_in (all_of (grammar_of grammar.now) held.now.items) (F.map facts.now) (grammar_of grammar.now) (Develop node.now number (map ground_of args.now)))) }
     ensures steps { steps.new ≤ steps.old + 1 }
 {
     match find_held(held, node) {
-        Some(at) => weigh_at(alloc, grammar, facts, &held[at], number, args, steps),
+        Some(at) => weigh_at(alloc, grammar, facts, held.at(at), number, args, steps),
         None => Ok(Weighed::Refused(Answer::NotHere)),
     }
 }

@@ -1,8 +1,8 @@
 -- The line of a held node is the line of each row that is read from it.
-use Rattle.std.proofs.Common.{◌≡◌, ℕ, zero, suc, ◌<◌, true, length, get_or, List, [], ◌∷◌, Option, Some, None, map, refl, ap, sym, ◌∙◌, subst, slice_get}
+use Rattle.std.proofs.Common.{◌≡◌, ℕ, zero, suc, true, List, [], ◌∷◌, Option, Some, None, map, refl, ap, sym, ◌∙◌, subst, slice_get}
 use Rattle.std.specs.Prelude.{option_and_then, option_map}
 use Rattle.std.proofs.lemmas.Bool.{and_parts}
-use Rattle.std.proofs.lemmas.Option.{slice_get-map, slice_get-get_or, same_Some}
+use Rattle.std.proofs.lemmas.Option.{slice_get-map, same_Some}
 use Rattle.aw_term.specs.Names.{Node, Ref, result}
 use Rattle.aw_term.specs.Rules.{Value, Grammar, upto, sort_of}
 use Rattle.aw_term.specs.Choices.{gives_of}
@@ -70,7 +70,3 @@ done_here g (x ∷ xs) (suc i) h all e = done_here g xs i h (and_parts (held_fit
 -- the plain node at a place
 pub plain_here : (g : Grammar) (hs : List Held) (i : ℕ) (h : Held) (p : plain.Held) → slice_get hs i ≡ Some h → slice_get (all_of g hs) i ≡ Some p → held_of g h ≡ p
 plain_here g hs i h p e f = same_Some _ _ (ap (option_map (held_of g)) (sym e) ∙ sym (slice_get-map (held_of g) hs i) ∙ f)
-
--- the node that an index takes
-pub taken_here : (hs nodes : List Held) (i : ℕ) (h : Held) → nodes ≡ hs → i < length hs → h ≡ get_or nodes i h → slice_get hs i ≡ Some h
-taken_here hs nodes i h e l is = slice_get-get_or hs i h l ∙ ap Some (sym (ap (λ xs. get_or xs i h) e) ∙ sym is)

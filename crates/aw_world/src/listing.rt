@@ -83,7 +83,7 @@ fn open_at<W: Workspace>(sites: &[W], spot: &Spot, nodes: &mut Vec<Node>) -> Res
     ensures { OnOk result ((h : HeldValue) → held_at ⟦<W as Workspace>⟧ sites.now spot.now ≡ Some h → nodes.new.items ≡ nodes.old.items ++ open_on (state_of h.done) h.node []) }
 {
     let held = sites[spot.site].nodes();
-    push_open(nodes, &held[spot.place])
+    push_open(nodes, held.at(spot.place))
 }
 
 /// The open nodes among all.

@@ -4,7 +4,7 @@ ghost use Rattle.aw_world.specs.Firsts.{next_of, IsFirstOf};
 ghost use Rattle.aw_world.specs.Merged.{merged, nodes_of, left_of, held_at, PassesOn};
 
 use crate::workspace::Workspace;
-use aw_held::Held;
+use aw_held::{Held, Holding};
 use aw_term::order::is_before;
 use std::alloc::{AllocError, Global};
 
@@ -57,8 +57,8 @@ fn first_site<W: Workspace>(sites: &[W], places: &[usize]) -> usize
 }
 
 /// One place on from a node.
-fn past(nodes: &[Held], place: usize) -> usize
-    requires { place < length nodes.now }
+fn past(nodes: &Holding, place: usize) -> usize
+    requires { place < length nodes.now.items }
     ensures { result ≡ place + 1 }
 {
     let _count = nodes.len();

@@ -26,7 +26,7 @@ use aw_apply::Steps;
 use aw_cells::CellFacts;
 use aw_choice::{Answer, Choice, Worklist};
 use aw_grammar::Grammar;
-use aw_held::Held;
+use aw_held::{Held, Holding};
 use aw_msg::{Message, Messages};
 use aw_out::{PrintFault, Report};
 use aw_print::artifact_row;
@@ -128,7 +128,7 @@ impl<'g> Workspace for Site<'g, CellFacts> {
         list_uncounted(self.space(), self.accepted())
     }
 
-    fn nodes(&self) -> &[Held] {
+    fn nodes(&self) -> &Holding {
         self.space().nodes()
     }
 
@@ -140,7 +140,7 @@ impl<'g> Workspace for Site<'g, CellFacts> {
         report: &mut Report,
     ) -> Result<(), PrintFault> {
         let space = self.space();
-        let held = &space.nodes()[place];
+        let held = space.nodes().at(place);
         print_held(alloc, accepted.grammar(), held, space.facts(), report)
     }
 

@@ -21,7 +21,7 @@ ghost use Rattle.aw_world.specs.SiteAnswers.{sent_by, sent_back, is_new};
 
 use aw_accept::Accepted;
 use aw_choice::{Answer, Choice, Worklist};
-use aw_held::Held;
+use aw_held::Holding;
 use aw_msg::{Message, Messages};
 use aw_out::{PrintFault, Report};
 use std::alloc::{AllocError, Global};
@@ -83,8 +83,8 @@ pub trait Workspace: Drop {
         ensures { IfOk result (λ items. (s : P.Site) → shows self.now s → list_map item_of items ≡ site_worklist (grammar_of accepted.now.grammar) s.equations s.held) };
 
     /// The nodes that it holds, in order.
-    fn nodes(&self) -> &[Held]
-        ensures { result.now ≡ its_nodes self.now };
+    fn nodes(&self) -> &Holding
+        ensures { result.now.items ≡ its_nodes self.now };
 
     /// Prints the artifact line of the node at a place, from the equations that it has. Where the text would pass the report's limit, or
     /// memory is missing, the report has got the front of the line.

@@ -22,7 +22,7 @@ returns-in-Some g c = λ loads s h. (
       ∙ c.if-not-branch.false,
   mine_by g.F.Facts c.args.space.now c.args.subs.now loads s c.args.g.now.grammar c.requires.grammar h c.args.m.now c.grammar-grammar.result.now c.role-role.result _ c.grammar-grammar.ensures.value c.role-role.ensures c.is_mine.ensures
       ∙ c.if-not-is_mine.false,
-  clash_by g.F.Facts c.args.space.now c.args.subs.now loads s c.args.g.now.grammar c.requires.grammar h c.args.m.now.kind c.nodes.result.now c.facts.result.now c.in_ok-clash.field-0 c.nodes.ensures c.facts.ensures c.in_ok-clash.ensures
+  clash_by g.F.Facts c.args.space.now c.args.subs.now loads s c.args.g.now.grammar c.requires.grammar h c.args.m.now.kind c.nodes.result.now.items c.facts.result.now c.in_ok-clash.field-0 c.nodes.ensures c.facts.ensures c.in_ok-clash.ensures
       ∙ ap (option_map clash_of) c.in-Some.is,
 )
 
@@ -35,9 +35,9 @@ returns-then-is_repeat g c = λ loads s h. (
       ∙ c.if-not-branch.false,
   mine_by g.F.Facts c.args.space.now c.args.subs.now loads s c.args.g.now.grammar c.requires.grammar h c.args.m.now c.grammar-grammar.result.now c.role-role.result _ c.grammar-grammar.ensures.value c.role-role.ensures c.is_mine.ensures
       ∙ c.if-not-is_mine.false,
-  clash_by g.F.Facts c.args.space.now c.args.subs.now loads s c.args.g.now.grammar c.requires.grammar h c.args.m.now.kind c.nodes.result.now c.facts.result.now c.in_ok-clash.field-0 c.nodes.ensures c.facts.ensures c.in_ok-clash.ensures
+  clash_by g.F.Facts c.args.space.now c.args.subs.now loads s c.args.g.now.grammar c.requires.grammar h c.args.m.now.kind c.nodes.result.now.items c.facts.result.now c.in_ok-clash.field-0 c.nodes.ensures c.facts.ensures c.in_ok-clash.ensures
       ∙ ap (option_map clash_of) c.in_default.is,
-  repeat_by g.F.Facts c.args.space.now c.args.subs.now loads s c.args.g.now.grammar c.requires.grammar h c.args.m.now.kind c.nodes-2.result.now c.facts-2.result.now c.is_repeat.result c.nodes-2.ensures c.facts-2.ensures c.is_repeat.ensures
+  repeat_by g.F.Facts c.args.space.now c.args.subs.now loads s c.args.g.now.grammar c.requires.grammar h c.args.m.now.kind c.nodes-2.result.now.items c.facts-2.result.now c.is_repeat.result c.nodes-2.ensures c.facts-2.ensures c.is_repeat.ensures
       ∙ c.if-is_repeat.true,
 )
 
@@ -50,9 +50,9 @@ returns g c = λ loads s h. record {
       mine_by g.F.Facts c.args.space.now c.args.subs.now loads s c.args.g.now.grammar c.requires.grammar h c.args.m.now c.grammar-grammar.result.now c.role-role.result _ c.grammar-grammar.ensures.value c.role-role.ensures c.is_mine.ensures
       ∙ c.if-not-is_mine.false;
   free =
-      clash_by g.F.Facts c.args.space.now c.args.subs.now loads s c.args.g.now.grammar c.requires.grammar h c.args.m.now.kind c.nodes.result.now c.facts.result.now c.in_ok-clash.field-0 c.nodes.ensures c.facts.ensures c.in_ok-clash.ensures
+      clash_by g.F.Facts c.args.space.now c.args.subs.now loads s c.args.g.now.grammar c.requires.grammar h c.args.m.now.kind c.nodes.result.now.items c.facts.result.now c.in_ok-clash.field-0 c.nodes.ensures c.facts.ensures c.in_ok-clash.ensures
       ∙ ap (option_map clash_of) c.in_default.is;
   new =
-      repeat_by g.F.Facts c.args.space.now c.args.subs.now loads s c.args.g.now.grammar c.requires.grammar h c.args.m.now.kind c.nodes-2.result.now c.facts-2.result.now c.is_repeat.result c.nodes-2.ensures c.facts-2.ensures c.is_repeat.ensures
+      repeat_by g.F.Facts c.args.space.now c.args.subs.now loads s c.args.g.now.grammar c.requires.grammar h c.args.m.now.kind c.nodes-2.result.now.items c.facts-2.result.now c.is_repeat.result c.nodes-2.ensures c.facts-2.ensures c.is_repeat.ensures
       ∙ c.if-is_repeat.false;
 }

@@ -1,5 +1,4 @@
 use Rattle.std.proofs.Common.{◌≡◌, ◌+◌, ◌≤◌, ◌∷◌, ◌∙◌, suc, List, length, map, ap, sym, subst, arith, All}
-use Rattle.std.specs.Prelude.{vec_len, vec_capacity}
 use Rattle.std.specs.Vec.Iter.{into_iter_items}
 use Rattle.std.proofs.lemmas.List.Elements.{All-head, All-tail}
 use Rattle.std.proofs.lemmas.List.Sums.{sum_by-cons}
@@ -39,7 +38,7 @@ loop-new-preserved g c =
       ordered = c.put_open.ensures.ordered;
       ready = All-tail P o rest (subst (All P) lists c.loop-new.invariant.ready);
       stands = c.put_open.ensures.stands;
-      place = omega (arith, c.loop-new.invariant.place, ap length lists, c.put_open.ensures.len, c.put_open.ensures.place);
+      place = omega (arith, c.loop-new.invariant.place, ap length lists, c.put_open.ensures.place);
       room = c.put_open.ensures.room (length rest) (all_tests rest)
           (less_room c.loop-new.kept _ _ _ _ (subst (λ (os : List Opening). HasRoom c.loop-new.kept (length os) (all_tests os)) lists c.loop-new.invariant.room) (omega arith) (omega (arith, sum_by-cons tests_of o rest)));
       steps = omega (arith, c.loop-new.invariant.steps, ap all_tests lists, c.put_open.ensures.steps, sum_by-cons tests_of o rest);

@@ -1,5 +1,4 @@
 use Rattle.std.proofs.Common.{◌≡◌, ◌+◌, ◌≤◌, length, map, All}
-use Rattle.std.specs.Prelude.{vec_len, vec_capacity}
 use Rattle.std.specs.Vec.Iter.{into_iter_items}
 use Rattle.aw_grammar.specs.GrammarOf.{grammar_of}
 use Rattle.aw_held.specs.InOrder.{IsInOrder, insert_all_in, LackEach}
@@ -14,7 +13,7 @@ invariant-loop-new g l = record {
   ordered : IsInOrder l.held.items;
   ready : All (IsReady (grammar_of l.grammar) (g.F.Facts.names l.facts)) (into_iter_items l.new-iterator);
   stands : IsKept (grammar_of l.grammar) l.held.items (g.F.Facts.map l.facts) (g.F.Facts.names l.facts) l.kept;
-  place : vec_len l.held + length (into_iter_items l.new-iterator) ≤ vec_capacity l.held;
+  place : length (into_iter_items l.new-iterator) ≤ l.held.room;
   room : HasRoom l.kept (length (into_iter_items l.new-iterator)) (all_tests (into_iter_items l.new-iterator));
   steps : l.steps + all_tests (into_iter_items l.new-iterator) ≡ l.fn.steps + all_tests l.fn.more.items;
 }

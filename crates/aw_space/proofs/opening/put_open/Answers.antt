@@ -1,16 +1,26 @@
-use Rattle.std.proofs.Common.{◌≡◌, ◌∙◌, ap, sym, subst, [], ◌+◌, arith}
-use Rattle.std.specs.Prelude.{insert, length, vec_len, Some}
+use Rattle.std.proofs.Common.{◌≡◌, ◌∙◌, ap, sym, subst, [], length, Some, arith}
 use Rattle.aw_grammar.specs.GrammarOf.{grammar_of}
 use Rattle.aw_held.specs.InOrder.{place_in, insert_in}
 use Rattle.aw_kept.specs.KeptStates.{IsKept}
 use Rattle.aw_kept.proofs.Placed.{put_at}
-use Rattle.aw_space.proofs.Openings.{put_there}
+use Rattle.aw_space.proofs.Openings.{put_there, put_length}
 use Rattle.aw_space.proofs.opening.put_open.Goals as goal
 
 pub unreachable-requires : goal.unreachable-requires
 unreachable-requires g c =
     let hs = c.args.held.now.items in
-    put_there c.args.new.held hs (ap (λ n. place_in n (insert_in c.args.new.held hs)) (sym c.requires.ready.name) ∙ ap (place_in c.args.new.name) (sym c.put_between.ensures.items ∙ sym c.as_slice.ensures.value) ∙ sym c.in-None.ensures.place)
+    put_there c.args.new.held hs (ap (λ n. place_in n (insert_in c.args.new.held hs)) (sym c.requires.ready.name) ∙ ap (place_in c.args.new.name) (sym c.put_between.ensures.items) ∙ sym c.in-None.ensures.place)
+
+pub open-requires-clause-within : goal.open-requires-clause-within
+open-requires-clause-within g c =
+    omega (
+      arith,
+      c.in-Some.ensures.within,
+      ap length c.put_between.ensures.items,
+      put_length c.args.new.held c.args.held.now.items,
+      c.requires.stands.beside,
+      c.args.kept.now.numbers.ok,
+    )
 
 pub returns-clause-stands : goal.returns-clause-stands
 returns-clause-stands g c =
@@ -21,6 +31,6 @@ returns-clause-stands g c =
     let names = g.F.Facts.names c.args.facts.now in
     let at = c.in-Some.at in
     let there : place_in h.node (insert_in h hs) ≡ Some at =
-    ap (λ n. place_in n (insert_in h hs)) (sym c.requires.ready.name) ∙ ap (place_in c.args.new.name) (sym c.put_between.ensures.items ∙ sym c.as_slice.ensures.value) ∙ sym c.in-Some.ensures.place in
+    ap (λ n. place_in n (insert_in h hs)) (sym c.requires.ready.name) ∙ ap (place_in c.args.new.name) (sym c.put_between.ensures.items) ∙ sym c.in-Some.ensures.place in
     subst (λ xs. IsKept gr xs k names c.open.new.self) (sym (c.put_between.ensures.items ∙ put_at h hs at c.requires.lacks there))
     (c.open.ensures.kept hs h [] c.requires.ready.of_node c.requires.stands)

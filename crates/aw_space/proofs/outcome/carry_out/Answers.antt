@@ -1,5 +1,4 @@
-use Rattle.std.proofs.Common.{◌∙◌, sym, ap, arith}
-use Rattle.aw_held.specs.InOrder.{place_in}
+use Rattle.std.proofs.Common.{sym, arith}
 use Rattle.aw_space.proofs.CarryingOut.{start_lacks, start_takes, start_sound, start_valid, start_space, start_cost, rule_named, rule_own, rule_cost, rule_new, rule_few, rule_there, rule_lacks, rule_sound, rule_valid, rule_space}
 use Rattle.aw_space.proofs.outcome.carry_out.Goals as goal
 
@@ -21,12 +20,12 @@ take_rule-requires-clause-few g c =
 
 pub take_rule-requires-clause-lacks : goal.take_rule-requires-clause-lacks
 take_rule-requires-clause-lacks g c =
-    let place = ap (place_in c.in-Develop.node) (sym c.as_slice.ensures.value) ∙ sym c.in-Some.ensures.place in
+    let place = sym c.in-Some.ensures.place in
     rule_lacks c.args.grammar.now c.args.role c.args.held.now.items _ _ c.requires.sound c.requires.valid c.args.choice.now c.requires.ok c.requires.here c.requires.taken c.args.made.now c.requires.made c.in-Develop.node c.in-Develop.rule c.in-Develop.args c.in-Develop.is c.in-Some.at place
 
 pub unreachable-requires : goal.unreachable-requires
 unreachable-requires g c =
-    let place = ap (place_in c.in-Develop.node) (sym c.as_slice.ensures.value) ∙ sym c.in-None.ensures.place in
+    let place = sym c.in-None.ensures.place in
     rule_there c.args.grammar.now c.args.role c.args.held.now.items _ _ c.requires.sound c.requires.valid c.args.choice.now c.requires.ok c.requires.here c.requires.taken c.args.made.now c.requires.made c.in-Develop.node c.in-Develop.rule c.in-Develop.args c.in-Develop.is place
 
 pub take_start-requires-clause-takes : goal.take_start-requires-clause-takes
@@ -58,18 +57,18 @@ returns-in-Some-clause-steps g c = omega (arith, c.take_rule.ensures.steps, rule
 
 pub returns-in-Some-clause-space : goal.returns-in-Some-clause-space
 returns-in-Some-clause-space g c =
-    let place = ap (place_in c.in-Develop.node) (sym c.as_slice.ensures.value) ∙ sym c.in-Some.ensures.place in
+    let place = sym c.in-Some.ensures.place in
     rule_space c.args.grammar.now c.args.role c.args.held.now.items _ _ c.requires.sound c.requires.valid c.args.choice.now c.requires.ok c.requires.here c.requires.taken c.args.made.now c.requires.made c.in-Develop.node c.in-Develop.rule c.in-Develop.args c.in-Develop.is c.in-Some.at place
     c.args.choices.now.items c.take_rule.new.choices.items c.take_rule.new.held.items _ c.take_rule.result c.take_rule.ensures.held c.take_rule.ensures.choices c.take_rule.ensures.map
 
 pub returns-in-Some-clause-sound : goal.returns-in-Some-clause-sound
 returns-in-Some-clause-sound g c =
-    let place = ap (place_in c.in-Develop.node) (sym c.as_slice.ensures.value) ∙ sym c.in-Some.ensures.place in
+    let place = sym c.in-Some.ensures.place in
     rule_sound c.args.grammar.now c.args.role c.args.held.now.items _ _ c.requires.sound c.requires.valid c.args.choice.now c.requires.ok c.requires.here c.requires.taken c.args.made.now c.requires.made c.in-Develop.node c.in-Develop.rule c.in-Develop.args c.in-Develop.is c.in-Some.at place
     c.take_rule.new.held.items _ _ c.take_rule.result c.take_rule.ensures.held c.take_rule.ensures.err_held c.take_rule.ensures.map c.take_rule.ensures.err_map c.take_rule.ensures.ordered c.take_rule.ensures.names c.take_rule.ensures.named
 
 pub returns-in-Some-clause-valid : goal.returns-in-Some-clause-valid
 returns-in-Some-clause-valid g c =
-    let place = ap (place_in c.in-Develop.node) (sym c.as_slice.ensures.value) ∙ sym c.in-Some.ensures.place in
+    let place = sym c.in-Some.ensures.place in
     rule_valid c.args.grammar.now c.args.role c.args.held.now.items _ _ c.requires.sound c.requires.valid c.args.choice.now c.requires.ok c.requires.here c.requires.taken c.args.made.now c.requires.made c.in-Develop.node c.in-Develop.rule c.in-Develop.args c.in-Develop.is c.in-Some.at place
     c.take_rule.new.held.items _ c.take_rule.result c.take_rule.ensures.held c.take_rule.ensures.err_held c.take_rule.ensures.map c.take_rule.ensures.err_map

@@ -20,7 +20,7 @@ made-requires-clause-room g c = λ r here. subst (λ w. HasRoom (length r.childr
 pub returns-after-find_held-clause-outcome : goal.returns-after-find_held-clause-outcome
 returns-after-find_held-clause-outcome g c =
     let gr = grammar_of c.args.grammar.now in
-    let hs = c.args.held.now in
+    let hs = c.args.held.now.items in
     let k = g.F.Facts.map c.args.facts.now in
     subst (λ ch. IsOutcome c.plainly.result (choice_of ch) (outcome_in (all_of gr hs) k gr (choice_of ch))) (sym c.in-Start.is) (elim c.match-find_held.branch [
       | in-Some w ↦ known_foretold gr c.plainly.result c.in-Start.sort c.in-Start.case hs w.in-Some.field-0 (sym (w.in-Some.ensures.place ∙ ap (λ n. place_in n hs) c.root.ensures)) (c.plainly.ensures.answer ∙ w.answer-is)
@@ -34,7 +34,7 @@ returns-in-Refused-clause-outcome g c =
     let gr = grammar_of c.args.grammar.now in
     let k = g.F.Facts.map c.args.facts.now in
     let ok = subst (λ ch. choice_ok gr (choice_of ch) ≡ true) c.in-Develop.is c.requires.ok in
-    subst (λ ch. IsOutcome c.plainly-in-Refused.result (choice_of ch) (outcome_in (all_of gr c.args.held.now) k gr (choice_of ch))) (sym c.in-Develop.is)
+    subst (λ ch. IsOutcome c.plainly-in-Refused.result (choice_of ch) (outcome_in (all_of gr c.args.held.now.items) k gr (choice_of ch))) (sym c.in-Develop.is)
     (refused_foretold gr c.plainly-in-Refused.result c.in-Develop.node c.in-Develop.rule (map ground_of c.in-Develop.args) c.in_ok-answer-in-Develop.field-0 c.in-Refused.answer _ ok c.in_ok-answer-in-Develop.ensures.value c.in-Refused.is
     c.plainly-in-Refused.ensures.answer c.plainly-in-Refused.ensures.equations c.plainly-in-Refused.ensures.children)
 
@@ -44,6 +44,6 @@ returns-in_ok-made-in-Takes-clause-outcome g c =
     let k = g.F.Facts.map c.args.facts.now in
     let ok = subst (λ ch. choice_ok gr (choice_of ch) ≡ true) c.in-Develop.is c.requires.ok in
     let o : Outcome = record { answer = answer.Taken; made = c.in_ok-made-in-Takes.field-0 } in
-    subst (λ ch. IsOutcome o (choice_of ch) (outcome_in (all_of gr c.args.held.now) k gr (choice_of ch))) (sym c.in-Develop.is)
+    subst (λ ch. IsOutcome o (choice_of ch) (outcome_in (all_of gr c.args.held.now.items) k gr (choice_of ch))) (sym c.in-Develop.is)
     (taken_foretold gr c.in_ok-made-in-Takes.field-0 c.in-Develop.node c.in-Develop.rule (map ground_of c.in-Develop.args) c.in_ok-answer-in-Develop.field-0 c.in-Takes.bound _ ok c.in_ok-answer-in-Develop.ensures.value c.in-Takes.is
     c.in_ok-made-in-Takes.ensures.equations c.in_ok-made-in-Takes.ensures.children)

@@ -20,13 +20,13 @@ use Rattle.aw_space.proofs.taking_in.take_in.Goals as goal
 pub make_ready_if-requires-clause-new : goal.make_ready_if-requires-clause-new
 make_ready_if-requires-clause-new g c =
     let p = option_copied c.args.call in
-    subst (IsOpenableIf (grammar_of c.args.grammar.now)) (sym (c.in_ok-new.ensures ∙ ap (missing_node p) c.as_slice.ensures.value)) c.requires.call
+    subst (IsOpenableIf (grammar_of c.args.grammar.now)) (sym (c.in_ok-new.ensures)) c.requires.call
 
 pub put_if-requires-clause-lacks : goal.put_if-requires-clause-lacks
 put_if-requires-clause-lacks g c =
     let p = option_copied c.args.call in
     let hs = c.args.held.now.items in
-    let is = c.in_ok-opening.ensures.new ∙ c.in_ok-new.ensures ∙ ap (missing_node p) c.as_slice.ensures.value in
+    let is = c.in_ok-opening.ensures.new ∙ c.in_ok-new.ensures in
     subst (λ x. LacksIf x c.make_ready_if.new.held.items) (sym is) (subst (LacksIf (missing_node p hs)) (sym c.make_ready_if.ensures.held) (missing_lacks p hs))
 
 pub put_if-requires-clause-ready : goal.put_if-requires-clause-ready
@@ -42,7 +42,7 @@ pub learn_in_turn-requires-clause-named : goal.learn_in_turn-requires-clause-nam
 learn_in_turn-requires-clause-named g c =
     let es = c.in_ok-more.more.items in
     all_named-grown _ _ (lefts_of (map equation_of es)) c.reserve.ensures.names
-    (subst (λ (xs : List Equation). all_named (g.F.Facts.names c.name_lefts.new.facts) (lefts_of (map equation_of xs)) ≡ true) (c.as_slice-3.ensures ∙ sym (c.in_ok-more.ensures ∙ c.as_slice-2.ensures)) c.in_ok-name_lefts.ensures.ok)
+    (subst (λ (xs : List Equation). all_named (g.F.Facts.names c.name_lefts.new.facts) (lefts_of (map equation_of xs)) ≡ true) (c.as_slice-2.ensures ∙ sym (c.in_ok-more.ensures ∙ c.as_slice.ensures)) c.in_ok-name_lefts.ensures.ok)
 
 pub learn_in_turn-requires-clause-fits : goal.learn_in_turn-requires-clause-fits
 learn_in_turn-requires-clause-fits g c = c.put_if.ensures.stands.fits
@@ -54,7 +54,7 @@ pub returns-clause-named : goal.returns-clause-named
 returns-clause-named g c =
     let gr = grammar_of c.args.grammar.now in
     let p = option_copied c.args.call in
-    let is = c.in_ok-opening.ensures.new ∙ c.in_ok-new.ensures ∙ ap (missing_node p) c.as_slice.ensures.value in
+    let is = c.in_ok-opening.ensures.new ∙ c.in_ok-new.ensures in
     let rs = inherited_by (missing_node p c.args.held.now.items) in
     all_named-grown _ _ rs c.learn_in_turn.ensures.names
     (all_named-grown _ _ rs (grows_more _ _ _ c.name_lefts.ensures.names c.reserve.ensures.names)
@@ -66,9 +66,9 @@ returns-clause-steps g c =
     let gr = grammar_of c.args.grammar.now in
     let p = option_copied c.args.call in
     let hs = c.args.held.now.items in
-    let is = c.in_ok-opening.ensures.new ∙ c.in_ok-new.ensures ∙ ap (missing_node p) c.as_slice.ensures.value in
+    let is = c.in_ok-opening.ensures.new ∙ c.in_ok-new.ensures in
     let items = c.put_if.ensures.items ∙ ap (λ x. with_node x c.make_ready_if.new.held.items) is ∙ ap (with_node (missing_node p hs)) c.make_ready_if.ensures.held in
-    let equal = c.in_ok-more.ensures ∙ c.as_slice-2.ensures in
+    let equal = c.in_ok-more.ensures ∙ c.as_slice.ensures in
     omega (
       arith,
       c.put_if.ensures.steps,

@@ -1,5 +1,4 @@
-use Rattle.std.proofs.Common.{sym, ap, subst, map, length, refl, Some}
-use Rattle.std.proofs.lemmas.Option.{slice_get_read}
+use Rattle.std.proofs.Common.{sym, ap, subst, map, Some}
 use Rattle.std.proofs.lemmas.Result.{IfOk-weaker}
 use Rattle.aw_term.specs.Choices.{Develop}
 use Rattle.aw_term.specs.Views.{ground_of}
@@ -14,24 +13,24 @@ use Rattle.aw_space.proofs.weighing.weigh.Goals as goal
 
 pub weigh_at-requires-clause-takes : goal.weigh_at-requires-clause-takes
 weigh_at-requires-clause-takes g c =
-    let hs = c.args.held.now in
-    let here = slice_get_read hs (length hs) c.in-Some.at c.index-held-at.result refl c.in-Some.ensures.within c.index-held-at.is in
-    takes_here (grammar_of c.args.grammar.now) c.args.role hs c.in-Some.at c.index-held-at.result c.requires.sound.own here
+    let hs = c.args.held.now.items in
+    let here = c.at.ensures in
+    takes_here (grammar_of c.args.grammar.now) c.args.role hs c.in-Some.at c.at.result.now c.requires.sound.own here
 
 pub weigh_at-requires-clause-named : goal.weigh_at-requires-clause-named
 weigh_at-requires-clause-named g c =
-    let hs = c.args.held.now in
-    let here = slice_get_read hs (length hs) c.in-Some.at c.index-held-at.result refl c.in-Some.ensures.within c.index-held-at.is in
-    named_here (g.F.Facts.names c.args.facts.now) hs c.in-Some.at c.index-held-at.result c.requires.sound.named here
+    let hs = c.args.held.now.items in
+    let here = c.at.ensures in
+    named_here (g.F.Facts.names c.args.facts.now) hs c.in-Some.at c.at.result.now c.requires.sound.named here
 
 pub returns-in-Some-clause-value : goal.returns-in-Some-clause-value
 returns-in-Some-clause-value g c =
-    let hs = c.args.held.now in
+    let hs = c.args.held.now.items in
     let gr = grammar_of c.args.grammar.now in
     let k = g.F.Facts.map c.args.facts.now in
     let args = map ground_of c.args.args.now in
-    let h = c.index-held-at.result in
-    let here = slice_get_read hs (length hs) c.in-Some.at h refl c.in-Some.ensures.within c.index-held-at.is in
+    let h = c.at.result.now in
+    let here = c.at.ensures in
     IfOk-weaker c.weigh_at.result
     (λ (w : Weighed). Weighs gr c.args.number w (by_held (Some (held_of gr h)) gr k h.node c.args.number args))
     (λ (w : Weighed). Weighs gr c.args.number w (outcome_in (all_of gr hs) k gr (Develop c.args.node.now c.args.number args)))
@@ -41,13 +40,13 @@ returns-in-Some-clause-value g c =
 pub returns-in-None-clause-value : goal.returns-in-None-clause-value
 returns-in-None-clause-value g c = λ rule here.
     ap (λ o. by_held o (grammar_of c.args.grammar.now) (g.F.Facts.map c.args.facts.now) c.args.node.now c.args.number (map ground_of c.args.args.now))
-    (sym (held_nowhere (grammar_of c.args.grammar.now) c.args.node.now c.args.held.now (sym c.in-None.ensures.place)))
+    (sym (held_nowhere (grammar_of c.args.grammar.now) c.args.node.now c.args.held.now.items (sym c.in-None.ensures.place)))
 
 pub returns-in-Some-clause-room : goal.returns-in-Some-clause-room
 returns-in-Some-clause-room g c =
-    let hs = c.args.held.now in
-    let h = c.index-held-at.result in
-    let here = slice_get_read hs (length hs) c.in-Some.at h refl c.in-Some.ensures.within c.index-held-at.is in
+    let hs = c.args.held.now.items in
+    let h = c.at.result.now in
+    let here = c.at.ensures in
     let node = node_here (grammar_of c.args.grammar.now) c.args.node.now hs c.in-Some.at h (sym c.in-Some.ensures.place) here in
     IfOk-weaker c.weigh_at.result (HasRoomFor c.args.grammar.now c.args.number h.node) (HasRoomFor c.args.grammar.now c.args.number c.args.node.now)
     (λ w room. subst (λ n. HasRoomFor c.args.grammar.now c.args.number n w) node room) c.weigh_at.ensures.room

@@ -1,4 +1,4 @@
-use Rattle.std.proofs.Common.{rules, ◌≡◌, ◌<◌, ◌≤◌, get_or, length, ap, refl, subst, sym, arith}
+use Rattle.std.proofs.Common.{rules, ◌≡◌, ◌∙◌, ◌<◌, ◌≤◌, get_or, length, ap, refl, subst, sym, arith}
 use Rattle.std.specs.Prelude.{slice_set}
 use Rattle.std.proofs.lemmas.Option.{slice_get_read}
 use Rattle.aw_work.specs.Triples.{waiting_at}
@@ -16,18 +16,19 @@ returns-in-Some-clause-kept c g hs k names late done f =
     let xs = c.args.self.now.records.items in
     let n = c.index-number.result.now in
     let x = c.in-Some.entry.now in
-    let y : Record = record { slots = x.slots; sort = x.sort; deep = x.deep; marks = c.clear.new.self } in
+    let y : Record = record { slots = x.slots; sort = x.sort; deep = x.deep; marks = c.shrink_to_fit.new.self } in
     let here = slice_get_read ns (length ns) c.args.at n refl (omega (arith, c.requires, c.args.self.now.numbers.ok)) c.index-number.ensures in
     let within : n < length xs = f.fits.known c.args.at n here in
     let value : x ≡ get_or xs n x = search rules in
     let old = slice_get_read xs (length xs) n x refl within value in
     subst (λ z. AreKept g (done_at done c.args.at hs) k names late ns (slice_set xs n y) z) (sym c.drop_node.ensures.waiting)
-    (kept_closed g names c.args.at n ns xs (slice_set xs n y) c.args.self.now.work.waiting x y here old (set_at xs n y within) c.clear.ensures.items refl refl refl hs k late done f)
+    (kept_closed g names c.args.at n ns xs (slice_set xs n y) c.args.self.now.work.waiting x y here old (set_at xs n y within) (c.shrink_to_fit.ensures.items ∙ c.clear.ensures.items) refl refl refl hs k late done f)
 
 pub returns-in-Some-clause-room : goal.returns-in-Some-clause-room
 returns-in-Some-clause-room c n w r = record {
   places = r.places;
   entries = r.entries;
+  few = r.few;
   spare = omega (arith, r.spare, c.drop_node.ensures.spare, ap length c.drop_node.ensures.waiting, others_fewer c.index-number.result.now c.args.self.now.work.waiting);
 }
 
@@ -42,6 +43,7 @@ pub returns-in_default-clause-room : goal.returns-in_default-clause-room
 returns-in_default-clause-room c n w r = record {
   places = r.places;
   entries = r.entries;
+  few = r.few;
   spare = omega (arith, r.spare, c.drop_node.ensures.spare, ap length c.drop_node.ensures.waiting, others_fewer c.index-number.result.now c.args.self.now.work.waiting);
 }
 

@@ -28,7 +28,7 @@ loop-pair-preserved g c =
       fewer = λ q e. omega (arith, c.loop-pair.invariant.fewer q e, c.test_pair.ensures.waiting q e, taken_fewer q c.args.slot c.in-Some.pair.node c.in-Some.pair.rule c.loop-pair.self.work.waiting c.take.new.self.waiting c.in-Some.ensures.some);
       room = λ n w r.
           let old = c.loop-pair.invariant.room n w r in
-          c.test_pair.ensures.room n w (record { places = old.places; entries = old.entries; spare = omega (arith, old.spare, c.in-Some.ensures.spare) });
+          c.test_pair.ensures.room n w (record { places = old.places; entries = old.entries; few = old.few; spare = omega (arith, old.spare, c.in-Some.ensures.spare) });
       steps = omega (
         arith,
         c.loop-pair.invariant.steps,
@@ -50,7 +50,7 @@ returns-clause-kept g c hs r late named f =
 pub returns-clause-room : goal.returns-clause-room
 returns-clause-room g c n w r =
     let old = c.loop-pair.invariant.room n w r in
-    record { places = old.places; entries = old.entries; spare = subst (λ (z : Waits). w ≤ z.spare) (sym c.in_default.ensures.unchanged) old.spare }
+    record { places = old.places; entries = old.entries; few = old.few; spare = subst (λ (z : Waits). w ≤ z.spare) (sym c.in_default.ensures.unchanged) old.spare }
 
 pub returns-clause-fewer : goal.returns-clause-fewer
 returns-clause-fewer g c q e = subst (λ (z : Waits). waiting_at q z.waiting ≤ waiting_at q c.args.self.now.work.waiting) (sym c.in_default.ensures.unchanged) (c.loop-pair.invariant.fewer q e)

@@ -1,6 +1,7 @@
-use Rattle.std.proofs.Common.{map, refl}
+use Rattle.std.proofs.Common.{map, refl, subst, sym}
 use Rattle.std.proofs.lemmas.List.{drop_all}
 use Rattle.aw_grammar.specs.GrammarOf.{grammar_of}
+use Rattle.aw_site.specs.Holders.{AreWatchers}
 use Rattle.aw_site.proofs.Steps.{drop_here}
 use Rattle.aw_store.specs.EquationView.{equation_of}
 use Rattle.aw_react.specs.Telling.{tells}
@@ -12,7 +13,8 @@ loop-e-preserved g c = λ s sends watch.
     let gr = grammar_of c.args.self.now.grammar.now in
     pushed_more (λ es. tells gr s (map equation_of es)) (λ x xs. tells_split gr s (equation_of x) (map equation_of xs)) _ _ _ _ _ c.e-item.result
     (drop_here c.args.es.now c.loop-e.e-index c.e-item.result c.loop-e-test.true c.e-item.is) (c.loop-e.invariant s sends watch)
-    (tells_one gr s (equation_of c.e-item.result) _ _ (c.in_ok-push_told.ensures s sends watch))
+    (tells_one gr s (equation_of c.e-item.result) _ _ (c.in_ok-push_told.ensures s sends
+    (subst (λ roles. AreWatchers roles c.e-item.result.left s.watchers) (sym c.watchers_of.ensures) (watch c.e-item.result.left))))
 
 pub returns : goal.returns
 returns g c = λ s sends watch.

@@ -17,7 +17,7 @@ returns-clause-outcome g c =
     let r = c.grammar.ensures.value in
     let s = r ∙ c.requires.grammar in
     IfOk-weaker c.foresee.result
-    (λ (o : Outcome). IsOutcome o ch (outcome_in (all_of (grammar_of c.grammar.result.now) c.as_slice.result.now) k (grammar_of c.grammar.result.now) ch))
+    (λ (o : Outcome). IsOutcome o ch (outcome_in (all_of (grammar_of c.grammar.result.now) hs) k (grammar_of c.grammar.result.now) ch))
     (λ (o : Outcome). IsOutcome o ch (outcome_in (all_of (grammar_of old.accepted.now.grammar) hs) k (grammar_of c.args.g.now.grammar) ch))
-    (λ o w. subst (λ x. IsOutcome o ch x) (λ i. outcome_in (all_of (grammar_of (s i)) (c.as_slice.ensures.value i)) k (grammar_of (r i)) ch) w)
+    (λ o w. subst (λ x. IsOutcome o ch x) (λ i. outcome_in (all_of (grammar_of (s i)) hs) k (grammar_of (r i)) ch) w)
     c.foresee.ensures.outcome

@@ -10,32 +10,32 @@ use Rattle.aw_space.proofs.Standing.{takes_here}
 use Rattle.aw_term.specs.Artifacts.{row_text}
 use Rattle.aw_term.specs.Rules.{sort_of}
 use Rattle.aw_term.proofs.GrammarTests.{grammars_are_one}
-use Rattle.aw_world.proofs.HeldRows.{done_here, plain_here, taken_here}
+use Rattle.aw_world.proofs.HeldRows.{done_here, plain_here}
 use Rattle.aw_world.proofs.sites.SiteCellFactsWorkspace.print_row.Goals as goal
 
 pub print_held-requires-clause-named : goal.print_held-requires-clause-named
 print_held-requires-clause-named c =
     let space = c.args.self.now.space in
-    let h = c.index-nodes-place.result in
-    let here = taken_here space.held.items c.nodes.result.now c.args.place h (c.nodes.ensures ∙ ap (λ x. x.held.items) c.space-space.ensures) c.requires.place c.index-nodes-place.is in
+    let h = c.at-held.result.now in
+    let here = ap (λ xs. slice_get xs c.args.place) (sym (c.nodes.ensures ∙ ap (λ x. x.held.items) c.space-space.ensures)) ∙ c.at-held.ensures in
     let same = grammars_are_one _ _ c.requires.grammar ∙ sym (ap grammar_of c.grammar.ensures.value) in
     subst (λ g. takes_as g (sort_of g h.node) h.inherited ≡ true) same (takes_here (grammar_of space.accepted.now.grammar) space.role space.held.items c.args.place h space.sound.own here)
 
 pub print_held-requires-clause-done : goal.print_held-requires-clause-done
 print_held-requires-clause-done c =
     let space = c.args.self.now.space in
-    let h = c.index-nodes-place.result in
-    let here = taken_here space.held.items c.nodes.result.now c.args.place h (c.nodes.ensures ∙ ap (λ x. x.held.items) c.space-space.ensures) c.requires.place c.index-nodes-place.is in
+    let h = c.at-held.result.now in
+    let here = ap (λ xs. slice_get xs c.args.place) (sym (c.nodes.ensures ∙ ap (λ x. x.held.items) c.space-space.ensures)) ∙ c.at-held.ensures in
     let same = grammars_are_one _ _ c.requires.grammar ∙ sym (ap grammar_of c.grammar.ensures.value) in
     subst (λ g. done_fits g h.node h.done ≡ true) same (done_here (grammar_of space.accepted.now.grammar) space.held.items c.args.place h space.valid.nodes here)
 
 pub returns : goal.returns
 returns c = λ s shown p q at read.
     let space = c.args.self.now.space in
-    let h = c.index-nodes-place.result in
+    let h = c.at-held.result.now in
     let d = c.args.accepted.now.grammar in
     let k = (cells.ghosts).map c.facts.result.now in
-    let here = taken_here space.held.items c.nodes.result.now c.args.place h (c.nodes.ensures ∙ ap (λ x. x.held.items) c.space-space.ensures) c.requires.place c.index-nodes-place.is in
+    let here = ap (λ xs. slice_get xs c.args.place) (sym (c.nodes.ensures ∙ ap (λ x. x.held.items) c.space-space.ensures)) ∙ c.at-held.ensures in
     let value = c.grammar.ensures.value in
     let same = grammars_are_one _ _ c.requires.grammar ∙ sym (ap grammar_of value) in
     let node = sym (plain_here (grammar_of space.accepted.now.grammar) space.held.items c.args.place h p here (sym (ap (λ x. slice_get x.held c.args.place) shown.holds.holds) ∙ at)) ∙ ap (λ g. held_of g h) same in

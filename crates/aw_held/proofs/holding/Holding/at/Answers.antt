@@ -1,0 +1,14 @@
+use Rattle.std.proofs.Common.{length, ap, arith}
+use Rattle.aw_held.specs.Row.{Row}
+use Rattle.aw_held.proofs.PickedLemmas.{length_picked}
+use Rattle.aw_held.proofs.holding.Holding.at.Goals as goal
+
+pub node_at-requires-clause-place : goal.node_at-requires-clause-place
+node_at-requires-clause-place c =
+    omega (
+      arith,
+      c.requires,
+      ap (λ (r : Row). length r.items) c.self.view_is,
+      length_picked c.self.inside.order.items c.self.inside.nodes.items c.self.invariant.known,
+      ap length c.as_slice.ensures.value,
+    )

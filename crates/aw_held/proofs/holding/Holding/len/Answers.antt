@@ -1,0 +1,14 @@
+use Rattle.std.proofs.Common.{length, ap, arith}
+use Rattle.aw_held.specs.Row.{Row}
+use Rattle.aw_held.proofs.PickedLemmas.{length_picked}
+use Rattle.aw_held.proofs.holding.Holding.len.Goals as goal
+
+pub returns : goal.returns
+returns c =
+    omega (
+      arith,
+      c.len.ensures,
+      c.self.inside.order.ok,
+      ap (λ (r : Row). length r.items) c.self.view_is,
+      length_picked c.self.inside.order.items c.self.inside.nodes.items c.self.invariant.known,
+    )

@@ -1,0 +1,21 @@
+use Rattle.std.proofs.Common.{get_or, Some, ◌≡◌, ◌<◌, ◌∙◌, length, sym, arith}
+use Rattle.std.specs.Prelude.{slice_get}
+use Rattle.std.proofs.lemmas.Option.{slice_get-get_or, get_or_from_slice_get}
+use Rattle.aw_held.specs.Picked.{picked}
+use Rattle.aw_held.specs.declared.held.Held.{Held}
+use Rattle.aw_held.proofs.HeldViews.{set_done}
+use Rattle.aw_held.proofs.PickedLemmas.{length_picked, picked_at, picked_set}
+use Rattle.aw_held.proofs.holding.mark_at.Goals as goal
+
+pub returns : goal.returns
+returns c =
+    let ns = c.args.order.now in
+    let hs = c.args.nodes.now in
+    let i = c.args.place in
+    let n = get_or ns i 0 in
+    let here = slice_get-get_or ns i 0 c.requires.place in
+    let x = get_or hs n c.index-nodes-order.result in
+    let y : Held = record x { done = Some c.args.done } in
+    let there : slice_get (picked ns hs) i ≡ Some x = picked_at ns hs i n c.requires.known here ∙ slice_get-get_or hs n c.index-nodes-order.result (c.requires.known i n here) in
+    picked_set ns hs i n y c.requires.known c.requires.apart here
+    ∙ set_done c.args.done (picked ns hs) i x (omega (arith, c.requires.place, length_picked ns hs c.requires.known)) (sym (get_or_from_slice_get (picked ns hs) i x x there))

@@ -1,0 +1,161 @@
+//! Held nodes that stay where they lie.
+ghost use Rattle.std.specs.Prelude.{◌≡◌, ◌+◌, ◌<◌, ◌≤◌, ◌^◌, ◌-◌, ◌++◌, ◌∷◌, [], ℕ, Some, length, insert, min, vec_len, vec_capacity, slice_get, OnOk};
+ghost use Rattle.std.specs.Option.{option_copied};
+ghost use Rattle.aw_held.specs.InOrder.{done_at};
+ghost use Rattle.aw_held.specs.Picked.{picked, AreKnown, AreApart};
+
+use crate::held::Held;
+use aw_choice::Choice;
+use std::alloc::{AllocError, Global};
+use std::marker::Model;
+
+/// So many nodes can have a number.
+const MOST: usize = 1 << 32;
+
+/// Held nodes in their order. A node stays where it was put first, and its number stands at its place: one that is put in
+/// between moves small numbers, and no node. Contracts see the nodes in their order, and how many more there is room for.
+#[derive(Drop)]
+pub struct Holding {
+    order: Vec<u32>,
+    nodes: Vec<Held>,
+}
+
+impl Model for Holding {
+    ghost use Rattle.aw_held.specs.Row.{Row};
+    ghost use Rattle.std.specs.Coded.{codes};
+    ghost use Rattle.aw_held.specs.contracts.held.Held as held;
+
+    ghost Value = { Row };
+
+    ghost coded = { Prim.hlevel (codes, held.the_row.coded) };
+
+    ghost use Rattle.aw_held.specs.Rows.{row_of, IsWhole};
+
+    ghost view = { row_of };
+
+    ghost invariant = { IsWhole };
+}
+
+/// The node at a place, over its number.
+fn node_at<'n>(order: &[u32], nodes: &'n [Held], place: usize) -> &'n Held
+    requires place { place < length order.now }
+    requires known { AreKnown order.now nodes.now }
+    ensures { slice_get (picked order.now nodes.now) place ≡ Some result.now }
+{
+    &nodes[order[place] as usize]
+}
+
+/// Puts a node after the others, and its number at a place. There is room for it.
+fn put_number(order: &mut Vec<u32>, nodes: &mut Vec<Held>, place: usize, new: Held)
+    requires place { place ≤ length order.old.items }
+    requires known { AreKnown order.old.items nodes.old.items }
+    requires apart { AreApart order.old.items }
+    requires room { vec_len order.old < vec_capacity order.old }
+    requires nodes { vec_len nodes.old < vec_capacity nodes.old }
+    requires number { vec_len nodes.old < 2 ^ 32 }
+    ensures items { picked order.new.items nodes.new.items ≡ insert (picked order.old.items nodes.old.items) place new }
+    ensures known { AreKnown order.new.items nodes.new.items }
+    ensures apart { AreApart order.new.items }
+    ensures order { (vec_len order.new ≡ vec_len order.old + 1) × (vec_capacity order.old ≤ vec_capacity order.new) }
+    ensures nodes { (vec_len nodes.new ≡ vec_len nodes.old + 1) × (vec_capacity nodes.old ≤ vec_capacity nodes.new) }
+{
+    let number = nodes.len() as u32;
+    match nodes.push(new) {
+        Ok(()) => {}
+        Err(_) => unreachable!(),
+    }
+    match order.insert(place, number) {
+        Ok(()) => {}
+        Err(_) => unreachable!(),
+    }
+}
+
+/// Notes the choice that developed the node at a place.
+fn mark_at(order: &[u32], nodes: &mut [Held], place: usize, done: Choice)
+    requires place { place < length order.now }
+    requires known { AreKnown order.now nodes.old }
+    requires apart { AreApart order.now }
+    ensures { picked order.now nodes.new ≡ done_at done place (picked order.now nodes.old) }
+{
+    let node = &mut nodes[order[place] as usize];
+    node.done = Some(done);
+}
+
+impl Holding {
+    /// Nothing is held. It takes no memory yet.
+    pub fn new(alloc: Global) -> Holding
+        ensures { result.items ≡ [] }
+    {
+        Holding {
+            order: Vec::new(alloc),
+            nodes: Vec::new(alloc),
+        }
+    }
+
+    /// Where it takes its memory from.
+    pub fn allocator(&self) -> Global {
+        *self.nodes.allocator()
+    }
+
+    /// How many nodes are held.
+    pub fn len(&self) -> usize
+        ensures { result ≡ length self.now.items }
+    {
+        self.order.len()
+    }
+
+    /// The node at a place, from 0, which has to be there.
+    pub fn at(&self, place: usize) -> &Held
+        requires { place < length self.now.items }
+        ensures { slice_get self.now.items place ≡ Some result.now }
+    {
+        node_at(self.order.as_slice(), self.nodes.as_slice(), place)
+    }
+
+    /// The node at a place, from 0; `None` past the last.
+    pub fn get(&self, place: usize) -> Option<&Held>
+        ensures { option_copied result ≡ slice_get self.now.items place }
+    {
+        if place < self.len() {
+            Some(self.at(place))
+        } else {
+            None
+        }
+    }
+
+    /// Makes room for so many more nodes. What is held stays, also on an error.
+    pub fn reserve(&mut self, more: usize) -> Result<(), AllocError>
+        ensures items { self.new.items ≡ self.old.items }
+        ensures room { OnOk result (more ≤ self.new.room) }
+    {
+        if MOST.saturating_sub(self.nodes.len()) < more {
+            return Err(AllocError);
+        }
+        self.order.reserve(more)?;
+        self.nodes.reserve(more)
+    }
+
+    /// Puts a node at a place. There is room for it.
+    pub(crate) fn put_at(&mut self, place: usize, new: Held)
+        requires place { place ≤ length self.old.items }
+        requires room { 0 < self.old.room }
+        ensures items { self.new.items ≡ insert self.old.items place new }
+        ensures room { self.old.room ≤ self.new.room + 1 }
+    {
+        put_number(&mut self.order, &mut self.nodes, place, new);
+    }
+
+    /// Notes the choice that developed the node at a place.
+    pub fn mark_done(&mut self, place: usize, done: Choice)
+        requires { place < length self.old.items }
+        ensures items { self.new.items ≡ done_at done place self.old.items }
+        ensures room { self.new.room ≡ self.old.room }
+    {
+        mark_at(
+            self.order.as_slice(),
+            self.nodes.as_mut_slice(),
+            place,
+            done,
+        );
+    }
+}

@@ -1,0 +1,69 @@
+//! Held nodes found, and put in, in the order of their nodes.
+ghost use Rattle.std.specs.Prelude.{◌≡◌, ◌+◌, ◌<◌, ◌≤◌, true, false, length, vec_len, IfSome};
+ghost use Rattle.std.specs.List.{AllWithin};
+ghost use Rattle.aw_term.specs.Names.{node_lt};
+ghost use Rattle.aw_held.specs.InOrder.{IsInOrder, place_in, insert_in, insert_all_in, Lacks, LackEach};
+
+use crate::held::Held;
+use crate::holding::Holding;
+use aw_name::Node;
+use aw_term::order::{is_before, is_node};
+
+/// How many held nodes are before a node.
+fn count_before(held: &Holding, node: &Node) -> usize
+    requires { IsInOrder held.now.items }
+    ensures within { result ≤ length held.now.items }
+    ensures front { AllWithin (λ h. node_lt h.node node.now ≡ true) held.now.items 0 result }
+    ensures rest { AllWithin (λ h. node_lt h.node node.now ≡ false) held.now.items result (length held.now.items) }
+{
+    let mut low = 0;
+    let mut high = held.len();
+    while low < high {
+        let middle = low + (high - low) / 2;
+        if is_before(&held.at(middle).node, node) {
+            low = middle + 1;
+        } else {
+            high = middle;
+        }
+    }
+    low
+}
+
+/// The place of a node, where it is held.
+pub fn find_held(held: &Holding, node: &Node) -> Option<usize>
+    requires { IsInOrder held.now.items }
+    ensures place { result ≡ place_in node.now held.now.items }
+    ensures within { IfSome result (λ at. at < length held.now.items) }
+{
+    let at = count_before(held, node);
+    match held.get(at) {
+        Some(h) if is_node(node, &h.node) => Some(at),
+        _ => None,
+    }
+}
+
+/// Puts a node that is not held in its place. There is room for it.
+pub fn put_between(held: &mut Holding, new: Held)
+    requires ordered { IsInOrder held.old.items }
+    requires lacks { Lacks new.node held.old.items }
+    requires room { 0 < held.old.room }
+    ensures items { held.new.items ≡ insert_in new held.old.items }
+    ensures ordered { IsInOrder held.new.items }
+    ensures room { held.old.room ≤ held.new.room + 1 }
+{
+    let place = count_before(held, &new.node);
+    held.put_at(place, new);
+}
+
+/// Puts each of the nodes in its place. None of them is held, nor given twice, and there is room for all.
+pub fn put_all(held: &mut Holding, more: Vec<Held>)
+    requires ordered { IsInOrder held.old.items }
+    requires lacks { LackEach more.items held.old.items }
+    requires room { vec_len more ≤ held.old.room }
+    ensures items { held.new.items ≡ insert_all_in more.items held.old.items }
+    ensures ordered { IsInOrder held.new.items }
+{
+    for new in more {
+        put_between(held, new);
+    }
+}
