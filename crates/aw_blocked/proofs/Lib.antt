@@ -1,0 +1,10 @@
+pub mod Places
+pub mod Taken
+pub mod HeldDone
+pub mod Groups
+pub mod Pairing
+pub mod Walked
+pub mod Done
+pub mod AtHome
+pub mod Standing
+pub mod Worlds

@@ -1,0 +1,4 @@
+pub mod Waiters
+pub mod Blocks
+pub mod Laws
+pub mod Worked

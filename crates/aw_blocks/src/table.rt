@@ -1,0 +1,32 @@
+//! The table: its entries, each told in turn.
+use crate::fault::EntryFault;
+use crate::told::push_entry;
+use aw_list::Text;
+use bstr::ByteSlice;
+use std::alloc::{AllocError, Global};
+
+/// What stands in front of an entry's name.
+const MARK: &[u8] = b"=== ";
+
+/// Adds an entry's name, and what is told of it.
+fn push_named(alloc: Global, told: &mut Text, name: &[u8], input: &[u8]) -> Result<(), AllocError> {
+    told.push_bytes(MARK)?;
+    told.push_bytes(name)?;
+    told.push_bytes(b"\n")?;
+    match push_entry(alloc, told, input) {
+        Ok(()) => Ok(()),
+        Err(EntryFault::Unreadable) => told.push_bytes(b"not read\n"),
+        Err(EntryFault::NoMemory) => Err(AllocError),
+    }
+}
+
+/// What is told of all entries. What stands before the first mark is none.
+pub fn table(alloc: Global, text: &[u8]) -> Result<Text, AllocError> {
+    let mut told = Text::new(alloc);
+    for entry in text.split_str(MARK) {
+        if let Some((name, input)) = entry.split_once_str(b"\n") {
+            push_named(alloc, &mut told, name, input)?;
+        }
+    }
+    Ok(told)
+}
