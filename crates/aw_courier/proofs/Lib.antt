@@ -1,0 +1,11 @@
+pub mod AskLemmas
+pub mod BroughtLemmas
+pub mod HonestLemmas
+pub mod Lists
+pub mod MailLemmas
+pub mod PullLemmas
+pub mod ReplyLemmas
+pub mod RoundLemmas
+pub mod StepLemmas
+pub mod TurnLemmas
+pub mod WireLemmas
