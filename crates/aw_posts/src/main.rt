@@ -3,6 +3,7 @@
 //! those that the undivided run writes of the same choices.
 #![tactic(auto)]
 
+use aw_disk::{DiskCalls, MemDisk};
 use aw_list::Text;
 use aw_out::{Calls, MemSink, MemSource, OUTPUT_LIMIT, Sizes, StdSink, SureWire, Texts, write_all};
 use aw_run::{Status, Word, run};
@@ -75,7 +76,16 @@ fn run_word(alloc: Global, word: &[u8], input: &[u8]) -> Result<Outcome, AllocEr
     let fails = Calls::from_slice(alloc, &[NEVER])?;
     let mut out = MemSink::new(alloc, pieces, fails, OUTPUT_LIMIT)?;
     let mut wire = SureWire::new(Texts::new(alloc));
-    let status = run(alloc, words.as_slice(), &mut src, &mut out, &mut wire);
+    let fails = DiskCalls::from_slice(alloc, &[])?;
+    let mut disk = MemDisk::new(alloc, Text::new(alloc), fails, 0, 0)?;
+    let status = run(
+        alloc,
+        words.as_slice(),
+        &mut src,
+        &mut out,
+        &mut wire,
+        &mut disk,
+    );
     let text = Text::from_bytes(alloc, out.written())?;
     Ok(Outcome { status, text })
 }

@@ -1,6 +1,7 @@
-//! The program: its command line, what it reads and writes, and its sockets.
+//! The program: its command line, what it reads and writes, its sockets, and its journal.
 #![tactic(auto)]
 
+use aw_disk::FileDisk;
 use aw_out::{StdSink, StdSource};
 use aw_run::{Status, Word, run};
 use aw_wires::NetWire;
@@ -32,6 +33,7 @@ fn main(rt: HostRuntime) -> ExitCode {
             &mut StdSource::new(&rt),
             &mut StdSink::new(&rt),
             &mut NetWire::new(&rt),
+            &mut FileDisk::new(&rt),
         ),
         Err(_) => Status::NoMemory,
     };

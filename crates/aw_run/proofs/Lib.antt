@@ -5,11 +5,15 @@ pub mod Verdicts
 pub mod Checking
 pub mod OneChecked
 pub mod OneOutputs
+pub mod FrontOutputs
 pub mod ServedOutputs
+pub mod CarriedOutputs
 pub mod GoodServed
 pub mod SessionLines
 pub mod TrialOutputs
 pub mod Unreads
+pub mod Stops
+pub mod Four
 pub mod OneRoles
 pub mod TypedChoices
 pub mod Promising

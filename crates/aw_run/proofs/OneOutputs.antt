@@ -11,9 +11,10 @@ use Rattle.aw_spec.specs.Reading.{Spec, Reading, Good, Faulty, specification}
 use Rattle.aw_run.specs.declared.source.TheConstants.{INPUT_LIMIT}
 use Rattle.aw_run.specs.declared.words.Job.{Job}
 use Rattle.aw_run.specs.declared.words.Job.TheVariants.{Check, Tells}
-use Rattle.aw_run.specs.Output.{Output, Writes, PastInputLimit, ByFault, ByTypes, IfAccepted, TellsDependences, TellsSchedule, MakesTyped, BySpecification, IsOutputOf}
+use Rattle.aw_run.specs.Output.{Output, Writes, PastInputLimit, ByFault, ByTypes, IfAccepted, TellsSpecification, TellsSchedule, MakesTyped, BySpecification, ByInput, IsOutputOf}
 use Rattle.aw_run.specs.Laws.{HasOneOutput}
 use Rattle.aw_run.proofs.OneChecked.{one-checked}
+use Rattle.aw_run.proofs.Outputs.{makes_of}
 
 -- P holds of one output at most
 abbrev pub One : (Output → Type 0) → Type 0
@@ -33,24 +34,28 @@ one-match : (test : Bool) (output : Output) (P : Output → Type 0) → One P �
 one-match true output P one a b x y = x ∙ sym y
 one-match false output P one a b x y = one a b x y
 
-one-dependences : (s : Spec) → One (TellsDependences s)
-one-dependences s a b x y = x.2 ∙ ap Writes (one-checked s.depends s.offers s.free (words_in s.declared) (grammar_in s.declared) x.0 y.0 x.1 y.1) ∙ sym y.2
+one-specification : (s : Spec) → One (TellsSpecification s)
+one-specification s a b x y = x.2 ∙ ap Writes (one-checked s.depends s.offers s.free (words_in s.declared) (grammar_in s.declared) x.0 y.0 x.1 y.1) ∙ sym y.2
 
 by-types : (w : Words) (P : Output → Type 0) → One P → (found : Option TypeFault) → One (ByTypes w found P)
 by-types w P one None a b x y = one a b x y
 by-types w P one (Some fault) a b x y = x ∙ sym y
 
 one-made : (job : Job) (s : Spec) (before : ℕ) (loads : Bool) (schedule : List (List ℕ)) → One (MakesTyped job s before loads schedule)
-one-made Check s before loads schedule = one-accepted s (TellsDependences s) (one-dependences s)
+one-made Check s before loads schedule = one-accepted s (TellsSpecification s) (one-specification s)
 one-made (Tells telling) s before loads schedule = one-accepted s (TellsSchedule telling s before loads schedule) (λ a b x y. x ∙ sym y)
 
-one-read : (job : Job) (lines : List (List ℕ)) (reading : Reading) → One (BySpecification job lines reading)
-one-read job lines (Good spec taken loads) =
-    by-types (words_in spec.declared) (MakesTyped job spec taken loads (drop taken lines)) (one-made job spec taken loads (drop taken lines)) (type_fault (types_of spec.types) (grammar_in spec.declared))
-one-read job lines (Faulty line kind) = λ a b x y. x ∙ sym y
+one-read : (makes : Spec → ℕ → Bool → Output → Type 0) → ((s : Spec) (taken : ℕ) (loads : Bool) → One (makes s taken loads)) → (reading : Reading) → One (BySpecification makes reading)
+one-read makes one (Good s taken loads) = one s taken loads
+one-read makes one (Faulty line kind) = λ a b x y. x ∙ sym y
+
+one-input : (makes : Spec → ℕ → Bool → Output → Type 0) → ((s : Spec) (taken : ℕ) (loads : Bool) → One (makes s taken loads)) → (input : List ℕ) → One (ByInput makes input)
+unfolding ByInput
+one-input makes one input = one-match (nat_lt INPUT_LIMIT (length input)) PastInputLimit (BySpecification makes (specification (lines_of input))) (one-read makes one (specification (lines_of input)))
 
 pub one-output : HasOneOutput
 unfolding IsOutputOf
 one-output job input =
-    one-match (nat_lt INPUT_LIMIT (length input)) PastInputLimit (BySpecification job (lines_of input) (specification (lines_of input)))
-    (one-read job (lines_of input) (specification (lines_of input)))
+    one-input (makes_of job input)
+    (λ s taken loads. by-types (words_in s.declared) (MakesTyped job s taken loads (drop taken (lines_of input))) (one-made job s taken loads (drop taken (lines_of input))) (type_fault (types_of s.types) (grammar_in s.declared)))
+    input

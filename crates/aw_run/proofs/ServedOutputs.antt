@@ -1,18 +1,7 @@
 -- What the node of a role leads to.
-use Rattle.std.proofs.Common.{◌≡◌, ◌⊎◌, ℕ, ◌≤◌, ◌<◌, List, length, nat_lt, true, MatchBool, refl, sym, ap, ◌∙◌, subst, IfOk, Option, None, Some}
-use Rattle.std.specs.declared.result.Result.{Result}
-use Rattle.std.proofs.lemmas.Bool.{lt-ltb, le-ltb}
-use Rattle.std.specs.Prelude.{Ok, codes}
-use Rattle.aw_accept.specs.declared.refused.Refused.{Refused}
-use Rattle.aw_accept.specs.Refusals.{Tells}
+use Rattle.std.proofs.Common.{◌≡◌, ◌⊎◌, ℕ, ◌≤◌, ◌<◌, List, length, true, refl, sym, ap, ◌∙◌, subst, inl, inr, Option, None, Some}
+use Rattle.std.specs.Prelude.{codes, IfErr, Result, Err}
 use Rattle.aw_sched.proofs.LookedUp.{named_within}
-use Rattle.aw_spec.specs.KindNames.{kind_name}
-use Rattle.aw_spec.specs.declared.fault.SpecKind.{SpecKind}
-use Rattle.aw_typed.specs.declared.data.TypeFault.{TypeFault}
-use Rattle.aw_typed.specs.Typing.{TellsTypes}
-use Rattle.aw_run.specs.Refusals.{at_line}
-use Rattle.aw_run.proofs.Verdicts.{refuses-grammar, refuses-types, reply-same, bad-line}
-use Rattle.aw_lex.specs.Lines.{lines_of}
 use Rattle.aw_term.specs.Artifacts.{Words}
 use Rattle.aw_term.specs.Rules as R
 use Rattle.aw_grammar.specs.declared.grammar.Grammar.{Grammar}
@@ -20,24 +9,34 @@ use Rattle.aw_grammar.specs.GrammarOf.{grammar_of, words_of, declarations_of}
 use Rattle.aw_grammar.specs.Declarations.{grammar_in, words_in}
 use Rattle.aw_grammar.specs.Named.{number_named}
 use Rattle.aw_grammar.proofs.Entries.{declared_words, declared_grammar}
+use Rattle.aw_out.specs.Causes.{Rose}
 use Rattle.aw_out.specs.Wires.{Content}
+use Rattle.aw_out.specs.declared.edge.Wire as wires
+use Rattle.aw_disk.specs.declared.edge.Disk as disks
+use Rattle.aw_durable.specs.Serving.{IsKeptServing, StopsKept}
+use Rattle.aw_durable.specs.declared.fault.KeptFault.{KeptFault}
+use Rattle.aw_durable.specs.declared.fault.KeptFault.TheVariants as fault
 use Rattle.aw_react.specs.Sites.{Site, empty_site}
 use Rattle.aw_session.specs.Served.{AreServed}
-use Rattle.aw_session.specs.Sessions.{IsServing, NoneComes}
+use Rattle.aw_session.specs.Sessions.{NoneComes}
 use Rattle.aw_session.specs.declared.log.SessionLog.{SessionLog}
 use Rattle.aw_node.specs.TypedNodes.{Rules, rules_of, answers}
 use Rattle.aw_node.specs.Serving.{Serves}
 use Rattle.aw_typed.specs.Types as T
 use Rattle.aw_typed.specs.Typing.{types_of}
 use Rattle.aw_typed.specs.declared.data.Typed.{Typed}
-use Rattle.aw_spec.specs.Reading.{Spec, Reading, Faulty, specification}
-use Rattle.aw_run.specs.declared.source.TheConstants.{INPUT_LIMIT}
+use Rattle.aw_spec.specs.Reading.{Spec}
+use Rattle.aw_write.specs.SpecLines.{written}
 use Rattle.aw_run.specs.declared.reply.Reply.{Reply}
-use Rattle.aw_run.specs.declared.reply.Status.TheVariants.{Done, Usage}
-use Rattle.aw_run.specs.Devices.{Devices, with_wire}
-use Rattle.aw_run.specs.Output.{Output, Writes, PastInputLimit, BadSpecification, UnknownRole, IfTyped, IfAccepted}
-use Rattle.aw_run.specs.Replies.{Replies, RefusesGrammar, RefusesTypes, reply, reply_with}
-use Rattle.aw_run.specs.Serving.{rules_in, session_lines, ServesRole, ServesNumber, ServesNamed, ServesBySpecification, IsServingOutputOf}
+use Rattle.aw_run.specs.declared.reply.Status.TheVariants.{Done, Usage, NoMemory}
+use Rattle.aw_run.specs.declared.reply.Stop.{Stop}
+use Rattle.aw_run.specs.declared.reply.Stop.TheVariants as stop
+use Rattle.aw_run.specs.Devices.{Devices, contents}
+use Rattle.aw_run.specs.Output.{Output, Writes, UnknownRole}
+use Rattle.aw_run.specs.Replies.{Replies, reply}
+use Rattle.aw_run.specs.Serving.{rules_in, role_in, session_lines, ByNumber, ServesRole}
+use Rattle.aw_run.specs.Keeping.{EndsBy, KeepsRole, StopsRole}
+use Rattle.aw_run.specs.Statuses.{IsRefusal, status_of_stop, stop_of}
 
 abbrev with_parts : Words → T.Types → R.Grammar → Rules
 with_parts w t g = record { words = w; types = t; grammar = g }
@@ -52,58 +51,89 @@ rules-same s g t same typed =
 -- sessions that were served are told
 pub serves-role : {W : Type 0} (content : W → Option Content) (faults failed : W → ℕ) (s : Spec) (g : Grammar) (t : Typed) (role sessions : ℕ) (u v : W) (logs : List SessionLog) (text : List ℕ) →
     s.declared ≡ declarations_of g → s.types ≡ t.types → Serves content faults failed (rules_of g t) role (empty_site true role) u v logs → length logs ≤ sessions →
-    (length logs ≡ sessions) ⊎ NoneComes (content v) → text ≡ session_lines 1 logs → Replies (ServesRole s role sessions (with_wire (content u) (content v))) (reply Done text)
+    (length logs ≡ sessions) ⊎ NoneComes (content v) → text ≡ session_lines 1 logs → Replies (ServesRole s role sessions (contents (content u) (content v))) (reply Done text)
 serves-role content faults failed s g t role sessions u v logs text same typed (site, is) most all lines =
     let are : AreServed (answers (rules_in s)) role (empty_site true role) is.sessions logs site =
     subst (λ r. AreServed (answers r) role (empty_site true role) is.sessions logs site) (rules-same s g t same typed) is.served in
     (Writes text, (record { served = is.sessions; logs = logs; site = site; are = are; told = is.told; most = most; all = all; writes = ap Writes lines }), refl)
 
+-- sessions of a kept role that were served are told
+pub keeps-role : (x : Devices) (s : Spec) (g : Grammar) (t : Typed) (role sessions : ℕ) (spelled : List ℕ) (logs : List SessionLog) (text : List ℕ) →
+    s.declared ≡ declarations_of g → s.types ≡ t.types → spelled ≡ written s →
+    IsKeptServing x.wire x.disk (rules_of g t) role spelled (empty_site true role) x.wire_before x.wire_after x.disk_before x.disk_after logs →
+    length logs ≤ sessions → (length logs ≡ sessions) ⊎ NoneComes (x.wire.content x.wire_after) → text ≡ session_lines 1 logs → Replies (KeepsRole s role sessions x) (reply Done text)
+keeps-role x s g t role sessions spelled logs text same typed spells is most all lines =
+    let kept : IsKeptServing x.wire x.disk (rules_in s) role (written s) (empty_site true role) x.wire_before x.wire_after x.disk_before x.disk_after logs =
+    subst (λ r. IsKeptServing x.wire x.disk r role (written s) (empty_site true role) x.wire_before x.wire_after x.disk_before x.disk_after logs) (rules-same s g t same typed)
+    (subst (λ y. IsKeptServing x.wire x.disk (rules_of g t) role y (empty_site true role) x.wire_before x.wire_after x.disk_before x.disk_after logs) spells is) in
+    (Writes text, record { logs = logs; kept = kept; most = most; all = all; writes = ap Writes lines }, refl)
+
+-- a kept role is served no further, for this reason
+pub ends-by : (x : Devices) (s : Spec) (g : Grammar) (t : Typed) (role : ℕ) (spelled : List ℕ) (why : KeptFault) → s.declared ≡ declarations_of g → s.types ≡ t.types → spelled ≡ written s →
+    StopsKept x.wire x.disk (rules_of g t) role spelled (empty_site true role) x.wire_before x.wire_after x.disk_before x.disk_after why → EndsBy s role x why
+ends-by x s g t role spelled why same typed spells is =
+    subst (λ r. StopsKept x.wire x.disk r role (written s) (empty_site true role) x.wire_before x.wire_after x.disk_before x.disk_after why) (rules-same s g t same typed)
+    (subst (λ y. StopsKept x.wire x.disk (rules_of g t) role y (empty_site true role) x.wire_before x.wire_after x.disk_before x.disk_after why) spells is)
+
+-- and the status tells it
+pub stops-role : (s : Spec) (role sessions : ℕ) (x : Devices) (why : KeptFault) (stop : Stop) → stop ≡ stop_of why → EndsBy s role x why → StopsRole s role sessions x (status_of_stop stop)
+stops-role s role sessions x fault.NetFault stop is ends = subst (λ (z : Stop). StopsRole s role sessions x (status_of_stop z)) (sym is) ends
+stops-role s role sessions x fault.DiskFault stop is ends = subst (λ (z : Stop). StopsRole s role sessions x (status_of_stop z)) (sym is) ends
+stops-role s role sessions x fault.BadHead stop is ends = subst (λ (z : Stop). StopsRole s role sessions x (status_of_stop z)) (sym is) (inl ends)
+stops-role s role sessions x (fault.BadEvent number) stop is ends = subst (λ (z : Stop). StopsRole s role sessions x (status_of_stop z)) (sym is) (inr (number, ends))
+stops-role s role sessions x fault.Full stop is ends = subst (λ (z : Stop). StopsRole s role sessions x (status_of_stop z)) (sym is) ends
+stops-role s role sessions x fault.NoMemory stop is ends = subst (λ (z : Stop). StopsRole s role sessions x (status_of_stop z)) (sym is) (inl ends)
+
+-- the causes of two of them
+pub net-rose : {W D : Type 0} (w : wires.Ghosts W) (d : disks.Ghosts D) (r : Rules) (role : ℕ) (text : List ℕ) (s : Site) (u v : W) (old new : D) (why : KeptFault) → StopsKept w d r role text s u v old new why → stop_of why ≡ stop.NetFault → Rose (w.failed_openings u) (w.failed_openings v)
+net-rose w d r role text s u v old new fault.NetFault ends is = ends.served.rose
+net-rose w d r role text s u v old new fault.DiskFault ends is = absurd (cc (is))
+net-rose w d r role text s u v old new fault.BadHead ends is = absurd (cc (is))
+net-rose w d r role text s u v old new (fault.BadEvent number) ends is = absurd (cc (is))
+net-rose w d r role text s u v old new fault.Full ends is = absurd (cc (is))
+net-rose w d r role text s u v old new fault.NoMemory ends is = absurd (cc (is))
+
+pub disk-rose : {W D : Type 0} (w : wires.Ghosts W) (d : disks.Ghosts D) (r : Rules) (role : ℕ) (text : List ℕ) (s : Site) (u v : W) (old new : D) (why : KeptFault) → StopsKept w d r role text s u v old new why → stop_of why ≡ stop.DiskFault → Rose (d.faults old) (d.faults new)
+disk-rose w d r role text s u v old new fault.NetFault ends is = absurd (cc (is))
+disk-rose w d r role text s u v old new fault.DiskFault ends is = ends.0
+disk-rose w d r role text s u v old new fault.BadHead ends is = absurd (cc (is))
+disk-rose w d r role text s u v old new (fault.BadEvent number) ends is = absurd (cc (is))
+disk-rose w d r role text s u v old new fault.Full ends is = absurd (cc (is))
+disk-rose w d r role text s u v old new fault.NoMemory ends is = absurd (cc (is))
+
 -- the number of a role that is found by its name
 pub named-at : (g : Grammar) (name : List ℕ) (role : ℕ) → Some role ≡ number_named (words_of g).roles name → role < (grammar_of g).roles
 named-at g name role is = named_within (words_of g).roles name role is
 
-found-in : (s : Spec) (g : Grammar) (name : List ℕ) (found : Option ℕ) → s.declared ≡ declarations_of g → found ≡ number_named (words_of g).roles name → found ≡ number_named (words_in s.declared).roles name
+pub found-in : (s : Spec) (g : Grammar) (name : List ℕ) (found : Option ℕ) → s.declared ≡ declarations_of g → found ≡ number_named (words_of g).roles name → found ≡ role_in s name
 found-in s g name found same is = is ∙ ap (λ (w : Words). number_named w.roles name) (declared_words g ∙ ap words_in (sym same))
 
-by-number : (said : Reply) (s : Spec) (g : Grammar) (name : List ℕ) (sessions : ℕ) (devices : Devices) (found : Option ℕ) → s.declared ≡ declarations_of g → found ≡ number_named (words_of g).roles name →
-    Replies (ServesNumber s sessions devices found) said → Replies (ServesNamed name sessions devices s) said
-by-number said s g name sessions devices found same is replies = subst (λ o. Replies (ServesNumber s sessions devices o) said) (found-in s g name found same is) replies
+by-number : (P : ℕ → Output → Type 0) (said : Reply) (s : Spec) (g : Grammar) (name : List ℕ) (found : Option ℕ) → s.declared ≡ declarations_of g → found ≡ number_named (words_of g).roles name →
+    Replies (ByNumber P found) said → Replies (ByNumber P (role_in s name)) said
+by-number P said s g name found same is replies = subst (λ o. Replies (ByNumber P o) said) (found-in s g name found same is) replies
 
 -- the role of a name
-pub serves-some : (said : Reply) (s : Spec) (g : Grammar) (name : List ℕ) (sessions : ℕ) (devices : Devices) (role : ℕ) → s.declared ≡ declarations_of g → Some role ≡ number_named (words_of g).roles name →
-    Replies (ServesRole s role sessions devices) said → Replies (ServesNamed name sessions devices s) said
-serves-some said s g name sessions devices role same is replies = by-number said s g name sessions devices (Some role) same is replies
+pub by-some : (P : ℕ → Output → Type 0) (said : Reply) (s : Spec) (g : Grammar) (name : List ℕ) (role : ℕ) → s.declared ≡ declarations_of g → Some role ≡ number_named (words_of g).roles name →
+    Replies (P role) said → Replies (ByNumber P (role_in s name)) said
+by-some P said s g name role same is replies = by-number P said s g name (Some role) same is replies
 
 -- a name of no role
-pub serves-none : (said : Reply) (s : Spec) (g : Grammar) (name : List ℕ) (sessions : ℕ) (devices : Devices) → s.declared ≡ declarations_of g → None ≡ number_named (words_of g).roles name →
-    said ≡ reply Usage (codes "usage\n") → Replies (ServesNamed name sessions devices s) said
-serves-none said s g name sessions devices same is told = by-number said s g name sessions devices None same is (UnknownRole, refl, told)
+pub by-none : (P : ℕ → Output → Type 0) (said : Reply) (s : Spec) (g : Grammar) (name : List ℕ) → s.declared ≡ declarations_of g → None ≡ number_named (words_of g).roles name →
+    said ≡ reply Usage (codes "usage\n") → Replies (ByNumber P (role_in s name)) said
+by-none P said s g name same is told = by-number P said s g name None same is (UnknownRole, refl, told)
 
--- the refusals of a grammar and of types, of one reply
-pub refused-served : (said : Reply) (refused : Refused) (s : Spec) (g : Grammar) (P : Output → Type 0) → s.declared ≡ declarations_of g → Tells g refused → RefusesGrammar refused said → Replies (IfAccepted s P) said
-refused-served said refused s g P same tells is = refuses-grammar {E = Unit {0}} (Ok said) refused s g P same tells is
+-- memory ran out for the lines of a kept role
+pub lines-lost : (x : Devices) (s : Spec) (g : Grammar) (t : Typed) (role sessions : ℕ) (spelled : List ℕ) (logs : List SessionLog) → s.declared ≡ declarations_of g → s.types ≡ t.types → spelled ≡ written s →
+    IsKeptServing x.wire x.disk (rules_of g t) role spelled (empty_site true role) x.wire_before x.wire_after x.disk_before x.disk_after logs →
+    length logs ≤ sessions → (length logs ≡ sessions) ⊎ NoneComes (x.wire.content x.wire_after) → StopsRole s role sessions x NoMemory
+lines-lost x s g t role sessions spelled logs same typed spells is most all =
+    let said = keeps-role x s g t role sessions spelled logs (session_lines 1 logs) same typed spells is most all refl in
+    inr (said.0, said.1)
 
-pub untyped-served : (said : Reply) (fault : TypeFault) (s : Spec) (g : Grammar) (P : Output → Type 0) → s.declared ≡ declarations_of g → TellsTypes (types_of s.types) (grammar_of g) fault → RefusesTypes (words_of g) fault said → Replies (IfTyped s P) said
-untyped-served said fault s g P same tells is = refuses-types {E = Unit {0}} (Ok said) fault s g P same tells is
+-- an error that is passed on
+pub err-passed : {T E : Type 0} (P : E → Type 0) (r : Result T E) (e : E) → r ≡ Err e → P e → IfErr r P
+err-passed P r e is holds = rw is holds
 
--- an input within its limit, of which the specification is read
-pub served-read : (name : List ℕ) (sessions : ℕ) (devices : Devices) (input : List ℕ) (reading : Reading) (output : Output) → length input ≤ INPUT_LIMIT → specification (lines_of input) ≡ reading →
-    ServesBySpecification name sessions devices reading output → IsServingOutputOf name sessions devices input output
-unfolding IsServingOutputOf
-served-read name sessions devices input reading output within is holds =
-    subst (λ b. MatchBool b (output ≡ PastInputLimit) (ServesBySpecification name sessions devices (specification (lines_of input)) output)) (sym (le-ltb INPUT_LIMIT (length input) within))
-    (subst (λ (r : Reading). ServesBySpecification name sessions devices r output) (sym is) holds)
-
--- an input past its limit
-pub served-past : (name : List ℕ) (sessions : ℕ) (devices : Devices) (input : List ℕ) → INPUT_LIMIT < length input → IsServingOutputOf name sessions devices input PastInputLimit
-unfolding IsServingOutputOf
-served-past name sessions devices input lt =
-    subst (λ b. MatchBool b (PastInputLimit ≡ PastInputLimit) (ServesBySpecification name sessions devices (specification (lines_of input)) PastInputLimit)) (sym (lt-ltb INPUT_LIMIT (length input) lt)) refl
-
--- a faulty line
-pub bad-served : (said : Reply) (name : List ℕ) (sessions : ℕ) (devices : Devices) (input : List ℕ) (line line' : ℕ) (kind kind' : SpecKind) → length input ≤ INPUT_LIMIT → specification (lines_of input) ≡ Faulty line kind → line' ≡ line → kind' ≡ kind →
-    said ≡ reply_with (BadSpecification (at_line line' (kind_name kind'))) → Replies (IsServingOutputOf name sessions devices input) said
-bad-served said name sessions devices input line line' kind kind' within faulty same_line same_kind is =
-    let output : Output = BadSpecification (at_line line (kind_name kind)) in
-    reply-same {E = Unit {0}} (Ok said) (IsServingOutputOf name sessions devices input) output (served-read name sessions devices input (Faulty line kind) output within faulty refl)
-    (bad-line {E = Unit {0}} (Ok said) line line' kind kind' same_line same_kind is)
+-- what is done is no refusal
+pub done-no-refusal : {A : Type 0} (said : Reply) → said.status ≡ Done → IsRefusal said.status → A
+done-no-refusal said done refusal = absurd (rw done at refusal)

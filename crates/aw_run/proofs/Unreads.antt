@@ -1,5 +1,5 @@
 -- What is said of a source that was not read to its end.
-use Rattle.std.proofs.Common.{◌≡◌, ℕ, ◌+◌, ◌<◌, List, ◌++◌, length, None, Some, IfOk, refl, ap, ◌∙◌, arith, length-append}
+use Rattle.std.proofs.Common.{◌≡◌, ℕ, ◌+◌, ◌<◌, List, ◌++◌, length, [], None, Some, IfOk, IfErr, inl, inr, refl, ap, ◌∙◌, arith, length-append}
 use Rattle.std.specs.declared.option.Option.{Option}
 use Rattle.std.specs.declared.result.Result.{Result}
 use Rattle.aw_out.specs.declared.error.ReadError.{ReadError}
@@ -9,14 +9,17 @@ use Rattle.aw_run.specs.declared.source.TheConstants.{INPUT_LIMIT}
 use Rattle.aw_run.specs.declared.words.Job.{Job}
 use Rattle.aw_run.specs.declared.reply.Reply.{Reply}
 use Rattle.aw_run.specs.declared.reply.Stop.{Stop}
-use Rattle.aw_run.specs.Devices.{Devices}
+use Rattle.aw_run.specs.Devices.{Contents, Devices, Wired}
 use Rattle.aw_run.specs.Output.{Output, PastInputLimit, IsOutputOf}
 use Rattle.aw_run.specs.Serving.{IsServingOutputOf}
+use Rattle.aw_run.specs.Keeping.{IsKeepingOutputOf, StopsKeeping}
+use Rattle.aw_run.specs.Carrying.{IsCarryingOutputOf, StopsCarrying}
+use Rattle.aw_run.specs.Statuses.{status_of_stop}
 use Rattle.aw_run.specs.Replies.{ForInput, Replies, reply_with}
 use Rattle.aw_run.specs.Promises.{RepliesKeeping}
 use Rattle.aw_run.specs.Unread.{unread_gives}
 use Rattle.aw_run.proofs.Outputs.{output-past}
-use Rattle.aw_run.proofs.ServedOutputs.{served-past}
+use Rattle.aw_run.proofs.FrontOutputs.{served-past, kept-past, carried-past}
 
 longer : (limit : ℕ) (input bytes rest : List ℕ) → input ≡ bytes ++ rest → limit < length bytes → limit < length input
 longer limit input bytes rest same lt = let e : length input ≡ length bytes + length rest = ap length same ∙ length-append bytes rest in omega arith
@@ -52,6 +55,35 @@ pub unread-reply : (error : ReadError) (result : Result Reply Stop) (old new : O
 unread-reply error result old new job = unread-as (IsOutputOf job) (output-past job) error result old new
 
 -- the same of a node, which no session had yet
-pub unread-served : (error : ReadError) (result : Result Reply Stop) (old new : Option (List ℕ)) (name : List ℕ) (sessions : ℕ) (devices : Devices) → result ≡ unread_gives error →
-    (error ≡ fault.TooLong → GivesSome old new (λ bytes. INPUT_LIMIT < length bytes)) → IfOk result (λ said. ForInput old (λ input. Replies (IsServingOutputOf name sessions devices input) said))
-unread-served error result old new name sessions devices = unread-as (IsServingOutputOf name sessions devices) (served-past name sessions devices) error result old new
+pub unread-served : (error : ReadError) (result : Result Reply Stop) (old new : Option (List ℕ)) (name : List ℕ) (sessions : ℕ) (wire : Contents) → result ≡ unread_gives error →
+    (error ≡ fault.TooLong → GivesSome old new (λ bytes. INPUT_LIMIT < length bytes)) → IfOk result (λ said. ForInput old (λ input. Replies (IsServingOutputOf name sessions wire input) said))
+unread-served error result old new name sessions wire = unread-as (IsServingOutputOf name sessions wire) (served-past name sessions wire) error result old new
+
+-- and of a kept one
+pub unread-keeping : (error : ReadError) (result : Result Reply Stop) (old new : Option (List ℕ)) (name : List ℕ) (sessions : ℕ) (x : Devices) → result ≡ unread_gives error →
+    (error ≡ fault.TooLong → GivesSome old new (λ bytes. INPUT_LIMIT < length bytes)) → IfOk result (λ said. ForInput old (λ input. Replies (IsKeepingOutputOf name sessions x input) said))
+unread-keeping error result old new name sessions x = unread-as (IsKeepingOutputOf name sessions x) (kept-past name sessions x) error result old new
+
+-- and of a courier
+pub unread-carrying : (error : ReadError) (result : Result Reply Stop) (old new : Option (List ℕ)) (rounds : ℕ) (x : Wired) → result ≡ unread_gives error →
+    (error ≡ fault.TooLong → GivesSome old new (λ bytes. INPUT_LIMIT < length bytes)) → IfOk result (λ said. ForInput old (λ input. Replies (IsCarryingOutputOf rounds x input) said))
+unread-carrying error result old new rounds x = unread-as (IsCarryingOutputOf rounds x) (carried-past rounds x) error result old new
+
+-- what holds of each input holds of what was left to read
+pub for-each : (left : Option (List ℕ)) (P : List ℕ → Type 0) → ((input : List ℕ) → P input) → ForInput left P
+for-each None P holds = ([], holds [])
+for-each (Some input) P holds = holds input
+
+-- a source that was not read stops a kept node before its devices are touched
+pub unread-stops : (error : ReadError) (result : Result Reply Stop) (old : Option (List ℕ)) (name : List ℕ) (sessions : ℕ) (x : Devices) → x.wire_after ≡ x.wire_before → x.disk_after ≡ x.disk_before → result ≡ unread_gives error →
+    IfErr result (λ stop. ForInput old (λ input. StopsKeeping name sessions x input (status_of_stop stop)))
+unread-stops fault.TooLong result old name sessions x wire disk is = rw is tt
+unread-stops fault.ReadFault result old name sessions x wire disk is = rw is (for-each old _ (λ input. inl (record { why = inl refl; same_wire = wire; same_disk = disk })))
+unread-stops fault.NoMemory result old name sessions x wire disk is = rw is (for-each old _ (λ input. inl (record { why = inr refl; same_wire = wire; same_disk = disk })))
+
+-- and it stops a courier before the wire is touched
+pub unread-unwired : (error : ReadError) (result : Result Reply Stop) (old : Option (List ℕ)) (rounds : ℕ) (x : Wired) → x.after ≡ x.before → result ≡ unread_gives error →
+    IfErr result (λ stop. ForInput old (λ input. StopsCarrying rounds x input (status_of_stop stop)))
+unread-unwired fault.TooLong result old rounds x wire is = rw is tt
+unread-unwired fault.ReadFault result old rounds x wire is = rw is (for-each old _ (λ input. inl (record { why = inl refl; same_wire = wire })))
+unread-unwired fault.NoMemory result old rounds x wire is = rw is (for-each old _ (λ input. inl (record { why = inr refl; same_wire = wire })))

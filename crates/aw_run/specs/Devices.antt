@@ -1,11 +1,45 @@
--- What the devices beside the source and the sink tell.
+-- What stands beside the source and the sink: a wire and a disk.
 use Rattle.std.specs.Prelude.{Option}
 use Rattle.aw_out.specs.Wires.{Content}
+use Rattle.aw_out.specs.declared.edge.Wire as wires
+use Rattle.aw_disk.specs.declared.edge.Disk as disks
 
--- What they tell before a run and after it: the contents of the wire.
-pub record Devices : Type 0 where
-  pub wire_before : Option Content
-  pub wire_after : Option Content
+-- What the wire tells before a run and after it.
+pub record Contents : Type 0 where
+  pub before : Option Content
+  pub after : Option Content
 
-abbrev pub with_wire : Option Content → Option Content → Devices
-with_wire before after = record { wire_before = before; wire_after = after }
+abbrev pub contents : Option Content → Option Content → Contents
+contents before after = record { before = before; after = after }
+
+-- The wire and the disk before a run and after it, and what is seen of them.
+pub record Devices : Type 1 where
+  pub W : Type 0
+  pub D : Type 0
+  pub wire : wires.Ghosts W
+  pub disk : disks.Ghosts D
+  pub wire_before : W
+  pub wire_after : W
+  pub disk_before : D
+  pub disk_after : D
+
+abbrev pub around : {W D : Type 0} → wires.Ghosts W → disks.Ghosts D → W → W → D → D → Devices
+around {W} {D} w d u v old new = record { W = W; D = D; wire = w; disk = d; wire_before = u; wire_after = v; disk_before = old; disk_after = new }
+
+-- what the wire of a run tells
+abbrev pub wire_of : Devices → Contents
+wire_of x = contents (x.wire.content x.wire_before) (x.wire.content x.wire_after)
+
+-- A wire before a run and after it, and what is seen of it.
+pub record Wired : Type 1 where
+  pub W : Type 0
+  pub wire : wires.Ghosts W
+  pub before : W
+  pub after : W
+
+abbrev pub wired : {W : Type 0} → wires.Ghosts W → W → W → Wired
+wired {W} w u v = record { W = W; wire = w; before = u; after = v }
+
+-- the wire of a run
+abbrev pub wired_in : Devices → Wired
+wired_in x = wired x.wire x.wire_before x.wire_after

@@ -5,8 +5,12 @@ pub mod Checked
 pub mod Output
 pub mod Devices
 pub mod Serving
+pub mod Opening
+pub mod Keeping
+pub mod Carrying
 pub mod Trials
 pub mod Replies
+pub mod Fronts
 pub mod Unread
 pub mod Promises
 pub mod Laws

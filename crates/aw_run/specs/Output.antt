@@ -37,6 +37,7 @@ pub data Output : Type 0 where
   UnknownRole : Output
   BadSchedule : (why : List ℕ) → Output
   PastOutputLimit : Output
+  NoReplyOf : (role : List ℕ) → Output
 
 -- an output that is too long is not written at all
 abbrev pub within_limit : List ℕ → Output
@@ -75,8 +76,8 @@ abbrev pub WritesChecked : (depends : List Triple) → (offers : List ℕ) → (
 WritesChecked depends offers free w g output = (text : List ℕ) × TellsChecked depends offers free w g text × (output ≡ Writes text)
 
 -- the dependences are told, and after them what the specification asks for: its roles checked apart, and waiting
-abbrev pub TellsDependences : Spec → Output → Type 0
-TellsDependences s = WritesChecked s.depends s.offers s.free (words_in s.declared) (grammar_in s.declared)
+abbrev pub TellsSpecification : Spec → Output → Type 0
+TellsSpecification s = WritesChecked s.depends s.offers s.free (words_in s.declared) (grammar_in s.declared)
 
 -- the schedule that stands behind so many lines is told, with loads or without
 abbrev pub TellsSchedule : Telling → Spec → ℕ → (loads : Bool) → List (List ℕ) → Output → Type 0
@@ -84,19 +85,27 @@ TellsSchedule telling s before loads schedule output = output ≡ by_schedule te
 
 -- What each job makes of a specification whose types have no fault, which takes so many lines and asks for loads or not, and of the lines behind it.
 abbrev pub MakesTyped : Job → Spec → ℕ → (loads : Bool) → List (List ℕ) → Output → Type 0
-MakesTyped Check s before loads schedule = IfAccepted s (TellsDependences s)
+MakesTyped Check s before loads schedule = IfAccepted s (TellsSpecification s)
 MakesTyped (Tells telling) s before loads schedule = IfAccepted s (TellsSchedule telling s before loads schedule)
 
 -- What each job makes of a specification, which takes so many lines and asks for loads or not, and of the lines behind it: a fault in the types is told first.
 abbrev pub Makes : Job → Spec → ℕ → (loads : Bool) → List (List ℕ) → Output → Type 0
 Makes job s before loads schedule = IfTyped s (MakesTyped job s before loads schedule)
 
--- a good specification is taken on to its job, and of another its first faulty line is told
-abbrev pub BySpecification : Job → List (List ℕ) → Reading → Output → Type 0
-BySpecification job lines (Good spec taken loads) output = Makes job spec taken loads (drop taken lines) output
-BySpecification job lines (Faulty line kind) output = output ≡ BadSpecification (at_line line (kind_name kind))
+-- `makes` says what comes of a good specification, which takes so many lines and asks for loads or not, and of another its first faulty line is told
+abbrev pub BySpecification : (makes : Spec → ℕ → Bool → Output → Type 0) → Reading → Output → Type 0
+BySpecification makes (Good spec taken loads) output = makes spec taken loads output
+BySpecification makes (Faulty line kind) output = output ≡ BadSpecification (at_line line (kind_name kind))
+
+-- What every command makes of an input: nothing of one that is too long, and what `makes` says of a good specification at its front.
+unfoldable pub ByInput : (makes : Spec → ℕ → Bool → Output → Type 0) → List ℕ → Output → Type 0
+ByInput makes input output =
+    MatchBool (nat_lt INPUT_LIMIT (length input)) (output ≡ PastInputLimit) (BySpecification makes (specification (lines_of input)) output)
 
 -- The output of a job for an input: its lines are a specification, and then perhaps the line `schedule` and a schedule.
 unfoldable pub IsOutputOf : Job → List ℕ → Output → Type 0
-IsOutputOf job input output =
-    MatchBool (nat_lt INPUT_LIMIT (length input)) (output ≡ PastInputLimit) (BySpecification job (lines_of input) (specification (lines_of input)) output)
+IsOutputOf job input output = ByInput (λ s taken loads. Makes job s taken loads (drop taken (lines_of input))) input output
+
+-- Of an input whose specification is good, typed and accepted comes what `makes` says; what stands behind the specification is not looked at.
+unfoldable pub OfAccepted : (makes : Spec → Output → Type 0) → List ℕ → Output → Type 0
+OfAccepted makes input output = ByInput (λ s taken loads. IfTyped s (IfAccepted s (makes s))) input output

@@ -1,8 +1,8 @@
 -- What a run says to an input.
-use Rattle.std.specs.Prelude.{◌≡◌, ℕ, List, [], ◌++◌, Option, Some, None, codes, Bool, true, false}
+use Rattle.std.specs.Prelude.{◌≡◌, ◌⊎◌, ℕ, List, [], ◌++◌, Option, Some, None, codes, Bool, true, false}
 use Rattle.aw_out.specs.Edge.{Gets}
 use Rattle.aw_out.specs.Causes.{Rose}
-pub use Rattle.aw_run.specs.Devices.{Devices, with_wire}
+pub use Rattle.aw_run.specs.Devices.{Contents, Devices, Wired, around, contents, wire_of, wired, wired_in}
 use Rattle.aw_grammar.specs.GrammarOf.{words_of}
 use Rattle.aw_accept.specs.declared.refused.Refused.{Refused}
 use Rattle.aw_accept.specs.declared.refused.Refused.TheVariants as refused
@@ -13,14 +13,17 @@ use Rattle.aw_typed.specs.declared.data.TypeFault.TheVariants as types
 use Rattle.aw_run.specs.Refusals.{types_text}
 use Rattle.aw_told.specs.Told.{circle_text}
 use Rattle.aw_run.specs.declared.words.Command.{Command}
-use Rattle.aw_run.specs.declared.words.Command.TheVariants.{Reads, Tries, Serves}
+use Rattle.aw_run.specs.declared.words.Command.TheVariants.{Reads, Tries, Serves, Keeps, Carries}
 use Rattle.aw_run.specs.declared.words.Job.{Job}
 use Rattle.aw_run.specs.declared.reply.Reply.{Reply}
 use Rattle.aw_run.specs.declared.reply.Status.{Status}
-use Rattle.aw_run.specs.declared.reply.Status.TheVariants.{Done, Usage, BadSpec, Circular, BadSchedule as BadSched, TooLarge, TooLong, BadTypes as BadTyped}
+use Rattle.aw_run.specs.declared.reply.Status.TheVariants.{Done, Usage, BadSpec, Circular, BadSchedule as BadSched, TooLarge, TooLong, BadTypes as BadTyped, NetFault, NoMemory, ReadFault, WriteFault, BadReply}
 use Rattle.aw_run.specs.Words.{command_of, role_word}
-use Rattle.aw_run.specs.Output.{Output, Writes, PastInputLimit, BadSpecification, BadTypes, IsCircular, UnknownRole, BadSchedule, PastOutputLimit, IsOutputOf}
+use Rattle.aw_run.specs.Output.{Output, Writes, PastInputLimit, BadSpecification, BadTypes, IsCircular, UnknownRole, BadSchedule, PastOutputLimit, NoReplyOf, IsOutputOf}
 use Rattle.aw_run.specs.Serving.{IsServingOutputOf}
+use Rattle.aw_run.specs.Keeping.{IsKeepingOutputOf}
+use Rattle.aw_run.specs.Carrying.{IsCarryingOutputOf}
+use Rattle.aw_run.specs.Statuses.{IsJournalStop}
 use Rattle.aw_run.specs.Trials.{trial_output}
 
 -- a status, and what is written with it
@@ -37,6 +40,7 @@ reply_with (IsCircular why) = reply Circular (codes "circular " ++ (why ++ codes
 reply_with UnknownRole = reply Usage (codes "usage\n")
 reply_with (BadSchedule why) = reply BadSched (codes "bad schedule " ++ (why ++ codes "\n"))
 reply_with PastOutputLimit = reply TooLarge []
+reply_with (NoReplyOf role) = reply BadReply (codes "bad reply " ++ (role ++ codes "\n"))
 
 -- the reply to a grammar that was not accepted; want of memory has none
 abbrev pub RefusesGrammar : Refused → Reply → Type 0
@@ -56,10 +60,12 @@ Replies P said = (output : Output) × P output × (said ≡ reply_with output)
 
 -- What a run of these words, which spell this command or none, may say to this input.
 abbrev pub SaysAs : Option Command → List (List ℕ) → List ℕ → Devices → Reply → Type 0
-SaysAs None words input devices said = said ≡ reply Usage (codes "usage\n")
-SaysAs (Some (Reads job)) words input devices said = Replies (IsOutputOf job input) said
-SaysAs (Some (Tries number)) words input devices said = said ≡ reply_with (trial_output number)
-SaysAs (Some (Serves sessions)) words input devices said = Replies (IsServingOutputOf (role_word words) sessions devices input) said
+SaysAs None words input x said = said ≡ reply Usage (codes "usage\n")
+SaysAs (Some (Reads job)) words input x said = Replies (IsOutputOf job input) said
+SaysAs (Some (Tries number)) words input x said = said ≡ reply_with (trial_output number)
+SaysAs (Some (Serves sessions)) words input x said = Replies (IsServingOutputOf (role_word words) sessions (wire_of x) input) said
+SaysAs (Some (Keeps sessions)) words input x said = Replies (IsKeepingOutputOf (role_word words) sessions x input) said
+SaysAs (Some (Carries rounds)) words input x said = Replies (IsCarryingOutputOf rounds (wired_in x) input) said
 
 -- What a run of these words may say to this input.
 abbrev pub Says : List (List ℕ) → List ℕ → Devices → Reply → Type 0
@@ -67,15 +73,15 @@ Says words = SaysAs (command_of words) words
 
 -- What a run of these words may say to this input has P.
 abbrev pub SomeReply : List (List ℕ) → List ℕ → Devices → (Reply → Type 0) → Type 0
-SomeReply words input devices P = (said : Reply) × Says words input devices said × P said
+SomeReply words input x P = (said : Reply) × Says words input x said × P said
 
 -- The status of a run of these words on this input, where nothing fails and memory suffices.
 abbrev pub EndsWith : List (List ℕ) → List ℕ → Devices → Status → Type 0
-EndsWith words input devices status = SomeReply words input devices (λ said. status ≡ said.status)
+EndsWith words input x status = SomeReply words input x (λ said. status ≡ said.status)
 
 -- The words make a text of the input: they are a command, and the input is good and within its limits, as the text is.
 abbrev pub IsGood : List (List ℕ) → List ℕ → Devices → Type 0
-IsGood words input devices = (text : List ℕ) × Says words input devices (reply Done text)
+IsGood words input x = (text : List ℕ) × Says words input x (reply Done text)
 
 -- whether a command reads the source
 abbrev pub reads : Option Command → Bool
@@ -83,6 +89,8 @@ reads None = false
 reads (Some (Reads job)) = true
 reads (Some (Tries number)) = false
 reads (Some (Serves sessions)) = true
+reads (Some (Keeps sessions)) = true
+reads (Some (Carries rounds)) = true
 
 -- whether a command uses the wire
 abbrev pub uses_wire : Option Command → Bool
@@ -90,13 +98,42 @@ uses_wire None = false
 uses_wire (Some (Reads job)) = false
 uses_wire (Some (Tries number)) = false
 uses_wire (Some (Serves sessions)) = true
+uses_wire (Some (Keeps sessions)) = true
+uses_wire (Some (Carries rounds)) = true
 
--- Which counts of the wire rose where a command tells that the net failed, of openings that failed or of all its faults: a node tells that the next session could not be opened.
+-- whether a command uses the disk
+abbrev pub uses_disk : Option Command → Bool
+uses_disk None = false
+uses_disk (Some (Reads job)) = false
+uses_disk (Some (Tries number)) = false
+uses_disk (Some (Serves sessions)) = false
+uses_disk (Some (Keeps sessions)) = true
+uses_disk (Some (Carries rounds)) = false
+
+-- whether a command carries messages between nodes
+abbrev pub carries : Option Command → Bool
+carries None = false
+carries (Some (Reads job)) = false
+carries (Some (Tries number)) = false
+carries (Some (Serves sessions)) = false
+carries (Some (Keeps sessions)) = false
+carries (Some (Carries rounds)) = true
+
+-- Which counts of the wire rose where a command tells that the net failed, of openings that failed or of all its faults: a node tells that the next session could not be opened,
+-- a courier that any call failed.
 abbrev pub NetFailed : Option Command → (openings_before : ℕ) → (openings_after : ℕ) → (faults_before : ℕ) → (faults_after : ℕ) → Type 0
 NetFailed None openings_before openings_after faults_before faults_after = ⊥
 NetFailed (Some (Reads job)) openings_before openings_after faults_before faults_after = ⊥
 NetFailed (Some (Tries number)) openings_before openings_after faults_before faults_after = ⊥
 NetFailed (Some (Serves sessions)) openings_before openings_after faults_before faults_after = Rose openings_before openings_after
+NetFailed (Some (Keeps sessions)) openings_before openings_after faults_before faults_after = Rose openings_before openings_after
+NetFailed (Some (Carries rounds)) openings_before openings_after faults_before faults_after = Rose faults_before faults_after
+
+-- A command with a good input is done, unless memory runs out, the source fails or the sink does, or the wire or the disk of a command that uses it, or
+-- what a courier hears is no reply.
+abbrev pub IsDoneOrStopped : Option Command → Status → Type 0
+IsDoneOrStopped command status =
+    (status ≡ Done) ⊎ (status ≡ NoMemory) ⊎ (status ≡ ReadFault) ⊎ (status ≡ WriteFault) ⊎ ((status ≡ NetFault) × (uses_wire command ≡ true)) ⊎ (IsJournalStop status × (uses_disk command ≡ true)) ⊎ ((status ≡ BadReply) × (carries command ≡ true))
 
 -- where the source tells what is left, that input has P, and otherwise some input has
 abbrev pub ForInput : Option (List ℕ) → (List ℕ → Type 0) → Type 0
@@ -112,6 +149,14 @@ pub record Replied (said : Reply) (status : Status) (old new : Option (List ℕ)
 abbrev pub WritesSome : Job → List ℕ → (List ℕ → Type 0) → Type 0
 WritesSome j input P = (text : List ℕ) × IsOutputOf j input (Writes text) × P text
 
--- the node of this role makes a text of the input and of what the devices tell, and that text has P
-abbrev pub WritesServing : (name : List ℕ) → (sessions : ℕ) → Devices → List ℕ → (List ℕ → Type 0) → Type 0
-WritesServing name sessions devices input P = (text : List ℕ) × IsServingOutputOf name sessions devices input (Writes text) × P text
+-- the node of this role makes a text of the input and of what the wire tells, and that text has P
+abbrev pub WritesServing : (name : List ℕ) → (sessions : ℕ) → Contents → List ℕ → (List ℕ → Type 0) → Type 0
+WritesServing name sessions wire input P = (text : List ℕ) × IsServingOutputOf name sessions wire input (Writes text) × P text
+
+-- and so does its kept node, of the wire and the disk
+abbrev pub WritesKeeping : (name : List ℕ) → (sessions : ℕ) → Devices → List ℕ → (List ℕ → Type 0) → Type 0
+WritesKeeping name sessions x input P = (text : List ℕ) × IsKeepingOutputOf name sessions x input (Writes text) × P text
+
+-- and so does a courier, of the wire
+abbrev pub WritesCarrying : (rounds : ℕ) → Wired → List ℕ → (List ℕ → Type 0) → Type 0
+WritesCarrying rounds x input P = (text : List ℕ) × IsCarryingOutputOf rounds x input (Writes text) × P text

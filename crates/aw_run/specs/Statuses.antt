@@ -1,9 +1,11 @@
 -- How a run can end, and what each end says of it.
 use Rattle.std.specs.Prelude.{ℕ}
+use Rattle.aw_durable.specs.declared.fault.KeptFault.{KeptFault}
+use Rattle.aw_durable.specs.declared.fault.KeptFault.TheVariants as fault
 use Rattle.aw_run.specs.declared.reply.Status.{Status}
-use Rattle.aw_run.specs.declared.reply.Status.TheVariants.{Done, Usage, BadSpec, Circular, BadSchedule, TooLarge, ReadFault, WriteFault, NetFault, NoMemory, TooLong, BadTypes}
+use Rattle.aw_run.specs.declared.reply.Status.TheVariants.{Done, Usage, BadSpec, Circular, BadSchedule, TooLarge, ReadFault, WriteFault, NetFault, NoMemory, TooLong, BadTypes, DiskFault, BadJournal, JournalFull, BadReply}
 use Rattle.aw_run.specs.declared.reply.Stop.{Stop}
-use Rattle.aw_run.specs.declared.reply.Stop.TheVariants.{ReadFault as StopReadFault, NetFault as StopNetFault, NoMemory as StopNoMemory}
+use Rattle.aw_run.specs.declared.reply.Stop.TheVariants as stop
 
 -- the exit code
 abbrev pub code_of : Status → ℕ
@@ -18,12 +20,28 @@ code_of WriteFault = 8
 code_of NetFault = 9
 code_of NoMemory = 10
 code_of TooLong = 11
+code_of DiskFault = 12
+code_of BadJournal = 13
+code_of BadReply = 14
 code_of BadTypes = 15
+code_of JournalFull = 16
 
 abbrev pub status_of_stop : Stop → Status
-status_of_stop StopReadFault = ReadFault
-status_of_stop StopNetFault = NetFault
-status_of_stop StopNoMemory = NoMemory
+status_of_stop stop.ReadFault = ReadFault
+status_of_stop stop.NetFault = NetFault
+status_of_stop stop.DiskFault = DiskFault
+status_of_stop stop.BadJournal = BadJournal
+status_of_stop stop.JournalFull = JournalFull
+status_of_stop stop.NoMemory = NoMemory
+
+-- a fault of a kept role, as one of a run
+abbrev pub stop_of : KeptFault → Stop
+stop_of fault.NetFault = stop.NetFault
+stop_of fault.DiskFault = stop.DiskFault
+stop_of fault.BadHead = stop.BadJournal
+stop_of (fault.BadEvent number) = stop.BadJournal
+stop_of fault.Full = stop.JournalFull
+stop_of fault.NoMemory = stop.NoMemory
 
 -- the run was not stopped by a fault or by want of memory
 abbrev pub IsReply : Status → Type 0
@@ -31,7 +49,39 @@ IsReply ReadFault = ⊥
 IsReply WriteFault = ⊥
 IsReply NetFault = ⊥
 IsReply NoMemory = ⊥
+IsReply DiskFault = ⊥
+IsReply BadJournal = ⊥
+IsReply JournalFull = ⊥
 IsReply _ = Unit {0}
+
+-- there was nothing to reply
+abbrev pub IsStop : Status → Type 0
+IsStop ReadFault = Unit {0}
+IsStop NetFault = Unit {0}
+IsStop NoMemory = Unit {0}
+IsStop DiskFault = Unit {0}
+IsStop BadJournal = Unit {0}
+IsStop JournalFull = Unit {0}
+IsStop _ = ⊥
+
+-- the disk or the journal on it stopped the run
+abbrev pub IsJournalStop : Status → Type 0
+IsJournalStop DiskFault = Unit {0}
+IsJournalStop BadJournal = Unit {0}
+IsJournalStop JournalFull = Unit {0}
+IsJournalStop _ = ⊥
+
+-- the words or what was read were refused, or the source was not read to its end, before anything was served
+abbrev pub IsRefusal : Status → Type 0
+IsRefusal Usage = Unit {0}
+IsRefusal BadSpec = Unit {0}
+IsRefusal Circular = Unit {0}
+IsRefusal BadSchedule = Unit {0}
+IsRefusal TooLarge = Unit {0}
+IsRefusal ReadFault = Unit {0}
+IsRefusal TooLong = Unit {0}
+IsRefusal BadTypes = Unit {0}
+IsRefusal _ = ⊥
 
 -- the run came past reading
 abbrev pub IsPastReading : Status → Type 0
@@ -47,4 +97,7 @@ IsSilent NetFault = Unit {0}
 IsSilent NoMemory = Unit {0}
 IsSilent TooLong = Unit {0}
 IsSilent TooLarge = Unit {0}
+IsSilent DiskFault = Unit {0}
+IsSilent BadJournal = Unit {0}
+IsSilent JournalFull = Unit {0}
 IsSilent _ = ⊥

@@ -8,7 +8,7 @@ ghost use Rattle.aw_spec.specs.TypesFit.{TypesFit};
 ghost use Rattle.aw_spec.specs.Views.{spec_seen};
 ghost use Rattle.aw_accept.specs.Circular.{IsRelation};
 ghost use Rattle.aw_run.specs.Checked.{TellsApart, TellsFree, TellsChecked};
-ghost use Rattle.aw_run.specs.Output.{IfAccepted, TellsDependences, WritesChecked};
+ghost use Rattle.aw_run.specs.Output.{IfAccepted, TellsSpecification, WritesChecked};
 ghost use Rattle.aw_run.specs.Replies.{Replies};
 
 use crate::refusals::not_accepted;
@@ -73,7 +73,7 @@ fn checked_text(
 }
 
 /// The reply to a specification that was accepted.
-fn tell_dependences(
+fn tell_specification(
     alloc: Global,
     accepted: &Accepted,
     faces: &Faces,
@@ -95,7 +95,7 @@ fn tell_dependences(
 pub fn check(alloc: Global, spec: SpecText) -> Result<Reply, AllocError>
     requires faces { face_fault (grammar_of spec.grammar) spec.faces.offers spec.faces.uses ≡ None }
     requires fits { TypesFit (spec_seen spec) }
-    ensures { IfOk result (λ reply. Replies (IfAccepted (spec_seen spec) (TellsDependences (spec_seen spec))) reply) }
+    ensures { IfOk result (λ reply. Replies (IfAccepted (spec_seen spec) (TellsSpecification (spec_seen spec))) reply) }
 {
     let SpecText {
         grammar,
@@ -105,7 +105,7 @@ pub fn check(alloc: Global, spec: SpecText) -> Result<Reply, AllocError>
         ..
     } = spec;
     match accept(alloc, grammar) {
-        Ok(accepted) => tell_dependences(alloc, &accepted, &faces, &depends, free),
+        Ok(accepted) => tell_specification(alloc, &accepted, &faces, &depends, free),
         Err(refused) => not_accepted(alloc, refused),
     }
 }

@@ -1,7 +1,10 @@
 //! The words of a command line, the commands, and the top call.
 #![tactic(auto)]
 
+mod carrying;
 mod check;
+mod front;
+mod keeping;
 mod law;
 mod reading;
 mod refusals;

@@ -1,5 +1,5 @@
 //! The commands that read the source to its end, and reply to what was read.
-ghost use Rattle.std.specs.Prelude.{◌≡◌, ◌≢◌, ◌≤◌, ◌+◌, ◌<◌, ◌^◌, [], IfOk, None, length};
+ghost use Rattle.std.specs.Prelude.{◌≡◌, ◌≢◌, ◌≤◌, ◌+◌, ◌<◌, ◌^◌, [], IfOk, IfErr, None, length};
 ghost use Rattle.aw_lex.specs.Lines.{lines_of};
 ghost use Rattle.aw_grammar.specs.GrammarOf.{grammar_of};
 ghost use Rattle.aw_typed.specs.Types.{AreFor};
@@ -11,7 +11,7 @@ ghost use Rattle.aw_out.specs.Causes.{Rose};
 ghost use Rattle.aw_out.specs.Edge.{IsUsedUp, GivesSome};
 ghost use Rattle.aw_run.specs.Output.{IsOutputOf, Makes, MakesTyped};
 ghost use Rattle.aw_run.specs.Promises.{IfTells, OfEvents, OfSchedule, Promises, RepliesKeeping};
-ghost use Rattle.aw_run.specs.Statuses.{IsReply, IsSilent, IsPastReading};
+ghost use Rattle.aw_run.specs.Statuses.{IsReply, IsSilent, IsPastReading, IsJournalStop, status_of_stop};
 ghost use Rattle.aw_run.specs.Replies.{ForInput, Replies};
 
 use crate::check::check;
@@ -95,6 +95,7 @@ pub fn reply_to_source<S: Source>(alloc: Global, job: Job, src: &mut S) -> Resul
     ensures kept { result ≢ Err Stop.ReadFault → S.faults src.new ≡ S.faults src.old }
     ensures read_before { result ≡ Err Stop.ReadFault → GivesSome (S.left src.old) (S.left src.new) (λ bytes. length bytes ≤ INPUT_LIMIT) }
     ensures no_net_fault { result ≢ Err Stop.NetFault }
+    ensures no_journal { IfErr result (λ stop. IsJournalStop (status_of_stop stop) → ⊥) }
     ensures never_falls { S.faults src.old ≤ S.faults src.new }
 {
     match read_all(alloc, src, INPUT_LIMIT) {

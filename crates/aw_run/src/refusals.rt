@@ -1,16 +1,17 @@
 //! The lines that say why an input is refused.
-ghost use Rattle.std.specs.Prelude.{◌≡◌, ◌++◌, codes, OnOk, IfOk};
+ghost use Rattle.std.specs.Prelude.{◌≡◌, ◌++◌, [], codes, OnOk, IfOk};
 ghost use Rattle.aw_spec.specs.KindNames.{kind_name};
 ghost use Rattle.aw_grammar.specs.GrammarOf.{words_of};
+ghost use Rattle.aw_term.specs.Rules.{get};
 ghost use Rattle.aw_told.specs.Told.{circle_text};
-ghost use Rattle.aw_run.specs.Output.{BadSpecification, BadTypes, IsCircular, BadSchedule};
+ghost use Rattle.aw_run.specs.Output.{BadSpecification, BadTypes, IsCircular, BadSchedule, NoReplyOf};
 ghost use Rattle.aw_sched.specs.KindNames.{kind_name as schedule_kind};
 ghost use Rattle.aw_run.specs.Refusals.{at_line};
 ghost use Rattle.aw_run.specs.Replies.{reply_with, RefusesGrammar, RefusesTypes};
 
 use crate::reply::{Reply, Status};
 use aw_accept::{Fault, Refused};
-use aw_base::{Grammar, con_name, sort_name};
+use aw_base::{Grammar, con_name, role_name, sort_name};
 use aw_list::Text;
 use aw_sched::SchedKind;
 use aw_spec::SpecKind;
@@ -113,6 +114,19 @@ pub fn bad_schedule(alloc: Global, line: u64, kind: SchedKind) -> Result<Reply, 
     text.push_bytes(b"\n")?;
     Ok(Reply {
         status: Status::BadSchedule,
+        text,
+    })
+}
+
+/// The line of a courier that names the role whose reply is none.
+pub fn bad_reply(alloc: Global, g: &Grammar, role: u16) -> Result<Reply, AllocError>
+    ensures { IfOk result (λ reply. reply ≡ reply_with (NoReplyOf (get [] (words_of g.now).roles role))) }
+{
+    let mut text = Text::from_bytes(alloc, b"bad reply ")?;
+    text.push_bytes(role_name(g, role))?;
+    text.push_bytes(b"\n")?;
+    Ok(Reply {
+        status: Status::BadReply,
         text,
     })
 }

@@ -1,7 +1,8 @@
 //! What the program says, and the status it says it with.
 ghost use Rattle.std.specs.Prelude.{◌≡◌, [], IfOk};
-ghost use Rattle.aw_run.specs.Statuses.{code_of, status_of_stop};
+ghost use Rattle.aw_run.specs.Statuses.{code_of, status_of_stop, stop_of};
 
+use aw_durable::KeptFault;
 use aw_list::Text;
 use std::alloc::{AllocError, Global};
 
@@ -32,6 +33,14 @@ pub enum Status {
     TooLong,
     /// A constructor or a sort has no types, or a term does not fit.
     BadTypes,
+    /// The disk failed.
+    DiskFault,
+    /// The journal is that of another role or specification, or an event in it is none.
+    BadJournal,
+    /// The journal has no room for its head or for one more event.
+    JournalFull,
+    /// What a role sent in a reply's place is none.
+    BadReply,
 }
 
 impl Status {
@@ -51,7 +60,11 @@ impl Status {
             Status::NetFault => 9,
             Status::NoMemory => 10,
             Status::TooLong => 11,
+            Status::DiskFault => 12,
+            Status::BadJournal => 13,
+            Status::BadReply => 14,
             Status::BadTypes => 15,
+            Status::JournalFull => 16,
         }
     }
 }
@@ -90,6 +103,9 @@ impl Reply {
 pub enum Stop {
     ReadFault,
     NetFault,
+    DiskFault,
+    BadJournal,
+    JournalFull,
     NoMemory,
 }
 
@@ -101,6 +117,9 @@ impl Stop {
         match self {
             Stop::ReadFault => Status::ReadFault,
             Stop::NetFault => Status::NetFault,
+            Stop::DiskFault => Status::DiskFault,
+            Stop::BadJournal => Status::BadJournal,
+            Stop::JournalFull => Status::JournalFull,
             Stop::NoMemory => Status::NoMemory,
         }
     }
@@ -111,6 +130,20 @@ impl From<AllocError> for Stop {
 
     fn from(_error: AllocError) -> Stop {
         Stop::NoMemory
+    }
+}
+
+impl From<KeptFault> for Stop {
+    ghost from_gives = { λ fault stop. stop ≡ stop_of fault };
+
+    fn from(fault: KeptFault) -> Stop {
+        match fault {
+            KeptFault::NetFault => Stop::NetFault,
+            KeptFault::DiskFault => Stop::DiskFault,
+            KeptFault::BadHead | KeptFault::BadEvent { .. } => Stop::BadJournal,
+            KeptFault::Full => Stop::JournalFull,
+            KeptFault::NoMemory => Stop::NoMemory,
+        }
     }
 }
 

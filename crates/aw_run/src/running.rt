@@ -1,31 +1,38 @@
 //! The top call.
-ghost use Rattle.std.specs.Prelude.{ℕ, ◌≡◌, ◌≢◌, ◌≤◌, ◌⊎◌, [], IfOk, IfSome, Some, false, true, length};
+ghost use Rattle.std.specs.Prelude.{ℕ, ◌≡◌, ◌≢◌, ◌≤◌, ◌⊎◌, [], IfOk, IfErr, IfSome, Some, false, true, length};
 ghost use Rattle.aw_out.specs.Causes.{Rose};
 ghost use Rattle.aw_out.specs.Edge.{IsUsedUp, GivesSome, Gets, GetsPrefix};
 ghost use Rattle.aw_run.specs.Trials.{trial_text};
 ghost use Rattle.aw_run.specs.Words.{command_of, role_word};
-ghost use Rattle.aw_run.specs.Statuses.{IsReply, IsPastReading, IsSilent};
+ghost use Rattle.aw_run.specs.Carrying.{StopsCarrying};
+ghost use Rattle.aw_run.specs.Keeping.{StopsKeeping};
+ghost use Rattle.aw_run.specs.Statuses.{IsReply, IsPastReading, IsSilent, IsStop, IsJournalStop, IsRefusal, status_of_stop};
 ghost use Rattle.aw_run.specs.Promises.{PlainIsTyped, ReplayIsTyped, RepliesKeeping, RulesStayEnabled, Settled, StartsStayEnabled, StaysAcyclic, WritesAnyOrder, WritesWith};
-ghost use Rattle.aw_run.specs.Replies.{EndsWith, ForInput, IsGood, NetFailed, Replied, Says, SomeReply, WritesServing, WritesSome, reads, uses_wire, with_wire};
+ghost use Rattle.aw_run.specs.Replies.{EndsWith, ForInput, IsDoneOrStopped, IsGood, NetFailed, Replied, Says, SomeReply, WritesCarrying, WritesKeeping, WritesServing, WritesSome};
+ghost use Rattle.aw_run.specs.Replies.{around, contents, reads, uses_disk, uses_wire, wired};
 
+use crate::carrying::carry_source;
+use crate::keeping::keep_source;
 use crate::reading::reply_to_source;
 use crate::reply::{Reply, Status, Stop};
 use crate::serving::serve_source;
 use crate::source::INPUT_LIMIT;
 use crate::trials::tell_trial;
 use crate::words::{Command, Job, Telling, Word, role_word};
+use aw_disk::Disk;
 use aw_out::{Sink, Source, Wire, write_all};
 use std::alloc::Global;
 
 /// Runs the words, and makes what is to be written.
-fn prepare<S: Source, W: Wire>(
+fn prepare<S: Source, W: Wire, D: Disk>(
     alloc: Global,
     words: &[Word],
     src: &mut S,
     wire: &mut W,
+    disk: &mut D,
 ) -> Result<Reply, Stop>
     ensures reply { IfOk result (λ reply. ForInput (S.left src.old) (λ input.
-        Says words.now input (with_wire (W.content wire.old) (W.content wire.new)) reply)) }
+        Says words.now input (around ⟦<W as Wire>⟧ ⟦<D as Disk>⟧ wire.old wire.new disk.old disk.new) reply)) }
     ensures promises { IfOk result (λ reply. (job : Job) → command_of words.now ≡ Some (Command.Reads job) → ForInput (S.left src.old) (λ input. RepliesKeeping job input reply)) }
     ensures is_reply { IfOk result (λ reply. IsReply reply.status) }
     ensures silent { IfOk result (λ reply. IsSilent reply.status → reply.text ≡ []) }
@@ -38,7 +45,16 @@ fn prepare<S: Source, W: Wire>(
     ensures read_command { result ≡ Err Stop.ReadFault → reads (command_of words.now) ≡ true }
     ensures net_cause { result ≡ Err Stop.NetFault → NetFailed (command_of words.now) (W.failed_openings wire.old) (W.failed_openings wire.new) (W.faults wire.old) (W.faults wire.new) }
     ensures net_command { result ≡ Err Stop.NetFault → uses_wire (command_of words.now) ≡ true }
-    ensures net_end { result ≡ Err Stop.NetFault → IsUsedUp (S.left src.new) }
+    ensures no_disk { uses_disk (command_of words.now) ≡ false → disk.new ≡ disk.old }
+    ensures disk_cause { result ≡ Err Stop.DiskFault → Rose (D.faults disk.old) (D.faults disk.new) }
+    ensures disk_command { IfErr result (λ stop. IsJournalStop (status_of_stop stop) → uses_disk (command_of words.now) ≡ true) }
+    ensures refused { IfOk result (λ reply. IsRefusal reply.status → (wire.new ≡ wire.old) × (disk.new ≡ disk.old)) }
+    ensures unread { result ≡ Err Stop.ReadFault → (wire.new ≡ wire.old) × (disk.new ≡ disk.old) }
+    ensures stopped { (n : ℕ) → command_of words.now ≡ Some (Command.Keeps n) → IfErr result (λ stop. ForInput (S.left src.old) (λ input.
+        StopsKeeping (role_word words.now) n (around ⟦<W as Wire>⟧ ⟦<D as Disk>⟧ wire.old wire.new disk.old disk.new) input (status_of_stop stop))) }
+    ensures broken { (n : ℕ) → command_of words.now ≡ Some (Command.Carries n) → IfErr result (λ stop. ForInput (S.left src.old) (λ input.
+        StopsCarrying n (wired ⟦<W as Wire>⟧ wire.old wire.new) input (status_of_stop stop))) }
+    ensures stop_end { IfErr result (λ stop. IsPastReading (status_of_stop stop) → IsUsedUp (S.left src.new)) }
     ensures never_falls { S.faults src.old ≤ S.faults src.new }
 {
     let Some(command) = Command::from_words(words) else {
@@ -50,6 +66,10 @@ fn prepare<S: Source, W: Wire>(
         Command::Serves { sessions } => {
             serve_source(alloc, role_word(words), sessions, src, wire)
         }
+        Command::Keeps { sessions } => {
+            keep_source(alloc, role_word(words), sessions, src, wire, disk)
+        }
+        Command::Carries { rounds } => carry_source(alloc, rounds, src, wire),
     }
 }
 
@@ -71,20 +91,21 @@ fn deliver<K: Sink>(out: &mut K, reply: &Reply) -> Status
 }
 
 /// Runs the program once.
-pub fn run<S: Source, K: Sink, W: Wire>(
+pub fn run<S: Source, K: Sink, W: Wire, D: Disk>(
     alloc: Global,
     words: &[Word],
     src: &mut S,
     out: &mut K,
     wire: &mut W,
+    disk: &mut D,
 ) -> Status
     // The status, and what was written, are those of a reply to what was left to read.
     ensures reply { IsReply result → ForInput (S.left src.old) (λ input.
-        SomeReply words.now input (with_wire (W.content wire.old) (W.content wire.new)) (λ said.
+        SomeReply words.now input (around ⟦<W as Wire>⟧ ⟦<D as Disk>⟧ wire.old wire.new disk.old disk.new) (λ said.
         Replied said result (K.written out.old) (K.written out.new))) }
 
     // What is told of the words and of the bytes is told exactly by them.
-    ensures cause { IsReply result → ForInput (S.left src.old) (λ input. EndsWith words.now input (with_wire (W.content wire.old) (W.content wire.new)) result) }
+    ensures cause { IsReply result → ForInput (S.left src.old) (λ input. EndsWith words.now input (around ⟦<W as Wire>⟧ ⟦<D as Disk>⟧ wire.old wire.new disk.old disk.new) result) }
 
     // A command that is done has written the whole text that it makes of its input.
     ensures check { command_of words.now ≡ Some (Command.Reads Job.Check) → result ≡ Status.Done → ForInput (S.left src.old)
@@ -116,11 +137,24 @@ pub fn run<S: Source, K: Sink, W: Wire>(
 
     ensures trial { (n : ℕ) → command_of words.now ≡ Some (Command.Tries n) → result ≡ Status.Done → Gets (K.written out.old) (K.written out.new) (trial_text n) }
     ensures node { (n : ℕ) → command_of words.now ≡ Some (Command.Serves n) → result ≡ Status.Done → ForInput (S.left src.old) (λ input.
-        WritesServing (role_word words.now) n (with_wire (W.content wire.old) (W.content wire.new)) input (Gets (K.written out.old) (K.written out.new))) }
+        WritesServing (role_word words.now) n (contents (W.content wire.old) (W.content wire.new)) input (Gets (K.written out.old) (K.written out.new))) }
 
-    // A command with a good input is done, unless memory runs out, the source fails or the sink does, or the wire of a command that uses it.
-    ensures complete { IfSome (S.left src.old) (λ input. IsGood words.now input (with_wire (W.content wire.old) (W.content wire.new)) →
-        (result ≡ Status.Done) ⊎ (result ≡ Status.NoMemory) ⊎ (result ≡ Status.ReadFault) ⊎ (result ≡ Status.WriteFault) ⊎ ((result ≡ Status.NetFault) × (uses_wire (command_of words.now) ≡ true))) }
+    // What a kept node tells of its sessions, and why it stops; both say what a crash leaves of its journal, at any moment of the run.
+    ensures kept { (n : ℕ) → command_of words.now ≡ Some (Command.Keeps n) → result ≡ Status.Done → ForInput (S.left src.old) (λ input.
+        WritesKeeping (role_word words.now) n (around ⟦<W as Wire>⟧ ⟦<D as Disk>⟧ wire.old wire.new disk.old disk.new) input (Gets (K.written out.old) (K.written out.new))) }
+    ensures stopped { (n : ℕ) → command_of words.now ≡ Some (Command.Keeps n) → IsStop result → ForInput (S.left src.old) (λ input.
+        StopsKeeping (role_word words.now) n (around ⟦<W as Wire>⟧ ⟦<D as Disk>⟧ wire.old wire.new disk.old disk.new) input result) }
+
+    // What a courier carried, and why it came to no end. Over a wire that was honest for a world and some choices, `quiet` means that the world is quiet.
+    ensures courier { (n : ℕ) → command_of words.now ≡ Some (Command.Carries n) → result ≡ Status.Done → ForInput (S.left src.old) (λ input.
+        WritesCarrying n (wired ⟦<W as Wire>⟧ wire.old wire.new) input (Gets (K.written out.old) (K.written out.new))) }
+    ensures broken { (n : ℕ) → command_of words.now ≡ Some (Command.Carries n) → IsStop result → ForInput (S.left src.old) (λ input.
+        StopsCarrying n (wired ⟦<W as Wire>⟧ wire.old wire.new) input result) }
+
+    // A command with a good input is done, unless memory runs out, the source fails or the sink does, or the wire or the disk of a command that uses it,
+    // or what a courier hears is no reply.
+    ensures complete { IfSome (S.left src.old) (λ input. IsGood words.now input (around ⟦<W as Wire>⟧ ⟦<D as Disk>⟧ wire.old wire.new disk.old disk.new) →
+        IsDoneOrStopped (command_of words.now) result) }
 
     // The source failed before it gave too much, and only a command that reads tells of it.
     ensures read_fault { result ≡ Status.ReadFault → Rose (S.faults src.old) (S.faults src.new) }
@@ -130,7 +164,7 @@ pub fn run<S: Source, K: Sink, W: Wire>(
     // A sink that fails has got the front of the reply.
     ensures write_fault { result ≡ Status.WriteFault → Rose (K.faults out.old) (K.faults out.new) }
     ensures prefix { result ≡ Status.WriteFault → ForInput (S.left src.old) (λ input.
-        SomeReply words.now input (with_wire (W.content wire.old) (W.content wire.new)) (λ said.
+        SomeReply words.now input (around ⟦<W as Wire>⟧ ⟦<D as Disk>⟧ wire.old wire.new disk.old disk.new) (λ said.
         GetsPrefix (K.written out.old) (K.written out.new) said.text)) }
     ensures silent { IsSilent result → out.new ≡ out.old }
 
@@ -143,13 +177,19 @@ pub fn run<S: Source, K: Sink, W: Wire>(
     ensures net_fault { result ≡ Status.NetFault → NetFailed (command_of words.now) (W.failed_openings wire.old) (W.failed_openings wire.new) (W.faults wire.old) (W.faults wire.new) }
     ensures net_command { result ≡ Status.NetFault → uses_wire (command_of words.now) ≡ true }
 
+    // Only a command that uses the disk touches it, and what is refused leaves the wire and the disk as they were.
+    ensures no_disk { uses_disk (command_of words.now) ≡ false → disk.new ≡ disk.old }
+    ensures disk_fault { result ≡ Status.DiskFault → Rose (D.faults disk.old) (D.faults disk.new) }
+    ensures disk_command { IsJournalStop result → uses_disk (command_of words.now) ≡ true }
+    ensures refused { IsRefusal result → (wire.new ≡ wire.old) × (disk.new ≡ disk.old) }
+
     // Each read that fails is told, and so is each write; after any other answer none has failed.
     ensures source_kept { result ≢ Status.ReadFault → S.faults src.new ≡ S.faults src.old }
     ensures sink_kept { result ≢ Status.WriteFault → K.faults out.new ≡ K.faults out.old }
     ensures source_count { S.faults src.old ≤ S.faults src.new }
     ensures sink_count { K.faults out.old ≤ K.faults out.new }
 {
-    match prepare(alloc, words, src, wire) {
+    match prepare(alloc, words, src, wire, disk) {
         Ok(reply) => deliver(out, &reply),
         Err(stop) => stop.status(),
     }

@@ -1,7 +1,7 @@
 //! The command that makes a trial.
-ghost use Rattle.std.specs.Prelude.{◌≡◌, ◌≢◌, [], IfOk};
+ghost use Rattle.std.specs.Prelude.{◌≡◌, ◌≢◌, [], IfOk, IfErr};
 ghost use Rattle.aw_run.specs.Replies.{reply_with};
-ghost use Rattle.aw_run.specs.Statuses.{IsReply, IsSilent};
+ghost use Rattle.aw_run.specs.Statuses.{IsReply, IsSilent, IsJournalStop, status_of_stop};
 ghost use Rattle.aw_run.specs.Trials.{trial_output};
 
 use crate::reply::{Reply, Status, Stop};
@@ -32,6 +32,7 @@ pub fn tell_trial(alloc: Global, number: u64) -> Result<Reply, Stop>
     ensures silent { IfOk result (λ reply. IsSilent reply.status → reply.text ≡ []) }
     ensures no_read_fault { result ≢ Err Stop.ReadFault }
     ensures no_net_fault { result ≢ Err Stop.NetFault }
+    ensures no_journal { IfErr result (λ stop. IsJournalStop (status_of_stop stop) → ⊥) }
 {
     Ok(summary_reply(alloc, number)?)
 }

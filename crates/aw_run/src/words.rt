@@ -1,6 +1,6 @@
 //! The words of a command line.
 ghost use Rattle.std.specs.Prelude.{◌≡◌, IfOk};
-ghost use Rattle.aw_run.specs.Words.{command_of, command_named, node_named, role_word, session_count, trial_named};
+ghost use Rattle.aw_run.specs.Words.{command_of, command_named, kept_named, node_named, numbered, role_word, session_count};
 
 use aw_text::number_value;
 use std::alloc::{AllocError, Global};
@@ -65,6 +65,10 @@ pub enum Command {
     Tries { number: u64 },
     /// To read the source to its end, and to serve a role of it in so many sessions. The role's name is the second word.
     Serves { sessions: u32 },
+    /// The same, with each event of the role on the disk before its reply is written.
+    Keeps { sessions: u32 },
+    /// To read the source to its end, and to carry messages between the nodes of its roles in so many rounds, or until nothing moves.
+    Carries { rounds: u64 },
 }
 
 /// The most sessions that a node serves.
@@ -97,20 +101,27 @@ impl Command {
     {
         match words {
             [word] => Command::from_word(word.as_bytes()),
-            [word, number] => Command::from_trial(word.as_bytes(), number.as_bytes()),
+            [word, number] => Command::from_number(word.as_bytes(), number.as_bytes()),
             [word, _, sessions] => Command::from_node(word.as_bytes(), sessions.as_bytes()),
+            [word, _, sessions, last] => {
+                Command::from_kept(word.as_bytes(), sessions.as_bytes(), last.as_bytes())
+            }
             _ => None,
         }
     }
 
-    fn from_trial(word: &[u8], number: &[u8]) -> Option<Command>
-        ensures { result ≡ trial_named word.now number.now }
+    fn from_number(word: &[u8], number: &[u8]) -> Option<Command>
+        ensures { result ≡ numbered word.now number.now }
     {
-        if word != b"trial".as_slice() {
-            return None;
+        if word == b"trial".as_slice() {
+            let number = number_value(number)?;
+            return Some(Command::Tries { number });
         }
-        let number = number_value(number)?;
-        Some(Command::Tries { number })
+        if word == b"courier".as_slice() {
+            let rounds = number_value(number)?;
+            return Some(Command::Carries { rounds });
+        }
+        None
     }
 
     fn from_node(word: &[u8], sessions: &[u8]) -> Option<Command>
@@ -121,6 +132,19 @@ impl Command {
         }
         let sessions = session_count(sessions)?;
         Some(Command::Serves { sessions })
+    }
+
+    fn from_kept(word: &[u8], sessions: &[u8], last: &[u8]) -> Option<Command>
+        ensures { result ≡ kept_named word.now sessions.now last.now }
+    {
+        if word != b"node".as_slice() {
+            return None;
+        }
+        if last != b"kept".as_slice() {
+            return None;
+        }
+        let sessions = session_count(sessions)?;
+        Some(Command::Keeps { sessions })
     }
 
     fn from_word(word: &[u8]) -> Option<Command>

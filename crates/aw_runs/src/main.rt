@@ -4,6 +4,7 @@
 //! in them comes from the program.
 #![tactic(auto)]
 
+use aw_disk::{DiskCalls, MemDisk};
 use aw_list::Text;
 use aw_out::{
     Calls, MemSink, MemSource, Sizes, StdSink, StdSource, SureWire, Texts, read_all, write_all,
@@ -60,7 +61,9 @@ fn run_once(
     let fails = Calls::from_slice(alloc, &[write_fails])?;
     let mut out = MemSink::new(alloc, pieces, fails, LIMIT)?;
     let mut wire = SureWire::new(Texts::new(alloc));
-    let status = run(alloc, words, &mut src, &mut out, &mut wire);
+    let fails = DiskCalls::from_slice(alloc, &[])?;
+    let mut disk = MemDisk::new(alloc, Text::new(alloc), fails, 0, 0)?;
+    let status = run(alloc, words, &mut src, &mut out, &mut wire, &mut disk);
     let text = Text::from_bytes(alloc, out.written())?;
     Ok(Outcome { status, text })
 }

@@ -3,4 +3,4 @@ use Rattle.aw_run.proofs.OneOutputs.{one-output}
 use Rattle.aw_run.proofs.law.outputs_are_one.Goals as goal
 
 pub returns : goal.returns
-returns c = record { outputs = one-output; replies = one-reply }
+returns g c = record { outputs = one-output; replies = one-reply g.W.Wire g.D.Disk }

@@ -1,22 +1,16 @@
-use Rattle.std.proofs.Common.{◌≡◌, refl, Ok}
-use Rattle.aw_lex.specs.Lines.{lines_of}
-use Rattle.aw_spec.specs.Reading.{Faulty, specification}
-use Rattle.aw_spec.specs.KindNames.{kind_name}
-use Rattle.aw_run.specs.Devices.{with_wire}
-use Rattle.aw_run.specs.Refusals.{at_line}
-use Rattle.aw_run.specs.Output.{Output, BadSpecification}
-use Rattle.aw_run.specs.Serving.{IsServingOutputOf}
-use Rattle.aw_run.proofs.ServedOutputs.{served-read, bad-served}
-use Rattle.aw_run.proofs.Verdicts.{reply-map}
+use Rattle.std.proofs.Common.{◌≡◌}
+use Rattle.std.proofs.lemmas.Result.{IfOk-weaker}
+use Rattle.aw_run.specs.Devices.{contents}
+use Rattle.aw_run.proofs.FrontOutputs.{serves-opened, serves-refused}
 use Rattle.aw_run.proofs.serving.serve_input.Goals as goal
 
-pub returns-in-Ok-clause-reply : goal.returns-in-Ok-clause-reply
-returns-in-Ok-clause-reply g c =
-    reply-map c.serve_specification.result _ _
-    (λ output holds. served-read c.args.name.now c.args.sessions _ c.args.input.now _ output c.requires.within c.in-Ok.ensures.exact holds)
-    c.serve_specification.ensures.reply
+pub returns-in-Ready-clause-reply : goal.returns-in-Ready-clause-reply
+returns-in-Ready-clause-reply g c =
+    let (s, opens, ready) = rw c.in-Ready.is at c.in_ok-opened.ensures in
+    IfOk-weaker c.serve_named.result _ _
+    (λ said is. serves-opened c.args.name.now c.args.sessions (contents (g.W.Wire.content c.args.wire.now) (g.W.Wire.content c.serve_named.new.wire)) c.args.input.now s said opens (is s ready.declared ready.types))
+    c.serve_named.ensures.reply
 
-pub returns-in_ok-bad_specification-in-Err-Bad-clause-reply : goal.returns-in_ok-bad_specification-in-Err-Bad-clause-reply
-returns-in_ok-bad_specification-in-Err-Bad-clause-reply g c =
-    let faulty : specification (lines_of c.args.input.now) ≡ Faulty c.in-Err-Bad.line c.in-Err-Bad.kind = rw c.in-Err-Bad.field-0-is at c.in-Err-Bad.ensures.exact in
-    bad-served _ c.args.name.now c.args.sessions _ c.args.input.now c.in-Err-Bad.line _ c.in-Err-Bad.kind _ c.requires.within faulty c.in-Err-Bad.line-is c.in-Err-Bad.kind-is c.in_ok-bad_specification-in-Err-Bad.ensures
+pub returns-in-Refused-clause-reply : goal.returns-in-Refused-clause-reply
+returns-in-Refused-clause-reply g c =
+    serves-refused c.args.name.now c.args.sessions (contents (g.W.Wire.content c.args.wire.now) (g.W.Wire.content c.args.wire.now)) c.args.input.now _ (rw c.in-Refused.is at c.in_ok-opened.ensures)

@@ -1,6 +1,6 @@
 use Rattle.aw_grammar.specs.GrammarOf.{grammar_of, words_of}
 use Rattle.aw_run.proofs.Checking.{written}
-use Rattle.aw_run.proofs.check.tell_dependences.Goals as goal
+use Rattle.aw_run.proofs.check.tell_specification.Goals as goal
 
 pub returns : goal.returns
 returns c =

@@ -1,0 +1,104 @@
+//! A node of one session, over a wire in memory.
+use aw_disk::Disk;
+use aw_list::Text;
+use aw_out::{Calls, MemSink, Sizes, SureSource, Texts};
+use aw_run::{Status, Word, run};
+use aw_wires::{MemWire, Numbers};
+use std::alloc::{AllocError, Global};
+
+/// The specification of a clinic and its laboratory, laid out as the program writes it.
+pub const SPECIFICATION: &[u8] = b"role clinic
+role lab
+con blood 1
+con report 2
+con found 2
+con none 0
+sort visit clinic 0 1
+sort test lab 1 1
+start visit
+offer test
+use clinic test
+rule admit {who} : visit()<report(who, r)> = test(blood(who))<r>
+rule analyse {v} : test(blood(w))<found(w, v)>
+rule skip : test(x)<none>
+";
+
+/// The laboratory is called for `visit#1/admit.1`; its first message is pulled, with which it asks for `visit#1:p2`; and it skips the test.
+pub const FIRST: &[u8] =
+    b"\x01\x00\x00\x00\x21\x01\x00\x01\x00\x00\x00\x00\x00\x00\x00\x00\x00\x00\x01\x01\x00\x00\x01\x01\x00\x00\x00\x00\x00\x00\x00\x00\x00\x01\x00\x01\x00\x02\x03\x00\x00\x00\x08\x00\x00\x00\x00\x00\x00\x00\x00\x02\x00\x00\x00\x12\x01\x00\x00\x00\x00\x00\x00\x00\x00\x00\x01\x01\x00\x00\x01\x00\x02\x00";
+
+/// The first message is pulled again, and then the second one, which is not there.
+pub const AGAIN: &[u8] =
+    b"\x03\x00\x00\x00\x08\x00\x00\x00\x00\x00\x00\x00\x00\x03\x00\x00\x00\x08\x00\x00\x00\x00\x00\x00\x00\x01";
+
+/// The most bytes that are written in a run, on its output or its wire.
+const ROOM: usize = 4096;
+
+/// In how many bytes is read and written.
+const PIECE: usize = 40;
+
+/// How a run came out: its status, what it wrote, and what was replied in its session.
+#[derive(Drop)]
+pub struct Outcome {
+    pub status: Status,
+    pub text: Text,
+    pub replies: Text,
+}
+
+/// `node ROLE 1 kept`
+fn words_for(alloc: Global, role: &[u8]) -> Result<Vec<Word>, AllocError> {
+    let mut words = Vec::new(alloc);
+    for word in [
+        b"node".as_slice(),
+        role,
+        b"1".as_slice(),
+        b"kept".as_slice(),
+    ] {
+        words.push(Word::from_bytes(alloc, word)?)?;
+    }
+    Ok(words)
+}
+
+/// A wire on which one session comes, with these bytes.
+fn wire_of(alloc: Global, frames: &[u8]) -> Result<MemWire, AllocError> {
+    let mut sessions = Vec::new(alloc);
+    sessions.push(Text::from_bytes(alloc, frames)?)?;
+    let mut pieces = Numbers::new(alloc);
+    pieces.push(PIECE)?;
+    MemWire::new(
+        alloc,
+        Texts::from_vec(sessions),
+        pieces,
+        Numbers::new(alloc),
+        ROOM,
+        1,
+    )
+}
+
+/// What was written in the session, if it came.
+fn replies_on(alloc: Global, wire: &MemWire) -> Result<Text, AllocError> {
+    if wire.passed() == 0 {
+        return Ok(Text::new(alloc));
+    }
+    Text::from_bytes(alloc, wire.written(0))
+}
+
+/// Serves one session of a role with these bytes, kept on a disk.
+pub fn serve<D: Disk>(
+    alloc: Global,
+    role: &[u8],
+    frames: &[u8],
+    disk: &mut D,
+) -> Result<Outcome, AllocError> {
+    let words = words_for(alloc, role)?;
+    let mut src = SureSource::new(Text::from_bytes(alloc, SPECIFICATION)?);
+    let pieces = Sizes::from_slice(alloc, &[PIECE])?;
+    let mut out = MemSink::new(alloc, pieces, Calls::from_slice(alloc, &[])?, ROOM)?;
+    let mut wire = wire_of(alloc, frames)?;
+    let status = run(alloc, words.as_slice(), &mut src, &mut out, &mut wire, disk);
+    Ok(Outcome {
+        status,
+        text: Text::from_bytes(alloc, out.written())?,
+        replies: replies_on(alloc, &wire)?,
+    })
+}

@@ -1,0 +1,96 @@
+//! The front of an input, for the commands that serve: its specification is read, its types are checked, and it is accepted.
+ghost use Rattle.std.specs.Prelude.{◌≡◌, ◌≤◌, length, IfOk, IsTrue};
+ghost use Rattle.aw_grammar.specs.GrammarOf.{grammar_of};
+ghost use Rattle.aw_typed.specs.Types.{AreFor};
+ghost use Rattle.aw_typed.specs.Typing.{types_of, IsMadeFor, NumbersInRange};
+ghost use Rattle.aw_spec.specs.Views.{spec_seen};
+ghost use Rattle.aw_write.specs.SpecLines.{written};
+ghost use Rattle.aw_run.specs.Fronts.{IsFrontOf, Nothing, ReadyOr};
+ghost use Rattle.aw_run.specs.Output.{IfAccepted, IfTyped};
+
+use crate::refusals::{bad_specification, bad_types, not_accepted};
+use crate::reply::Reply;
+use crate::source::INPUT_LIMIT;
+use aw_accept::{Accepted, accept};
+use aw_list::Text;
+use aw_spec::{SpecFault, SpecText, read_spec};
+use aw_typed::{Typed, type_check};
+use aw_write::write_spec;
+use std::alloc::{AllocError, Global};
+
+/// An accepted specification with its types, and its text where that was asked for.
+#[derive(Drop)]
+pub struct Opened {
+    pub accepted: Accepted,
+    pub typed: Typed,
+    pub text: Text,
+}
+
+/// What stands at the front of an input.
+#[derive(Drop)]
+pub enum Front {
+    /// A specification to be served.
+    Ready(Opened),
+    /// No good specification, and this is said of it.
+    Refused(Reply),
+}
+
+/// The text of a specification, where it is asked for.
+fn text_of(alloc: Global, spec: &SpecText, writes: bool) -> Result<Text, AllocError>
+    ensures { IfOk result (λ text. IsTrue writes → text ≡ written (spec_seen spec.now)) }
+{
+    if writes {
+        write_spec(alloc, spec)
+    } else {
+        Ok(Text::new(alloc))
+    }
+}
+
+/// The front of a good specification whose types have no fault.
+fn front_of_typed(
+    alloc: Global,
+    spec: SpecText,
+    typed: Typed,
+    writes: bool,
+) -> Result<Front, AllocError>
+    requires types { typed.types ≡ spec.types }
+    requires made { IsMadeFor (grammar_of spec.grammar) typed }
+    ensures { IfOk result (λ front. ReadyOr (IfAccepted (spec_seen spec) Nothing) (spec_seen spec) writes front) }
+{
+    let text = text_of(alloc, &spec, writes)?;
+    let SpecText { grammar, .. } = spec;
+    match accept(alloc, grammar) {
+        Ok(accepted) => Ok(Front::Ready(Opened {
+            accepted,
+            typed,
+            text,
+        })),
+        Err(refused) => Ok(Front::Refused(not_accepted(alloc, refused)?)),
+    }
+}
+
+/// The front of a good specification.
+fn front_of_specification(alloc: Global, spec: SpecText, writes: bool) -> Result<Front, AllocError>
+    requires sizes { AreFor (grammar_of spec.grammar) (types_of spec.types) }
+    requires numbers { NumbersInRange (types_of spec.types) }
+    ensures { IfOk result (λ front. ReadyOr (IfTyped (spec_seen spec) (IfAccepted (spec_seen spec) Nothing)) (spec_seen spec) writes front) }
+{
+    match type_check(alloc, &spec.grammar, &spec.types) {
+        Ok(typed) => front_of_typed(alloc, spec, typed, writes),
+        Err(fault) => Ok(Front::Refused(bad_types(alloc, &spec.grammar, fault)?)),
+    }
+}
+
+/// The front of an input that is within its limit, with the text of its specification where that is asked for.
+pub fn front_of_input(alloc: Global, input: &[u8], writes: bool) -> Result<Front, AllocError>
+    requires within { length input.now ≤ INPUT_LIMIT }
+    ensures { IfOk result (λ front. IsFrontOf input.now writes front) }
+{
+    match read_spec(alloc, input) {
+        Ok(spec) => front_of_specification(alloc, spec, writes),
+        Err(SpecFault::Bad { line, kind }) => {
+            Ok(Front::Refused(bad_specification(alloc, line, kind)?))
+        }
+        Err(SpecFault::NoMemory) => Err(AllocError),
+    }
+}
