@@ -1,6 +1,7 @@
 //! A table of sessions at the node of one role, over a wire in memory. It begins with a specification, and behind it stand entries:
 //! each has a mark and its name, a line of numbers that say how the node is asked, and the bytes of its sessions in hexadecimal. Of
-//! each session it is told what the node wrote, how many requests it answered, and how it ended. What stands in `stdin` and `stdout`
+//! each session it is told what the node wrote, how many requests it answered, and how it ended. Each case is served by two nodes, over
+//! the two stores of equations, and told once where both tell the same. What stands in `stdin` and `stdout`
 //! was made from the stated formats; nothing in it comes from the program.
 #![tactic(auto)]
 

@@ -9,9 +9,11 @@ use crate::fault::TableFault;
 use crate::told::{push_session, push_written};
 use aw_accept::{Accepted, accept};
 use aw_list::Text;
-use aw_node::{ServeFault, serve};
+use aw_node::{ServeFault, serve, serve_workspace};
 use aw_session::Log;
+use aw_site::Site;
 use aw_spec::{SpecText, read_spec};
+use aw_store::ListFacts;
 use aw_typed::{Typed, type_check};
 use aw_wires::{MemWire, Numbers};
 use bstr::ByteSlice;
@@ -53,14 +55,23 @@ fn wire_of(alloc: Global, case: Case) -> Result<MemWire, TableFault> {
     Ok(MemWire::new(alloc, bytes, pieces, fails, ROOM, MOST)?)
 }
 
-/// Adds what is told of a case.
-fn push_case(
+/// What is told of a case, or that a session could not be opened.
+fn told_of_served(
     alloc: Global,
-    told: &mut Text,
-    g: &Accepted,
-    t: &Typed,
-    case: Case,
-) -> Result<(), TableFault>
+    wire: &MemWire,
+    served: Result<Log, ServeFault>,
+) -> Result<Text, TableFault> {
+    let mut told = Text::new(alloc);
+    match served {
+        Ok(log) => push_log(alloc, &mut told, wire, &log)?,
+        Err(ServeFault::NetFault) => told.push_bytes(b"net fault\n")?,
+        Err(ServeFault::NoMemory) => return Err(TableFault::NoMemory),
+    }
+    Ok(told)
+}
+
+/// What is told of a case at a node as the program serves it: its store finds references by hashes.
+fn told_by_cells(alloc: Global, g: &Accepted, t: &Typed, case: Case) -> Result<Text, TableFault>
     requires { IsMadeFor (grammar_of g.now.grammar) t.now }
 {
     let role = case.role;
@@ -69,11 +80,33 @@ fn push_case(
         return Err(TableFault::Unreadable);
     }
     let mut wire = wire_of(alloc, case)?;
-    match serve(alloc, g, t, role, sessions, &mut wire) {
-        Ok(log) => Ok(push_log(alloc, told, &wire, &log)?),
-        Err(ServeFault::NetFault) => Ok(told.push_bytes(b"net fault\n")?),
-        Err(ServeFault::NoMemory) => Err(TableFault::NoMemory),
+    let served = serve(alloc, g, t, role, sessions, &mut wire);
+    told_of_served(alloc, &wire, served)
+}
+
+/// What is told of a case at a node whose store scans a list.
+fn told_by_list(alloc: Global, g: &Accepted, t: &Typed, case: Case) -> Result<Text, TableFault>
+    requires { IsMadeFor (grammar_of g.now.grammar) t.now }
+{
+    let role = case.role;
+    let sessions = case.sessions;
+    if role >= 64 {
+        return Err(TableFault::Unreadable);
     }
+    let mut wire = wire_of(alloc, case)?;
+    let site = Site::new(alloc, g, role, ListFacts::new(alloc), true);
+    let served = serve_workspace(alloc, g, t, site, role, sessions, &mut wire);
+    told_of_served(alloc, &wire, served)
+}
+
+/// Adds what is told of a case over both stores: once where they tell the same.
+fn push_both(told: &mut Text, by_cells: &Text, by_list: &Text) -> Result<(), AllocError> {
+    told.push_bytes(by_cells.as_slice())?;
+    if by_cells == by_list {
+        return Ok(());
+    }
+    told.push_bytes(b"over a list\n")?;
+    told.push_bytes(by_list.as_slice())
 }
 
 /// Adds a case's name and what is told of it.
@@ -95,7 +128,9 @@ fn push_entry(
     told.push_bytes(MARK)?;
     told.push_bytes(name)?;
     told.push_bytes(b"\n")?;
-    push_case(alloc, told, g, t, read_case(alloc, line, rest)?)
+    let by_cells = told_by_cells(alloc, g, t, read_case(alloc, line, rest)?)?;
+    let by_list = told_by_list(alloc, g, t, read_case(alloc, line, rest)?)?;
+    Ok(push_both(told, &by_cells, &by_list)?)
 }
 
 /// What is told of all cases.

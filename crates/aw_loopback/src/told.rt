@@ -1,0 +1,46 @@
+//! What is told of a node's sessions.
+use crate::served::Served;
+use aw_list::Text;
+use aw_session::{How, SessionLog};
+use aw_text::push_number;
+use std::alloc::{AllocError, Global};
+
+/// How a session ended, in a word.
+fn word_of(how: How) -> &'static [u8] {
+    match how {
+        How::End => b"end",
+        How::Cut => b"cut",
+        How::Bad => b"bad",
+        How::Long => b"long",
+        How::Fault => b"fault",
+    }
+}
+
+/// Adds what the peer read, in hexadecimal.
+fn push_read(alloc: Global, told: &mut Text, read: &[u8]) -> Result<(), AllocError> {
+    told.push_bytes(b"read ")?;
+    told.push_bytes(hex::encode(alloc, read)?.as_bytes())?;
+    told.push_bytes(b"\n")
+}
+
+/// Adds `session 1 frames 4 end`.
+fn push_session(told: &mut Text, number: usize, entry: SessionLog) -> Result<(), AllocError> {
+    told.push_bytes(b"session ")?;
+    push_number(told, number as u64)?;
+    told.push_bytes(b" frames ")?;
+    push_number(told, entry.frames)?;
+    told.push_bytes(b" ")?;
+    told.push_bytes(word_of(entry.how))?;
+    told.push_bytes(b"\n")
+}
+
+/// Adds what is told of each session.
+pub fn push_served(alloc: Global, told: &mut Text, served: &Served) -> Result<(), AllocError> {
+    for read in served.replies.as_slice() {
+        push_read(alloc, told, read.as_slice())?;
+    }
+    for number in 0..served.log.len() {
+        push_session(told, number + 1, *served.log.at(number))?;
+    }
+    Ok(())
+}
