@@ -6,7 +6,9 @@ the results of its node in the place of their holes, in as many rounds as there 
 import re
 import sys
 
-MASK = (1 << 64) - 1
+sys.dont_write_bytecode = True
+from draws import MASK, Draws
+
 TOKEN = re.compile(r'\s*(?:(?P<name>[a-z][a-z0-9_]*)|(?P<number>\d+)|(?P<text>"[^"]*")|(?P<mark>[(){}<>:;=,]))')
 
 
@@ -226,15 +228,8 @@ class Run:
         return "".join(self.lines) + "artifacts %d\n" % len(rows) + "".join(row.line() for row in rows)
 
 
-class Draws:
+class DrawnChoices(Draws):
     """The choices that are drawn from a seed."""
-
-    def __init__(self, seed):
-        self.state = seed
-
-    def draw(self, most):
-        self.state = (self.state * 6364136223846793005 + 1442695040888963407) & MASK
-        return (self.state >> 33) % most
 
     def among(self, things):
         return things[self.draw(len(things))]
@@ -303,7 +298,7 @@ def make(run, choice):
 
 def told(lines):
     seed, runs, choices, cases = map(int, lines[0].split())
-    grammar, draws = Grammar(lines[1:]), Draws(seed)
+    grammar, draws = Grammar(lines[1:]), DrawnChoices(seed)
     counts, length, number = dict.fromkeys(KINDS, 0), 0, 14695981039346656037
     for _ in range(runs):
         run = Run(grammar)

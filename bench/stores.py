@@ -5,7 +5,9 @@ the program. A store is a dict here; the answers that are counted are those of t
 import re
 import sys
 
-MASK = (1 << 64) - 1
+sys.dont_write_bytecode = True
+from draws import Draws
+
 
 
 class Store:
@@ -54,15 +56,8 @@ class Store:
         )
 
 
-class Draws:
+class DrawnCalls(Draws):
     """The calls that are drawn from a seed."""
-
-    def __init__(self, seed):
-        self.state = seed
-
-    def draw(self, most):
-        self.state = (self.state * 6364136223846793005 + 1442695040888963407) & MASK
-        return (self.state >> 33) % most
 
     def reference(self):
         start, case = self.draw(2), self.draw(20)
@@ -115,7 +110,7 @@ def run(store, line):
     verb, _, rest = line.partition(" ")
     if verb == "draw":
         count, seed = map(int, rest.split())
-        draws = Draws(seed)
+        draws = DrawnCalls(seed)
         for _ in range(count):
             draws.call(store)
         return
