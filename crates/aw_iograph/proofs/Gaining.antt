@@ -1,11 +1,11 @@
 -- Arcs that are added for pairs of a child's sort.
-use Rattle.std.proofs.Common.{◌≡◌, ℕ, suc, ◌+◌, ◌<◌, ◌≤◌, List, [], ◌∷◌, ◌++◌, Some, slice_get, sym, ap, ◌∙◌, subst, inl, inr, arith}
+use Rattle.std.proofs.Common.{◌≡◌, ℕ, suc, ◌+◌, ◌-◌, ◌*◌, ◌/◌, ◌%◌, ◌<◌, ◌≤◌, List, [], ◌∷◌, ◌++◌, Some, slice_get, sym, ap, ◌∙◌, subst, inl, inr, arith}
 use Rattle.std.specs.Prelude.{◌⊎◌}
 use Rattle.aw_grammar.specs.declared.rule.Child.{Child}
 use Rattle.aw_iograph.specs.declared.reach.Arc.{Arc}
 use Rattle.aw_iograph.specs.declared.io.Io.{Io}
 use Rattle.aw_iograph.specs.Graphs.{Member}
-use Rattle.aw_iograph.specs.Pairs.{Has}
+use Rattle.aw_iograph.specs.Pairs.{Has, IsNumber}
 use Rattle.aw_iograph.specs.Arcs.{call_arc, Gains, GainsAll}
 use Rattle.aw_iograph.proofs.Members.{never, member_left, member_right, member_split, below_or_at}
 
@@ -26,14 +26,29 @@ gain_both io s k P Q R a b c first then split = record {
   only = λ x m. elim (then.only x m) [ inl was ↦ first.only x was | inr now ↦ inr now ];
 }
 
-pub up_to_one : (i j k l : ℕ) → (k ≡ i) × (j < l + 1) → ((k ≡ i) × (j < l)) ⊎ ((k ≡ i) × (j ≡ l))
-up_to_one i j k l p = elim (below_or_at j l p.1) [ inl a ↦ inl (p.0, a) | inr b ↦ inr (p.0, b) ]
+-- two numbers from 1 to 8 whose pair, by its number, comes before the n-th
+pub record IsBefore (n i l : ℕ) : Type 0 where
+  pub inherited : IsNumber i
+  pub result : IsNumber l
+  pub before : (i - 1) * 8 + (l - 1) < n
 
--- no pair has a number beyond 8
-pub gain_row : (io : Io) (s k i n : ℕ) (old new : List Arc) → 9 ≤ n → Gains io s k (λ i' l. (i' ≡ i) × (l < n)) old new → Gains io s k (λ i' l. i' ≡ i) old new
-gain_row io s k i n old new le all = record {
+pub before_more : (n i l : ℕ) → IsBefore (n + 1) i l → IsBefore n i l ⊎ ((i ≡ n / 8 + 1) × (l ≡ n % 8 + 1))
+before_more n i l p = elim (below_or_at ((i - 1) * 8 + (l - 1)) n p.before) [
+  | inl less ↦ inl (record { inherited = p.inherited; result = p.result; before = less })
+  | inr at ↦ (let a = p.inherited.counted in let b = p.result.counted in let c = p.result.few in inr (omega arith, omega arith))
+]
+
+-- before the first there is none
+pub gain_none : (io : Io) (s k : ℕ) (arcs : List Arc) → Gains io s k (IsBefore 0) arcs arcs
+gain_none io s k arcs = record { kept = λ a m. m; there = λ i l p has. (let none = p.before in absurd (omega arith)); only = λ a m. inl m }
+
+-- each pair comes before the last
+pub gain_row : (io : Io) (s k n : ℕ) (old new : List Arc) → 64 ≤ n → Gains io s k (IsBefore n) old new → Gains io s k (λ i l. i < 9) old new
+gain_row io s k n old new le all = record {
   kept = all.kept;
-  there = λ i' l e has. all.there i' l (e, omega (arith, has.result.few)) has;
+  there = λ i l e has. (let a = has.inherited.few in let b = has.result.few in
+      let less : (i - 1) * 8 + (l - 1) < n = omega arith in
+      all.there i l (record { inherited = has.inherited; result = has.result; before = less }) has);
   only = all.only;
 }
 

@@ -3,6 +3,7 @@ pub mod CircleLemmas
 pub mod Entering
 pub mod FewOf
 pub mod Gaining
+pub mod Joining
 pub mod Marking
 pub mod Members
 pub mod Placing
@@ -11,4 +12,5 @@ pub mod Relations
 pub mod RuleGraphs
 pub mod Sweeps
 pub mod TextFlows
+pub mod Visiting
 pub mod Widenings

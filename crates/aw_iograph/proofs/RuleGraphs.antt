@@ -18,7 +18,7 @@ use Rattle.aw_iograph.proofs.Members.{member_map, member_unmap, got_map, got_unm
 use Rattle.aw_iograph.proofs.TextFlows.{flows_all, flows_only}
 use Rattle.aw_iograph.proofs.Placing.{entry_place, term_place, place_below, place_one}
 
-child_got : (r : P.Rule) (k : ℕ) (c : P.Child) → P.child_at r.children k ≡ Some c → (j : ℕ) × (k ≡ suc j) × (slice_get r.children j ≡ Some c)
+pub child_got : (r : P.Rule) (k : ℕ) (c : P.Child) → P.child_at r.children k ≡ Some c → (j : ℕ) × (k ≡ suc j) × (slice_get r.children j ≡ Some c)
 child_got r zero c e = absurd cc
 child_got r (suc j) c e = (j, refl, e)
 

@@ -1,7 +1,8 @@
 -- Rules that are visited in turn.
-use Rattle.std.proofs.Common.{◌≡◌, ℕ, ◌+◌, ◌<◌, ◌≤◌, Bool, true, false, List, length, Some, slice_get, sym, subst, inl, inr, arith, ◌∙◌}
+use Rattle.std.proofs.Common.{◌≡◌, ℕ, ◌+◌, ◌<◌, ◌≤◌, Bool, true, false, List, length, Some, slice_get, refl, sym, subst, inl, inr, arith, ◌∙◌}
 use Rattle.std.specs.Prelude.{◌⊎◌, ◌||◌}
-use Rattle.std.proofs.lemmas.Bool.{or_parts}
+use Rattle.std.proofs.lemmas.Bool.{or_parts, cases_lt}
+use Rattle.std.proofs.lemmas.Option.{slice_get_within}
 use Rattle.aw_term.specs.Rules as P
 use Rattle.aw_grammar.specs.declared.rule.Rule.{Rule}
 use Rattle.aw_grammar.specs.declared.rule.Sort.{Sort}
@@ -17,7 +18,7 @@ use Rattle.aw_iograph.specs.Dependence.{Edge, Walk, Follows, IsKept, IsClosedUnd
 use Rattle.aw_iograph.specs.Pairs.{Has, HasMark, IsNumber}
 use Rattle.aw_iograph.specs.Arcs.{IsGraphOf}
 use Rattle.aw_iograph.proofs.Marking.{grown_trans}
-use Rattle.aw_iograph.proofs.Members.{below_or_at, member_place, member_map, member_unmap, member_got}
+use Rattle.aw_iograph.proofs.Members.{member_place, member_map, member_unmap, member_got}
 use Rattle.aw_iograph.proofs.RuleGraphs.{walk_arcs, arcs_walk, circle_place, end_place}
 use Rattle.aw_iograph.proofs.Placing.{number_place}
 use Rattle.aw_iograph.proofs.Relations.{follows_walk}
@@ -51,32 +52,37 @@ visit_only g n r old new arcs slice here graph at only s i j has = elim (only s 
   )
 ]
 
--- the first rules were visited
+-- the last n rules were looked at
 pub record Sweeping (g : Grammar) (start io : Io) (added : Bool) (n : ℕ) : Type 0 where
   pub grown : Grown start.marks.items io.marks.items added
   pub follows : (s i j : ℕ) → Has io s i j → Follows (grammar_of g) (Has start) s i j
-  pub kept : added ≡ false → (k : ℕ) → k < n → (r : Rule) → slice_get g.rules k ≡ Some r → IsKept (HasMark io.marks.items) (rule_of g.sorts r)
+  pub kept : added ≡ false → (k : ℕ) → length g.rules ≤ k + n → (r : Rule) → slice_get g.rules k ≡ Some r → IsKept (HasMark io.marks.items) (rule_of g.sorts r)
 
-pub sweep_step : (g : Grammar) (start io next : Io) (added one both : Bool) (n : ℕ) → both ≡ (one || added) → Sweeping g start io added n → Grown io.marks.items next.marks.items one →
-    ((r : Rule) → slice_get g.rules n ≡ Some r → (i j : ℕ) → Plus (Edge (rule_of g.sorts r) (Has io)) (inherited 0 i) (given 0 j) → Has next r.sort i j) →
+pub sweep_start : (g : Grammar) (io : Io) → Sweeping g io io false 0
+sweep_start g io = record {
+  grown = record { size = refl; kept = λ k on. on; same = λ off. refl; fewer = λ on. cc };
+  follows = λ s i j has. (0, has);
+  kept = λ off k le r got. (let lt : k < length g.rules = slice_get_within g.rules k r got in absurd (omega arith));
+}
+
+pub sweep_step : (g : Grammar) (start io next : Io) (added one both : Bool) (n m : ℕ) → m + (n + 1) ≡ length g.rules → both ≡ (one || added) → Sweeping g start io added n → Grown io.marks.items next.marks.items one →
+    (one ≡ false → (r : Rule) → slice_get g.rules m ≡ Some r → IsKept (Has next) (rule_of g.sorts r)) →
     ((s i j : ℕ) → Has next s i j → Has io s i j ⊎ Walk (grammar_of g) (Has io) s i j) → Sweeping g start next both (n + 1)
-sweep_step g start io next added one both n e so grown kept only = record {
+sweep_step g start io next added one both n m at e so grown kept only = record {
   grown = grown_trans start.marks.items io.marks.items next.marks.items added one both e so.grown grown;
   follows = λ s i j has. follows_walk (grammar_of g) (Has start) (Has io) so.follows s i j (only s i j has);
-  kept = λ off k lt r got.
+  kept = λ off k le r got.
       let (calm, before) = or_parts one added (sym e ∙ off) in
-      let same = grown.same calm in
-      elim (below_or_at k n lt) [
-        | inl less ↦ subst (λ (ms : List Bool). IsKept (HasMark ms) (rule_of g.sorts r)) (sym same) (so.kept before k less r got)
-        | inr at ↦ λ i j w. kept r (subst (λ m. slice_get g.rules m ≡ Some r) at got) i j
-            (subst (λ (ms : List Bool). Plus (Edge (rule_of g.sorts r) (HasMark ms)) (inherited 0 i) (given 0 j)) same w)
+      elim (cases_lt (k + n) (length g.rules)) [
+        | inl less ↦ (let same : k ≡ m = omega arith in kept calm r (subst (λ j. slice_get g.rules j ≡ Some r) same got))
+        | inr done ↦ subst (λ (ms : List Bool). IsKept (HasMark ms) (rule_of g.sorts r)) (sym (grown.same calm)) (so.kept before k done r got)
       ];
 }
 
--- all rules were visited
-pub swept : (g : Grammar) (marks : List Bool) (n : ℕ) → length g.rules ≤ n → ((k : ℕ) → k < n → (r : Rule) → slice_get g.rules k ≡ Some r → IsKept (HasMark marks) (rule_of g.sorts r)) → IsClosedUnder (grammar_of g) (HasMark marks)
+-- all rules were looked at
+pub swept : (g : Grammar) (marks : List Bool) (n : ℕ) → length g.rules ≤ n → ((k : ℕ) → length g.rules ≤ k + n → (r : Rule) → slice_get g.rules k ≡ Some r → IsKept (HasMark marks) (rule_of g.sorts r)) → IsClosedUnder (grammar_of g) (HasMark marks)
 swept g marks n le all r m =
     let (d, here, same) = member_unmap (rule_of g.sorts) r g.rules m in
     let (k, lt, got) = member_place g.rules d here in
-    let below : k < n = omega arith in
+    let below : length g.rules ≤ k + n = omega arith in
     subst (λ (x : P.Rule). IsKept (HasMark marks) x) (sym same) (all k below d got)

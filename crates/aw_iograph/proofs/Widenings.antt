@@ -10,6 +10,9 @@ use Rattle.aw_iograph.specs.Widening.{IsWidened}
 use Rattle.aw_iograph.proofs.Sweeps.{has_grown}
 use Rattle.aw_iograph.proofs.Relations.{follows_again}
 
+pub widened_same : (g : Grammar) (io : Io) → IsWidened g io io
+widened_same g io = record { size = refl; held = λ s i j has. has; follows = λ s i j has. (0, has); left = omega arith }
+
 pub widened_both : (g : Grammar) (a b c : Io) → IsWidened g a b → IsWidened g b c → IsWidened g a c
 widened_both g a b c p q = record {
   size = q.size ∙ p.size;

@@ -11,6 +11,7 @@ use Rattle.aw_iograph.specs.Occurrences.{inherited, given, IsPlace, place_of}
 use Rattle.aw_iograph.specs.Dependence.{Edge}
 use Rattle.aw_iograph.specs.Pairs.{Has}
 
+-- a flow from one occurrence to another, as an arc between their places
 abbrev pub arc_of : Flow → Arc
 arc_of f = record { from = place_of f.from; to = place_of f.to }
 

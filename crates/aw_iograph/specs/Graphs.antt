@@ -4,6 +4,7 @@ use Rattle.aw_term.specs.Trees.{Never}
 use Rattle.aw_iograph.specs.declared.reach.Arc.{Arc}
 use Rattle.aw_iograph.specs.Growth.{Marked}
 
+-- x stands in the list
 abbrev pub Member : {A : Type 0} → A → List A → Type 0
 Member x [] = Never
 Member x (y ∷ ys) = (x ≡ y) ⊎ Member x ys

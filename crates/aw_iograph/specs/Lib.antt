@@ -4,5 +4,7 @@ pub mod Graphs
 pub mod Growth
 pub mod Occurrences
 pub mod Pairs
+pub mod Rows
 pub mod Small
+pub mod Visiting
 pub mod Widening

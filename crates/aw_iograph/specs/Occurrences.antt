@@ -18,10 +18,12 @@ abbrev pub item : {A : Type 0} → List A → ℕ → Option A
 item xs zero = None
 item xs (suc i) = slice_get xs i
 
+-- where the variables of these patterns enter: at their inherited values, counted from i
 abbrev pub pattern_entries : ℕ → List Term → List (Option Occ)
 pattern_entries i [] = []
 pattern_entries i (p ∷ ps) = map (λ v. Some (inherited 0 i)) (leaves p) ++ pattern_entries (suc i) ps
 
+-- where the results of these children enter: at the children, counted from k
 abbrev pub child_entries : ℕ → List Child → List (Option Occ)
 child_entries k [] = []
 child_entries k (c ∷ cs) = map (λ l. Some (given k l)) (upto 1 c.outs) ++ child_entries (suc k) cs
@@ -50,6 +52,7 @@ pub record IsPlace (o : Occ) : Type 0 where
   pub number : o.number ≤ 8
 
 -- the place of an occurrence in their order, counted from 0
+-- (occurrences are numbered from 1)
 abbrev pub place_of : Occ → ℕ
 place_of o = o.child * 16 + ((if o.result then 8 else 0) + (o.number - 1))
 

@@ -5,6 +5,7 @@ use Rattle.aw_iograph.specs.declared.io.Io.{Io}
 use Rattle.aw_iograph.specs.Growth.{Marked}
 
 -- the place of a pair's mark
+-- (both values are numbered from 1)
 abbrev pub mark_of : ℕ → ℕ → ℕ → ℕ
 mark_of s i j = s * 64 + ((i - 1) * 8 + (j - 1))
 

@@ -1,5 +1,5 @@
 //! All steps within a rule as arcs between the places of its occurrences.
-ghost use Rattle.std.specs.Prelude.{◌≡◌, ◌++◌, ◌<◌, ◌≤◌, ℕ, map, length, IfOk, OnOk};
+ghost use Rattle.std.specs.Prelude.{◌≡◌, ◌++◌, ◌+◌, ◌/◌, ◌%◌, ◌<◌, ◌≤◌, ℕ, map, length, IfOk, OnOk};
 ghost use Rattle.aw_grammar.specs.GrammarView.{rule_of};
 ghost use Rattle.aw_iograph.specs.Occurrences.{IsPlace, place_of};
 ghost use Rattle.aw_iograph.specs.Pairs.{Has};
@@ -7,19 +7,22 @@ ghost use Rattle.aw_iograph.specs.Small.{IsSmall, HasFew};
 ghost use Rattle.aw_iograph.specs.Arcs.{arc_of, Gains, GainsAll, IsGraphOf};
 
 use crate::graph::{RuleGraph, text_of};
-use crate::io::Io;
+use crate::io::{Io, PAIRS, RESULTS};
 use crate::occ::{Flow, Occ};
 use crate::reach::Arc;
 use aw_grammar::{Children, Grammar, Rule};
 use std::alloc::{AllocError, Global};
+
+/// The places of a child, or of the left side: of 8 inherited values, and then of 8 results.
+const CHILD_PLACES: usize = 16;
 
 impl Occ {
     /// Its place in the order of occurrences, from 0.
     pub(crate) fn place(&self) -> usize
         ensures { result ≡ place_of self.now }
     {
-        let half = if self.result { 8 } else { 0 };
-        usize::from(self.child) * 16 + (half + usize::from(self.number).saturating_sub(1))
+        let half = if self.result { RESULTS } else { 0 };
+        usize::from(self.child) * CHILD_PLACES + (half + usize::from(self.number).saturating_sub(1))
     }
 
     /// The occurrence at a place.
@@ -29,9 +32,9 @@ impl Occ {
         ensures within { IsPlace result }
     {
         Occ {
-            child: (place / 16) as u8,
-            result: place % 16 >= 8,
-            number: (place % 8 + 1) as u8,
+            child: (place / CHILD_PLACES) as u8,
+            result: place % CHILD_PLACES >= RESULTS,
+            number: (place % RESULTS + 1) as u8,
         }
     }
 }
@@ -58,40 +61,24 @@ fn add_call(
     io: &Io,
     sort: u16,
     child: u8,
-    i: u8,
-    l: u8,
+    pair: usize,
     arcs: &mut Vec<Arc>,
 ) -> Result<(), AllocError>
-    ensures { OnOk result (Gains io.now sort child (λ k j. (k ≡ i) × (j ≡ l)) arcs.old.items arcs.new.items) }
+    requires { pair < 64 }
+    ensures { OnOk result (Gains io.now sort child (λ i l. (i ≡ pair / 8 + 1) × (l ≡ pair % 8 + 1)) arcs.old.items arcs.new.items) }
 {
-    if io.has(sort, i, l) {
+    if io.has_pair(sort, pair) {
         let from = Occ {
             child,
             result: false,
-            number: i,
+            number: (pair / RESULTS + 1) as u8,
         };
         let to = Occ {
             child,
             result: true,
-            number: l,
+            number: (pair % RESULTS + 1) as u8,
         };
         arcs.push(arc(&Flow { from, to }))?;
-    }
-    Ok(())
-}
-
-/// Adds the arcs of a child from one of its inherited values.
-fn add_calls_from(
-    io: &Io,
-    sort: u16,
-    child: u8,
-    i: u8,
-    arcs: &mut Vec<Arc>,
-) -> Result<(), AllocError>
-    ensures { OnOk result (Gains io.now sort child (λ k j. k ≡ i) arcs.old.items arcs.new.items) }
-{
-    for l in 0..9 {
-        add_call(io, sort, child, i, l, arcs)?;
     }
     Ok(())
 }
@@ -100,8 +87,8 @@ fn add_calls_from(
 fn add_calls(io: &Io, sort: u16, child: u8, arcs: &mut Vec<Arc>) -> Result<(), AllocError>
     ensures { OnOk result (Gains io.now sort child (λ k j. k < 9) arcs.old.items arcs.new.items) }
 {
-    for i in 0..9 {
-        add_calls_from(io, sort, child, i, arcs)?;
+    for pair in 0..PAIRS {
+        add_call(io, sort, child, pair, arcs)?;
     }
     Ok(())
 }

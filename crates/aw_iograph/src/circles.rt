@@ -10,6 +10,7 @@ use crate::arcs::arcs_of;
 use crate::io::Io;
 use crate::occ::Occ;
 use crate::reach::{Arc, reach};
+use crate::rows::PLACES;
 use crate::rules::small_rule;
 use aw_grammar::Grammar;
 use std::alloc::{AllocError, Global};
@@ -64,8 +65,8 @@ fn all_rise(arcs: &[Arc], ranks: &[u8]) -> bool
 fn has_ranks(alloc: Global, arcs: &[Arc]) -> Result<bool, AllocError>
     ensures { IfOk result (λ yes. yes ≡ true → (v : ℕ) → Plus (Arrow arcs.now) v v → ⊥) }
 {
-    let mut ranks = vec![in alloc; 0u8; 144]?;
-    for _ in 0..144 {
+    let mut ranks = vec![in alloc; 0u8; PLACES]?;
+    for _ in 0..PLACES {
         if !raise_all(arcs, &mut ranks) {
             break;
         }
@@ -79,7 +80,7 @@ fn is_on_circle(alloc: Global, arcs: &[Arc], place: usize) -> Result<bool, Alloc
     requires place { place < 144 }
     ensures { IfOk result (λ yes. IsTrue yes ↔ Plus (Arrow arcs.now) place place) }
 {
-    let reached = reach(alloc, 144, arcs, place)?;
+    let reached = reach(alloc, PLACES, arcs, place)?;
     Ok(reached[place])
 }
 
@@ -88,7 +89,7 @@ fn first_on_circle(alloc: Global, arcs: &[Arc]) -> Result<Option<usize>, AllocEr
     requires { IsWithin 144 arcs.now }
     ensures { IfOk result (λ found. FirstCircle arcs.now found) }
 {
-    for place in 0..144 {
+    for place in 0..PLACES {
         if is_on_circle(alloc, arcs, place)? {
             return Ok(Some(place));
         }

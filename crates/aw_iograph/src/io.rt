@@ -1,5 +1,5 @@
 //! The relations of a grammar's sorts: which results depend on which inherited values.
-ghost use Rattle.std.specs.Prelude.{◌≡◌, ◌≢◌, ℕ, ◌+◌, ◌*◌, ◌<◌, ◌≤◌, ◌↔◌, ◌⊎◌, length, replicate, false, IfOk, IsTrue};
+ghost use Rattle.std.specs.Prelude.{◌≡◌, ◌≢◌, ℕ, ◌+◌, ◌*◌, ◌/◌, ◌%◌, ◌<◌, ◌≤◌, ◌↔◌, ◌⊎◌, length, replicate, false, IfOk, IsTrue};
 ghost use Rattle.aw_grammar.specs.declared.grammar.Grammar.{Grammar as GrammarValue};
 ghost use Rattle.aw_iograph.specs.Pairs.{Has, HasMark, HasSort, IsFor, IsNumber};
 ghost use Rattle.aw_iograph.specs.Growth.{Grown};
@@ -7,6 +7,12 @@ ghost use Rattle.aw_iograph.specs.Growth.{Grown};
 use crate::reach::mark;
 use aw_grammar::Grammar;
 use std::alloc::{AllocError, Global};
+
+/// The results of a sort are so many at most, and so are its inherited values.
+pub(crate) const RESULTS: usize = 8;
+
+/// The pairs of a sort: each of 8 inherited values with each of 8 results.
+pub(crate) const PAIRS: usize = 64;
 
 /// A set of pairs for each sort: of an inherited value and a result that depends on it, both numbered from 1.
 #[derive(Debug, Drop)]
@@ -21,7 +27,7 @@ impl Io {
         ensures empty { IfOk result (λ io. (s i j : ℕ) → Has io s i j → ⊥) }
     {
         Ok(Io {
-            marks: vec![in alloc; false; g.sorts.len() * 64]?,
+            marks: vec![in alloc; false; g.sorts.len() * PAIRS]?,
         })
     }
 
@@ -50,7 +56,7 @@ impl Io {
     {
         mark(
             &mut self.marks,
-            usize::from(sort) * 64 + (usize::from(i) - 1) * 8 + (usize::from(j) - 1),
+            usize::from(sort) * PAIRS + (usize::from(i) - 1) * RESULTS + (usize::from(j) - 1),
         )
     }
 
@@ -70,7 +76,15 @@ impl Io {
         if i == 0 || i > 8 || j == 0 || j > 8 {
             return false;
         }
-        let at = usize::from(sort) * 64 + (usize::from(i) - 1) * 8 + (usize::from(j) - 1);
+        let at = usize::from(sort) * PAIRS + (usize::from(i) - 1) * RESULTS + (usize::from(j) - 1);
         matches!(self.marks.get(at), Some(true))
+    }
+
+    /// Whether a pair is in the relation of a sort, by its number from 0: by inherited value, and then by result.
+    pub(crate) fn has_pair(&self, sort: u16, pair: usize) -> bool
+        requires { pair < 64 }
+        ensures { IsTrue result ↔ Has self.now sort (pair / 8 + 1) (pair % 8 + 1) }
+    {
+        matches!(self.marks.get(usize::from(sort) * PAIRS + pair), Some(true))
     }
 }

@@ -8,8 +8,10 @@ pub mod io;
 pub mod laws;
 pub mod occ;
 pub mod reach;
+pub mod rows;
 pub mod rules;
 pub mod settle;
+pub mod visits;
 
 pub use circles::circle;
 pub use graph::{RuleGraph, rule_graph};

@@ -1,0 +1,77 @@
+//! Which inherited values of a rule's left side reach each of its places, joined as rows of bits.
+ghost use Rattle.std.specs.Prelude.{◌≡◌, ◌<◌, ◌↔◌, ◌⊎◌, ℕ, length, false, IfOk, IsTrue};
+ghost use Rattle.aw_iograph.specs.Graphs.{IsWithin};
+ghost use Rattle.aw_iograph.specs.Rows.{HasBit, IsIn, HaveGrown, Leads, AreLed, IsJoined, AreJoined};
+
+use crate::reach::Arc;
+use std::alloc::{AllocError, Global};
+
+/// The places of a rule: for its left side and each of 8 children, 8 inherited values and 8 results.
+pub(crate) const PLACES: usize = 144;
+
+/// Whether a row has the bit of a place.
+pub(crate) fn has_bit(row: u8, place: u8) -> bool
+    requires { place < 8 }
+    ensures { IsTrue result ↔ HasBit row place }
+{
+    row & (1 << place) != 0
+}
+
+/// Joins the row where an arc begins into the one where it ends, and says whether that one grew.
+fn join_row(arc: Arc, rows: &mut Vec<u8>) -> bool
+    requires from_in { arc.from < length rows.old.items }
+    requires to_in { arc.to < length rows.old.items }
+    ensures grown { HaveGrown rows.old.items rows.new.items result }
+    ensures joined { IsJoined rows.new.items arc }
+    ensures only { (v i : ℕ) → IsIn rows.new.items v i → IsIn rows.old.items v i ⊎ ((v ≡ arc.to) × IsIn rows.old.items arc.from i) }
+{
+    let row = rows[arc.to];
+    let joined = row | rows[arc.from];
+    if joined == row {
+        return false;
+    }
+    rows[arc.to] = joined;
+    true
+}
+
+/// Joins rows over each arc once, and says whether one grew.
+fn join_rows(arcs: &[Arc], rows: &mut Vec<u8>) -> bool
+    requires within { IsWithin (length rows.old.items) arcs.now }
+    requires led { AreLed arcs.now rows.old.items }
+    ensures grown { HaveGrown rows.old.items rows.new.items result }
+    ensures led { AreLed arcs.now rows.new.items }
+    ensures joined { result ≡ false → AreJoined arcs.now rows.new.items }
+{
+    let mut grown = false;
+    for arc in arcs {
+        if join_row(*arc, rows) {
+            grown = true;
+        }
+    }
+    grown
+}
+
+/// The rows in which each of the first eight places leads to itself alone.
+fn first_rows(alloc: Global) -> Result<Vec<u8>, AllocError>
+    ensures size { IfOk result (λ rows. length rows.items ≡ 144) }
+    ensures start { IfOk result (λ rows. (i : ℕ) → i < 8 → IsIn rows.items i i) }
+    ensures only { IfOk result (λ rows. (v i : ℕ) → IsIn rows.items v i → i ≡ v) }
+{
+    let mut rows = vec![in alloc; 0u8; PLACES]?;
+    for place in 0..8 {
+        rows[place] = 1 << place;
+    }
+    Ok(rows)
+}
+
+/// Which of the first eight places lead to each place over arcs.
+pub(crate) fn rows_of(alloc: Global, arcs: &[Arc]) -> Result<Vec<u8>, AllocError>
+    requires { IsWithin 144 arcs.now }
+    ensures size { IfOk result (λ rows. length rows.items ≡ 144) }
+    ensures led { IfOk result (λ rows. AreLed arcs.now rows.items) }
+    ensures all { IfOk result (λ rows. (v i : ℕ) → i < 8 → Leads arcs.now i v → IsIn rows.items v i) }
+{
+    let mut rows = first_rows(alloc)?;
+    while join_rows(arcs, &mut rows) {}
+    Ok(rows)
+}
