@@ -1,10 +1,11 @@
 -- Reading a line from left to right: each reader takes the lexemes that are left, and gives what it read and what is left then.
-use Rattle.std.specs.Prelude.{ℕ, List, [], ◌∷◌, Option, None, Some, nat_eq, if◌then◌else◌, option_and_then}
+use Rattle.std.specs.Prelude.{ℕ, List, [], ◌∷◌, Option, None, Some, nat_eq, if◌then◌else◌}
 use Rattle.aw_grammar.specs.Written.{Written}
-use Rattle.aw_form.specs.Lexemes.{Lexeme, Name, Number, Node, Quoted, Mark}
+use Rattle.aw_form.specs.Lexemes.{Lexeme, Name, Number, Node, Mark}
 use Rattle.aw_form.specs.Terms.{terms_up_to, some_terms_up_to, names_of}
 
 infixl 10 ◌>>=◌
+-- what the second reader reads behind the first, where both read something
 abbrev pub ◌>>=◌ : {A B : Type 0} → Option A → (A → Option B) → Option B
 None >>= f = None
 (Some x) >>= f = f x

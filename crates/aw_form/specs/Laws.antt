@@ -1,5 +1,5 @@
 -- Reading and spelling of lists of terms are inverse to each other.
-use Rattle.std.specs.Prelude.{◌≡◌, ◌≢◌, ℕ, Bool, true, List, [], ◌∷◌, ◌++◌, Option, Some, nat_eq}
+use Rattle.std.specs.Prelude.{◌≡◌, ◌≢◌, ℕ, List, ◌∷◌, ◌++◌, Some}
 use Rattle.aw_term.specs.Trees as P
 use Rattle.aw_grammar.specs.Written.{Written, Word, Apply, Literal, Writtens, Empty, Then, side_by_side}
 use Rattle.aw_form.specs.Lexemes.{Lexeme, Mark}
@@ -11,6 +11,7 @@ IsLiteral (P.Con c) = P.Never
 IsLiteral (P.Num n) = Unit {0}
 IsLiteral (P.Text t) = Unit {0}
 
+-- each literal in a written term is a number or a text
 abbrev mutual
   pub IsWritten : Written → Type 0
   IsWritten (Word name) = Unit {0}

@@ -1,6 +1,6 @@
 -- The state of a reader of terms, as the definitions speak of it.
-use Rattle.std.specs.Prelude.{◌≡◌, ℕ, List, map, reverse, Result, Ok, Err}
-use Rattle.aw_grammar.specs.Written.{Written, written_of}
+use Rattle.std.specs.Prelude.{◌≡◌, map, reverse, Result, Ok, Err}
+use Rattle.aw_grammar.specs.Written.{written_of}
 use Rattle.aw_form.specs.Terms as T
 use Rattle.aw_form.specs.declared.reader.Opened.{Opened}
 use Rattle.aw_form.specs.declared.reader.Expected.{Expected}
@@ -11,9 +11,11 @@ use Rattle.aw_form.specs.declared.reader.Read.TheVariants.{On, AtEnd}
 use Rattle.aw_form.specs.declared.unread.Unread.{Unread}
 use Rattle.aw_form.specs.declared.unread.Unread.TheVariants.{Form, NoMemory}
 
+-- an open constructor of the program, with the terms that stand before it
 abbrev pub opened_of : Opened → T.Opened
 opened_of o = record { name = o.name; before = map written_of o.before }
 
+-- what may come next in a reader of the program
 abbrev pub expected_of : Expected → T.Expected
 expected_of TermOrEnd = T.TermOrEnd
 expected_of TermOnly = T.TermOnly
@@ -24,12 +26,9 @@ expected_of (BehindName name) = T.BehindName name
 abbrev pub reading_of : TermReader → T.Reading
 reading_of r = record { opened = map opened_of (reverse r.opened); terms = map written_of r.terms; expected = expected_of r.expected }
 
-abbrev pub read_of : Read → T.Read
-read_of (On r) = T.On (reading_of r)
-read_of (AtEnd terms) = T.AtEnd (map written_of terms)
-
--- The answer is what a lexeme does, unless memory ran out.
-abbrev pub Does : Result Read Unread → T.Read → Type 0
-Does (Ok read) done = done ≡ read_of read
-Does (Err Form) done = done ≡ T.Misplaced
-Does (Err NoMemory) done = Unit {0}
+-- The answer is what a lexeme does, and the reader then, unless memory ran out.
+abbrev pub Does : TermReader → Result Read Unread → T.Read → Type 0
+Does r (Ok On) done = done ≡ T.On (reading_of r)
+Does r (Ok AtEnd) done = done ≡ T.AtEnd (map written_of r.terms)
+Does r (Err Form) done = done ≡ T.Misplaced
+Does r (Err NoMemory) done = Unit {0}

@@ -9,6 +9,7 @@ use Rattle.aw_grammar.specs.Terms.{all_have_contents}
 use Rattle.aw_form.specs.Lexemes.{Lexeme, Name, Number, Node, Quoted, Mark, lexemes}
 use Rattle.aw_form.specs.Terms.{Expected, TermOrEnd, TermOnly, CommaOrEnd, BehindName, nothing_read, read_terms}
 
+-- a name has the spelling of one, and a text that of a content; a number, a node name and a mark are sound as they are
 abbrev pub IsSound : Lexeme → Type 0
 IsSound (Name n) = is_name n ≡ true
 IsSound (Quoted t) = is_content t ≡ true

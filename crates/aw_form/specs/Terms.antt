@@ -1,5 +1,5 @@
 -- Lists of written terms, separated by commas, up to a closing mark.
-use Rattle.std.specs.Prelude.{ℕ, Bool, true, false, List, [], ◌∷◌, ◌++◌, Option, None, Some, nat_eq, if◌then◌else◌, option_map, option_and_then}
+use Rattle.std.specs.Prelude.{ℕ, List, [], ◌∷◌, ◌++◌, Option, None, Some, nat_eq, if◌then◌else◌, option_map, option_and_then}
 use Rattle.aw_term.specs.Trees as P
 use Rattle.aw_grammar.specs.Written.{Written, Word, Apply, Literal, Writtens, Empty, Then, side_by_side}
 use Rattle.aw_form.specs.Lexemes.{Lexeme, Name, Number, Node, Quoted, Mark}
@@ -49,6 +49,7 @@ pub data Read : Type 0 where
   AtEnd : (terms : List Written) → Read
   Misplaced : Read
 
+-- one more term is read, and a comma or the end comes next
 abbrev pub with_term : Reading → Written → Reading
 with_term r t = record r { terms = r.terms ++ t ∷ []; expected = CommaOrEnd }
 
@@ -62,6 +63,7 @@ closed close [] terms mark = if nat_eq mark close then AtEnd terms else Misplace
 closed close (o ∷ os) terms mark =
     if nat_eq mark 41 then On (record { opened = os; terms = o.before ++ Apply o.name (side_by_side terms) ∷ []; expected = CommaOrEnd }) else Misplaced
 
+-- a lexeme where a term has to begin
 abbrev pub at_term : Reading → Lexeme → Read
 at_term r (Name name) = On (record r { expected = BehindName name })
 at_term r (Number n) = On (with_term r (Literal (P.Num n)))
@@ -69,14 +71,17 @@ at_term r (Quoted t) = On (with_term r (Literal (P.Text t)))
 at_term r (Node name) = Misplaced
 at_term r (Mark mark) = Misplaced
 
+-- a lexeme behind a whole term: a comma (44) or a closing mark
 abbrev pub at_comma : ℕ → Reading → Lexeme → Read
 at_comma close r (Mark mark) = if nat_eq mark 44 then On (record r { expected = TermOnly }) else closed close r.opened r.terms mark
 at_comma close r _ = Misplaced
 
+-- a lexeme where a term or the end may come
 abbrev pub at_start : ℕ → Reading → Lexeme → Read
 at_start close r (Mark mark) = closed close r.opened r.terms mark
 at_start close r l = at_term r l
 
+-- a lexeme behind a bare name: `(` (40) opens its parts, and before a comma or a closing mark the name is a term by itself
 abbrev pub behind_name : ℕ → Reading → List ℕ → Lexeme → Read
 behind_name close r name (Mark mark) =
     if nat_eq mark 40
@@ -84,6 +89,7 @@ behind_name close r name (Mark mark) =
     else at_comma close (with_term r (Word name)) (Mark mark)
 behind_name close r name _ = Misplaced
 
+-- what a lexeme does where this may come next
 abbrev pub read_one : ℕ → Reading → Expected → Lexeme → Read
 read_one close r TermOrEnd l = at_start close r l
 read_one close r TermOnly l = at_term r l
@@ -101,6 +107,7 @@ abbrev pub read_terms : ℕ → Reading → List Lexeme → Option (List Written
 read_terms close r [] = None
 read_terms close r (l ∷ ls) = go_on (read_one close r r.expected l) (λ s. read_terms close s ls) ls
 
+-- nothing is read so far, and this may come first
 abbrev pub nothing_read : Expected → Reading
 nothing_read expected = record { opened = []; terms = []; expected = expected }
 
@@ -117,6 +124,7 @@ abbrev pub name_of : Written → Option (List ℕ)
 name_of (Word name) = Some name
 name_of _ = None
 
+-- the names, where each of these terms is a bare name
 abbrev pub names_of : List Written → Option (List (List ℕ))
 names_of [] = Some []
 names_of (t ∷ ts) = option_and_then (λ name. option_map (λ names. name ∷ names) (names_of ts)) (name_of t)

@@ -1,5 +1,5 @@
 //! Reading written terms, one token after the other, on a stack of its own.
-ghost use Rattle.std.specs.Prelude.{◌≡◌, [], map, reverse, ℕ, List, IfOk, unwrap_or};
+ghost use Rattle.std.specs.Prelude.{◌≡◌, [], map, ℕ, List, IfOk, OnOk, unwrap_or};
 ghost use Rattle.aw_grammar.specs.Written.{written_of};
 ghost use Rattle.aw_form.specs.Lexemes.{lexeme, lexemes, said};
 ghost use Rattle.aw_form.specs.Lexemes as lex;
@@ -15,6 +15,7 @@ use aw_lex::{Token, TokenKind};
 use aw_list::{Items, Text};
 use aw_text::{content_value, number_value};
 use std::alloc::{AllocError, Global};
+use std::mem;
 
 /// A constructor whose parts are being read, and the terms that stand before it.
 #[derive(Debug, Drop)]
@@ -43,10 +44,12 @@ struct TermReader {
 }
 
 /// What one token does.
-#[derive(Debug, Drop)]
+#[derive(Clone, Copy, Debug)]
 enum Read {
-    On(TermReader),
-    AtEnd(RawTerms),
+    /// Reading goes on.
+    On,
+    /// The list is at its end.
+    AtEnd,
 }
 
 fn content_of(alloc: Global, bytes: &[u8]) -> Result<Text, AllocError>
@@ -69,137 +72,105 @@ impl TermReader {
         }
     }
 
-    fn with_term(self, term: RawTerm) -> Result<TermReader, Unread>
-        ensures { Gives reading_of result (Some (terms.with_term (reading_of self) (written_of term))) }
+    fn push_term(&mut self, term: RawTerm) -> Result<(), AllocError>
+        ensures { OnOk result (reading_of self.new ≡ terms.with_term (reading_of self.old) (written_of term)) }
     {
-        let TermReader {
-            opened,
-            mut terms,
-            ..
-        } = self;
-        terms.push(term)?;
-        Ok(TermReader {
-            opened,
-            terms,
-            expected: Expected::CommaOrEnd,
-        })
-    }
-
-    fn with_expected(self, expected: Expected) -> TermReader
-        ensures { reading_of result ≡ record (reading_of self) { expected = expected_of expected } }
-    {
-        let TermReader { opened, terms, .. } = self;
-        TermReader {
-            opened,
-            terms,
-            expected,
-        }
+        self.terms.push(term)?;
+        self.expected = Expected::CommaOrEnd;
+        Ok(())
     }
 
     /// What a closing mark does.
-    fn closed(self, close: u8, mark: u8) -> Result<Read, Unread>
-        ensures { Does result (terms.closed close (reading_of self).opened (reading_of self).terms mark) }
+    fn at_close(&mut self, close: u8, mark: u8) -> Result<Read, Unread>
+        ensures { Does self.new result (terms.closed close (reading_of self.old).opened (reading_of self.old).terms mark) }
     {
-        let TermReader {
-            mut opened,
-            terms,
-            ..
-        } = self;
-        match opened.pop() {
-            None if mark == close => Ok(Read::AtEnd(terms)),
-            Some(Opened { name, mut before }) if mark == b')' => {
-                before.push(RawTerm::Apply(name, terms))?;
-                Ok(Read::On(TermReader {
-                    opened,
-                    terms: before,
-                    expected: Expected::CommaOrEnd,
-                }))
+        match self.opened.pop() {
+            None if mark == close => Ok(Read::AtEnd),
+            Some(Opened { name, before }) if mark == b')' => {
+                let parts = mem::replace(&mut self.terms, before);
+                self.push_term(RawTerm::Apply(name, parts))?;
+                Ok(Read::On)
             }
             _ => Err(Unread::Form),
         }
     }
 
     /// What a token does where a term is to come.
-    fn at_term(self, line: &[u8], token: Token) -> Result<Read, Unread>
-        ensures { Does result (terms.at_term (reading_of self) (lexeme line.now token)) }
+    fn at_term(&mut self, line: &[u8], token: Token) -> Result<Read, Unread>
+        ensures { Does self.new result (terms.at_term (reading_of self.old) (lexeme line.now token)) }
     {
         let alloc = self.terms.allocator();
         let bytes = bytes_of(line, token);
         match token.kind {
             TokenKind::Name => {
-                let name = Text::from_bytes(alloc, bytes)?;
-                Ok(Read::On(self.with_expected(Expected::BehindName(name))))
+                self.expected = Expected::BehindName(Text::from_bytes(alloc, bytes)?);
+                Ok(Read::On)
             }
             TokenKind::Number => {
                 let number = Lit::Num(number_value(bytes).unwrap_or(0));
-                Ok(Read::On(self.with_term(RawTerm::Lit(number))?))
+                self.push_term(RawTerm::Lit(number))?;
+                Ok(Read::On)
             }
             TokenKind::Text => {
                 let text = Lit::Text(content_of(alloc, bytes)?);
-                Ok(Read::On(self.with_term(RawTerm::Lit(text))?))
+                self.push_term(RawTerm::Lit(text))?;
+                Ok(Read::On)
             }
             TokenKind::Node | TokenKind::Mark(_) => Err(Unread::Form),
         }
     }
 
     /// What a mark does behind a term.
-    fn at_comma(self, close: u8, mark: u8) -> Result<Read, Unread>
-        ensures { Does result (terms.at_comma close (reading_of self) (lex.Mark mark)) }
+    fn at_comma(&mut self, close: u8, mark: u8) -> Result<Read, Unread>
+        ensures { Does self.new result (terms.at_comma close (reading_of self.old) (lex.Mark mark)) }
     {
         if mark == b',' {
-            Ok(Read::On(self.with_expected(Expected::TermOnly)))
+            self.expected = Expected::TermOnly;
+            Ok(Read::On)
         } else {
-            self.closed(close, mark)
+            self.at_close(close, mark)
         }
     }
 
     /// What a token does where a list begins.
-    fn at_start(self, close: u8, line: &[u8], token: Token) -> Result<Read, Unread>
-        ensures { Does result (terms.at_start close (reading_of self) (lexeme line.now token)) }
+    fn at_start(&mut self, close: u8, line: &[u8], token: Token) -> Result<Read, Unread>
+        ensures { Does self.new result (terms.at_start close (reading_of self.old) (lexeme line.now token)) }
     {
         match token.kind {
-            TokenKind::Mark(mark) => self.closed(close, mark),
+            TokenKind::Mark(mark) => self.at_close(close, mark),
             _ => self.at_term(line, token),
         }
     }
 
-    /// A bare name that parentheses open.
-    fn with_opened(self, name: Text) -> Result<TermReader, AllocError>
-        ensures { IfOk result (λ r. reading_of r ≡ terms.with_opened (reading_of self) name) }
+    /// Parentheses open behind a bare name: its parts follow.
+    fn open(&mut self, name: Text) -> Result<(), AllocError>
+        ensures { OnOk result (reading_of self.new ≡ terms.with_opened (reading_of self.old) name) }
     {
-        let TermReader {
-            mut opened,
-            terms,
-            ..
-        } = self;
-        let alloc = terms.allocator();
-        opened.push(Opened {
-            name,
-            before: terms,
-        })?;
-        Ok(TermReader {
-            opened,
-            terms: RawTerms::new(alloc),
-            expected: Expected::TermOrEnd,
-        })
+        let alloc = self.terms.allocator();
+        let before = mem::replace(&mut self.terms, RawTerms::new(alloc));
+        self.opened.push(Opened { name, before })?;
+        self.expected = Expected::TermOrEnd;
+        Ok(())
     }
 
     /// What a mark does behind a bare name.
-    fn behind_name(self, name: Text, close: u8, mark: u8) -> Result<Read, Unread>
-        ensures { Does result (terms.behind_name close (reading_of self) name (lex.Mark mark)) }
+    fn behind_name(&mut self, name: Text, close: u8, mark: u8) -> Result<Read, Unread>
+        ensures { Does self.new result (terms.behind_name close (reading_of self.old) name (lex.Mark mark)) }
     {
         if mark == b'(' {
-            Ok(Read::On(self.with_opened(name)?))
+            self.open(name)?;
+            Ok(Read::On)
         } else {
-            self.with_term(RawTerm::Word(name))?.at_comma(close, mark)
+            self.push_term(RawTerm::Word(name))?;
+            self.at_comma(close, mark)
         }
     }
 }
 
 impl TermReader {
     /// What a token does behind a term; only a mark has a place there.
-    fn at_end(self, close: u8, kind: TokenKind) -> Result<Read, Unread>
-        ensures { (bytes : List ℕ) → Does result (terms.at_comma close (reading_of self) (said kind bytes)) }
+    fn at_end(&mut self, close: u8, kind: TokenKind) -> Result<Read, Unread>
+        ensures { (bytes : List ℕ) → Does self.new result (terms.at_comma close (reading_of self.old) (said kind bytes)) }
     {
         match kind {
             TokenKind::Mark(mark) => self.at_comma(close, mark),
@@ -208,8 +179,8 @@ impl TermReader {
     }
 
     /// What a token does behind a bare name; only a mark has a place there.
-    fn at_name(self, name: Text, close: u8, kind: TokenKind) -> Result<Read, Unread>
-        ensures { (bytes : List ℕ) → Does result (terms.behind_name close (reading_of self) name (said kind bytes)) }
+    fn at_name(&mut self, name: Text, close: u8, kind: TokenKind) -> Result<Read, Unread>
+        ensures { (bytes : List ℕ) → Does self.new result (terms.behind_name close (reading_of self.old) name (said kind bytes)) }
     {
         match kind {
             TokenKind::Mark(mark) => self.behind_name(name, close, mark),
@@ -217,40 +188,15 @@ impl TermReader {
         }
     }
 
-    /// What a token does.
-    fn read_one(self, close: u8, line: &[u8], token: Token) -> Result<Read, Unread>
-        ensures { Does result (terms.read_one close (reading_of self) (reading_of self).expected (lexeme line.now token)) }
+    /// What a token does. The reader is of no use after an error.
+    fn read_one(&mut self, close: u8, line: &[u8], token: Token) -> Result<Read, Unread>
+        ensures { Does self.new result (terms.read_one close (reading_of self.old) (reading_of self.old).expected (lexeme line.now token)) }
     {
-        let TermReader {
-            opened,
-            terms,
-            expected,
-        } = self;
-        match expected {
-            Expected::BehindName(name) => TermReader {
-                opened,
-                terms,
-                expected: Expected::CommaOrEnd,
-            }
-            .at_name(name, close, token.kind),
-            Expected::TermOrEnd => TermReader {
-                opened,
-                terms,
-                expected: Expected::TermOrEnd,
-            }
-            .at_start(close, line, token),
-            Expected::TermOnly => TermReader {
-                opened,
-                terms,
-                expected: Expected::TermOnly,
-            }
-            .at_term(line, token),
-            Expected::CommaOrEnd => TermReader {
-                opened,
-                terms,
-                expected: Expected::CommaOrEnd,
-            }
-            .at_end(close, token.kind),
+        match mem::replace(&mut self.expected, Expected::CommaOrEnd) {
+            Expected::BehindName(name) => self.at_name(name, close, token.kind),
+            Expected::TermOrEnd => self.at_start(close, line, token),
+            Expected::TermOnly => self.at_term(line, token),
+            Expected::CommaOrEnd => self.at_end(close, token.kind),
         }
     }
 }
@@ -268,10 +214,9 @@ fn read_terms<'a>(
     let mut rest = tokens;
     while let [token, behind @ ..] = rest {
         match reader.read_one(close, line, *token)? {
-            Read::On(more) => reader = more,
-            Read::AtEnd(terms) => return Ok((terms, behind)),
+            Read::On => rest = behind,
+            Read::AtEnd => return Ok((reader.terms, behind)),
         }
-        rest = behind;
     }
     Err(Unread::Form)
 }

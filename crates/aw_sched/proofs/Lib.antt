@@ -4,4 +4,6 @@ pub mod KnownLaw
 pub mod LineLaws
 pub mod LookedUp
 pub mod ReadEvents
+pub mod ReadLines
 pub mod SoundLines
+pub mod SpelledLines

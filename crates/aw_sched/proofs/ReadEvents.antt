@@ -25,8 +25,8 @@ with_none [] = refl
 with_none (e ∷ es) = ap (with_event e) (with_none es)
 
 -- the first line at fault
-pub fault_answer : (t : Types) (d : Declarations) (before : List Event) (n : ℕ) (line : List ℕ) (more : List (List ℕ)) (fault : LineFault) → AddsLine before (read_line t d line) (Err fault)
+pub fault_answer : (t : Types) (d : Declarations) (before after : List Event) (n : ℕ) (line : List ℕ) (more : List (List ℕ)) (fault : LineFault) → AddsLine before after (read_line t d line) (Err fault)
     → Answers (with_events (map event_seen before) (read_lines t d n (line ∷ more))) (Err (fault_at n fault))
-fault_answer t d before n line more (Bad kind) h =
+fault_answer t d before after n line more (Bad kind) h =
     ap (λ r. with_events (map event_seen before) (in_front n r (read_lines t d (suc n) more))) h ∙ with_fault (map event_seen before) n kind
-fault_answer t d before n line more NoMemory h = tt
+fault_answer t d before after n line more NoMemory h = tt

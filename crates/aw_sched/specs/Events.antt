@@ -1,5 +1,5 @@
 -- What a line of a schedule asks for, and what is wrong with it.
-use Rattle.std.specs.Prelude.{ℕ, Bool, false, ◌||◌, not, List, [], ◌∷◌, length, map, Option, None, Some, slice_get, nat_lt, is_none, if◌then◌else◌, unwrap_or}
+use Rattle.std.specs.Prelude.{ℕ, Bool, false, ◌||◌, not, List, [], ◌∷◌, length, map, Option, None, Some, slice_get, nat_lt, is_none, unwrap_or}
 use Rattle.aw_index.specs.Places.{number_of, stands, first_told}
 use Rattle.aw_text.specs.Spelling.{parts_of_name}
 use Rattle.aw_term.specs.Trees.{Num, Made, Nil, bind}
@@ -19,9 +19,11 @@ use Rattle.aw_sched.specs.declared.fault.SchedKind.{SchedKind}
 use Rattle.aw_sched.specs.declared.fault.SchedKind.TheVariants.{Limit, Unknown, Arity, NotStart, Name}
 
 -- an argument; its names are those of constructors where there is no fault
+-- (a name of no constructor would stand as 0, which does not come of a line without fault)
 abbrev pub ground_named : List (List ℕ) → Written → Ground
 ground_named cons t = bind (λ x. Made (Num 0) Nil) (resolved cons t)
 
+-- The node that is named. Where none is, which does not come of a line without fault, case 0 of sort 0 stands for it.
 abbrev pub node_or_none : Option Node → Node
 node_or_none n = unwrap_or n (root 0 0)
 
@@ -33,6 +35,7 @@ event_of d (DeliverLine message) = Delivers message
 event_of d SettleLine = Settles
 event_of d (ListLine role) = Lists (number_of role d.roles)
 
+-- these parts of a node name have more than 250 steps among them
 abbrev pub has_many : Option (List ℕ × ℕ × List (List ℕ × ℕ)) → Bool
 has_many None = false
 has_many (Some parts) = nat_lt 250 (length parts.2)

@@ -8,6 +8,7 @@ use Rattle.aw_sched.specs.declared.fault.SchedKind.TheVariants.{Unknown}
 use Rattle.aw_sched.specs.declared.fault.LineFault.{LineFault}
 use Rattle.aw_sched.specs.declared.fault.LineFault.TheVariants.{Bad, NoMemory}
 
+-- an argument with its constructors by number, where each name in it is that of one, and the same of its parts
 abbrev mutual
   pub known_ground : List (List ℕ) → Written → Option Ground
   known_ground cons (Word x) = option_map (λ c. Made (Con c) Nil) (number_named cons x)
@@ -18,6 +19,7 @@ abbrev mutual
   known_parts cons Empty = Some Nil
   known_parts cons (Then t ts) = option_and_then (λ g. option_map (λ gs. More g gs) (known_parts cons ts)) (known_ground cons t)
 
+-- arguments with their constructors by number, where each name in them is that of one
 abbrev pub known_grounds : List (List ℕ) → List Written → Option (List Ground)
 known_grounds cons [] = Some []
 known_grounds cons (t ∷ ts) = option_and_then (λ g. option_map (λ gs. g ∷ gs) (known_grounds cons ts)) (known_ground cons t)

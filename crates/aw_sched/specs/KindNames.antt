@@ -3,6 +3,7 @@ use Rattle.std.specs.Prelude.{ℕ, List, codes}
 use Rattle.aw_sched.specs.declared.fault.SchedKind.{SchedKind}
 use Rattle.aw_sched.specs.declared.fault.SchedKind.TheVariants as kind
 
+-- the word by which a kind of fault is told
 abbrev pub kind_name : SchedKind → List ℕ
 kind_name kind.Token = codes "token"
 kind_name kind.Form = codes "form"

@@ -2,7 +2,9 @@ pub mod Answers
 pub mod Events
 pub mod Grounds
 pub mod KindNames
+pub mod Laws
 pub mod LineEvents
 pub mod LineSeen
+pub mod LineSpelling
 pub mod Lines
 pub mod Schedules

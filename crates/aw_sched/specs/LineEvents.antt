@@ -52,6 +52,7 @@ pub record AreFound (d : Declarations) (g : Grammar) (rule : List ℕ) (args : L
   pub declared : is_some (slice_get g.rules place) ≡ true
   pub fit : args_ok g (map ground_of grounds) ≡ true
 
+-- the place of a rule and its arguments as they are found, or the first kind of fault in them
 abbrev pub GivesArgs : Declarations → Grammar → List ℕ → List Written → Result (ℕ × List Ground) LineFault → Type 0
 GivesArgs d g rule args (Ok x) = AreFound d g rule args x.0 x.1
 GivesArgs d g rule args (Err (Bad k)) = args_kind d rule args ≡ Some k
@@ -69,11 +70,11 @@ abbrev pub with_events : List P.Event → Read → Read
 with_events [] read = read
 with_events (e ∷ es) read = with_event e (with_events es read)
 
--- what was read before, and now this line
-abbrev pub AddsLine : List Event → LineRead → Result (List Event) LineFault → Type 0
-AddsLine before read (Ok events) = (n : ℕ) (later : Read) → with_events (map event_seen events) later ≡ with_events (map event_seen before) (in_front n read later)
-AddsLine before read (Err (Bad kind)) = read ≡ BadLine kind
-AddsLine before read (Err NoMemory) = Unit {0}
+-- what was read before, and after this line; want of memory says nothing
+abbrev pub AddsLine : List Event → List Event → LineRead → Result Unit LineFault → Type 0
+AddsLine before after read (Ok done) = (n : ℕ) (later : Read) → with_events (map event_seen after) later ≡ with_events (map event_seen before) (in_front n read later)
+AddsLine before after read (Err (Bad kind)) = read ≡ BadLine kind
+AddsLine before after read (Err NoMemory) = Unit {0}
 
 -- the fault of the line with this number
 abbrev pub fault_at : ℕ → LineFault → SchedFault

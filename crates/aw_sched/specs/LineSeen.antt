@@ -6,6 +6,7 @@ use Rattle.aw_sched.specs.Lines as P
 use Rattle.aw_sched.specs.declared.line.SchedLine.{SchedLine}
 use Rattle.aw_sched.specs.declared.line.SchedLine.TheVariants.{Start, Choose, Deliver, Settle, List}
 
+-- a line of the program, with its arguments as they are written
 abbrev pub line_seen : SchedLine → P.Line
 line_seen (Start sort case) = P.StartLine sort case
 line_seen (Choose node rule args) = P.ChooseLine node rule (map written_of args)

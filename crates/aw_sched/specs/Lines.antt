@@ -5,6 +5,7 @@ use Rattle.aw_grammar.specs.Written.{Written}
 use Rattle.aw_form.specs.Lexemes.{Lexeme, Name}
 use Rattle.aw_form.specs.Forms.{◌>>=◌, name, number, node, only, terms_in_braces}
 
+-- a start, a choice, a delivery, the delivery of all messages, or a look at a worklist
 pub data Line : Type 0 where
   StartLine : (sort : List ℕ) → (case : ℕ) → Line
   ChooseLine : (node rule : List ℕ) → (args : List Written) → Line
@@ -48,6 +49,7 @@ by_word w ls =
     if nats_eq w (codes "settle") then only SettleLine ls else
     if nats_eq w (codes "list") then list_line ls else None
 
+-- the line that these lexemes spell, where they spell one
 abbrev pub line_of : List Lexeme → Option Line
 line_of (Name w ∷ ls) = by_word w ls
 line_of _ = None

@@ -35,21 +35,26 @@ abbrev pub by_kind : Types → Declarations → Line → Option SchedKind → Li
 by_kind t d line None = by_type t (grammar_in d) (event_of d line)
 by_kind t d line (Some kind) = Faulty kind
 
+-- what a line gives, where its lexemes spell one
 abbrev pub by_form : Types → Declarations → Option Line → LineRead
 by_form t d None = Faulty Form
 by_form t d (Some line) = by_kind t d line (line_kind d line)
 
+-- what a line gives, where its bytes are tokens
 abbrev pub by_tokens : Types → Declarations → List ℕ → Result (List Token) ℕ → LineRead
 by_tokens t d bytes (Ok tokens) = by_form t d (line_of (lexemes bytes tokens))
 by_tokens t d bytes (Err at) = Faulty BadToken
 
+-- what the bytes of a line give
 abbrev pub read_line : Types → Declarations → List ℕ → LineRead
 read_line t d bytes = if passed_over bytes then Nothing else by_tokens t d bytes (tokens_of bytes)
 
+-- the events of all lines, or the number of the first faulty line and the first kind of fault there
 pub data Read : Type 0 where
   Events : (events : List Event) → Read
   FaultAt : (line : ℕ) → (kind : SchedKind) → Read
 
+-- an event before those of the lines behind it, where none of these is at fault
 abbrev pub with_event : Event → Read → Read
 with_event e (Events es) = Events (e ∷ es)
 with_event e (FaultAt line kind) = FaultAt line kind

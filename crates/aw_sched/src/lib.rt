@@ -4,6 +4,7 @@
 pub mod event;
 pub mod fault;
 mod ground;
+mod law;
 pub mod line;
 mod lookup;
 pub mod parse;
@@ -11,4 +12,5 @@ pub mod read;
 
 pub use event::{Event, Events};
 pub use fault::{SchedFault, SchedKind};
+pub use law::reading_is_spelling;
 pub use read::read_schedule;

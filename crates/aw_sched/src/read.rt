@@ -1,5 +1,5 @@
 //! Reading a schedule, line by line.
-ghost use Rattle.std.specs.Prelude.{◌≡◌, IfOk, IfSome, Some};
+ghost use Rattle.std.specs.Prelude.{◌≡◌, IfOk, IfSome, OnOk, Some};
 ghost use Rattle.aw_typed.specs.Typing.{types_of, IsMadeFor};
 ghost use Rattle.aw_lex.specs.Tokens.{AreSlices};
 ghost use Rattle.aw_term.specs.WellFormed.{Each};
@@ -110,28 +110,27 @@ fn line_event(
     }
 }
 
-/// The events with that of a line behind them, where it gives one.
-fn with_line(
+/// Adds the event of a line, where it gives one.
+fn add_line(
     alloc: Global,
     g: &Grammar,
     t: &Typed,
-    events: Events,
+    events: &mut Events,
     line: &[u8],
-) -> Result<Events, LineFault>
+) -> Result<(), LineFault>
     requires made { IsMadeFor (grammar_of g.now) t.now }
-    requires come { Each (MayCome (grammar_of g.now)) events }
-    requires typed { Each (HasTypes (types_of t.now.types) (grammar_of g.now)) events }
-    ensures adds { AddsLine events (read_line (types_of t.now.types) (declarations_of g.now) line.now) result }
-    ensures fits { IfOk result (Each (MayCome (grammar_of g.now))) }
-    ensures types { IfOk result (Each (HasTypes (types_of t.now.types) (grammar_of g.now))) }
+    requires come { Each (MayCome (grammar_of g.now)) events.old }
+    requires typed { Each (HasTypes (types_of t.now.types) (grammar_of g.now)) events.old }
+    ensures adds { AddsLine events.old events.new (read_line (types_of t.now.types) (declarations_of g.now) line.now) result }
+    ensures fits { OnOk result (Each (MayCome (grammar_of g.now)) events.new) }
+    ensures types { OnOk result (Each (HasTypes (types_of t.now.types) (grammar_of g.now)) events.new) }
 {
-    let mut events = events;
     match line_event(alloc, g, t, line)? {
         Some(event) => {
             events.push(event)?;
-            Ok(events)
+            Ok(())
         }
-        None => Ok(events),
+        None => Ok(()),
     }
 }
 
@@ -162,11 +161,10 @@ pub fn read_schedule(
     let mut number = 0;
     while let Some((line, behind)) = next_line(rest) {
         number += 1;
-        match with_line(alloc, g, t, events, line) {
-            Ok(more) => events = more,
+        match add_line(alloc, g, t, &mut events, line) {
+            Ok(()) => rest = behind,
             Err(fault) => return Err(fault_at(number, fault)),
         }
-        rest = behind;
     }
     Ok(events)
 }

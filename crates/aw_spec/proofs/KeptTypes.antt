@@ -1,13 +1,13 @@
 -- The types and the dependences of a specification that was read fit what it declares.
-use Rattle.std.proofs.Common.{codes, ◌≡◌, ◌≢◌, ℕ, zero, suc, ◌+◌, ◌<◌, ◌≤◌, nat_eq, nat_le, refl, sym, ap, ◌∙◌, subst, Bool, true, false, cond, not, ◌&&◌, ◌||◌, List, [], ◌∷◌, ◌++◌, set, map, length, Option, Some, None, Result, Ok, Err, IfOk, is_some, slice_get, arith, length-append}
+use Rattle.std.proofs.Common.{codes, ◌≡◌, ◌≢◌, ℕ, zero, suc, ◌+◌, ◌<◌, ◌≤◌, nat_eq, nat_le, refl, sym, ap, ◌∙◌, subst, Bool, true, false, not, ◌&&◌, ◌||◌, List, [], ◌∷◌, ◌++◌, map, length, Option, Some, None, Result, Ok, Err, IfOk, is_some, arith, length-append}
 use Rattle.std.proofs.lemmas.List.{map-append, length-map}
 use Rattle.std.proofs.lemmas.Bool.{and_parts, and_from, both_ways, eq-eqb, eqb-true, leb-true, leb-false}
 use Rattle.std.specs.List.{list_any}
 use Rattle.aw_text.specs.Spelling.{is_name}
-use Rattle.aw_index.specs.Places.{number_of, stands, place_of}
+use Rattle.aw_index.specs.Places.{number_of, place_of}
 use Rattle.aw_index.proofs.FirstTold.{NoneHolds}
 use Rattle.aw_index.proofs.Lookups.{place_within}
-use Rattle.aw_term.specs.WellFormed.{Each, Later}
+use Rattle.aw_term.specs.WellFormed.{Each}
 use Rattle.aw_term.proofs.Eaches.{each_push, each_map}
 use Rattle.aw_grammar.specs.declared.rule.Con.{Con}
 use Rattle.aw_grammar.specs.declared.rule.Sort.{Sort}
@@ -26,9 +26,9 @@ use Rattle.aw_spec.specs.Answers.{Spells}
 use Rattle.aw_spec.specs.Declares.{IsDeclared}
 use Rattle.aw_form.proofs.Steps.{bound}
 use Rattle.aw_spec.specs.Lines.{Line, RoleLine, ConLine, SortLine, StartLine, OfferLine, UseLine, TypeLine, ShapeLine, CarryLine, DependsLine, FreeLine, RuleLine, ScheduleLine}
-use Rattle.aw_spec.specs.TypeLines.{type_names, types_named, shape_named, carry_named, declared_at, item_at, is_other_arity, are_other_counts, are_no_positions, is_position, is_dependence}
-use Rattle.aw_spec.specs.TypesFit.{Alongside, is_empty, has_type_lines, ShapeFits, CarryFits, IsOfSort, AreTwo, arities_in, counts_in, TypesFit}
-use Rattle.aw_spec.specs.Reading.{Spec, Draft, On, Wrong, declaring, if_kept, keeping, says, with_no_shape, with_no_carry, offer_tests, with_offer, use_tests, with_use, type_tests, with_type, con_place, sort_place, shape_tests, with_shape, carry_tests, with_carry, depends_tests, with_depends, free_tests, with_free, no_draft, Good, specification}
+use Rattle.aw_spec.specs.TypeLines.{type_names, types_named, shape_named, carry_named, is_other_arity, are_other_counts, are_no_positions, is_position}
+use Rattle.aw_spec.specs.TypesFit.{Alongside, is_empty, ShapeFits, CarryFits, IsOfSort, AreTwo, arities_in, counts_in, TypesFit}
+use Rattle.aw_spec.specs.Reading.{Spec, Draft, On, declaring, if_kept, keeping, says, with_no_shape, with_no_carry, offer_tests, with_offer, use_tests, with_use, type_tests, with_type, con_place, sort_place, shape_tests, with_shape, carry_tests, with_carry, depends_tests, with_depends, free_tests, with_free, no_draft, Good, specification}
 use Rattle.aw_spec.specs.Views.{spec_seen}
 use Rattle.aw_spec.proofs.KeptLines.{reading_keeps}
 use Rattle.aw_spec.proofs.Tested.{tested_on}

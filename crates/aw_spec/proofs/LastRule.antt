@@ -1,15 +1,20 @@
 -- The last item of a list, and the rule that was declared last.
-use Rattle.std.proofs.Common.{◌≡◌, ℕ, zero, suc, ◌+◌, ◌≤◌, sym, ◌∙◌, ap, List, [], ◌∷◌, ◌++◌, map, length, slice_get, arith, Option, Some, None, length-append}
+use Rattle.std.proofs.Common.{◌≡◌, ℕ, zero, suc, ◌+◌, ◌≤◌, sym, ◌∙◌, ap, subst, List, [], ◌∷◌, ◌++◌, map, length, slice_get, arith, Option, Some, None, Ok, length-append}
 use Rattle.std.proofs.lemmas.List.{length-map}
 use Rattle.std.proofs.lemmas.Option.{same_Some}
 use Rattle.aw_grammar.specs.declared.rule.Sort.{Sort}
 use Rattle.aw_grammar.specs.declared.rule.Rule.{Rule}
-use Rattle.aw_grammar.specs.Declarations.{entry_of, with_rule}
+use Rattle.aw_grammar.specs.declared.grammar.Grammar.{Grammar}
+use Rattle.aw_grammar.specs.Build.{Added}
+use Rattle.aw_grammar.specs.Declarations.{Declarations, Entry, entry_of, with_rule}
+use Rattle.aw_grammar.specs.GrammarOf.{declarations_of, entry}
 use Rattle.aw_grammar.specs.GrammarView.{sorts_of, child_of, rule_of}
 use Rattle.aw_grammar.specs.Kinds.{rule_kind}
 use Rattle.aw_grammar.specs.Written.{WrittenRule}
 use Rattle.aw_face.specs.declared.faces.FaceKind.{FaceKind}
 use Rattle.aw_face.specs.Faces.{rule_fault}
+use Rattle.aw_spec.specs.declared.draft.Draft.{Draft}
+use Rattle.aw_spec.specs.LineAnswers.{spec_so_far}
 use Rattle.aw_spec.specs.Lines.{RuleLine}
 use Rattle.aw_spec.specs.Reading.{Spec, says, declaring, keeping, if_kept}
 
@@ -33,6 +38,19 @@ pub few_children : (sorts : List Sort) (r : Rule) → length (rule_of sorts r).c
 few_children sorts r h = omega (arith, h, length-map r.children (child_of sorts))
 
 -- a rule that is declared, and whose children are looked at
-pub kept : (s : Spec) (r : WrittenRule) (o : Option (ℕ × FaceKind)) → rule_kind s.declared r ≡ None → rule_fault (sorts_of s.declared.sorts) s.offers s.uses (entry_of s.declared r).rule ≡ o →
+kept : (s : Spec) (r : WrittenRule) (o : Option (ℕ × FaceKind)) → rule_kind s.declared r ≡ None → rule_fault (sorts_of s.declared.sorts) s.offers s.uses (entry_of s.declared r).rule ≡ o →
     says s (RuleLine r) ≡ if_kept (record s { declared = with_rule s.declared r }) o
 kept s r o e h = ap (λ k. keeping s r (declaring s k (with_rule s.declared r))) e ∙ ap (if_kept (record s { declared = with_rule s.declared r })) h
+
+-- the same of a draft whose grammar was taken out and declares the rule now, by what is told of its last rule
+pub last_kept : (d : Draft) (taken g : Grammar) (r : WrittenRule) (o : Option (ℕ × FaceKind)) → taken ≡ d.grammar → Added (rule_kind (declarations_of taken) r) (with_rule (declarations_of taken) r) (Ok g) →
+    ((front : List Entry) (e : Entry) → map (entry g.sorts) g.rules ≡ front ++ e ∷ [] → o ≡ rule_fault (sorts_of g.sorts) d.faces.offers d.faces.uses e.rule) →
+    says (spec_so_far d) (RuleLine r) ≡ if_kept (record (spec_so_far d) { declared = declarations_of g }) o
+last_kept d taken g r o out declared told =
+    let s = spec_so_far d in
+    let before = d.grammar in
+    let added = subst (λ (x : Grammar). Added (rule_kind (declarations_of x) r) (with_rule (declarations_of x) r) (Ok g)) out declared in
+    let found = told (map (entry before.sorts) before.rules) (entry_of s.declared r) (ap (λ (x : Declarations). x.rules) added.1) in
+    let sorts : g.sorts ≡ before.sorts = ap (λ (x : Declarations). x.sorts) added.1 in
+    kept s r o added.0 (ap (λ ss. rule_fault (sorts_of ss) s.offers s.uses (entry_of s.declared r).rule) (sym sorts) ∙ sym found)
+    ∙ ap (λ (x : Declarations). if_kept (record s { declared = x }) o) (sym added.1)

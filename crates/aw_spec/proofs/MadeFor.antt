@@ -1,11 +1,10 @@
 -- Types that fit a specification are for its grammar, as the checker of types asks.
-use Rattle.std.proofs.Common.{◌≡◌, ℕ, Result, Ok, Err, IfOk, ◌+◌, ◌<◌, refl, sym, ap, ◌∙◌, List, [], ◌∷◌, map, length, Option, Some, None, option_map, slice_get, option_and_then}
+use Rattle.std.proofs.Common.{◌≡◌, ℕ, Result, Ok, Err, IfOk, ◌+◌, sym, ap, ◌∙◌, List, [], ◌∷◌, map, length, Option, Some, None, option_map, slice_get, option_and_then}
 use Rattle.std.proofs.lemmas.List.{length-map}
 use Rattle.aw_term.specs.Rules as P
 use Rattle.aw_term.specs.WellFormed.{Each}
-use Rattle.aw_grammar.specs.declared.rule.Con.{Con}
 use Rattle.aw_grammar.specs.declared.rule.Sort.{Sort}
-use Rattle.aw_grammar.specs.GrammarView.{sorts_of, sort_of}
+use Rattle.aw_grammar.specs.GrammarView.{sort_of}
 use Rattle.aw_grammar.specs.GrammarOf.{grammar_of}
 use Rattle.aw_typed.specs.Types as T
 use Rattle.aw_typed.specs.Typing.{shape_of, carry_of, types_of, ShapeInRange, CarryInRange, NumbersInRange}
@@ -13,7 +12,7 @@ use Rattle.aw_typed.specs.declared.data.Shape.{Shape}
 use Rattle.aw_typed.specs.declared.data.Carry.{Carry}
 use Rattle.aw_spec.specs.declared.fault.SpecFault.{SpecFault}
 use Rattle.aw_spec.specs.declared.spec_text.SpecText.{SpecText}
-use Rattle.aw_spec.specs.TypesFit.{Alongside, ShapeFits, CarryFits, arities_in, counts_in, TypesFit}
+use Rattle.aw_spec.specs.TypesFit.{ShapeFits, CarryFits, arities_in, counts_in, TypesFit}
 use Rattle.aw_spec.specs.Views.{spec_seen}
 use Rattle.aw_spec.proofs.TypeSteps.{alongside_at, alongside_length, alongside_each, get_map, mapped_at}
 

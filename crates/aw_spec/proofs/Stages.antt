@@ -1,11 +1,19 @@
 -- Lines of early kinds declare neither sorts nor rules, and there are few types.
-use Rattle.std.proofs.Common.{◌≡◌, ℕ, ◌<◌, ◌≤◌, List, [], ◌∷◌, subst, length, arith, Option, None, Some, length-append}
+use Rattle.std.proofs.Common.{◌≡◌, ℕ, ◌<◌, ◌≤◌, List, [], ◌∷◌, sym, ◌∙◌, subst, length, arith, Option, None, Some, Result, Ok, Err, length-append}
 use Rattle.std.proofs.lemmas.Bool.{leb-false}
+use Rattle.std.proofs.lemmas.List.{length-map}
 use Rattle.aw_grammar.specs.declared.fault.DeclKind.{DeclKind}
 use Rattle.aw_grammar.specs.Declarations.{Declarations, with_rule}
 use Rattle.aw_grammar.specs.Written.{WrittenRule}
 use Rattle.aw_face.specs.declared.faces.FaceKind.{FaceKind}
+use Rattle.aw_grammar.specs.GrammarOf.{entry}
 use Rattle.aw_spec.proofs.Tested.{tested_on}
+use Rattle.aw_spec.specs.declared.draft.AfterLine.{AfterLine}
+use Rattle.aw_spec.specs.declared.draft.AfterLine.TheVariants as then
+use Rattle.aw_spec.specs.declared.draft.LineFault.{LineFault}
+use Rattle.aw_spec.specs.declared.reader.Reader.{Reader}
+use Rattle.aw_spec.specs.LineAnswers.{Says, spec_so_far}
+use Rattle.aw_spec.specs.ReaderAnswers.{IsAtStage, IsStill}
 use Rattle.aw_index.specs.Places.{first_told}
 use Rattle.aw_spec.specs.declared.fault.SpecKind.{SpecKind}
 use Rattle.aw_spec.specs.Stages.{sorts_stage, rules_stage}
@@ -109,3 +117,25 @@ keeps_few_types s after (DependsLine sort i j) e few = same_types (with_depends 
 keeps_few_types s after FreeLine e few = same_types (with_free s) after (first_told (free_tests s)) e few
 keeps_few_types s after (RuleLine rule) e few = same_keeping s after rule _ e few
 keeps_few_types s after (ScheduleLine loads) e few = cc
+
+-- behind a line that leads on, the stage of that line tells of the lines so far what it should
+pub still_at_stage : (before after : Reader) (line : Line) (result : Result AfterLine LineFault) → before.stage ≤ stage_of line → after.stage ≡ stage_of line → IsAtStage before →
+    Says (spec_so_far before.draft) after.draft result (says (spec_so_far before.draft) line) → IsStill after result
+still_at_stage before after line (Ok then.Next) le here at said =
+    let s = spec_so_far before.draft in
+    let t = spec_so_far after.draft in
+    let g = before.draft.grammar in
+    let h = after.draft.grammar in
+    record {
+      no_sorts = λ early.
+          let line_early : stage_of line < sorts_stage = omega arith in
+          let before_early : before.stage < sorts_stage = omega arith in
+          keeps_no_sorts s t line said line_early (at.no_sorts before_early);
+      few_types = keeps_few_types s t line said at.few_types;
+      no_rules = λ early.
+          let line_early : stage_of line < rules_stage = omega arith in
+          let before_early : before.stage < rules_stage = omega arith in
+          sym (length-map h.rules (entry h.sorts)) ∙ keeps_no_rules s t line said line_early (length-map g.rules (entry g.sorts) ∙ at.no_rules before_early);
+    }
+still_at_stage before after line (Ok (then.End loads)) le here at said = tt
+still_at_stage before after line (Err fault) le here at said = tt

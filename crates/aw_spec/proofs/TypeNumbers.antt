@@ -1,5 +1,5 @@
 -- Types looked up by name, one after the other.
-use Rattle.std.proofs.Common.{◌≡◌, ℕ, suc, ◌+◌, ◌<◌, refl, sym, ap, ◌∙◌, List, [], ◌∷◌, ◌++◌, drop, length, get_or, Option, Some, None, option_map, append_assoc}
+use Rattle.std.proofs.Common.{◌≡◌, ℕ, ◌+◌, ◌<◌, refl, sym, ap, ◌∙◌, List, [], ◌∷◌, ◌++◌, drop, length, get_or, Option, Some, None, option_map, append_assoc}
 use Rattle.aw_index.specs.Places.{place_of}
 use Rattle.aw_grammar.proofs.Steps.{rest_is}
 use Rattle.aw_form.specs.Forms.{◌>>=◌}

@@ -1,5 +1,5 @@
 -- Lists that go together, and what types by name are.
-use Rattle.std.proofs.Common.{◌≡◌, ◌≢◌, ℕ, zero, suc, ◌+◌, ◌<◌, ◌≤◌, refl, sym, ap, ◌∙◌, subst, Bool, true, false, not, ◌&&◌, ◌||◌, List, [], ◌∷◌, ◌++◌, set, map, length, Option, Some, None, is_some, option_map, cond, slice_get, arith, length-append}
+use Rattle.std.proofs.Common.{◌≡◌, ◌≢◌, ℕ, zero, suc, ◌+◌, ◌<◌, refl, ap, ◌∙◌, subst, Bool, true, false, ◌||◌, List, [], ◌∷◌, ◌++◌, set, map, length, Option, Some, None, is_some, option_map, cond, slice_get, arith}
 use Rattle.std.proofs.lemmas.Bool.{or_parts}
 use Rattle.std.specs.List.{list_any}
 use Rattle.aw_index.specs.Places.{is_same, stands, place_of}
@@ -7,7 +7,6 @@ use Rattle.aw_index.proofs.Same.{other_is_not}
 use Rattle.aw_index.proofs.Lookups.{place_within}
 use Rattle.aw_term.specs.WellFormed.{Each, Later}
 use Rattle.aw_term.proofs.Eaches.{each_push}
-use Rattle.aw_form.specs.Forms.{◌>>=◌}
 use Rattle.aw_form.proofs.Steps.{bound}
 use Rattle.aw_spec.specs.TypeLines.{types_named}
 use Rattle.aw_spec.specs.TypesFit.{Alongside}

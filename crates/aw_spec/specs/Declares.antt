@@ -4,6 +4,7 @@ use Rattle.aw_text.specs.Spelling.{is_name}
 use Rattle.aw_grammar.specs.Terms.{all_have_contents, are_names, results_of, terms_of}
 use Rattle.aw_spec.specs.Lines.{Line, RoleLine, ConLine, SortLine, StartLine, OfferLine, UseLine, TypeLine, ShapeLine, CarryLine, DependsLine, FreeLine, RuleLine, ScheduleLine}
 
+-- the names that a line declares are names, and the texts that it writes are contents
 abbrev pub IsDeclared : Line → Type 0
 IsDeclared (RoleLine name) = is_name name ≡ true
 IsDeclared (ConLine name arity) = is_name name ≡ true

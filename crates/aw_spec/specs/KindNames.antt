@@ -3,6 +3,7 @@ use Rattle.std.specs.Prelude.{ℕ, List, codes}
 use Rattle.aw_spec.specs.declared.fault.SpecKind.{SpecKind}
 use Rattle.aw_spec.specs.declared.fault.SpecKind.TheVariants as kind
 
+-- the word by which a kind of fault is told
 abbrev pub kind_name : SpecKind → List ℕ
 kind_name kind.Token = codes "token"
 kind_name kind.Form = codes "form"

@@ -9,6 +9,7 @@ use Rattle.aw_spec.specs.ReadLine.{line_of}
 use Rattle.aw_spec.specs.Reading.{Spec, Good, specification}
 use Rattle.aw_spec.specs.TypesFit.{TypesFit}
 
+-- the arguments of a subtask can be spelled
 abbrev pub IsWrittenChild : WrittenChild → Type 0
 IsWrittenChild c = AreWritten (side_by_side c.args)
 

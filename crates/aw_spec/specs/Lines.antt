@@ -4,6 +4,7 @@ use Rattle.aw_grammar.specs.Written.{Written, WrittenChild, WrittenRule, side_by
 use Rattle.aw_form.specs.Lexemes.{Lexeme, Name, Number, Mark}
 use Rattle.aw_form.specs.Terms.{spellings}
 
+-- a line, with the names that it has as they are written
 pub data Line : Type 0 where
   RoleLine : (name : List ℕ) → Line
   ConLine : (name : List ℕ) → (arity : ℕ) → Line
@@ -19,6 +20,7 @@ pub data Line : Type 0 where
   RuleLine : (rule : WrittenRule) → Line
   ScheduleLine : (loads : Bool) → Line
 
+-- names as terms: each a bare word
 abbrev pub as_words : List (List ℕ) → List Written
 as_words [] = []
 as_words (n ∷ ns) = Word n ∷ as_words ns
@@ -55,6 +57,7 @@ abbrev pub rule_spelling : WrittenRule → List Lexeme
 rule_spelling r =
     Name (codes "rule") ∷ Name r.name ∷ (params_spelling r.params ++ (Mark 58 ∷ Name r.sort ∷ (in_parentheses r.patterns ++ (in_angles r.results ++ children_spelling r.children))))
 
+-- the lexemes of a line, of which the first names its kind
 abbrev pub line_spelling : Line → List Lexeme
 line_spelling (RoleLine name) = Name (codes "role") ∷ Name name ∷ []
 line_spelling (ConLine name arity) = Name (codes "con") ∷ Name name ∷ Number arity ∷ []

@@ -19,6 +19,7 @@ abbrev pub in_front : {A : Type 0} → A → List (List A) → List (List A)
 in_front x [] = (x ∷ []) ∷ []
 in_front x (piece ∷ pieces) = (x ∷ piece) ∷ pieces
 
+-- the mark `;`
 abbrev pub is_semicolon : Lexeme → Bool
 is_semicolon (Mark b) = nat_eq b 59
 is_semicolon _ = false
@@ -28,6 +29,7 @@ abbrev pub pieces : List Lexeme → List (List Lexeme)
 pieces [] = [] ∷ []
 pieces (l ∷ ls) = if is_semicolon l then [] ∷ pieces ls else in_front l (pieces ls)
 
+-- the subtasks that these pieces spell, where each spells one
 abbrev pub children_of : List (List Lexeme) → Option (List WrittenChild)
 children_of [] = Some []
 children_of (piece ∷ others) = do
@@ -41,17 +43,20 @@ rest_of_rule [] = Some []
 rest_of_rule (Mark b ∷ ls) = if nat_eq b 61 then children_of (pieces ls) else None
 rest_of_rule _ = None
 
+-- `NAME`, behind the word `role`
 abbrev pub role_line : List Lexeme → Option Line
 role_line ls = do
   n ← name ls
   only (RoleLine n.0) n.1
 
+-- `NAME PARTS`, with the number of its parts
 abbrev pub con_line : List Lexeme → Option Line
 con_line ls = do
   n ← name ls
   arity ← number n.1
   only (ConLine n.0 arity.0) arity.1
 
+-- `NAME ROLE TAKES GIVES`, with how many values it inherits and how many results it gives
 abbrev pub sort_line : List Lexeme → Option Line
 sort_line ls = do
   n ← name ls
@@ -60,22 +65,26 @@ sort_line ls = do
   gives ← number takes.1
   only (SortLine n.0 role.0 takes.0 gives.0) gives.1
 
+-- `SORT`, behind the word `start`
 abbrev pub start_line : List Lexeme → Option Line
 start_line ls = do
   sort ← name ls
   only (StartLine sort.0) sort.1
 
+-- `SORT`, behind the word `offer`
 abbrev pub offer_line : List Lexeme → Option Line
 offer_line ls = do
   sort ← name ls
   only (OfferLine sort.0) sort.1
 
+-- `ROLE SORT`
 abbrev pub use_line : List Lexeme → Option Line
 use_line ls = do
   role ← name ls
   sort ← name role.1
   only (UseLine role.0 sort.0) sort.1
 
+-- `NAME`, behind the word `type`
 abbrev pub type_line : List Lexeme → Option Line
 type_line ls = do
   n ← name ls
@@ -97,6 +106,7 @@ carry_line ls = do
   gives ← names_between 60 62 takes.1
   only (CarryLine sort.0 takes.0 gives.0) gives.1
 
+-- `SORT INHERITED RESULT`, the two by their numbers
 abbrev pub depends_line : List Lexeme → Option Line
 depends_line ls = do
   sort ← name ls
@@ -104,6 +114,7 @@ depends_line ls = do
   j ← number i.1
   only (DependsLine sort.0 i.0 j.0) j.1
 
+-- `NAME {..} : SORT(..)<..> = ..`
 abbrev pub rule_line : List Lexeme → Option Line
 rule_line ls = do
   n ← name ls
@@ -145,6 +156,7 @@ by_word w ls =
     if nats_eq w (codes "rule") then rule_line ls else
     if nats_eq w (codes "schedule") then schedule_line ls else None
 
+-- the line that these lexemes spell, where they spell one
 abbrev pub line_of : List Lexeme → Option Line
 line_of ls = do
   word ← name ls

@@ -38,6 +38,7 @@ pub record Spec : Type 0 where
   pub depends : List Triple
   pub free : Bool
 
+-- nothing is said yet
 abbrev pub no_spec : Spec
 no_spec = record { declared = no_declarations; offers = []; uses = []; types = no_types; depends = []; free = false }
 
@@ -52,6 +53,7 @@ decl_kind decl.Twice = Twice
 decl_kind decl.Never = Never
 decl_kind decl.Inherits = Inherits
 
+-- the fault of a child, as the kind of its line
 abbrev pub face_kind : FaceKind → SpecKind
 face_kind face.NotUsed = NotUsed
 face_kind face.NotOffered = NotOffered
@@ -77,6 +79,7 @@ abbrev pub tested : List (Bool × SpecKind) → Spec → Step
 tested tests after = told_or after (first_told tests)
 
 -- the number of the sort of this name
+-- (past the last where none is declared, which is a fault of the line)
 abbrev pub sort_number : Spec → List ℕ → ℕ
 sort_number s name = number_of name (sort_names s.declared)
 
@@ -84,6 +87,7 @@ sort_number s name = number_of name (sort_names s.declared)
 abbrev pub offer_tests : Spec → List ℕ → List (Bool × SpecKind)
 offer_tests s sort = (not (stands sort (sort_names s.declared)), Unknown) ∷ (is_offered (sort_number s sort) s.offers, Double) ∷ []
 
+-- one sort more is offered, by its number
 abbrev pub with_offer : Spec → List ℕ → Spec
 with_offer s sort = record s { offers = s.offers ++ sort_number s sort ∷ [] }
 
@@ -94,6 +98,7 @@ use_tests s role sort =
     ∷ (is_used (number_of role s.declared.roles) (sort_number s sort) s.uses, Double)
     ∷ []
 
+-- one use more, with its role and its sort by number
 abbrev pub with_use : Spec → List ℕ → List ℕ → Spec
 with_use s role sort = record s { uses = s.uses ++ record { role = number_of role s.declared.roles; sort = sort_number s sort } ∷ [] }
 
@@ -101,6 +106,7 @@ with_use s role sort = record s { uses = s.uses ++ record { role = number_of rol
 abbrev pub with_no_shape : Spec → Spec
 with_no_shape s = record s { types = record s.types { shapes = s.types.shapes ++ None ∷ [] } }
 
+-- a sort more, of whose types nothing is declared
 abbrev pub with_no_carry : Spec → Spec
 with_no_carry s = record s { types = record s.types { carries = s.types.carries ++ None ∷ [] } }
 
@@ -108,6 +114,7 @@ with_no_carry s = record s { types = record s.types { carries = s.types.carries 
 abbrev pub type_tests : Spec → List ℕ → List (Bool × SpecKind)
 type_tests s name = (nat_le 256 (length s.types.names), Limit) ∷ (stands name (type_names s.types), Double) ∷ []
 
+-- one type more is declared
 abbrev pub with_type : Spec → List ℕ → Spec
 with_type s name = record s { types = record s.types { typed = true; names = s.types.names ++ name ∷ [] } }
 
@@ -115,6 +122,7 @@ with_type s name = record s { types = record s.types { typed = true; names = s.t
 abbrev pub con_place : Spec → List ℕ → Option ℕ
 con_place s name = place_of name (con_names s.declared)
 
+-- the place of a sort, where one of that name is declared
 abbrev pub sort_place : Spec → List ℕ → Option ℕ
 sort_place s name = place_of name (sort_names s.declared)
 
@@ -126,6 +134,7 @@ shape_tests s at shape =
     ∷ (is_other_arity (item_at s.declared.cons at) shape, Arity)
     ∷ []
 
+-- the constructor at this place has this shape
 abbrev pub with_shape : Spec → Option ℕ → Option Shape → Spec
 with_shape s at shape = record s { types = record s.types { typed = true; shapes = with_at s.types.shapes at shape } }
 
@@ -137,6 +146,7 @@ carry_tests s at carry =
     ∷ (are_other_counts (item_at s.declared.sorts at) carry, Arity)
     ∷ []
 
+-- the sort at this place has this carry
 abbrev pub with_carry : Spec → Option ℕ → Option Carry → Spec
 with_carry s at carry = record s { types = record s.types { typed = true; carries = with_at s.types.carries at carry } }
 
@@ -148,6 +158,7 @@ depends_tests s at i j =
     ∷ (are_no_positions (item_at s.declared.sorts at) i j, Arity)
     ∷ []
 
+-- one dependence more of the sort at this place
 abbrev pub with_depends : Spec → Option ℕ → ℕ → ℕ → Spec
 with_depends s at i j = record s { depends = with_dependence s.depends at i j }
 
@@ -155,9 +166,11 @@ with_depends s at i j = record s { depends = with_dependence s.depends at i j }
 abbrev pub shaping : Spec → Option ℕ → Option Shape → Step
 shaping s at shape = tested (shape_tests s at shape) (with_shape s at shape)
 
+-- what a line of a carry comes to
 abbrev pub carrying : Spec → Option ℕ → Option Carry → Step
 carrying s at carry = tested (carry_tests s at carry) (with_carry s at carry)
 
+-- what a line of a dependence comes to
 abbrev pub depending : Spec → Option ℕ → ℕ → ℕ → Step
 depending s at i j = tested (depends_tests s at i j) (with_depends s at i j)
 
@@ -165,6 +178,7 @@ depending s at i j = tested (depends_tests s at i j) (with_depends s at i j)
 abbrev pub free_tests : Spec → List (Bool × SpecKind)
 free_tests s = (s.free, Double) ∷ []
 
+-- the specification asks that no tasks ever wait for each other
 abbrev pub with_free : Spec → Spec
 with_free s = record s { free = true }
 
@@ -173,6 +187,7 @@ abbrev pub if_kept : Spec → Option (ℕ × FaceKind) → Step
 if_kept s None = On s
 if_kept s (Some fault) = Wrong (face_kind fault.1)
 
+-- a rule whose declaration came to this: where it is declared, each child is of the same role or of a sort that is used and offered
 abbrev pub keeping : Spec → WrittenRule → Step → Step
 keeping s r (On after) = if_kept after (rule_fault (sorts_of s.declared.sorts) s.offers s.uses (entry_of s.declared r).rule)
 keeping s r (Wrong kind) = Wrong kind
@@ -223,6 +238,7 @@ pub data LineRead : Type 0 where
   Fault : (kind : SpecKind) → LineRead
   End : (loads : Bool) → LineRead
 
+-- what a line of this stage comes to, as what is read of it
 abbrev pub at_stage : ℕ → Step → LineRead
 at_stage stage (On spec) = Next (record { spec = spec; stage = stage })
 at_stage stage (Wrong kind) = Fault kind
@@ -232,10 +248,12 @@ at_stage stage (Stop loads) = End loads
 abbrev pub in_order : Draft → Line → LineRead
 in_order d line = if nat_lt (stage_of line) d.stage then Fault Order else at_stage (stage_of line) (says d.spec line)
 
+-- what a line comes to, where its lexemes spell one
 abbrev pub if_line : Draft → Option Line → LineRead
 if_line d None = Fault Form
 if_line d (Some line) = in_order d line
 
+-- what a line comes to, where its bytes are tokens
 abbrev pub if_tokens : Draft → List ℕ → Result (List Token) ℕ → LineRead
 if_tokens d bytes (Err at) = Fault kind.Token
 if_tokens d bytes (Ok tokens) = if_line d (line_of (lexemes bytes tokens))
@@ -260,8 +278,10 @@ abbrev pub read_lines : Draft → ℕ → List (List ℕ) → Reading
 read_lines d read [] = Good d.spec read false
 read_lines d read (line ∷ lines) = after_line d (suc read) (read_line d line) (λ next. read_lines next (suc read) lines)
 
+-- nothing has been read yet
 abbrev pub no_draft : Draft
 no_draft = record { spec = no_spec; stage = 0 }
 
+-- the specification that these lines spell, or the first of them at fault
 abbrev pub specification : List (List ℕ) → Reading
 specification lines = read_lines no_draft 0 lines

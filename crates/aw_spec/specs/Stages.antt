@@ -1,9 +1,11 @@
 -- The order of the kinds of line; no text shows these numbers.
 use Rattle.std.specs.Prelude.{ℕ}
 
+-- lines of roles come first
 abbrev pub roles_stage : ℕ
 roles_stage = 1
 
+-- constructors
 abbrev pub cons_stage : ℕ
 cons_stage = 2
 
@@ -11,12 +13,15 @@ cons_stage = 2
 abbrev pub sorts_stage : ℕ
 sorts_stage = 3
 
+-- with which sorts cases start
 abbrev pub starts_stage : ℕ
 starts_stage = 4
 
+-- which sorts are offered to other roles
 abbrev pub offers_stage : ℕ
 offers_stage = 5
 
+-- which role uses which sort
 abbrev pub uses_stage : ℕ
 uses_stage = 6
 
@@ -24,9 +29,11 @@ uses_stage = 6
 abbrev pub types_stage : ℕ
 types_stage = 7
 
+-- the types of the parts of constructors
 abbrev pub shapes_stage : ℕ
 shapes_stage = 8
 
+-- the types of the values of sorts
 abbrev pub carries_stage : ℕ
 carries_stage = 9
 

@@ -1,5 +1,5 @@
 -- What lines of types declare: types by name, the shapes of constructors, the carries of sorts, and which results may depend on which inherited values.
-use Rattle.std.specs.Prelude.{ℕ, Bool, true, false, ◌&&◌, not, List, [], ◌∷◌, ◌++◌, length, map, set, codes, nat_eq, nat_le, Option, None, Some, is_some, slice_get, option_and_then}
+use Rattle.std.specs.Prelude.{ℕ, Bool, true, false, ◌&&◌, not, List, [], ◌∷◌, ◌++◌, length, set, codes, nat_eq, nat_le, Option, None, Some, slice_get, option_and_then}
 use Rattle.std.specs.List.{list_any}
 use Rattle.aw_index.specs.Places.{place_of}
 use Rattle.aw_grammar.specs.declared.rule.Con.{Con}

@@ -62,6 +62,7 @@ pub record FitCounts (arities : List ℕ) (counts : List (ℕ × ℕ)) (t : Type
 abbrev pub arities_in : Declarations → List ℕ
 arities_in d = map (λ (c : Con). c.arity) d.cons
 
+-- how many inherited values and how many results each sort has
 abbrev pub counts_in : Declarations → List (ℕ × ℕ)
 counts_in d = map (λ (s : Sort). (s.takes, s.gives)) d.sorts
 

@@ -7,6 +7,7 @@ use Rattle.aw_spec.specs.declared.line.SpecLine.TheVariants as line
 use Rattle.aw_spec.specs.Lines as L
 use Rattle.aw_spec.specs.Reading.{Spec}
 
+-- a line of the program, with the terms of its rule as they are written
 abbrev pub line_seen : SpecLine → L.Line
 line_seen (line.Role name) = L.RoleLine name
 line_seen (line.Con con) = L.ConLine con.name con.arity

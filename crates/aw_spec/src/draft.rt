@@ -1,5 +1,5 @@
 //! A specification as far as it has been read.
-ghost use Rattle.std.specs.Prelude.{◌≡◌, ◌≤◌, ◌++◌, ◌∷◌, ◌<◌, ◌-◌, [], true, ℕ, List, length, map, slice_get, IfSome, OnOk, Ok, Err, Some, option_map};
+ghost use Rattle.std.specs.Prelude.{◌≡◌, ◌≤◌, ◌++◌, ◌∷◌, ◌<◌, ◌-◌, [], true, ℕ, List, length, map, slice_get, IfErr, OnOk, Ok, Err, Some, option_map};
 ghost use Rattle.std.specs.Option.{option_copied};
 ghost use Rattle.aw_text.specs.Spelling.{is_name};
 ghost use Rattle.aw_grammar.specs.Declarations.{Entry};
@@ -15,12 +15,12 @@ ghost use Rattle.aw_spec.specs.Placed.{offering, using_by};
 ghost use Rattle.aw_grammar.specs.Declarations.{sort_names};
 ghost use Rattle.aw_grammar.specs.Named.{number_named};
 ghost use Rattle.aw_spec.specs.Views.{line_seen};
-ghost use Rattle.aw_spec.specs.LineAnswers.{Adds, AddsTo, Says, spec_so_far};
+ghost use Rattle.aw_spec.specs.LineAnswers.{Adds, Says, spec_so_far};
+ghost use Rattle.aw_spec.specs.declared.draft.AfterLine.TheVariants.{Next};
 ghost use Rattle.aw_spec.specs.Declares.{IsDeclared};
 
 use crate::fault::SpecKind;
 use crate::line::SpecLine;
-use crate::type_lines::{with_no_carry, with_no_shape};
 use aw_base::{AddFault, DeclKind, Declared, Grammar, RawCon, RawRule, RawSort, Rule};
 use aw_face::{FaceKind, Faces, Using, is_offered, is_used, rule_fault};
 use aw_form::Unread;
@@ -28,6 +28,7 @@ use aw_lex::LexFault;
 use aw_list::Text;
 use aw_typed::Types;
 use std::alloc::{AllocError, AllocFailed};
+use std::mem;
 
 /// Why a line is at fault.
 #[derive(Clone, Copy, Debug, PartialEq, Eq)]
@@ -134,11 +135,19 @@ pub struct Draft {
     pub free: bool,
 }
 
-/// What comes of a line: what is said so far, or the end at the line `schedule`.
-#[derive(Debug, Drop)]
-pub enum Said {
-    On(Draft),
-    Stop { draft: Draft, loads: bool },
+/// What comes of a line: reading goes on, or it ends at the line `schedule`, which may ask for loads.
+#[derive(Clone, Copy, Debug)]
+pub enum AfterLine {
+    Next,
+    End { loads: bool },
+}
+
+/// Takes a grammar out, for one with more to be put in its place.
+fn taken(grammar: &mut Grammar) -> Grammar
+    ensures { result ≡ grammar.old }
+{
+    let alloc = grammar.roles.allocator();
+    mem::replace(grammar, Grammar::new(alloc))
 }
 
 /// The rule that was declared last.
@@ -158,110 +167,48 @@ fn last_fault(grammar: &Grammar, faces: &Faces) -> Option<(u8, FaceKind)>
     rule_fault(grammar.sorts.as_slice(), faces, last_rule(grammar))
 }
 
+/// A draft is of no use after a fault: what a line added before it is not taken back.
 impl Draft {
-    fn add_role(self, name: Text) -> Result<Draft, LineFault>
+    fn add_role(&mut self, name: Text) -> Result<(), LineFault>
         requires named { is_name name ≡ true }
-        requires no_sorts { self.grammar.sorts ≡ [] }
-        requires no_rules { self.grammar.rules ≡ [] }
-        ensures { Adds result (says (spec_so_far self) (lines.RoleLine name)) }
+        requires no_sorts { self.old.grammar.sorts ≡ [] }
+        requires no_rules { self.old.grammar.rules ≡ [] }
+        ensures { Adds self.new result (says (spec_so_far self.old) (lines.RoleLine name)) }
     {
-        let Draft {
-            grammar,
-            faces,
-            types,
-            depends,
-            free,
-        } = self;
-        let grammar = grammar.add_role(name)?;
-        Ok(Draft {
-            grammar,
-            faces,
-            types,
-            depends,
-            free,
-        })
+        self.grammar = taken(&mut self.grammar).add_role(name)?;
+        Ok(())
     }
 
-    fn add_con(self, con: RawCon) -> Result<Draft, LineFault>
+    fn add_con(&mut self, con: RawCon) -> Result<(), LineFault>
         requires named { is_name con.name ≡ true }
-        requires no_rules { self.grammar.rules ≡ [] }
-        ensures { Adds result (says (spec_so_far self) (lines.ConLine con.name con.arity)) }
+        requires no_rules { self.old.grammar.rules ≡ [] }
+        ensures { Adds self.new result (says (spec_so_far self.old) (lines.ConLine con.name con.arity)) }
     {
-        let Draft {
-            grammar,
-            faces,
-            types,
-            depends,
-            free,
-        } = self;
-        let grammar = grammar.add_con(con)?;
-        match with_no_shape(types) {
-            Ok(types) => Ok(Draft {
-                grammar,
-                faces,
-                types,
-                depends,
-                free,
-            }),
-            Err(_) => {
-                drop(grammar);
-                Err(LineFault::NoMemory)
-            }
-        }
+        self.grammar = taken(&mut self.grammar).add_con(con)?;
+        self.types.shapes.push(None)?;
+        Ok(())
     }
 
-    fn add_sort(self, sort: RawSort) -> Result<Draft, LineFault>
+    fn add_sort(&mut self, sort: RawSort) -> Result<(), LineFault>
         requires named { is_name sort.name ≡ true }
-        requires no_rules { self.grammar.rules ≡ [] }
-        ensures { Adds result (says (spec_so_far self) (lines.SortLine sort.name sort.role sort.takes sort.gives)) }
+        requires no_rules { self.old.grammar.rules ≡ [] }
+        ensures { Adds self.new result (says (spec_so_far self.old) (lines.SortLine sort.name sort.role sort.takes sort.gives)) }
     {
-        let Draft {
-            grammar,
-            faces,
-            types,
-            depends,
-            free,
-        } = self;
-        let grammar = grammar.add_sort(sort)?;
-        match with_no_carry(types) {
-            Ok(types) => Ok(Draft {
-                grammar,
-                faces,
-                types,
-                depends,
-                free,
-            }),
-            Err(_) => {
-                drop(grammar);
-                Err(LineFault::NoMemory)
-            }
-        }
+        self.grammar = taken(&mut self.grammar).add_sort(sort)?;
+        self.types.carries.push(None)?;
+        Ok(())
     }
 
-    fn add_start(self, sort: Text) -> Result<Draft, LineFault>
-        requires no_rules { self.grammar.rules ≡ [] }
-        ensures { Adds result (says (spec_so_far self) (lines.StartLine sort)) }
+    fn add_start(&mut self, sort: Text) -> Result<(), LineFault>
+        requires no_rules { self.old.grammar.rules ≡ [] }
+        ensures { Adds self.new result (says (spec_so_far self.old) (lines.StartLine sort)) }
     {
-        let Draft {
-            grammar,
-            faces,
-            types,
-            depends,
-            free,
-        } = self;
-        let grammar = grammar.add_start(&sort)?;
-        Ok(Draft {
-            grammar,
-            faces,
-            types,
-            depends,
-            free,
-        })
+        self.grammar = taken(&mut self.grammar).add_start(&sort)?;
+        Ok(())
     }
 
-    /// Adds an offer; the draft is of no use after a fault.
     fn push_offer(&mut self, sort: &Text) -> Result<(), LineFault>
-        ensures { AddsTo self.new result (offering (spec_so_far self.old) (number_named (sort_names (spec_so_far self.old).declared) sort.now)) }
+        ensures { Adds self.new result (offering (spec_so_far self.old) (number_named (sort_names (spec_so_far self.old).declared) sort.now)) }
     {
         let Some(sort) = self.grammar.sort_named(sort.as_slice()) else {
             return Err(LineFault::Bad(SpecKind::Unknown));
@@ -273,16 +220,14 @@ impl Draft {
         Ok(())
     }
 
-    fn add_offer(mut self, sort: Text) -> Result<Draft, LineFault>
-        ensures { Adds result (says (spec_so_far self) (lines.OfferLine sort)) }
+    fn add_offer(&mut self, sort: Text) -> Result<(), LineFault>
+        ensures { Adds self.new result (says (spec_so_far self.old) (lines.OfferLine sort)) }
     {
-        let pushed = self.push_offer(&sort);
-        self.kept(pushed)
+        self.push_offer(&sort)
     }
 
-    /// Adds a use; the draft is of no use after a fault.
     fn push_use(&mut self, role: &Text, sort: &Text) -> Result<(), LineFault>
-        ensures { AddsTo self.new result (using_by (spec_so_far self.old)
+        ensures { Adds self.new result (using_by (spec_so_far self.old)
             (number_named (spec_so_far self.old).declared.roles role.now) (number_named (sort_names (spec_so_far self.old).declared) sort.now)) }
     {
         let Some(role) = self.grammar.role_named(role.as_slice()) else {
@@ -298,90 +243,66 @@ impl Draft {
         Ok(())
     }
 
-    fn add_use(mut self, role: Text, sort: Text) -> Result<Draft, LineFault>
-        ensures { Adds result (says (spec_so_far self) (lines.UseLine role sort)) }
+    fn add_use(&mut self, role: Text, sort: Text) -> Result<(), LineFault>
+        ensures { Adds self.new result (says (spec_so_far self.old) (lines.UseLine role sort)) }
     {
-        let pushed = self.push_use(&role, &sort);
-        self.kept(pushed)
+        self.push_use(&role, &sort)
     }
 
-    /// The draft, if what was added to it was without fault.
-    fn kept(self, added: Result<(), LineFault>) -> Result<Draft, LineFault>
-        ensures ok { OnOk added (result ≡ Ok self) }
-        ensures err { (fault : LineFault) → added ≡ Err fault → result ≡ Err fault }
-    {
-        match added {
-            Ok(()) => Ok(self),
-            Err(fault) => {
-                drop(self);
-                Err(fault)
-            }
-        }
-    }
-
-    fn add_free(self) -> Result<Draft, LineFault>
-        ensures { Adds result (says (spec_so_far self) lines.FreeLine) }
+    fn add_free(&mut self) -> Result<(), LineFault>
+        ensures { Adds self.new result (says (spec_so_far self.old) lines.FreeLine) }
     {
         if self.free {
-            drop(self);
             return Err(LineFault::Bad(SpecKind::Double));
         }
-        Ok(Draft { free: true, ..self })
+        self.free = true;
+        Ok(())
     }
 
-    fn add_rule(self, rule: RawRule) -> Result<Draft, LineFault>
+    fn add_rule(&mut self, rule: RawRule) -> Result<(), LineFault>
         requires named { is_name rule.name ≡ true }
         requires contents { all_have_contents (terms_of (rule_of_raw rule)) ≡ true }
         requires variables { are_names ((rule_of_raw rule).params ++ results_of (rule_of_raw rule).children) ≡ true }
-        ensures { Adds result (says (spec_so_far self) (lines.RuleLine (rule_of_raw rule))) }
+        ensures { Adds self.new result (says (spec_so_far self.old) (lines.RuleLine (rule_of_raw rule))) }
     {
-        let Draft {
-            grammar,
-            faces,
-            types,
-            depends,
-            free,
-        } = self;
-        let grammar = grammar.add_rule(rule)?;
-        match last_fault(&grammar, &faces) {
-            None => Ok(Draft {
-                grammar,
-                faces,
-                types,
-                depends,
-                free,
-            }),
-            Some((_, kind)) => {
-                drop(grammar);
-                Err(LineFault::Bad(face_kind(kind)))
-            }
+        self.grammar = taken(&mut self.grammar).add_rule(rule)?;
+        match last_fault(&self.grammar, &self.faces) {
+            None => Ok(()),
+            Some((_, kind)) => Err(LineFault::Bad(face_kind(kind))),
         }
     }
 
     /// What a line says behind these.
-    pub fn says(self, line: SpecLine) -> Result<Said, LineFault>
+    pub fn says(&mut self, line: SpecLine) -> Result<AfterLine, LineFault>
         requires declared { IsDeclared (line_seen line) }
-        requires no_sorts { stage_of (line_seen line) < sorts_stage → self.grammar.sorts ≡ [] }
-        requires no_rules { stage_of (line_seen line) < rules_stage → self.grammar.rules ≡ [] }
-        requires few_types { length self.types.names ≤ 256 }
-        ensures { Says (spec_so_far self) result (says (spec_so_far self) (line_seen line)) }
+        requires no_sorts { stage_of (line_seen line) < sorts_stage → self.old.grammar.sorts ≡ [] }
+        requires no_rules { stage_of (line_seen line) < rules_stage → self.old.grammar.rules ≡ [] }
+        requires few_types { length self.old.types.names ≤ 256 }
+        ensures { Says (spec_so_far self.old) self.new result (says (spec_so_far self.old) (line_seen line)) }
     {
         match line {
-            SpecLine::Role(name) => Ok(Said::On(self.add_role(name)?)),
-            SpecLine::Con(con) => Ok(Said::On(self.add_con(con)?)),
-            SpecLine::Sort(sort) => Ok(Said::On(self.add_sort(sort)?)),
-            SpecLine::Start(sort) => Ok(Said::On(self.add_start(sort)?)),
-            SpecLine::Offer(sort) => Ok(Said::On(self.add_offer(sort)?)),
-            SpecLine::Use { role, sort } => Ok(Said::On(self.add_use(role, sort)?)),
-            SpecLine::NewType(name) => Ok(Said::On(self.add_type(name)?)),
-            SpecLine::Shape { con, parts, own } => Ok(Said::On(self.add_shape(con, parts, own)?)),
-            SpecLine::Carry { sort, takes, gives } => Ok(Said::On(self.add_carry(
-                sort, takes, gives,
-            )?)),
-            SpecLine::Depends { sort, i, j } => Ok(Said::On(self.add_depends(sort, i, j)?)),
-            SpecLine::Free => Ok(Said::On(self.add_free()?)),
-            SpecLine::Rule(rule) => Ok(Said::On(self.add_rule(rule)?)),
-            SpecLine::Schedule { loads } => Ok(Said::Stop { draft: self, loads }),
+            SpecLine::Role(name) => next(self.add_role(name)),
+            SpecLine::Con(con) => next(self.add_con(con)),
+            SpecLine::Sort(sort) => next(self.add_sort(sort)),
+            SpecLine::Start(sort) => next(self.add_start(sort)),
+            SpecLine::Offer(sort) => next(self.add_offer(sort)),
+            SpecLine::Use { role, sort } => next(self.add_use(role, sort)),
+            SpecLine::NewType(name) => next(self.add_type(name)),
+            SpecLine::Shape { con, parts, own } => next(self.add_shape(con, parts, own)),
+            SpecLine::Carry { sort, takes, gives } => next(self.add_carry(sort, takes, gives)),
+            SpecLine::Depends { sort, i, j } => next(self.add_depends(sort, i, j)),
+            SpecLine::Free => next(self.add_free()),
+            SpecLine::Rule(rule) => next(self.add_rule(rule)),
+            SpecLine::Schedule { loads } => Ok(AfterLine::End { loads }),
         }
     }
+}
+
+/// Reading goes on, where what a line adds was added.
+fn next(added: Result<(), LineFault>) -> Result<AfterLine, LineFault>
+    ensures ok { OnOk added (result ≡ Ok Next) }
+    ensures err { IfErr added (λ fault. result ≡ Err fault) }
+{
+    added?;
+    Ok(AfterLine::Next)
 }

@@ -11,9 +11,9 @@ ghost use Rattle.aw_spec.specs.Views.{spec_seen};
 ghost use Rattle.aw_typed.specs.Types.{AreFor};
 ghost use Rattle.aw_typed.specs.Typing.{types_of, NumbersInRange};
 
-use crate::draft::{Draft, LineFault};
+use crate::draft::{AfterLine, Draft, LineFault};
 use crate::fault::SpecFault;
-use crate::reader::{AfterLine, Reader};
+use crate::reader::Reader;
 use crate::spec_text::SpecText;
 use aw_lex::next_line;
 use std::alloc::Global;
@@ -64,16 +64,14 @@ fn read_lines(alloc: Global, text: &[u8]) -> Result<SpecText, SpecFault>
     while let Some((line, behind)) = next_line(rest) {
         lines += 1;
         match reader.read_line(alloc, line) {
-            Ok(AfterLine::Next(next)) => reader = next,
-            Ok(AfterLine::End { draft, loads }) => {
-                return Ok(text_of(draft, loads, lines, text.len() - behind.len()));
+            Ok(AfterLine::Next) => rest = behind,
+            Ok(AfterLine::End { loads }) => {
+                return Ok(text_of(reader.draft, loads, lines, text.len() - behind.len()));
             }
             Err(fault) => return Err(at_line(fault, lines)),
         }
-        rest = behind;
     }
-    let Reader { draft, .. } = reader;
-    Ok(text_of(draft, false, lines, text.len()))
+    Ok(text_of(reader.draft, false, lines, text.len()))
 }
 
 /// The specification that the lines of a text spell up to the line `schedule` or `schedule 2`, or to the end; or the first line at fault with its first kind.

@@ -1,8 +1,7 @@
 //! Reading a specification line by line.
-ghost use Rattle.std.specs.Prelude.{◌≡◌, ◌<◌, ◌≤◌, length};
-ghost use Rattle.aw_spec.specs.Stages.{sorts_stage, rules_stage};
+ghost use Rattle.std.specs.Prelude.{◌≡◌};
 
-use crate::draft::{Draft, LineFault, Said};
+use crate::draft::{AfterLine, Draft, LineFault};
 use crate::fault::SpecKind;
 use crate::line::SpecLine;
 use crate::spelled::spelled_line;
@@ -17,16 +16,6 @@ use std::alloc::Global;
 pub struct Reader {
     pub draft: Draft,
     pub stage: u8,
-    ghost no_sorts: { stage < sorts_stage → length draft.grammar.sorts ≡ 0 },
-    ghost few_types: { length draft.types.names ≤ 256 },
-    ghost no_rules: { stage < rules_stage → length draft.grammar.rules ≡ 0 },
-}
-
-/// What comes of a line: reading goes on, or it ends at the line `schedule`, which may ask for loads.
-#[derive(Debug, Drop)]
-pub enum AfterLine {
-    Next(Reader),
-    End { draft: Draft, loads: bool },
 }
 
 impl Reader {
@@ -34,11 +23,12 @@ impl Reader {
     ghost use Rattle.aw_spec.specs.Reading as reading;
     ghost use Rattle.aw_spec.specs.Views.{line_seen};
     ghost use Rattle.aw_spec.specs.Declares.{IsDeclared};
-    ghost use Rattle.aw_spec.specs.ReaderAnswers.{draft_of, Reads};
+    ghost use Rattle.aw_spec.specs.ReaderAnswers.{draft_of, IsAtStage, IsStill, Reads};
 
     /// No lines.
     pub fn new(alloc: Global) -> Reader
-        ensures { draft_of result ≡ reading.no_draft }
+        ensures draft { draft_of result ≡ reading.no_draft }
+        ensures stage { IsAtStage result }
     {
         let faces = Faces {
             offers: Numbers::new(alloc),
@@ -62,41 +52,40 @@ impl Reader {
         }
     }
 
-    fn in_order(self, line: SpecLine) -> Result<AfterLine, LineFault>
-        requires { IsDeclared (line_seen line) }
-        ensures { Reads (draft_of self) result (reading.in_order (draft_of self) (line_seen line)) }
+    fn in_order(&mut self, line: SpecLine) -> Result<AfterLine, LineFault>
+        requires declared { IsDeclared (line_seen line) }
+        requires stage { IsAtStage self.old }
+        ensures reads { Reads (draft_of self.old) self.new result (reading.in_order (draft_of self.old) (line_seen line)) }
+        ensures stage { IsStill self.new result }
     {
-        let Reader { draft, stage: last } = self;
         let stage = line.stage();
-        if stage < last {
-            drop(draft);
+        if stage < self.stage {
             return Err(LineFault::Bad(SpecKind::Order));
         }
-        match draft.says(line)? {
-            Said::On(draft) => Ok(AfterLine::Next(Reader { draft, stage })),
-            Said::Stop { draft, loads } => Ok(AfterLine::End { draft, loads }),
-        }
+        self.stage = stage;
+        self.draft.says(line)
     }
 
     /// What comes of the bytes of a line that is not passed over.
-    fn read_spelled(self, alloc: Global, line: &[u8]) -> Result<AfterLine, LineFault>
-        ensures { Reads (draft_of self) result (reading.if_tokens (draft_of self) line.now (tokens_of line.now)) }
+    fn read_spelled(&mut self, alloc: Global, line: &[u8]) -> Result<AfterLine, LineFault>
+        requires { IsAtStage self.old }
+        ensures reads { Reads (draft_of self.old) self.new result (reading.if_tokens (draft_of self.old) line.now (tokens_of line.now)) }
+        ensures stage { IsStill self.new result }
     {
         match spelled_line(alloc, line) {
             Ok(spelled) => self.in_order(spelled),
-            Err(fault) => {
-                drop(self);
-                Err(fault)
-            }
+            Err(fault) => Err(fault),
         }
     }
 
-    /// What comes of the bytes of a line.
-    pub fn read_line(self, alloc: Global, line: &[u8]) -> Result<AfterLine, LineFault>
-        ensures { Reads (draft_of self) result (reading.read_line (draft_of self) line.now) }
+    /// What comes of the bytes of a line. The reader is of no use after a fault.
+    pub fn read_line(&mut self, alloc: Global, line: &[u8]) -> Result<AfterLine, LineFault>
+        requires { IsAtStage self.old }
+        ensures reads { Reads (draft_of self.old) self.new result (reading.read_line (draft_of self.old) line.now) }
+        ensures stage { IsStill self.new result }
     {
         if is_passed_over(line) {
-            return Ok(AfterLine::Next(self));
+            return Ok(AfterLine::Next);
         }
         self.read_spelled(alloc, line)
     }

@@ -11,11 +11,11 @@ use crate::draft::{Draft, LineFault};
 use crate::fault::SpecKind;
 use crate::type_lines::{
     are_other_counts, carry_named, is_declared_at, is_dependence, is_other_arity, is_type,
-    positions, shape_named, with_at,
+    positions, put_at, shape_named,
 };
 use aw_base::{Con, Names, Sort, Triple};
 use aw_list::Text;
-use aw_typed::{Carry, Shape, Types};
+use aw_typed::{Carry, Shape};
 
 impl Draft {
     fn con_at(&self, at: Option<u16>) -> Option<&Con>
@@ -50,17 +50,16 @@ impl Draft {
         None
     }
 
-    pub(crate) fn add_type(self, name: Text) -> Result<Draft, LineFault>
-        requires { length self.types.names ≤ 256 }
-        ensures { Adds result (reading.says (spec_so_far self) (lines.TypeLine name)) }
+    pub(crate) fn add_type(&mut self, name: Text) -> Result<(), LineFault>
+        requires { length self.old.types.names ≤ 256 }
+        ensures { Adds self.new result (reading.says (spec_so_far self.old) (lines.TypeLine name)) }
     {
         if let Some(kind) = self.type_fault(&name) {
             return Err(LineFault::Bad(kind));
         }
-        let mut types = self.types;
-        types.typed = true;
-        types.names.push(name)?;
-        Ok(Draft { types, ..self })
+        self.types.typed = true;
+        self.types.names.push(name)?;
+        Ok(())
     }
 
     /// What is wrong with a shape of the constructor at a place.
@@ -79,21 +78,18 @@ impl Draft {
         None
     }
 
-    pub(crate) fn add_shape(self, con: Text, parts: Names, own: Text) -> Result<Draft, LineFault>
-        requires { length self.types.names ≤ 256 }
-        ensures { Adds result (reading.says (spec_so_far self) (lines.ShapeLine con parts own)) }
+    pub(crate) fn add_shape(&mut self, con: Text, parts: Names, own: Text) -> Result<(), LineFault>
+        requires { length self.old.types.names ≤ 256 }
+        ensures { Adds self.new result (reading.says (spec_so_far self.old) (lines.ShapeLine con parts own)) }
     {
         let at = self.grammar.con_named(con.as_slice());
         let shape = shape_named(&self.types, &parts, &own)?;
         if let Some(kind) = self.shape_fault(at, &shape) {
             return Err(LineFault::Bad(kind));
         }
-        let types = Types {
-            typed: true,
-            shapes: with_at(self.types.shapes, at, shape),
-            ..self.types
-        };
-        Ok(Draft { types, ..self })
+        self.types.typed = true;
+        put_at(&mut self.types.shapes, at, shape);
+        Ok(())
     }
 
     /// What is wrong with a carry of the sort at a place.
@@ -113,25 +109,22 @@ impl Draft {
     }
 
     pub(crate) fn add_carry(
-        self,
+        &mut self,
         sort: Text,
         takes: Names,
         gives: Names,
-    ) -> Result<Draft, LineFault>
-        requires { length self.types.names ≤ 256 }
-        ensures { Adds result (reading.says (spec_so_far self) (lines.CarryLine sort takes gives)) }
+    ) -> Result<(), LineFault>
+        requires { length self.old.types.names ≤ 256 }
+        ensures { Adds self.new result (reading.says (spec_so_far self.old) (lines.CarryLine sort takes gives)) }
     {
         let at = self.grammar.sort_named(sort.as_slice());
         let carry = carry_named(&self.types, &takes, &gives)?;
         if let Some(kind) = self.carry_fault(at, &carry) {
             return Err(LineFault::Bad(kind));
         }
-        let types = Types {
-            typed: true,
-            carries: with_at(self.types.carries, at, carry),
-            ..self.types
-        };
-        Ok(Draft { types, ..self })
+        self.types.typed = true;
+        put_at(&mut self.types.carries, at, carry);
+        Ok(())
     }
 
     /// The dependence of the sort at a place, or what is wrong with it.
@@ -151,16 +144,12 @@ impl Draft {
         }
     }
 
-    pub(crate) fn add_depends(self, sort: Text, i: u64, j: u64) -> Result<Draft, LineFault>
-        ensures { Adds result (reading.says (spec_so_far self) (lines.DependsLine sort i j)) }
+    pub(crate) fn add_depends(&mut self, sort: Text, i: u64, j: u64) -> Result<(), LineFault>
+        ensures { Adds self.new result (reading.says (spec_so_far self.old) (lines.DependsLine sort i j)) }
     {
         let at = self.grammar.sort_named(sort.as_slice());
         match self.dependence(at, i, j) {
-            Ok(found) => {
-                let mut depends = self.depends;
-                depends.push(found)?;
-                Ok(Draft { depends, ..self })
-            }
+            Ok(found) => Ok(self.depends.push(found)?),
             Err(kind) => Err(LineFault::Bad(kind)),
         }
     }

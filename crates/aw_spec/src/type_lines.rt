@@ -9,6 +9,7 @@ use aw_base::{Con, Declared, Names, Numbers, Sort, Triple};
 use aw_list::{Items, Text};
 use aw_typed::{Carry, Shape, Types};
 use std::alloc::AllocError;
+use std::mem;
 
 fn is_same_name(x: &[u8], y: &[u8]) -> bool
     ensures { result ≡ is_same x.now y.now }
@@ -50,24 +51,6 @@ pub(crate) fn is_type(types: &Types, name: &[u8]) -> bool
     ensures { result ≡ stands name.now (lines.type_names types.now) }
 {
     type_named(types, name).is_some()
-}
-
-/// The types with a constructor more, of which no shape is declared.
-pub(crate) fn with_no_shape(types: Types) -> Result<Types, AllocError>
-    ensures { IfOk result (λ t. t ≡ record types { shapes = types.shapes ++ None ∷ [] }) }
-{
-    let mut types = types;
-    types.shapes.push(None)?;
-    Ok(types)
-}
-
-/// The types with a sort more, of which no carry is declared.
-pub(crate) fn with_no_carry(types: Types) -> Result<Types, AllocError>
-    ensures { IfOk result (λ t. t ≡ record types { carries = types.carries ++ None ∷ [] }) }
-{
-    let mut types = types;
-    types.carries.push(None)?;
-    Ok(types)
 }
 
 /// The numbers of types by their names, where each name is that of a type.
@@ -134,24 +117,21 @@ pub(crate) fn is_declared_at<T>(items: &Items<Option<T>>, at: Option<u16>) -> bo
     }
 }
 
-/// What is declared of each item, with this of the one at a place.
-pub(crate) fn with_at<T: Drop>(
-    items: Items<Option<T>>,
-    at: Option<u16>,
-    item: Option<T>,
-) -> Items<Option<T>>
-    ensures { result ≡ lines.with_at items at item }
+/// Declares this of the item at a place, where there is one.
+pub(crate) fn put_at<T: Drop>(items: &mut Items<Option<T>>, at: Option<u16>, item: Option<T>)
+    ensures { items.new ≡ lines.with_at items.old at item }
 {
     let Some(at) = at else {
-        return items;
+        return;
     };
     let at = usize::from(at);
     if at >= items.len() {
-        return items;
+        return;
     }
-    let mut items = items.into_vec();
-    items[at] = item;
-    Items::from_vec(items)
+    let alloc = items.allocator();
+    let mut put = mem::replace(items, Items::new(alloc)).into_vec();
+    put[at] = item;
+    *items = Items::from_vec(put);
 }
 
 /// Whether a shape has another number of parts than its constructor.

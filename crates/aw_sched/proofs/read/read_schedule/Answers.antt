@@ -22,7 +22,7 @@ returns-in-Err-clause-answer c =
     ap (λ ls. with_events (map event_seen l.events) (read_lines t d n ls)) (sym c.in-Some.ensures.lines) ∙ l.invariant.read in
     let told : fault_at n fault ≡ c.fault_at.result = ap (λ k. fault_at k fault) (sym (add-one l.number)) ∙ sym c.fault_at.ensures in
     subst (λ f. Answers (schedule_of t d c.args.text.now) (Err f)) told
-    (subst (λ r. Answers r (Err (fault_at n fault))) read (fault_answer t d l.events n line more fault c.in-Err.ensures.adds))
+    (subst (λ r. Answers r (Err (fault_at n fault))) read (fault_answer t d l.events c.add_line.new.events n line more fault c.in-Err.ensures.adds))
 
 pub returns-clause-answer : goal.returns-clause-answer
 returns-clause-answer c =

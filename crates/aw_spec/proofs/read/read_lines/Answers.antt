@@ -1,9 +1,9 @@
 use Rattle.std.proofs.Common.{◌≡◌, ◌∙◌, sym, ap, subst, arith, drop, Ok}
 use Rattle.aw_lex.specs.Lines.{lines_of}
-use Rattle.aw_spec.specs.declared.reader.AfterLine.{AfterLine}
+use Rattle.aw_spec.specs.declared.draft.AfterLine.{AfterLine}
 use Rattle.aw_spec.specs.declared.spec_text.SpecText.{SpecText}
 use Rattle.aw_spec.specs.Reading.{read_line}
-use Rattle.aw_spec.specs.ReaderAnswers.{draft_of, Reads}
+use Rattle.aw_spec.specs.ReaderAnswers.{draft_of, IsStill, Reads}
 use Rattle.aw_spec.proofs.LineSteps.{next_read, one_dropped, behind_both, behind_by_length, line_behind}
 use Rattle.aw_spec.proofs.read.read_lines.Goals as goal
 
@@ -15,9 +15,11 @@ loop-line-preserved c =
     let behind = c.in-Some.behind.now in
     let d = draft_of l.reader in
     let lines = c.in-Some.ensures.lines in
-    let said = subst (λ (x : AfterLine). Reads d (Ok x) (read_line d line)) c.in-Ok-Next.field-0-is c.in-Ok-Next.ensures in
+    let after = c.read_line.new.self in
+    let read = subst (λ (x : AfterLine). Reads d after (Ok x) (read_line d line)) c.in-Ok-Next.field-0-is c.in-Ok-Next.ensures.reads in
     record {
-      read = next_read d (draft_of c.in-Ok-Next.next) l.lines line (lines_of l.rest.now) (lines_of behind) lines said ∙ l.invariant.read;
+      stage = subst (λ (x : AfterLine). IsStill after (Ok x)) c.in-Ok-Next.field-0-is c.in-Ok-Next.ensures.stage;
+      read = next_read d (draft_of after) l.lines line (lines_of l.rest.now) (lines_of behind) lines read ∙ l.invariant.read;
       dropped = one_dropped l.lines line (lines_of l.rest.now) (lines_of behind) (lines_of text) lines l.invariant.dropped;
       suffix = behind_both behind l.rest.now text (line_behind l.rest.now (line, behind) c.in-Some.ensures.value) l.invariant.suffix;
       within = omega (arith, c.in-Some.ensures.shorter);

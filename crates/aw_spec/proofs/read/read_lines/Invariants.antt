@@ -1,13 +1,14 @@
 use Rattle.std.proofs.Common.{◌≡◌, ◌+◌, ◌≤◌, length, drop}
 use Rattle.aw_lex.specs.Lines.{lines_of}
 use Rattle.aw_spec.specs.Reading.{read_lines, specification}
-use Rattle.aw_spec.specs.ReaderAnswers.{draft_of}
+use Rattle.aw_spec.specs.ReaderAnswers.{draft_of, IsAtStage}
 use Rattle.aw_spec.proofs.LineSteps.{IsBehind}
 use Rattle.aw_spec.proofs.read.read_lines.Given as goal
 
 abbrev pub invariant-loop-line : goal.invariant-loop-line
 invariant-loop-line l =
     record {
+      stage : IsAtStage l.reader;
       read : read_lines (draft_of l.reader) l.lines (lines_of l.rest) ≡ specification (lines_of l.text);
       dropped : lines_of l.rest ≡ drop l.lines (lines_of l.text);
       suffix : IsBehind l.rest l.text;

@@ -1,4 +1,4 @@
-use Rattle.std.proofs.Common.{◌≡◌, ◌∙◌, ◌<◌, sym, ap, false, true, cond, Some, None, length, arith}
+use Rattle.std.proofs.Common.{◌∙◌, ◌<◌, sym, ap, cond, Some, None, length, arith}
 use Rattle.std.proofs.lemmas.Bool.{lt-leb}
 use Rattle.aw_index.specs.Places.{stands}
 use Rattle.aw_spec.specs.declared.fault.SpecKind.TheVariants.{Limit, Double}

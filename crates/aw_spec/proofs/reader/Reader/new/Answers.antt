@@ -4,8 +4,8 @@ use Rattle.aw_grammar.specs.Declarations.{Declarations}
 use Rattle.aw_grammar.specs.GrammarOf.{entry}
 use Rattle.aw_spec.proofs.reader.Reader.new.Goals as goal
 
-pub invariant_of-result : goal.invariant_of-result
-invariant_of-result c =
+pub returns-clause-stage : goal.returns-clause-stage
+returns-clause-stage c =
     let g = c.new-6.result in
     record {
       no_sorts = λ h. ap (λ (d : Declarations). length d.sorts) c.new-6.ensures;
