@@ -1,12 +1,11 @@
 -- Drafts: one after another, and how they grow with the depth.
 use Rattle.std.proofs.Common.{◌≡◌, ℕ, zero, suc, ◌+◌, ◌-◌, ◌≤◌, List, [], ◌∷◌, ◌++◌, map, codes, refl, sym, ap, ◌∙◌, subst, arith, append_assoc, append-nil}
 use Rattle.aw_term.specs.Names.{Ref}
-use Rattle.aw_term.specs.Artifacts.{Words, head_text}
+use Rattle.aw_term.specs.Artifacts.{Words}
 use Rattle.aw_store.specs.Equations.{Map}
 use Rattle.aw_store.specs.Chase.{Chased, Found, Missing, Round, chase}
 use Rattle.aw_print.specs.Drafts.{Draft, Whole, Front, so_far, then, following, listed, draft_on, draft}
 use Rattle.aw_print.specs.Growing.{Begins}
-use Rattle.aw_print.specs.Stacks.{opening, inside}
 
 pub then-assoc : (a b c : Draft) → then (then a b) c ≡ then a (then b c)
 then-assoc (Whole a) (Whole b) (Whole c) = ap Whole (append_assoc a b c)
@@ -58,13 +57,6 @@ following-Begins f g h (x ∷ xs) = then-Begins (Whole (codes ", ")) (Whole (cod
 pub listed-Begins : {A : Type 0} (f g : A → Draft) → ((x : A) → Begins (f x) (g x)) → (xs : List A) → Begins (listed (map f xs)) (listed (map g xs))
 listed-Begins f g h [] = refl
 listed-Begins f g h (x ∷ xs) = then-Begins (f x) (g x) _ _ (h x) (following-Begins f g h xs)
-
--- a text up to its first part, and what stands behind it
-pub opened : (w : Words) (part : Ref → Draft) (r : Ref) (end : Chased) → draft_on w part r end ≡ then (Whole (opening w r end)) (inside part end)
-opened w part r (Found h []) = ap Whole (sym (append-nil (head_text w h)))
-opened w part r (Found h (s ∷ rs)) = refl
-opened w part r (Missing s) = ap Whole (sym (append-nil _))
-opened w part r Round = ap Whole (sym (append-nil _))
 
 draft_on-Begins : (w : Words) (f g : Ref → Draft) → ((r : Ref) → Begins (f r) (g r)) → (r : Ref) (end : Chased) → Begins (draft_on w f r end) (draft_on w g r end)
 draft_on-Begins w f g h r (Found c []) = refl

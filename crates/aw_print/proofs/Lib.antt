@@ -1,6 +1,10 @@
 pub mod DraftLemmas
+pub mod LeadLemmas
 pub mod GrowingLemmas
 pub mod StackLemmas
+pub mod BeginLemmas
+pub mod CopyLemmas
+pub mod TableLemmas
 pub mod ListLemmas
 pub mod RowLemmas
 pub mod EndlessLemmas

@@ -13,6 +13,10 @@ Begins (Whole a) (Whole b) = b ≡ a
 Begins (Whole a) (Front b) = Never
 Begins (Front a) d = (rest : List ℕ) × (so_far d ≡ a ++ rest)
 
+-- each of the first drafts is the front of one of the second, or is whole and is one of them
+abbrev pub LeadTo : (ℕ → Draft) → (ℕ → Draft) → Type 0
+LeadTo f g = (n : ℕ) → (m : ℕ) × Begins (f n) (g m)
+
 -- the text gathered and the report
 pub record Printing : Type 0 where
   pub gathered : List ℕ
@@ -24,7 +28,7 @@ pub record Underway (all : ℕ → Draft) (old new : Printing) (left : ℕ → D
   pub out : List ℕ
   pub report : new.report ≡ printed old.report taken
   pub gathered : taken ++ new.gathered ≡ old.gathered ++ out
-  pub rest : (n : ℕ) → (m : ℕ) × Begins (then (Whole out) (left n)) (all m)
+  pub rest : LeadTo (λ n. then (Whole out) (left n)) all
 
 -- Printing stopped: too large only where a draft is longer than the limit; the report has got the front of a draft.
 pub record Stopped (all : ℕ → Draft) (old : Printing) (new : Bounded) (fault : PrintFault) : Type 0 where
@@ -39,6 +43,10 @@ PutsTo all old new left (Err fault) = Stopped all old new.report fault
 -- this text gathered, and this report
 abbrev pub printing : List ℕ → Bounded → Printing
 printing gathered report = record { gathered = gathered; report = report }
+
+-- all bytes made so far
+abbrev pub made : Printing → List ℕ
+made p = p.report.text ++ p.gathered
 
 -- all was printed, or printing stopped
 abbrev pub Puts : (ℕ → Draft) → Printing → Printing → Result Unit PrintFault → Type 0

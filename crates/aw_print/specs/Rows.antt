@@ -1,5 +1,5 @@
 -- What is printed of a node whose values stand in equations, and what its values can be.
-use Rattle.std.specs.Prelude.{◌≡◌, ℕ, Bool, true, false, List, [], ◌∷◌, ◌++◌, map, codes, Option, None, Some, ◌⊎◌, slice_get, option_and_then}
+use Rattle.std.specs.Prelude.{◌≡◌, ℕ, Bool, true, false, List, [], ◌∷◌, ◌++◌, map, codes, Option, None, Some, Result, ◌⊎◌, slice_get, option_and_then}
 use Rattle.aw_term.specs.Trees.{Never, Head}
 use Rattle.aw_term.specs.Names.{Node, Ref, result}
 use Rattle.aw_term.specs.Rules.{Value, Grammar, upto, sort_of}
@@ -13,6 +13,8 @@ use Rattle.aw_choice.specs.declared.choice.Choice.{Choice}
 use Rattle.aw_choice.specs.declared.choice.Choice.TheVariants.{Start, Develop}
 use Rattle.aw_store.specs.Equations.{Same, Is, Map, find}
 use Rattle.aw_store.specs.Unfold.{Unfolds}
+use Rattle.aw_out.specs.Report.{Bounded, Prints}
+use Rattle.aw_out.specs.declared.error.PrintFault.{PrintFault}
 use Rattle.aw_print.specs.Drafts.{Draft, Whole, then, drafts}
 
 -- a node is open, or done by the development that was chosen
@@ -55,6 +57,11 @@ abbrev pub AllUnfold : Map → List Ref → List Value → Type 0
 AllUnfold k [] [] = Unit {0}
 AllUnfold k (r ∷ rs) (t ∷ ts) = Unfolds k r t × AllUnfold k rs ts
 AllUnfold k _ _ = Never
+
+-- The line of a node of a grammar is printed with whatever values its references have.
+abbrev pub PrintsLine : made.Grammar → Map → Node → Option Choice → List Ref → Bounded → Bounded → Result Unit PrintFault → Type 0
+PrintsLine g k node done inherited old new result =
+    (ins outs : List Value) → AllUnfold k inherited ins → AllUnfold k (result_refs (grammar_of g) node) outs → Prints (line_text (words_of g) node (state_of done) ins outs) old new result
 
 -- one of a list
 abbrev pub Member : Ref → List Ref → Type 0

@@ -8,7 +8,7 @@ use Rattle.aw_print.proofs.list.print_following.Goals as goal
 
 pub loop-r-init : goal.loop-r-init
 loop-r-init g c = record {
-  none = c.requires;
+  rest = c.requires;
   underway = starts _ _;
 }
 
@@ -19,7 +19,7 @@ loop-r-preserved g c =
     let i = c.loop-r.r-index in
     let rs = c.args.refs.now in
     record {
-      none = c.in_ok-print_next.ensures.none;
+      rest = c.in_ok-print_next.ensures.rest;
       underway = one_more w k _ c.r-item.result (drop i rs) (drop (i + 1) rs) _ _ _ (Ok tt) (at_item rs i c.r-item.result c.loop-r-test.true c.r-item.is) c.loop-r.invariant.underway c.in_ok-print_next.ensures.prints;
     }
 

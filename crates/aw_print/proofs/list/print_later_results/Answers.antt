@@ -9,7 +9,7 @@ use Rattle.aw_print.proofs.list.print_later_results.Goals as goal
 
 pub loop-j-init : goal.loop-j-init
 loop-j-init g c = record {
-  none = c.requires.empty;
+  rest = c.requires.rest;
   same_node = refl;
   underway = starts _ _;
 }
@@ -27,7 +27,7 @@ loop-j-preserved g c =
     let r : Ref = record { node = c.loop-j.r.node; slot = Result (c.from.result + 1) } in
     let this : result node (j + 1) ≡ r = λ i. record { node = sym c.loop-j.invariant.same_node i; slot = Result (sym c.from.ensures i + 1) } in
     record {
-      none = c.in_ok-print_next.ensures.none;
+      rest = c.in_ok-print_next.ensures.rest;
       same_node = c.loop-j.invariant.same_node;
       underway = one_more w k _ r (map (result node) (upto (j + 1) (c.args.gives - j))) (map (result node) (upto (j + 1 + 1) (c.args.gives - (j + 1)))) _ _ _ (Ok tt)
           (results_from node j c.args.gives c.loop-j-test.true ∙ ap (λ x. x ∷ map (result node) (upto (j + 1 + 1) (c.args.gives - (j + 1)))) this) c.loop-j.invariant.underway c.in_ok-print_next.ensures.prints;

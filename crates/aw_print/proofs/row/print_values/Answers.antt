@@ -1,11 +1,14 @@
-use Rattle.std.proofs.Common.{map, Ok, refl, ap, rules}
+use Rattle.std.proofs.Common.{map, codes, Ok, refl, ap, rules}
 use Rattle.aw_term.specs.Names.{result}
 use Rattle.aw_term.specs.Rules.{upto}
 use Rattle.aw_grammar.specs.GrammarOf.{words_of, grammar_of}
 use Rattle.aw_print.specs.Drafts.{listed, draft}
 use Rattle.aw_print.specs.Rows.{result_refs}
+use Rattle.aw_print.specs.Stacks.{origin, desk}
 use Rattle.aw_print.proofs.GrowingLemmas.{first_stops, hands_on, out_of_memory, stops_later}
 use Rattle.aw_print.proofs.RowLemmas.{after_inherited, after_results, values_1, values_2, values_3, values_4, same_values}
+use Rattle.aw_print.proofs.TableLemmas.{rest_new}
+use Rattle.aw_print.proofs.BeginLemmas.{rest_on}
 use Rattle.aw_print.proofs.row.print_values.Goals as goal
 
 pub returns-in_err-print_refs : goal.returns-in_err-print_refs
@@ -53,3 +56,10 @@ returns g c =
     let before = values_2 w k c.as_slice.result.now outs _ _ _ _ (values_1 w k c.as_slice.result.now outs _ _ c.in_ok-print_refs.ensures.prints) c.in_ok-push_bytes.ensures.ok in
     same_values w k _ _ outs _ _ _ (Ok tt) c.as_slice.ensures (ap (λ m. map (result node) (upto 1 m)) c.gives_of.ensures)
     (values_4 w k c.as_slice.result.now outs _ _ _ _ (values_3 w k c.as_slice.result.now outs _ _ _ before c.in_ok-print_results.ensures.prints) c.in_ok-push_bytes-2.ensures.ok)
+
+pub print_refs-requires : goal.print_refs-requires
+print_refs-requires g c = rest_new (origin c.args.g.now (g.F.Facts.map c.args.f.now) (g.F.Facts.names c.args.f.now)) (desk c.args.text.now c.args.report.now c.new-stack.result) c.new-stack.ensures.pieces c.new-stack.ensures.spans
+
+pub print_results-requires : goal.print_results-requires
+print_results-requires g c =
+    rest_on (origin c.args.g.now (g.F.Facts.map c.args.f.now) (g.F.Facts.names c.args.f.now)) (desk c.print_refs.new.text c.print_refs.new.report c.print_refs.new.stack) (desk _ c.print_refs.new.report c.print_refs.new.stack) (codes ") <") c.in_ok-push_bytes.ensures.ok refl refl refl c.in_ok-print_refs.ensures.rest

@@ -1,0 +1,36 @@
+-- The table of texts that were printed whole.
+use Rattle.std.proofs.Common.{◌≡◌, ℕ, zero, suc, List, [], ◌∷◌, ◌++◌, length, take, replicate, Some, Ok, Err, inl, inr, ap, ◌∙◌, subst, arith}
+use Rattle.std.proofs.lemmas.List.{nil_from_length, length-take}
+use Rattle.std.specs.Prelude.{Option, None, Result, OnOk, is_ok, if◌then◌else◌, ◌⊎◌, slice_get, slice_set}
+use Rattle.aw_print.specs.declared.stack.Span.{Span}
+use Rattle.aw_print.specs.Stacks.{Holds, Origin, Desk, IsAtRest}
+
+abbrev no_span : Option Span
+no_span = None
+
+holds_none : (n i : ℕ) (x : Span) → slice_get (replicate n no_span) i ≡ Some (Some x) → ⊥
+holds_none zero i x e = cc e
+holds_none (suc n) zero x e = cc e
+holds_none (suc n) (suc i) x e = holds_none n i x e
+
+-- a new table has no text
+pub table_made : {E : Type 0} (r : Result Unit E) (old new : List (Option Span)) (n m : ℕ) → length old ≡ 0 → new ≡ (if is_ok r then take n old ++ replicate m no_span else old) → OnOk r ((x : Span) → Holds new x → Holds old x)
+table_made (Ok v) old new n m e f = λ x h.
+    let front : take n old ≡ [] = nil_from_length (take n old) (omega (arith, e, length-take n old)) in
+    absurd (holds_none m h.0 x (subst (λ spans. slice_get spans h.0 ≡ Some (Some x)) (f ∙ ap (λ t. t ++ replicate m no_span) front) h.1))
+table_made (Err v) old new n m e f = tt
+
+pub holds_set : (spans : List (Option Span)) (at i : ℕ) (s x : Span) → slice_get (slice_set spans at (Some s)) i ≡ Some (Some x) → (x ≡ s) ⊎ Holds spans x
+holds_set [] at i s x e = absurd (cc e)
+holds_set (y ∷ ys) zero zero s x e = inl cc
+holds_set (y ∷ ys) zero (suc i) s x e = inr (suc i, e)
+holds_set (y ∷ ys) (suc at) zero s x e = inr (0, e)
+holds_set (y ∷ ys) (suc at) (suc i) s x e = elim (holds_set ys at i s x e) [ inl f ↦ inl f | inr (j, f) ↦ inr (suc j, f) ]
+
+holds_empty : (spans : List (Option Span)) (x : Span) → spans ≡ [] → Holds spans x → ⊥
+holds_empty [] x e h = cc (h.1)
+holds_empty (y ∷ ys) x e h = cc e
+
+-- nothing is left and nothing kept
+pub rest_new : (o : Origin) (d : Desk) → d.pieces ≡ [] → d.spans ≡ [] → IsAtRest o d
+rest_new o d e f = (e, λ x h. absurd (holds_empty d.spans x f h))
