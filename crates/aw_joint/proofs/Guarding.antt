@@ -31,7 +31,7 @@ and_then-keeps l (Differs p) n m' n' f g h = ap (λ z. and_then z n') (f tt)
 and_then-keeps l (Waits r) n m' n' f g h = ap (λ z. and_then z n') (f h)
 and_then-keeps l (Circle r) n m' n' f g h = ap (λ z. and_then z n') (f tt)
 
-under-keeps : (l : Map) (k : ℕ) (m m' : Matched Ref Ref) → (Final l m → m' ≡ m) → Final l (under k m) → under k m' ≡ under k m
+pub under-keeps : (l : Map) (k : ℕ) (m m' : Matched Ref Ref) → (Final l m → m' ≡ m) → Final l (under k m) → under k m' ≡ under k m
 under-keeps l k (Yes xs) m' f h = ap (under k) (f tt)
 under-keeps l k (Differs p) m' f h = ap (under k) (f tt)
 under-keeps l k (Waits r) m' f h = ap (under k) (f h)

@@ -2,6 +2,7 @@ pub mod Lists
 pub mod Ordering
 pub mod LeftSides
 pub mod Guarding
+pub mod Moving
 pub mod Unfolding
 pub mod Substituting
 pub mod Entering

@@ -25,14 +25,17 @@ by_rule (Some rule) k n args h =
     then (if nat_eq (length args) rule.params then after_guard n rule (guard_all k 1 rule.patterns h.inherited) else Refused Arguments)
     else Refused NotItsRule
 
+-- what a rule leads to on a held node in this state: no rule is taken where one was before
 abbrev pub by_state : State → Grammar → Map → Node → ℕ → List Ground → Held → Outcome Ref Ref
 by_state (Done r a) g k n rule args h = Refused Developed
 by_state Pending g k n rule args h = by_rule (slice_get g.rules rule) k n args h
 
+-- what a rule leads to on a node, where this is the node as it is held, or none is held
 abbrev pub by_held : Option Held → Grammar → Map → Node → ℕ → List Ground → Outcome Ref Ref
 by_held None g k n rule args = Refused NotHere
 by_held (Some h) g k n rule args = by_state h.state g k n rule args h
 
+-- what the start of a case leads to, where this is the node with which it begins, or none is held
 abbrev pub by_root : Option Held → Outcome Ref Ref
 by_root None = Starts
 by_root (Some h) = Refused Known

@@ -14,6 +14,7 @@ use Rattle.aw_iograph.specs.Dependence.{IO, HasNoCircle}
 use Rattle.aw_apply.specs.Guard.{guard_all}
 use Rattle.aw_accept.specs.Acyclic.{Pairs}
 use Rattle.aw_store.specs.Equations.{Body, Map, find, mentions}
+use Rattle.aw_store.specs.Chase.{Missing, chase}
 use Rattle.aw_store.specs.Unfold.{Unfolds, unfold_in}
 use Rattle.aw_joint.specs.Joint.{Held, Joint, empty_joint, joint_outcome, joint_taken, joint_run}
 
@@ -88,6 +89,10 @@ DiffersStays k l = (ps : List Term) (rs : List Ref) (path : List ℕ) → guard_
 -- a guard that waits over the one waits for the same reference over the other, where that has no equation there either
 abbrev pub WaitsStays : Map → Map → Type 0
 WaitsStays k l = (ps : List Term) (rs : List Ref) (r : Ref) → find l r ≡ None → guard_all k 1 ps rs ≡ Waits r → guard_all l 1 ps rs ≡ Waits r
+
+-- a guard that waits over the one waits over the other for the reference without an equation to which a chase leads there
+abbrev pub WaitsMoves : Map → Map → Type 0
+WaitsMoves k l = (ps : List Term) (rs : List Ref) (r end : Ref) → chase l r ≡ Missing end → guard_all k 1 ps rs ≡ Waits r → guard_all l 1 ps rs ≡ Waits end
 
 -- a guard that meets a circle over the one meets it over the other, from the same reference
 abbrev pub CircleStays : Map → Map → Type 0

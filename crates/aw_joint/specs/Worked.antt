@@ -45,18 +45,23 @@ clinic = record {
       ∷ [];
 }
 
+-- visit#1
 abbrev pub visit : Node
 visit = root 0 1
 
+-- visit#1/admit.1
 abbrev pub test : Node
 test = below visit 0 1
 
+-- the text `Ada`
 abbrev pub ada : {A : Type 0} → Tree A
 ada = Made (Text (codes "Ada")) Nil
 
+-- the number 7
 abbrev pub seven : {A : Type 0} → Tree A
 seven = Made (Num 7) Nil
 
+-- start visit 1, choose visit#1 admit {"Ada"}, choose visit#1/admit.1 analyse {7}
 abbrev pub clinic_choices : List Choice
 clinic_choices = Start 0 1 ∷ Develop visit 0 (ada ∷ []) ∷ Develop test 1 (seven ∷ []) ∷ []
 
@@ -91,6 +96,7 @@ hole_first = record {
   rules = rule 0 [] 0 [] (call 1 [] 1 ∷ call 2 (Leaf 0 ∷ []) 0 ∷ []) ∷ rule 1 [] 0 (con 0 ∷ []) [] ∷ rule 2 (con 0 ∷ []) 0 [] [] ∷ [];
 }
 
+-- top#1
 abbrev pub top : Node
 top = root 0 1
 
@@ -98,6 +104,7 @@ top = root 0 1
 abbrev pub Waiting : Type 0
 Waiting = answer_after hole_first (Start 0 1 ∷ Develop top 0 [] ∷ []) (Develop (below top 0 2) 2 []) ≡ Some (WaitsFor (result (below top 0 1) 1))
 
+-- choose top#1/two.2 take, once top#1/two.1 has made its result: taken
 abbrev pub WaitingNoMore : Type 0
 WaitingNoMore = answer_after hole_first (Start 0 1 ∷ Develop top 0 [] ∷ Develop (below top 0 1) 1 [] ∷ []) (Develop (below top 0 2) 2 []) ≡ Some Taken
 
@@ -112,9 +119,11 @@ own_result = record {
   rules = rule 0 [] 0 (con2 1 (Leaf 0) (Leaf 1) ∷ []) (call 1 (Leaf 1 ∷ []) 2 ∷ []) ∷ rule 1 (Leaf 0 ∷ []) 0 (Leaf 0 ∷ con 0 ∷ []) [] ∷ [];
 }
 
+-- top#1/call.1
 abbrev pub fed : Node
 fed = below top 0 1
 
+-- start top 1, choose top#1 call, choose top#1/call.1 body
 abbrev pub own_choices : List Choice
 own_choices = Start 0 1 ∷ Develop top 0 [] ∷ Develop fed 1 [] ∷ []
 
@@ -132,6 +141,7 @@ abbrev pub OwnResultValues : Type 0
 OwnResultValues = option_map (values own_result) (joint_run own_result empty_joint own_choices)
     ≡ Some ((Some (con2 1 (con 0) (con 0)) ∷ []) ∷ (Some (con 0) ∷ Some (con 0) ∷ Some (con 0) ∷ []) ∷ [])
 
+-- the names that the grammar declares
 abbrev pub own_words : Words
 own_words = record { roles = codes "r" ∷ []; cons = codes "ok" ∷ codes "two" ∷ []; sorts = codes "top" ∷ codes "s" ∷ []; rules = codes "call" ∷ codes "body" ∷ [] }
 

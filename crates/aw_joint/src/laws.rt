@@ -1,7 +1,7 @@
 //! What holds of every list of choices on a grammar without circles, apart from any code.
 ghost use Rattle.aw_term.specs.Artifacts.{Words};
 ghost use Rattle.aw_term.specs.Rules as P;
-ghost use Rattle.aw_joint.specs.Laws.{IsAccepted, FlatIsSubstitution, StepsAgree, AnswersAgree, EquationsAreAcyclic, AnyOrder, IsSubmap, YesStays, DiffersStays, WaitsStays, CircleStays, HasOneValue, IsComputed, IsReached};
+ghost use Rattle.aw_joint.specs.Laws.{IsAccepted, FlatIsSubstitution, StepsAgree, AnswersAgree, EquationsAreAcyclic, AnyOrder, IsSubmap, YesStays, DiffersStays, WaitsStays, WaitsMoves, CircleStays, HasOneValue, IsComputed, IsReached};
 ghost use Rattle.aw_term.specs.Names.{Ref};
 ghost use Rattle.aw_store.specs.Equations.{Map};
 
@@ -19,11 +19,13 @@ pub fn choice_laws()
 {}
 
 /// A guard that is decided over some equations is so over more: nothing that is learnt later takes it back. One that waits
-/// goes on waiting for the same reference until that has an equation, and one that meets a circle goes on meeting it.
+/// goes on waiting for the same reference until that has an equation (`waits`), and then for the one to which that leads, where
+/// that has none (`moves`). One that meets a circle goes on meeting it.
 pub fn guard_laws()
     ensures yes { (k l : Map) → IsSubmap k l → YesStays k l }
     ensures differs { (k l : Map) → IsSubmap k l → DiffersStays k l }
     ensures waits { (k l : Map) → IsSubmap k l → WaitsStays k l }
+    ensures moves { (k l : Map) → IsSubmap k l → WaitsMoves k l }
     ensures circle { (k l : Map) → IsSubmap k l → CircleStays k l }
 {}
 

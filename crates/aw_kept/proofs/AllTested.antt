@@ -14,7 +14,7 @@ use Rattle.aw_kept.specs.Records.{IsFit, IsOf, IsTold, mark_rule, open_rules}
 use Rattle.aw_kept.specs.Due.{due_of, due_marks}
 use Rattle.aw_kept.specs.Tested.{IsTested, IsFresh, AreTested}
 use Rattle.aw_kept.proofs.DueLemmas.{marks_stand, positive_at}
-use Rattle.aw_kept.proofs.KeptLemmas.{Stood, get-stand_at, rules-stand_at, length-stand_at, fit_tested}
+use Rattle.aw_kept.proofs.KeptLemmas.{Stood, get-stand_at, rules-stand_at, length-stand_at, fit_set}
 
 -- the first i marks of a record say how their rules stand, and the others wait for nothing
 pub record TestedTo (g : Grammar) (k : Map) (names : List Ref) (n i : ℕ) (old new : Record) (ts us : List Triple) : Type 0 where
@@ -52,20 +52,20 @@ module _ (g : Grammar) (k : Map) (names : List Ref) (n : ℕ) (old : Record) (ts
 
   pub tested_more : (i : ℕ) (x y : Record) (us vs : List Triple) (m : Mark) → slice_get x.marks.items i ≡ Some m → IsTested g k names n i m x y us vs → TestedTo g k names n i old x ts us → TestedTo g k names n (i + 1) old y ts vs
   tested_more i x y us vs m mark test t = record {
-    fit = fit_tested g k names n i m x y us vs mark test t.fit;
+    fit = fit_set g names n i m test.stands x y us vs mark test.live test.set t.fit;
     told = λ h o j z l e. told_by h o j z l (stood j z e);
     rest = λ j z l e. rest_by j z l (stood j z e);
-    rules = ap (map mark_rule) test.marks ∙ rules-stand_at test.stands i x.marks.items ∙ t.rules;
-    slots = test.slots ∙ t.slots;
-    sort = test.sort ∙ t.sort;
-    deep = test.deep ∙ t.deep;
+    rules = ap (map mark_rule) test.set.marks ∙ rules-stand_at test.stands i x.marks.items ∙ t.rules;
+    slots = test.set.slots ∙ t.slots;
+    sort = test.set.sort ∙ t.sort;
+    deep = test.set.deep ∙ t.deep;
     waiting = λ p.
-        omega (arith, test.waiting p, t.waiting p, marks_stand p n test.stands i x.marks.items m mark, t.rest i m (omega arith) mark p, ap (λ l. count_by p (due_marks n l)) test.marks);
-    count = ap length test.marks ∙ length-stand_at test.stands i x.marks.items ∙ t.count;
+        omega (arith, test.set.waiting p, t.waiting p, marks_stand p n test.stands i x.marks.items m mark, t.rest i m (omega arith) mark p, ap (λ l. count_by p (due_marks n l)) test.set.marks);
+    count = ap length test.set.marks ∙ length-stand_at test.stands i x.marks.items ∙ t.count;
   }
     where
       stood : (j : ℕ) (z : Mark) → slice_get y.marks.items j ≡ Some z → Stood test.stands i x.marks.items m j z
-      stood j z e = get-stand_at test.stands i x.marks.items m j z mark (ap (λ l. slice_get l j) (sym test.marks) ∙ e)
+      stood j z e = get-stand_at test.stands i x.marks.items m j z mark (ap (λ l. slice_get l j) (sym test.set.marks) ∙ e)
 
       told_by : (h : Held) → IsOf g names h old → (j : ℕ) (z : Mark) → j < i + 1 → Stood test.stands i x.marks.items m j z → IsTold g k names h z
       told_by h o j z l (inl (a, b)) = subst (IsTold g k names h) (sym b) (test.told h (of_old h x t.rules t.slots t.sort t.deep o))

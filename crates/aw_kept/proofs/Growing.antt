@@ -1,5 +1,5 @@
 -- What is kept stays so where names come, and where equations come but for the rules that wait for their left sides.
-use Rattle.std.proofs.Common.{◌≡◌, ℕ, ◌≤◌, Bool, true, false, cond, List, length, map, Option, Some, None, slice_get, refl, sym, ap, ◌∙◌, arith, length-append}
+use Rattle.std.proofs.Common.{◌≡◌, ℕ, ◌<◌, ◌≤◌, Bool, true, false, cond, List, length, map, Option, Some, None, slice_get, refl, sym, ap, ◌∙◌, arith, length-append}
 use Rattle.std.proofs.lemmas.Bool.{ltb-true, lt-ltb}
 use Rattle.aw_term.specs.Names.{Node, Ref}
 use Rattle.aw_term.specs.Rules.{Rule, Grammar}
@@ -9,6 +9,7 @@ use Rattle.aw_term.specs.Runs.{refusal_of}
 use Rattle.aw_store.specs.Equations.{Map}
 use Rattle.aw_store.specs.NamedRefs.{is_named, Grows}
 use Rattle.aw_store.proofs.SlotLemmas.{slot-grown, AreNamed-grown}
+use Rattle.aw_store.proofs.ChaseLemmas.{name_at}
 use Rattle.aw_apply.specs.Guard.{guard_all}
 use Rattle.aw_apply.specs.Named.{as_named}
 use Rattle.aw_joint.specs.Laws.{IsSubmap}
@@ -22,18 +23,9 @@ use Rattle.aw_kept.specs.Standings.{kept_refusal, told_refusal, waits_for_one, i
 use Rattle.aw_kept.specs.Records.{IsFit, IsOf, has_live}
 use Rattle.aw_kept.specs.KeptStates.{AreKept, AreLate}
 use Rattle.aw_kept.proofs.GuardWaits.{guard-waits}
+use Rattle.aw_kept.proofs.WaitEnds.{told_waits, ends_grown}
 
--- a rule that waits, or meets a circle, does so by its guard
-told_waits : (n : Node) (rule : Rule) (m : Matched Ref Ref) (o : Option Ref) → Some (WaitsFor o) ≡ refusal_of (after_guard n rule (as_named m)) → (r : Ref) × (m ≡ Waits r) × (o ≡ Some r)
-told_waits n rule (Waits r) o e = (r, refl, cc)
-told_waits n rule (Differs p) o e = absurd cc
-told_waits n rule (Circle r) o e = absurd cc
-told_waits n rule (Yes xs) o e = absurd (by (deep n rule) e)
-  where
-    by : (b : Bool) → Some (WaitsFor o) ≡ refusal_of (cond b (Refused TooDeep) (Takes rule (map Some xs))) → ⊥
-    by true e = absurd cc
-    by false e = absurd cc
-
+-- a rule that meets a circle does so by its guard
 told_circle : (n : Node) (rule : Rule) (m : Matched Ref Ref) (o : Option Ref) → Some (CircleAt o) ≡ refusal_of (after_guard n rule (as_named m)) → (r : Ref) × (m ≡ Circle r) × (o ≡ Some r)
 told_circle n rule (Circle r) o e = (r, refl, cc)
 told_circle n rule (Waits r) o e = absurd cc
@@ -89,6 +81,10 @@ module _ (names more : List Ref) (grows : Grows names more) where
   pub of_grows : (g : Grammar) (h : Held) (x : Record) → IsOf g names h x → IsOf g more h x
   of_grows g h x o = record { sort = o.sort; slots = AreNamed-grown names more x.slots.items h.inherited grows o.slots; deep = o.deep; rules = o.rules }
 
+  -- a slot of the store has the name that it had
+  named_before : (slot : ℕ) (r : Ref) → slot < length names → slice_get more slot ≡ Some r → slice_get names slot ≡ Some r
+  named_before slot r live here = let (q, e) = name_at names slot live in e ∙ sym (slot-grown names more slot q grows e) ∙ here
+
   -- what is kept stays so where names come
   pub kept_named : (g : Grammar) (hs : List Held) (k : Map) (late : List Ref) (ns : List ℕ) (xs : List Record) (ts : List Triple) → AreKept g hs k names late ns xs ts → AreKept g hs k more late ns xs ts
   kept_named g hs k late ns xs ts f = record {
@@ -96,6 +92,9 @@ module _ (names more : List Ref) (grows : Grows names more) where
     beside = f.beside;
     of_node = λ i n h x e u v. of_grows g h x (f.of_node i n h x e u v);
     told = λ i n h x e u v j m w not rule d. refusal_stays h.node rule (guard_all k 1 rule.patterns h.inherited) m.stands (f.told i n h x e u v j m w (not_before late m.stands not) rule d);
+    ends = λ i n j h x m e u v w rule slot r end d waits here on.
+        let live = ltb-true slot (length names) (ap (has_live (length names)) (sym waits) ∙ (f.fits.fit i n x e v).stand j m w) in
+        f.ends i n j h x m e u v w rule slot r end d waits (named_before slot r live here) on;
   }
 
 module _ (k l : Map) (names late later : List Ref) (more : IsSubmap k l) (covers : AreLate k l late later) where
@@ -136,4 +135,5 @@ module _ (k l : Map) (names late later : List Ref) (more : IsSubmap k l) (covers
     told = λ i n h x e u v j m w not rule d.
         let old = f.told i n h x e u v j m w (late_before m.stands not) rule d in
         old ∙ sym (told_stays h.node h.inherited rule m.stands not old);
+    ends = λ i n j h x m e u v w. ends_grown g k l names h m more (f.ends i n j h x m e u v w);
   }

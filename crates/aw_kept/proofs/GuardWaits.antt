@@ -32,7 +32,7 @@ module _ (k : Map) (s : Ref) where
   missing_on go r (Some (Is h rs)) f on e = absurd cc
   missing_on go r (Some (Same q)) f on e = on q e
 
-  missing_in : (m : ℕ) (r : Ref) → chase_in m k r ≡ Missing s → find k s ≡ None
+  pub missing_in : (m : ℕ) (r : Ref) → chase_in m k r ≡ Missing s → find k s ≡ None
   missing_in zero r e = missing_on (λ q. Round) r (find k r) refl (λ q f. absurd cc) e
   missing_in (suc m) r e = missing_on (chase_in m k) r (find k r) refl (missing_in m) e
 

@@ -23,12 +23,13 @@ use Rattle.aw_kept.specs.declared.record.Mark.{Mark}
 use Rattle.aw_kept.specs.declared.record.Record.{Record}
 use Rattle.aw_kept.specs.declared.kept.Kept.{Kept}
 use Rattle.aw_kept.specs.Standings.{waits_for_one, is_one_of}
-use Rattle.aw_kept.specs.Records.{IsFit, IsOf, IsTold, AreTold, stand_at, with_stands, mark_rule, open_rules, has_live, is_of_sort}
+use Rattle.aw_kept.specs.Records.{IsFit, IsOf, IsTold, AreTold, WaitsAtEnd, stand_at, with_stands, mark_rule, open_rules, has_live, is_of_sort}
 use Rattle.aw_kept.specs.Due.{due_of, due_marks, due_record, due, AreSame, waiting_mark}
-use Rattle.aw_kept.specs.Tested.{IsTested}
+use Rattle.aw_kept.specs.Tested.{IsSet, LacksBody}
 use Rattle.aw_held.specs.Picked.{AreApart}
 use Rattle.aw_kept.specs.KeptStates.{AreFit, AreKept, IsFitKept, AreLiveAt}
 use Rattle.aw_kept.proofs.Places.{IsSetAt}
+use Rattle.aw_kept.proofs.WaitEnds.{told_ends}
 use Rattle.aw_kept.proofs.DueLemmas.{marks_stand, due_changed, due_at, due_is, is_triple, triple_counts, NodeWaits}
 
 -- a mark in a list where one stands otherwise now
@@ -67,22 +68,23 @@ written xs ys n y set m z e = by (eqb_tells m n)
     by (inl (t, same)) = let a : slice_get ys n ≡ Some z = ap (slice_get ys) (sym same) ∙ e in let h = set.here in let b : z ≡ y = cc in inl (same, b)
     by (inr (t, other)) = inr (other, sym (set.others m other) ∙ e)
 
-module _ (g : Grammar) (k : Map) (names : List Ref) (n j : ℕ) (m : Mark) (x y : Record) (ts us : List Triple) (mark : slice_get x.marks.items j ≡ Some m) (test : IsTested g k names n j m x y ts us) where
-  -- a record stays fit where a rule is tested
-  pub fit_tested : IsFit g names x → IsFit g names y
-  fit_tested f = record {
-    live = subst (λ v. All (λ s. s < length names) v.items) (sym test.slots) f.live;
-    takes = ap (λ v. length v.items) test.slots ∙ f.takes ∙ ap (λ s. takes_of (slice_get g.sorts s)) (sym test.sort);
-    rules = λ q z e. rules_by q z (get-stand_at test.stands j x.marks.items m q z mark (ap (λ l. slice_get l q) (sym test.marks) ∙ e));
-    stand = λ q z e. stand_by q z (get-stand_at test.stands j x.marks.items m q z mark (ap (λ l. slice_get l q) (sym test.marks) ∙ e));
+module _ (g : Grammar) (names : List Ref) (n j : ℕ) (m : Mark) (s : Stands) (x y : Record) (ts us : List Triple) (mark : slice_get x.marks.items j ≡ Some m) (live : has_live (length names) s ≡ true)
+    (set : IsSet n j m s x y ts us) where
+  -- a record stays fit where a mark is set
+  pub fit_set : IsFit g names x → IsFit g names y
+  fit_set f = record {
+    live = subst (λ v. All (λ q. q < length names) v.items) (sym set.slots) f.live;
+    takes = ap (λ v. length v.items) set.slots ∙ f.takes ∙ ap (λ q. takes_of (slice_get g.sorts q)) (sym set.sort);
+    rules = λ q z e. rules_by q z (get-stand_at s j x.marks.items m q z mark (ap (λ l. slice_get l q) (sym set.marks) ∙ e));
+    stand = λ q z e. stand_by q z (get-stand_at s j x.marks.items m q z mark (ap (λ l. slice_get l q) (sym set.marks) ∙ e));
   }
     where
-      rules_by : (q : ℕ) (z : Mark) → Stood test.stands j x.marks.items m q z → is_of_sort y.sort (slice_get g.rules z.rule) ≡ true
-      rules_by q z (inl (a, b)) = ap (λ s. is_of_sort s (slice_get g.rules z.rule)) test.sort ∙ ap (λ (v : Mark). is_of_sort x.sort (slice_get g.rules v.rule)) b ∙ f.rules j m mark
-      rules_by q z (inr (_, e)) = ap (λ s. is_of_sort s (slice_get g.rules z.rule)) test.sort ∙ f.rules q z e
+      rules_by : (q : ℕ) (z : Mark) → Stood s j x.marks.items m q z → is_of_sort y.sort (slice_get g.rules z.rule) ≡ true
+      rules_by q z (inl (a, b)) = ap (λ w. is_of_sort w (slice_get g.rules z.rule)) set.sort ∙ ap (λ (v : Mark). is_of_sort x.sort (slice_get g.rules v.rule)) b ∙ f.rules j m mark
+      rules_by q z (inr (_, e)) = ap (λ w. is_of_sort w (slice_get g.rules z.rule)) set.sort ∙ f.rules q z e
 
-      stand_by : (q : ℕ) (z : Mark) → Stood test.stands j x.marks.items m q z → has_live (length names) z.stands ≡ true
-      stand_by q z (inl (a, b)) = ap (λ (v : Mark). has_live (length names) v.stands) b ∙ test.live
+      stand_by : (q : ℕ) (z : Mark) → Stood s j x.marks.items m q z → has_live (length names) z.stands ≡ true
+      stand_by q z (inl (a, b)) = ap (λ (v : Mark). has_live (length names) v.stands) b ∙ live
       stand_by q z (inr (_, e)) = f.stand q z e
 
 -- what is written at a place
@@ -91,22 +93,22 @@ set_stand s i [] m l e = absurd (omega (arith, l))
 set_stand s zero (k ∷ ms) m l e = ap (λ z. with_stands z s ∷ ms) e
 set_stand s (suc i) (k ∷ ms) m l e = ap (λ z. k ∷ z) (set_stand s i ms m (omega (arith, l)) e)
 
-module _ (g : Grammar) (k : Map) (names : List Ref) (slot n rule : ℕ) (ns : List ℕ) (xs ys : List Record) (ts us : List Triple) (i j : ℕ) (x y : Record)
+module _ (g : Grammar) (k : Map) (names : List Ref) (slot n rule : ℕ) (s : Stands) (ns : List ℕ) (xs ys : List Record) (ts us : List Triple) (i j : ℕ) (x y : Record)
     (at : slice_get ns i ≡ Some n) (here : slice_get xs n ≡ Some x) (mark : slice_get x.marks.items j ≡ Some (waiting_mark rule slot))
-    (test : IsTested g k names n j (waiting_mark rule slot) x y ts us) (set : IsSetAt xs ys n y) where
+    (live : has_live (length names) s ≡ true) (stood : IsSet n j (waiting_mark rule slot) s x y ts us) (set : IsSetAt xs ys n y) where
   fit_again : IsFit g names x → IsFit g names y
-  fit_again f = fit_tested g k names n j (waiting_mark rule slot) x y ts us mark test f
+  fit_again f = fit_set g names n j (waiting_mark rule slot) s x y ts us mark live stood f
 
   waiting_again : AreApart ns → AreSame (triple slot n rule ∷ ts) (due xs ns) → AreSame us (due ys ns)
   waiting_again apart same p =
       let changed = due_changed p ns xs ys i n apart at set.others in
       let old = ap (λ o. count_by p (due_record n o)) here in
       let new = ap (λ o. count_by p (due_record n o)) set.here in
-      let marks = ap (λ l. count_by p (due_marks n l)) test.marks in
-      let stand = marks_stand p n test.stands j x.marks.items (waiting_mark rule slot) mark in
+      let marks = ap (λ l. count_by p (due_marks n l)) stood.marks in
+      let stand = marks_stand p n s j x.marks.items (waiting_mark rule slot) mark in
       let one = sum_by-cons (λ t. cond (p t) 1 0) (triple slot n rule) ts in
       let alone = sum_by-cons (λ t. cond (p t) 1 0) (triple slot n rule) [] in
-      omega (arith, changed, old, new, marks, stand, one, alone, same p, test.waiting p)
+      omega (arith, changed, old, new, marks, stand, one, alone, same p, stood.waiting p)
 
   pub fits_again : AreFit g names ns xs (triple slot n rule ∷ ts) → AreFit g names ns ys us
   fits_again f = record {
@@ -120,16 +122,21 @@ module _ (g : Grammar) (k : Map) (names : List Ref) (slot n rule : ℕ) (ns : Li
       fit_by q m z e (inl (same, b)) = subst (IsFit g names) (sym b) (fit_again (f.fit i n x at here))
       fit_by q m z e (inr (other, w)) = f.fit q m z e w
 
-  pub kept_again : (hs : List Held) (late : List Ref) → AreKept g hs k names late ns xs (triple slot n rule ∷ ts) → AreKept g hs k names late ns ys us
-  kept_again hs late f = record {
+  pub kept_again : (hs : List Held) (late : List Ref) → ((h : Held) → IsOf g names h x → WaitsAtEnd g k names h (waiting_mark rule slot) → IsTold g k names h (with_stands (waiting_mark rule slot) s)) →
+      AreKept g hs k names late ns xs (triple slot n rule ∷ ts) → AreKept g hs k names late ns ys us
+  kept_again hs late says f = record {
     fits = fits_again f.fits;
     beside = f.beside;
     of_node = λ q m h z e u w. of_by q m h z e u (written xs ys n y set m z w);
     told = λ q m h z e u w. told_by q m h z e u (written xs ys n y set m z w);
+    ends = λ q m a h z v e u w. ends_by q m a h z v e u (written xs ys n y set m z w);
   }
     where
       here_of : (q m : ℕ) (h : Held) → m ≡ n → slice_get ns q ≡ Some m → slice_get hs q ≡ Some h → IsOf g names h x
       here_of q m h same e u = f.of_node q n h x (e ∙ ap Some same) u here
+
+      says_now : (q m : ℕ) (h : Held) → m ≡ n → slice_get ns q ≡ Some m → slice_get hs q ≡ Some h → IsTold g k names h (with_stands (waiting_mark rule slot) s)
+      says_now q m h same e u = says h (here_of q m h same e u) (f.ends q n j h x (waiting_mark rule slot) (e ∙ ap Some same) u here mark)
 
       of_by : (q m : ℕ) (h : Held) (z : Record) → slice_get ns q ≡ Some m → slice_get hs q ≡ Some h → WasWritten n y xs m z → IsOf g names h z
       of_by q m h z e u (inr (other, w)) = f.of_node q m h z e u w
@@ -137,20 +144,29 @@ module _ (g : Grammar) (k : Map) (names : List Ref) (slot n rule : ℕ) (ns : Li
         where
           of_new : IsOf g names h x → IsOf g names h y
           of_new o = record {
-            sort = o.sort ∙ sym test.sort;
-            slots = ap (λ v. map (slice_get names) v.items) test.slots ∙ o.slots;
-            deep = test.deep ∙ o.deep;
-            rules = ap (map mark_rule) test.marks ∙ rules-stand_at test.stands j x.marks.items ∙ o.rules ∙ ap (λ s. open_rules g s (state_of h.done)) (sym test.sort);
+            sort = o.sort ∙ sym stood.sort;
+            slots = ap (λ v. map (slice_get names) v.items) stood.slots ∙ o.slots;
+            deep = stood.deep ∙ o.deep;
+            rules = ap (map mark_rule) stood.marks ∙ rules-stand_at s j x.marks.items ∙ o.rules ∙ ap (λ q. open_rules g q (state_of h.done)) (sym stood.sort);
           }
 
       told_by : (q m : ℕ) (h : Held) (z : Record) → slice_get ns q ≡ Some m → slice_get hs q ≡ Some h → WasWritten n y xs m z → AreTold g k names late h z.marks.items
       told_by q m h z e u (inr (other, w)) = f.told q m h z e u w
       told_by q m h z e u (inl (same, b)) = subst (λ (v : Record). AreTold g k names late h v.marks.items) (sym b)
-          (λ a v w late_not. told_mark a v late_not (get-stand_at test.stands j x.marks.items _ a v mark (ap (λ l. slice_get l a) (sym test.marks) ∙ w)))
+          (λ a v w late_not. told_mark a v late_not (get-stand_at s j x.marks.items _ a v mark (ap (λ l. slice_get l a) (sym stood.marks) ∙ w)))
         where
-          told_mark : (a : ℕ) (v : Mark) → waits_for_one names late v.stands ≡ false → Stood test.stands j x.marks.items (waiting_mark rule slot) a v → IsTold g k names h v
-          told_mark a v not (inl (c, d)) = subst (IsTold g k names h) (sym d) (test.told h (here_of q m h same e u))
+          told_mark : (a : ℕ) (v : Mark) → waits_for_one names late v.stands ≡ false → Stood s j x.marks.items (waiting_mark rule slot) a v → IsTold g k names h v
+          told_mark a v not (inl (c, d)) = subst (IsTold g k names h) (sym d) (says_now q m h same e u)
           told_mark a v not (inr (_, w)) = f.told q n h x (e ∙ ap Some same) u here a v w not
+
+      ends_by : (q m a : ℕ) (h : Held) (z : Record) (v : Mark) → slice_get ns q ≡ Some m → slice_get hs q ≡ Some h → WasWritten n y xs m z → slice_get z.marks.items a ≡ Some v → WaitsAtEnd g k names h v
+      ends_by q m a h z v e u (inr (other, w)) p = f.ends q m a h z v e u w p
+      ends_by q m a h z v e u (inl (same, b)) p =
+          ends_mark (get-stand_at s j x.marks.items _ a v mark (ap (λ l. slice_get l a) (sym stood.marks) ∙ ap (λ (r : Record). slice_get r.marks.items a) (sym b) ∙ p))
+        where
+          ends_mark : Stood s j x.marks.items (waiting_mark rule slot) a v → WaitsAtEnd g k names h v
+          ends_mark (inl (c, d)) = told_ends g k names h v (subst (IsTold g k names h) (sym d) (says_now q m h same e u))
+          ends_mark (inr (_, w)) = f.ends q n a h x v (e ∙ ap Some same) u here w
 
   none_for : (q : ℕ) (s : Stands) → s ≢ stands.Waits q → waiting_at q (due_of n rule s) ≡ 0
   none_for q stands.Ready d = refl
@@ -164,10 +180,10 @@ module _ (g : Grammar) (k : Map) (names : List Ref) (slot n rule : ℕ) (ns : Li
       by (inr (t, other)) = ap (λ b. 0 + cond b 1 0) t
 
   -- a rule that waits again does not wait for a slot whose reference has an equation
-  pub waits_elsewhere : (q : ℕ) → is_some (body_at k names q) ≡ true → waiting_at q us ≡ waiting_at q ts
-  waits_elsewhere q learnt =
-      let other : test.stands ≢ stands.Waits q = λ e. absurd (not_none (body_at k names q) learnt (test.lacks q e)) in
-      omega (arith, test.waiting (λ t. nat_eq t.slot q), none_for q test.stands other)
+  pub waits_elsewhere : LacksBody k names s → (q : ℕ) → is_some (body_at k names q) ≡ true → waiting_at q us ≡ waiting_at q ts
+  waits_elsewhere lacks q learnt =
+      let other : s ≢ stands.Waits q = λ e. absurd (not_none (body_at k names q) learnt (lacks q e)) in
+      omega (arith, stood.waiting (λ t. nat_eq t.slot q), none_for q s other)
     where
       not_none : {A : Type 0} (o : Option A) → is_some o ≡ true → o ≡ None → ⊥
       not_none None t e = absurd cc
@@ -211,6 +227,7 @@ module _ (g : Grammar) (hs : List Held) (k : Map) (names : List Ref) (ns : List 
     beside = f.beside;
     of_node = f.of_node;
     told = λ i n h x e u v j m w not. f.told i n h x e u v j m w (not_late f.fits i n x j m e v w not);
+    ends = f.ends;
   }
 
 -- of the same triples in another order the same is kept
@@ -223,7 +240,7 @@ pub kept_same : (g : Grammar) (hs : List Held) (k : Map) (names late : List Ref)
     AreKept g hs k names late ns xs ts → AreKept g hs k names late ms ys us
 kept_same g hs k names late ns ms xs ys ts us e d same f =
     subst (λ z. AreKept g hs k names late z ys us) (sym e) (subst (λ z. AreKept g hs k names late ns z us) (sym d)
-    (record { fits = fits_same g names ns ns xs xs ts us refl refl same f.fits; beside = f.beside; of_node = f.of_node; told = f.told }))
+    (record { fits = fits_same g names ns ns xs xs ts us refl refl same f.fits; beside = f.beside; of_node = f.of_node; told = f.told; ends = f.ends }))
 
 pub count_same : (p : Triple → Bool) (ts us : List Triple) → IsPermutation ts us → count_by p us ≡ count_by p ts
 count_same p ts us same = sum_by-IsPermutation (λ z. cond (p z) 1 0) ts us same

@@ -2,6 +2,7 @@ pub mod Places
 pub mod DueLemmas
 pub mod KeptLemmas
 pub mod GuardWaits
+pub mod WaitEnds
 pub mod AllTested
 pub mod Opening
 pub mod MarkLemmas

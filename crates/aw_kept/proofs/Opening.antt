@@ -15,13 +15,14 @@ use Rattle.aw_work.specs.declared.block.Triple.{Triple}
 use Rattle.aw_work.specs.Triples.{others_than}
 use Rattle.aw_kept.specs.declared.record.Mark.{Mark}
 use Rattle.aw_kept.specs.declared.record.Record.{Record}
-use Rattle.aw_kept.specs.Records.{IsFit, IsOf, AreTold, open_rules, mark_rule}
+use Rattle.aw_kept.specs.Records.{IsFit, IsOf, AreTold, WaitsAtEnd, open_rules, mark_rule}
 use Rattle.aw_kept.specs.Due.{due_marks, due_record}
 use Rattle.aw_kept.specs.Tested.{AreTested}
 use Rattle.aw_kept.specs.KeptStates.{AreFit, AreKept}
 use Rattle.aw_held.proofs.Numbers.{inserted_one, apart_inserted}
 use Rattle.aw_kept.proofs.Places.{IsSetAt, StoodBefore, get-push, get-last, inserted_both}
 use Rattle.aw_kept.proofs.DueLemmas.{due_more, due_inserted, same_others}
+use Rattle.aw_kept.proofs.WaitEnds.{told_ends}
 use Rattle.aw_kept.proofs.KeptLemmas.{WasWritten, written}
 
 module _ (g : Grammar) (k : Map) (names : List Ref) (at : ℕ) (ns : List ℕ) (xs : List Record) (ts us : List Triple) (x y : Record)
@@ -72,6 +73,7 @@ module _ (g : Grammar) (k : Map) (names : List Ref) (at : ℕ) (ns : List ℕ) (
     beside = omega (arith, length-insert ns at (length xs) within, length-insert hs at h (omega (arith, within, f.beside)), f.beside);
     of_node = λ i m q z e u w. of_by m q z w (inserted_both ns hs at (length xs) h i m q f.beside e u);
     told = λ i m q z e u w. told_by m q z w (inserted_both ns hs at (length xs) h i m q f.beside e u);
+    ends = λ i m j q z v e u w a. ends_by m j q z v w a (inserted_both ns hs at (length xs) h i m q f.beside e u);
   }
     where
       of_by : (m : ℕ) (q : Held) (z : Record) → slice_get (xs ++ y ∷ []) m ≡ Some z → StoodBefore ns hs (length xs) h m q → IsOf g names q z
@@ -83,6 +85,12 @@ module _ (g : Grammar) (k : Map) (names : List Ref) (at : ℕ) (ns : List ℕ) (
           subst (λ v. AreTold g k names late v z.marks.items) (sym t)
           (subst (λ (v : Record). AreTold g k names late h v.marks.items) (sym (new_is m z s w)) (λ j v a b. test.told h o j v a))
       told_by m q z w (inr (j, e, u)) = f.told j m q z e u (before m z (f.fits.known j m e) w)
+
+      ends_by : (m j : ℕ) (q : Held) (z : Record) (v : Mark) → slice_get (xs ++ y ∷ []) m ≡ Some z → slice_get z.marks.items j ≡ Some v → StoodBefore ns hs (length xs) h m q → WaitsAtEnd g k names q v
+      ends_by m j q z v w a (inl (s, t)) =
+          let is = new_is m z s w in
+          subst (λ b. WaitsAtEnd g k names b v) (sym t) (told_ends g k names h v (test.told h o j v (ap (λ (r : Record). slice_get r.marks.items j) (sym is) ∙ a)))
+      ends_by m j q z v w a (inr (i, e, u)) = f.ends i m j q z v e u (before m z (f.fits.known i m e) w) a
 
 -- the same by the values that the program has
 module _ (g : Grammar) (k : Map) (names : List Ref) (at n : ℕ) (ns ms : List ℕ) (xs ys : List Record) (ts us : List Triple) (x y : Record)
@@ -153,6 +161,7 @@ module _ (g : Grammar) (names : List Ref) (at n : ℕ) (ns : List ℕ) (xs ys : 
     beside = f.beside ∙ sym (length-done_at c at hs);
     of_node = λ i m h z e u w. of_by i m h z e (get-done_at c at hs i h u) (written xs ys n y set m z w);
     told = λ i m h z e u w. told_by i m h z e (get-done_at c at hs i h u) (written xs ys n y set m z w);
+    ends = λ i m j h z v e u w a. ends_by i m j h z v e (get-done_at c at hs i h u) (written xs ys n y set m z w) a;
   }
     where
       none_open : (c : Choice) (s : ℕ) → [] ≡ open_rules g s (state_of (Some c))
@@ -184,6 +193,15 @@ module _ (g : Grammar) (names : List Ref) (at n : ℕ) (ns : List ℕ) (xs ys : 
       told_by i m h z e (inl (s, _, _, _)) (inr (d, w)) = absurd (d (number_here i m e s))
       told_by i m h z e (inr (_, u)) (inr (_, w)) = f.told i m h z e u w
       told_by i m h z e (inl (_, was, u, done)) (inl (s, t)) = λ j v a b.
+          let l : z.marks.items ≡ [] = ap (λ (q : Record). q.marks.items) t ∙ marks in
+          let gone : slice_get z.marks.items j ≡ slice_get [] j = ap (λ q. slice_get q j) l in
+          absurd cc
+
+      ends_by : (i m j : ℕ) (h : Held) (z : Record) (v : Mark) → slice_get ns i ≡ Some m → WasDone c at hs i h → WasWritten n y xs m z → slice_get z.marks.items j ≡ Some v → WaitsAtEnd g k names h v
+      ends_by i m j h z v e (inr (d, u)) (inl (s, t)) a = absurd (d (place_here i m e s))
+      ends_by i m j h z v e (inl (s, _, _, _)) (inr (d, w)) a = absurd (d (number_here i m e s))
+      ends_by i m j h z v e (inr (_, u)) (inr (_, w)) a = f.ends i m j h z v e u w a
+      ends_by i m j h z v e (inl (_, was, u, done)) (inl (s, t)) a =
           let l : z.marks.items ≡ [] = ap (λ (q : Record). q.marks.items) t ∙ marks in
           let gone : slice_get z.marks.items j ≡ slice_get [] j = ap (λ q. slice_get q j) l in
           absurd cc

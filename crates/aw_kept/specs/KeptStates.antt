@@ -7,9 +7,10 @@ use Rattle.aw_store.specs.NamedRefs.{is_named}
 use Rattle.aw_held.specs.declared.held.Held.{Held}
 use Rattle.aw_held.specs.Picked.{AreApart}
 use Rattle.aw_work.specs.declared.block.Triple.{Triple}
+use Rattle.aw_kept.specs.declared.record.Mark.{Mark}
 use Rattle.aw_kept.specs.declared.record.Record.{Record}
 use Rattle.aw_kept.specs.declared.kept.Kept.{Kept}
-use Rattle.aw_kept.specs.Records.{IsFit, IsOf, AreTold, AreLive}
+use Rattle.aw_kept.specs.Records.{IsFit, IsOf, AreTold, AreLive, WaitsAtEnd}
 use Rattle.aw_kept.specs.Due.{due, AreSame}
 
 -- Numbers that are apart, a fit record under each, and as what waits what the records say.
@@ -20,12 +21,13 @@ pub record AreFit (g : Grammar) (names : List Ref) (ns : List ℕ) (xs : List Re
   pub waiting : AreSame ts (due xs ns)
 
 -- The numbers stand beside the held nodes. Each record is of its node and says how the rules stand there, but where they wait for one
--- of the late references.
+-- of the late references. Those wait for what the late ones lead to, where that has no equation.
 pub record AreKept (g : Grammar) (hs : List Held) (k : Map) (names late : List Ref) (ns : List ℕ) (xs : List Record) (ts : List Triple) : Type 0 where
   pub fits : AreFit g names ns xs ts
   pub beside : length ns ≡ length hs
   pub of_node : (i n : ℕ) (h : Held) (x : Record) → slice_get ns i ≡ Some n → slice_get hs i ≡ Some h → slice_get xs n ≡ Some x → IsOf g names h x
   pub told : (i n : ℕ) (h : Held) (x : Record) → slice_get ns i ≡ Some n → slice_get hs i ≡ Some h → slice_get xs n ≡ Some x → AreTold g k names late h x.marks.items
+  pub ends : (i n j : ℕ) (h : Held) (x : Record) (m : Mark) → slice_get ns i ≡ Some n → slice_get hs i ≡ Some h → slice_get xs n ≡ Some x → slice_get x.marks.items j ≡ Some m → WaitsAtEnd g k names h m
 
 -- what is kept is fit
 abbrev pub IsFitKept : Grammar → List Ref → Kept → Type 0

@@ -3,8 +3,10 @@ use Rattle.std.specs.Prelude.{◌≡◌, ℕ, zero, suc, ◌<◌, Bool, false, t
 use Rattle.aw_term.specs.Names.{Node, Ref}
 use Rattle.aw_term.specs.Rules.{Rule, Grammar, sort_of}
 use Rattle.aw_term.specs.Configs.{State, Pending, Done}
+use Rattle.aw_term.specs.Choices.{WaitsFor}
 use Rattle.aw_term.specs.WellFormed.{takes_of}
 use Rattle.aw_store.specs.Equations.{Map}
+use Rattle.aw_store.specs.Chase.{Missing, chase}
 use Rattle.aw_store.specs.NamedRefs.{AreNamed}
 use Rattle.aw_held.specs.declared.held.Held.{Held}
 use Rattle.aw_held.specs.HeldView.{state_of, sort_or}
@@ -72,6 +74,11 @@ IsTold g k names h m = (rule : Rule) → slice_get g.rules m.rule ≡ Some rule 
 -- each mark does so, but where it waits for one of these references
 abbrev pub AreTold : Grammar → Map → List Ref → List Ref → Held → List Mark → Type 0
 AreTold g k names late h ms = (j : ℕ) (m : Mark) → slice_get ms j ≡ Some m → waits_for_one names late m.stands ≡ false → IsTold g k names h m
+
+-- a rule whose mark waits for a reference waits for the one to which a chase leads from there, where that one has no equation
+abbrev pub WaitsAtEnd : Grammar → Map → List Ref → Held → Mark → Type 0
+WaitsAtEnd g k names h m = (rule : Rule) (slot : ℕ) (r end : Ref) → slice_get g.rules m.rule ≡ Some rule → m.stands ≡ stands.Waits slot → slice_get names slot ≡ Some r → chase k r ≡ Missing end →
+    told_refusal k h.node h.inherited rule ≡ Some (WaitsFor (Some end))
 
 -- the mark at a place stands so now
 abbrev pub stand_at : Stands → ℕ → List Mark → List Mark

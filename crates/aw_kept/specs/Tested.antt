@@ -17,17 +17,21 @@ use Rattle.aw_kept.specs.Due.{due_of, due_marks}
 abbrev pub LacksBody : Map → List Ref → Stands → Type 0
 LacksBody k names s = (slot : ℕ) → s ≡ Waits slot → body_at k names slot ≡ None
 
--- The mark m, at this place, says how its rule stands now; it waits beside what waited, where it stands so. All else stays.
-pub record IsTested (g : Grammar) (k : Map) (names : List Ref) (n at : ℕ) (m : Mark) (old new : Record) (ts us : List Triple) : Type 0 where
-  pub stands : Stands
-  pub told : (h : Held) → IsOf g names h old → IsTold g k names h (with_stands m stands)
-  pub lacks : LacksBody k names stands
-  pub live : has_live (length names) stands ≡ true
+-- The mark m, at this place, stands so now; its rule waits beside what waited, where it stands so. All else stays.
+pub record IsSet (n at : ℕ) (m : Mark) (stands : Stands) (old new : Record) (ts us : List Triple) : Type 0 where
   pub marks : new.marks.items ≡ stand_at stands at old.marks.items
   pub slots : new.slots ≡ old.slots
   pub sort : new.sort ≡ old.sort
   pub deep : new.deep ≡ old.deep
   pub waiting : (p : Triple → Bool) → count_by p us ≡ count_by p (due_of n m.rule stands) + count_by p ts
+
+-- And this is how its rule stands.
+pub record IsTested (g : Grammar) (k : Map) (names : List Ref) (n at : ℕ) (m : Mark) (old new : Record) (ts us : List Triple) : Type 0 where
+  pub stands : Stands
+  pub told : (h : Held) → IsOf g names h old → IsTold g k names h (with_stands m stands)
+  pub lacks : LacksBody k names stands
+  pub live : has_live (length names) stands ≡ true
+  pub set : IsSet n at m stands old new ts us
 
 -- a mark that was not tested yet
 abbrev pub IsUntested : Mark → Type 0

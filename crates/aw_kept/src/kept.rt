@@ -7,6 +7,7 @@ ghost use Rattle.aw_grammar.specs.GrammarOf.{grammar_of};
 ghost use Rattle.aw_held.specs.declared.held.Held.{Held as HeldValue};
 ghost use Rattle.aw_held.specs.InOrder.{done_at};
 ghost use Rattle.aw_store.specs.Equations.{Map};
+ghost use Rattle.aw_store.specs.Chase.{Missing, chase};
 ghost use Rattle.aw_store.specs.NamedRefs.{body_at};
 ghost use Rattle.aw_work.specs.Triples.{triple, waiting_at};
 ghost use Rattle.aw_kept.specs.Records.{IsFit, IsOf};
@@ -14,7 +15,7 @@ ghost use Rattle.aw_kept.specs.Tested.{IsFresh};
 ghost use Rattle.aw_kept.specs.KeptStates.{AreFit, AreKept, IsFitKept, IsKept, IsKeptBut, HasRoom};
 
 use crate::record::{Record, place_of};
-use crate::testing::{test_all, test_mark};
+use crate::testing::{look_again, set_mark, test_all};
 use aw_apply::Steps;
 use aw_base::Grammar;
 use aw_store::Facts;
@@ -105,8 +106,9 @@ impl Kept {
         }
     }
 
-    /// Tests the rules that wait for a slot whose reference just got an equation, each once. It takes no memory. None of them
-    /// waits again for a reference that has an equation (`fewer`), so that several calls in turn test no pair twice.
+    /// Looks again at the rules that wait for a slot whose reference just got an equation. Where that leads to another reference,
+    /// which has none, they wait for that one, and none is tested (`leads_on`). Elsewhere each is tested once. It takes no memory.
+    /// None of them waits again for a reference that has an equation (`fewer`), so that several calls in turn test no pair twice.
     pub fn learn<F: Facts, L: Ledger>(
         &mut self,
         slot: usize,
@@ -121,7 +123,8 @@ impl Kept {
             IsKeptBut (grammar_of grammar.now) hs (F.map facts.now) (F.names facts.now) late self.new }
         ensures fits { IsFitKept (grammar_of grammar.now) (F.names facts.now) self.new }
         ensures room { (n w : ℕ) → HasRoom self.old n w → HasRoom self.new n w }
-        ensures steps { steps.new ≡ steps.old + waiting_at slot self.old.work.waiting }
+        ensures steps { steps.new ≤ steps.old + waiting_at slot self.old.work.waiting }
+        ensures leads_on { (r end : RefName) → slice_get (F.names facts.now) slot ≡ Some r → chase (F.map facts.now) r ≡ Missing end → steps.new ≡ steps.old }
         ensures fewer { (q : ℕ) → is_some (body_at (F.map facts.now) (F.names facts.now) q) ≡ true → waiting_at q self.new.work.waiting ≤ waiting_at q self.old.work.waiting }
     {
         while let Some(pair) = self.work.take(slot) {
@@ -129,7 +132,7 @@ impl Kept {
         }
     }
 
-    /// Tests a pair that was taken out of what waits for the slot.
+    /// Looks again at a pair that was taken out of what waits for the slot, and tests it where it does not wait for another one.
     fn test_pair<F: Facts, L: Ledger>(
         &mut self,
         slot: usize,
@@ -147,13 +150,15 @@ impl Kept {
         ensures fits { IsFitKept (grammar_of grammar.now) (F.names facts.now) self.new }
         ensures waiting { (q : ℕ) → is_some (body_at (F.map facts.now) (F.names facts.now) q) ≡ true → waiting_at q self.new.work.waiting ≡ waiting_at q self.old.work.waiting }
         ensures room { (n w : ℕ) → HasRoom self.old n (w + 1) → HasRoom self.new n w }
-        ensures step { steps.new ≡ steps.old + 1 }
+        ensures step { steps.new ≤ steps.old + 1 }
+        ensures leads_on { (r end : RefName) → slice_get (F.names facts.now) slot ≡ Some r → chase (F.map facts.now) r ≡ Missing end → steps.new ≡ steps.old }
     {
         let entry = &mut self.records[pair.node];
         let Some(at) = place_of(entry.marks.as_slice(), pair.rule, slot) else {
             unreachable!();
         };
-        test_mark(entry, at, pair.node, grammar, facts, &mut self.work, steps);
+        let stands = look_again(entry, at, slot, grammar, facts, steps);
+        set_mark(entry, at, pair.node, stands, &mut self.work);
     }
 }
 

@@ -1,5 +1,5 @@
 //! Tests of rules at a held node, by what is kept of it.
-ghost use Rattle.std.specs.Prelude.{◌≡◌, ◌<◌, ◌≤◌, ◌+◌, ◌&&◌, List, Some, true, All, length, map as list_map, nat_eq, nat_lt, slice_get, vec_len};
+ghost use Rattle.std.specs.Prelude.{◌≡◌, ◌<◌, ◌≤◌, ◌+◌, ◌&&◌, ℕ, List, Some, true, All, length, map as list_map, nat_eq, nat_lt, slice_get, vec_len};
 ghost use Rattle.aw_term.specs.Names.{Node as NodeValue, Ref as RefName};
 ghost use Rattle.aw_term.specs.Trees.{join};
 ghost use Rattle.aw_term.specs.Views.{pattern_of};
@@ -8,16 +8,18 @@ ghost use Rattle.aw_grammar.specs.declared.rule.Sort.{Sort as SortValue};
 ghost use Rattle.aw_grammar.specs.GrammarView.{rule_of};
 ghost use Rattle.aw_grammar.specs.GrammarOf.{grammar_of};
 ghost use Rattle.aw_held.specs.declared.held.Held.{Held as HeldValue};
+ghost use Rattle.aw_store.specs.Chase.{Missing, chase as plain_chase};
 ghost use Rattle.aw_store.specs.NamedRefs.{AreNamed};
 ghost use Rattle.aw_kept.specs.declared.record.Mark.{Mark as MarkValue};
 ghost use Rattle.aw_kept.specs.Standings.{guard_stands, kept_refusal, told_refusal};
-ghost use Rattle.aw_kept.specs.Records.{IsFit, IsOf, IsTold, with_stands, has_live};
-ghost use Rattle.aw_kept.specs.Tested.{IsTested, IsFresh, AreTested, LacksBody};
+ghost use Rattle.aw_kept.specs.Due.{waiting_mark};
+ghost use Rattle.aw_kept.specs.Records.{IsFit, IsOf, IsTold, WaitsAtEnd, with_stands, has_live};
+ghost use Rattle.aw_kept.specs.Tested.{IsSet, IsTested, IsFresh, AreTested, LacksBody};
 
 use crate::record::{Record, Stands, wait_for};
 use aw_apply::{Guard, Steps, test_guard};
 use aw_base::{Grammar, Rule};
-use aw_store::Facts;
+use aw_store::{Chase, Facts, chase};
 use aw_work::Work;
 use std::sync::ledger::Ledger;
 
@@ -85,9 +87,49 @@ fn test_at<F: Facts, L: Ledger>(
     test_stands(facts, rule, entry.slots.as_slice(), entry.deep, steps)
 }
 
+/// How the rule of a mark stands that waits for a slot whose reference just got an equation. Where that leads to another
+/// reference, which has none, the rule waits for that one, and no guard is tested.
+pub fn look_again<F: Facts, L: Ledger>(
+    entry: &Record,
+    at: usize,
+    slot: usize,
+    grammar: &Grammar,
+    facts: &F,
+    steps: &mut Steps<L>,
+) -> Stands
+    requires within { at < length entry.now.marks.items }
+    requires fit { IsFit (grammar_of grammar.now) (F.names facts.now) entry.now }
+    requires live { slot < length (F.names facts.now) }
+    ensures told { (h : HeldValue) (rule : ℕ) → slice_get entry.now.marks.items at ≡ Some (waiting_mark rule slot) → IsOf (grammar_of grammar.now) (F.names facts.now) h entry.now →
+        WaitsAtEnd (grammar_of grammar.now) (F.map facts.now) (F.names facts.now) h (waiting_mark rule slot) →
+        IsTold (grammar_of grammar.now) (F.map facts.now) (F.names facts.now) h (with_stands (waiting_mark rule slot) result) }
+    ensures lacks { LacksBody (F.map facts.now) (F.names facts.now) result }
+    ensures live { has_live (length (F.names facts.now)) result ≡ true }
+    ensures step { steps.new ≤ steps.old + 1 }
+    ensures leads_on { (r end : RefName) → slice_get (F.names facts.now) slot ≡ Some r → plain_chase (F.map facts.now) r ≡ Missing end → steps.new ≡ steps.old }
+{
+    match chase(facts, slot) {
+        Chase::Missing(end) => Stands::Waits(end),
+        _ => test_at(entry, at, grammar, facts, steps),
+    }
+}
+
+/// From now on the mark at a place stands so, and its rule waits where it stands so, at the node with this number. There is room
+/// for it to wait.
+pub fn set_mark(entry: &mut Record, at: usize, number: usize, stands: Stands, work: &mut Work)
+    requires within { at < length entry.old.marks.items }
+    requires room { 0 < work.old.spare }
+    ensures set { (m : MarkValue) → slice_get entry.old.marks.items at ≡ Some m → IsSet number at m stands entry.old entry.new work.old.waiting work.new.waiting }
+    ensures spare { work.old.spare ≤ work.new.spare + 1 }
+{
+    let mark = &mut entry.marks[at];
+    mark.stands = stands;
+    wait_for(work, number, mark.rule, stands);
+}
+
 /// Tests the rule of a mark at the node of the record, which has this number: the mark says how it stands from now on, and it
 /// waits where it stands so. There is room for it to wait.
-pub fn test_mark<F: Facts, L: Ledger>(
+fn test_mark<F: Facts, L: Ledger>(
     entry: &mut Record,
     at: usize,
     number: usize,
@@ -105,9 +147,7 @@ pub fn test_mark<F: Facts, L: Ledger>(
     ensures step { steps.new ≡ steps.old + 1 }
 {
     let stands = test_at(entry, at, grammar, facts, steps);
-    let mark = &mut entry.marks[at];
-    mark.stands = stands;
-    wait_for(work, number, mark.rule, stands);
+    set_mark(entry, at, number, stands, work);
 }
 
 /// Tests the rule of each mark of a record, none of which waits yet. There is room for all to wait.

@@ -1,5 +1,6 @@
 use Rattle.std.proofs.Common.{◌∙◌, sym, subst}
 use Rattle.aw_joint.proofs.Guarding.{Final, guard_all-keeps}
+use Rattle.aw_joint.proofs.Moving.{guard_all-moves}
 use Rattle.aw_joint.proofs.laws.guard_laws.Goals as goal
 
 pub returns-clause-yes : goal.returns-clause-yes
@@ -13,3 +14,6 @@ returns-clause-waits c k l within ps rs r gone e = guard_all-keeps k l within 1 
 
 pub returns-clause-circle : goal.returns-clause-circle
 returns-clause-circle c k l within ps rs r e = guard_all-keeps k l within 1 ps rs (subst (Final l) (sym e) tt) ∙ e
+
+pub returns-clause-moves : goal.returns-clause-moves
+returns-clause-moves c k l within ps rs r end on e = guard_all-moves k l within r end on 1 ps rs e

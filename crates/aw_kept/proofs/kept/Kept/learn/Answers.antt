@@ -1,4 +1,4 @@
-use Rattle.std.proofs.Common.{◌≤◌, ◌∷◌, refl, subst, sym, arith}
+use Rattle.std.proofs.Common.{◌≤◌, ◌∷◌, ◌∙◌, refl, subst, sym, arith}
 use Rattle.aw_grammar.specs.GrammarOf.{grammar_of}
 use Rattle.aw_work.specs.Triples.{triple, waiting_at}
 use Rattle.aw_work.specs.Waits.{Waits}
@@ -36,6 +36,7 @@ loop-pair-preserved g c =
         c.test_pair.ensures.waiting c.args.slot c.requires.learnt,
         taken_one c.args.slot c.in-Some.pair.node c.in-Some.pair.rule c.loop-pair.self.work.waiting c.take.new.self.waiting c.in-Some.ensures.some,
       );
+      leads_on = λ r end named on. c.test_pair.ensures.leads_on r end named on ∙ c.loop-pair.invariant.leads_on r end named on;
     }
 
 pub returns-clause-kept : goal.returns-clause-kept

@@ -5,6 +5,7 @@ use Rattle.aw_grammar.specs.GrammarOf.{grammar_of}
 use Rattle.aw_kept.specs.Due.{waiting_mark}
 use Rattle.aw_kept.specs.declared.record.Record.{Record}
 use Rattle.aw_kept.proofs.Places.{set_at}
+use Rattle.aw_kept.proofs.WaitEnds.{known_live}
 use Rattle.aw_kept.proofs.KeptLemmas.{taken_waits, kept_again, fits_again, waits_elsewhere, one_record}
 use Rattle.aw_kept.proofs.kept.Kept.test_pair.Goals as goal
 
@@ -25,14 +26,17 @@ unreachable-requires g c =
     c.in_default.ensures.none w.4.0
     (ap (λ l. slice_get l w.4.0) (c.as_slice.ensures.value ∙ ap (λ (z : Record). z.marks.items) (sym same)) ∙ w.4.1)
 
-pub test_mark-requires-clause-fit : goal.test_mark-requires-clause-fit
-test_mark-requires-clause-fit g c =
+pub look_again-stands-requires-clause-fit : goal.look_again-stands-requires-clause-fit
+look_again-stands-requires-clause-fit g c =
     let xs = c.args.self.now.records.items in
     let n = c.args.pair.node in
     let x = c.index_mut-entry.result.now in
     let w = taken_waits (grammar_of c.args.grammar.now) (g.F.Facts.names c.args.facts.now) c.args.slot n c.args.pair.rule c.args.self.now.numbers.items xs c.args.self.now.work.waiting c.requires.fits in
     let here = slice_get_read xs (length xs) n x refl (slice_get_within xs n w.1 w.3) c.index_mut-entry.ensures.value in
     c.requires.fits.fit w.0 n x w.2 here
+
+pub look_again-stands-requires-clause-live : goal.look_again-stands-requires-clause-live
+look_again-stands-requires-clause-live g c = known_live (g.F.Facts.map c.args.facts.now) (g.F.Facts.names c.args.facts.now) c.args.slot c.requires.learnt
 
 pub returns-clause-kept : goal.returns-clause-kept
 returns-clause-kept g c hs late f =
@@ -46,8 +50,9 @@ returns-clause-kept g c hs late f =
     let within = slice_get_within xs n w.1 w.3 in
     let here = slice_get_read xs (length xs) n x refl within c.index_mut-entry.ensures.value in
     let mark = ap (λ l. slice_get l c.in-Some.at) (sym c.as_slice.ensures.value) ∙ c.in-Some.ensures.found in
-    kept_again gr (g.F.Facts.map c.args.facts.now) names c.args.slot n c.args.pair.rule ns xs (slice_set xs n c.test_mark.new.entry) c.args.self.now.work.waiting c.test_mark.new.work.waiting w.0 c.in-Some.at x c.test_mark.new.entry
-    w.2 here mark (c.test_mark.ensures.tested (waiting_mark c.args.pair.rule c.args.slot) mark) (set_at xs n c.test_mark.new.entry within) hs late f
+    kept_again gr (g.F.Facts.map c.args.facts.now) names c.args.slot n c.args.pair.rule c.look_again-stands.result ns xs (slice_set xs n c.set_mark.new.entry) c.args.self.now.work.waiting c.set_mark.new.work.waiting w.0 c.in-Some.at x c.set_mark.new.entry
+    w.2 here mark c.look_again-stands.ensures.live (c.set_mark.ensures.set (waiting_mark c.args.pair.rule c.args.slot) mark) (set_at xs n c.set_mark.new.entry within) hs late
+    (λ h of ends. c.look_again-stands.ensures.told h c.args.pair.rule mark of ends) f
 
 pub returns-clause-fits : goal.returns-clause-fits
 returns-clause-fits g c =
@@ -61,8 +66,8 @@ returns-clause-fits g c =
     let within = slice_get_within xs n w.1 w.3 in
     let here = slice_get_read xs (length xs) n x refl within c.index_mut-entry.ensures.value in
     let mark = ap (λ l. slice_get l c.in-Some.at) (sym c.as_slice.ensures.value) ∙ c.in-Some.ensures.found in
-    fits_again gr (g.F.Facts.map c.args.facts.now) names c.args.slot n c.args.pair.rule ns xs (slice_set xs n c.test_mark.new.entry) c.args.self.now.work.waiting c.test_mark.new.work.waiting w.0 c.in-Some.at x c.test_mark.new.entry
-    w.2 here mark (c.test_mark.ensures.tested (waiting_mark c.args.pair.rule c.args.slot) mark) (set_at xs n c.test_mark.new.entry within) c.requires.fits
+    fits_again gr (g.F.Facts.map c.args.facts.now) names c.args.slot n c.args.pair.rule c.look_again-stands.result ns xs (slice_set xs n c.set_mark.new.entry) c.args.self.now.work.waiting c.set_mark.new.work.waiting w.0 c.in-Some.at x c.set_mark.new.entry
+    w.2 here mark c.look_again-stands.ensures.live (c.set_mark.ensures.set (waiting_mark c.args.pair.rule c.args.slot) mark) (set_at xs n c.set_mark.new.entry within) c.requires.fits
 
 pub returns-clause-waiting : goal.returns-clause-waiting
 returns-clause-waiting g c q learnt =
@@ -76,5 +81,5 @@ returns-clause-waiting g c q learnt =
     let within = slice_get_within xs n w.1 w.3 in
     let here = slice_get_read xs (length xs) n x refl within c.index_mut-entry.ensures.value in
     let mark = ap (λ l. slice_get l c.in-Some.at) (sym c.as_slice.ensures.value) ∙ c.in-Some.ensures.found in
-    waits_elsewhere gr (g.F.Facts.map c.args.facts.now) names c.args.slot n c.args.pair.rule ns xs (slice_set xs n c.test_mark.new.entry) c.args.self.now.work.waiting c.test_mark.new.work.waiting w.0 c.in-Some.at x c.test_mark.new.entry
-    w.2 here mark (c.test_mark.ensures.tested (waiting_mark c.args.pair.rule c.args.slot) mark) (set_at xs n c.test_mark.new.entry within) q learnt
+    waits_elsewhere gr (g.F.Facts.map c.args.facts.now) names c.args.slot n c.args.pair.rule c.look_again-stands.result ns xs (slice_set xs n c.set_mark.new.entry) c.args.self.now.work.waiting c.set_mark.new.work.waiting w.0 c.in-Some.at x c.set_mark.new.entry
+    w.2 here mark c.look_again-stands.ensures.live (c.set_mark.ensures.set (waiting_mark c.args.pair.rule c.args.slot) mark) (set_at xs n c.set_mark.new.entry within) c.look_again-stands.ensures.lacks q learnt
