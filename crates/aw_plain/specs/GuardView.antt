@@ -7,6 +7,7 @@ use Rattle.aw_plain.specs.declared.guard.Guard.{Guard}
 use Rattle.aw_plain.specs.declared.guard.Guard.TheVariants.{Yes, Waits, Differs}
 use Rattle.aw_plain.specs.TreeView.{values_of}
 
+-- what a guard gives, with values and references as plain ones
 abbrev pub guard_of : Guard → Q.Matched Value Ref
 guard_of (Yes ts) = Q.Yes (values_of ts)
 guard_of (Waits r) = Q.Waits r

@@ -5,6 +5,7 @@ use Rattle.aw_term.specs.Configs.{Config}
 use Rattle.aw_term.specs.Choices.{Choice, Answer, Taken, answer, after, undivided}
 use Rattle.aw_term.specs.Runs.{after_all}
 
+-- the answer is that the choice was taken
 abbrev pub is_taken : {R : Type 0} → Answer R → Bool
 is_taken Taken = true
 is_taken a = false

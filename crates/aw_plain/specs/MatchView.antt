@@ -8,6 +8,7 @@ use Rattle.aw_plain.specs.declared.matching.Matched.{Matched}
 use Rattle.aw_plain.specs.declared.matching.Matched.TheVariants.{Yes, Waits, Differs}
 use Rattle.aw_plain.specs.TreeView.{values_of}
 
+-- what a match gives, with values and references as plain ones
 abbrev pub matched_of : Matched → Q.Matched Value Ref
 matched_of (Yes ts) = Q.Yes (values_of ts)
 matched_of (Waits r) = Q.Waits r

@@ -11,6 +11,7 @@ use Rattle.aw_plain.specs.declared.outcome.Outcome.{Outcome}
 use Rattle.aw_plain.specs.declared.outcome.Outcome.TheVariants.{Refused, Takes}
 use Rattle.aw_plain.specs.TreeView.{values_of}
 
+-- what a choice leads to, with its rule and its values as plain ones, where these are the sorts
 abbrev pub outcome_of : List Sort → Outcome → Q.Outcome Value Ref
 outcome_of sorts (Refused answer) = Q.Refused (answer_of answer)
 outcome_of sorts (Takes rule bound) = Q.Takes (rule_of sorts rule.now) (values_of bound)

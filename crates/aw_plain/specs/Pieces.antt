@@ -32,6 +32,7 @@ abbrev pub following : List (List ℕ) → List ℕ
 following [] = []
 following (t ∷ ts) = codes ", " ++ (t ++ following ts)
 
+-- what is printed of a piece
 abbrev pub piece_text : Words → Piece → List ℕ
 piece_text w (First t) = text_of w t
 piece_text w (Next t) = codes ", " ++ text_of w t
@@ -48,11 +49,17 @@ abbrev pub pending : Words → List Piece → List ℕ
 pending w [] = []
 pending w (p ∷ ps) = pending w ps ++ piece_text w p
 
+-- a piece, and all pieces behind it
+abbrev pub from_piece : Words → Piece → List Piece → List ℕ
+from_piece w p ps = piece_text w p ++ pending w ps
+
+-- how much is to be done for one piece: more than for all pieces that come in its place
 abbrev pub piece_work : Piece → ℕ
 piece_work (First t) = 2 * places t
 piece_work (Next t) = 2 * places t
 piece_work (Bytes b) = 1
 
+-- how much is to be done for all these pieces
 abbrev pub pieces_work : List Piece → ℕ
 pieces_work [] = 0
 pieces_work (p ∷ ps) = piece_work p + pieces_work ps

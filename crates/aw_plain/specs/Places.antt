@@ -11,6 +11,7 @@ use Rattle.aw_plain.specs.TreeView.{value_of}
 abbrev pub places : Tree → ℕ
 places t = symbols (value_of t)
 
+-- how many places some trees have together
 abbrev pub places_of_all : List Tree → ℕ
 places_of_all [] = 0
 places_of_all (t ∷ ts) = places t + places_of_all ts

@@ -8,6 +8,7 @@ use Rattle.aw_plain.specs.declared.tree.Tree.{Tree, Row_of-Tree, end_of-Tree, mo
 use Rattle.aw_plain.specs.declared.tree.Tree as tree
 
 -- what a tree stands for below a constructor that is marked whole, or else
+-- (below such a constructor nothing is looked for: what would be a hole there stands as 0)
 abbrev mutual
   pub value_under : Bool → Tree → R.Value
   value_under w (tree.Con' c m p n parts) = Made (P.Con c) (row_under (w || m) parts)
@@ -19,8 +20,10 @@ abbrev mutual
   row_under w end_of-Tree = Nil
   row_under w (more_of-Tree t rest) = More (value_under w t) (row_under w rest)
 
+-- the value that a tree of the program stands for
 abbrev pub value_of : Tree → R.Value
 value_of = value_under false
 
+-- the values that trees of the program stand for
 abbrev pub values_of : List Tree → List R.Value
 values_of ts = map value_of ts

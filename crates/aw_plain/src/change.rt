@@ -1,18 +1,12 @@
 //! Rows that a taken rule changes: they are made first, and put in their places when nothing can fail any more.
-ghost use Rattle.std.specs.Prelude.{◌≡◌, ◌+◌, ◌<◌, ◌≤◌, IfOk, OnOk, List, length, map, slice_set, slice_index_or, vec_len, vec_capacity};
-ghost use Rattle.aw_term.specs.Configs.{Done};
-ghost use Rattle.aw_term.specs.Views.{ground_of};
-ghost use Rattle.aw_plain.specs.declared.row.Row.{Row as RowValue};
-ghost use Rattle.aw_plain.specs.TreeView.{values_of};
+ghost use Rattle.std.specs.Prelude.{◌≡◌, ◌≤◌, IfOk, OnOk, length, map, slice_set, vec_len, vec_capacity};
 ghost use Rattle.aw_plain.specs.RowView.{config_of};
 ghost use Rattle.aw_plain.specs.Cases.{AreOutside};
-ghost use Rattle.aw_plain.specs.Changes.{row_after as plain_after, changed, IsChangedTo};
+ghost use Rattle.aw_plain.specs.Changes.{row_taken, changed, AreRightPast};
 
 use crate::develop::row_after;
 use crate::row::Row;
-use crate::tree::Tree;
-use aw_base::Grounds;
-use aw_name::Node;
+use crate::taking::Taking;
 use std::alloc::{AllocError, Global};
 use std::ops::Range;
 
@@ -29,14 +23,11 @@ fn push_change(
     changes: &mut Vec<Change>,
     at: usize,
     row: &Row,
-    node: &Node,
-    number: u16,
-    args: &Grounds,
-    results: &[Tree],
+    taking: &Taking<'_>,
 ) -> Result<(), AllocError>
-    ensures { OnOk result (let f = plain_after node.now (Done number (map ground_of args.now)) (values_of results.now) in (rows : List RowValue) → at < length rows → row.now ≡ slice_index_or rows at row.now → IsChangedTo f rows changes.old.items at → IsChangedTo f rows changes.new.items (at + 1)) }
+    ensures { OnOk result (AreRightPast (row_taken taking.now) at row.now changes.old.items changes.new.items) }
 {
-    match row_after(alloc, row, node, number, args, results)? {
+    match row_after(alloc, row, taking)? {
         Some(row) => changes.push(Change { at, row })?,
         None => {}
     }
@@ -48,28 +39,16 @@ pub fn changes(
     alloc: Global,
     rows: &[Row],
     places: Range<usize>,
-    node: &Node,
-    number: u16,
-    args: &Grounds,
-    results: &[Tree],
+    taking: &Taking<'_>,
 ) -> Result<Vec<Change>, AllocError>
     requires order { places.start ≤ places.end }
     requires within { places.end ≤ length rows.now }
-    requires outside { AreOutside (λ q. plain_after node.now (Done number (map ground_of args.now)) (values_of results.now) q ≡ q) places.start places.end (config_of rows.now) }
-    ensures { IfOk result (λ xs. config_of (changed rows.now xs.items) ≡ map (plain_after node.now (Done number (map ground_of args.now)) (values_of results.now)) (config_of rows.now)) }
+    requires outside { AreOutside (λ q. row_taken taking.now q ≡ q) places.start places.end (config_of rows.now) }
+    ensures { IfOk result (λ xs. config_of (changed rows.now xs.items) ≡ map (row_taken taking.now) (config_of rows.now)) }
 {
     let mut changes = Vec::new(alloc);
     for at in places.start..places.end {
-        push_change(
-            alloc,
-            &mut changes,
-            at,
-            &rows[at],
-            node,
-            number,
-            args,
-            results,
-        )?;
+        push_change(alloc, &mut changes, at, &rows[at], taking)?;
     }
     Ok(changes)
 }

@@ -7,7 +7,7 @@ ghost use Rattle.aw_term.specs.Views.{ground_of};
 ghost use Rattle.aw_grammar.specs.GrammarView.{rule_of};
 ghost use Rattle.aw_plain.specs.TreeView.{values_of};
 ghost use Rattle.aw_plain.specs.RowView.{plain_row, plain_state, config_of};
-ghost use Rattle.aw_plain.specs.Changes.{row_fed, row_after as plain_after};
+ghost use Rattle.aw_plain.specs.Changes.{row_fed, row_taken};
 ghost use Rattle.aw_plain.specs.Ordered.{IsOrdered};
 ghost use Rattle.aw_plain.specs.Cases.{AreApart};
 
@@ -16,6 +16,7 @@ use crate::child::{bindings, child_rows};
 use crate::fill::fill_all;
 use crate::put::{copy_parts, put_all};
 use crate::row::{Row, State, add_rows, copy_state};
+use crate::taking::Taking;
 use crate::touch::touched;
 use crate::tree::{Tree, Trees};
 use aw_base::{Grammar, Grounds, Rule};
@@ -127,23 +128,16 @@ fn done_row(
     })
 }
 
-/// A row that was held, after rule `number` was taken on the node; none where it stays as it is, which is not looked for
-/// where the rule gives results.
-pub fn row_after(
-    alloc: Global,
-    row: &Row,
-    node: &Node,
-    number: u16,
-    args: &Grounds,
-    results: &[Tree],
-) -> Result<Option<Row>, AllocError>
-    ensures { IfOk result (λ after. or_same (plain_row row.now) (option_map plain_row after) ≡ plain_after node.now (Done number (map ground_of args.now)) (values_of results.now) (plain_row row.now)) }
+/// A row that was held, after this rule was taken; none where it stays as it is, which is not looked for where the rule
+/// gives results.
+pub fn row_after(alloc: Global, row: &Row, taking: &Taking<'_>) -> Result<Option<Row>, AllocError>
+    ensures { IfOk result (λ after. or_same (plain_row row.now) (option_map plain_row after) ≡ row_taken taking.now (plain_row row.now)) }
 {
-    if results.is_empty() && !is_node(node, &row.node) {
+    if taking.results.is_empty() && !is_node(taking.node, &row.node) {
         return Ok(None);
     }
-    let done = done_row(alloc, row, node, number, args)?;
-    Ok(Some(put_rounds(alloc, done, node, results)?))
+    let done = done_row(alloc, row, taking.node, taking.number, taking.args)?;
+    Ok(Some(put_rounds(alloc, done, taking.node, taking.results)?))
 }
 
 /// Takes a rule with this number on the node. Nothing is changed before all that may fail is done.
@@ -171,7 +165,13 @@ pub fn develop(
     let children = put_each(alloc, open, node, given)?;
     let held = rows.as_slice();
     let places = touched(held, node, given);
-    let changed = changes(alloc, held, places, node, number, args, given)?;
+    let taking = Taking {
+        node,
+        number,
+        args,
+        results: given,
+    };
+    let changed = changes(alloc, held, places, &taking)?;
     rows.reserve(children.len())?;
     apply(rows, changed);
     add_rows(rows, children);

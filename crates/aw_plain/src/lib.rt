@@ -2,25 +2,25 @@
 //! It is what the plain definitions of `aw_term` say: what `plain` runs, and `replay` as long as one role is replayed.
 #![tactic(auto)]
 
-pub mod change;
-pub mod child;
-pub mod develop;
-pub mod fill;
-pub mod guard;
-pub mod law;
-pub mod list;
-pub mod matching;
-pub mod order;
-pub mod outcome;
-pub mod plain;
-pub mod print;
+mod change;
+mod child;
+mod develop;
+mod fill;
+mod guard;
+mod law;
+mod list;
+mod matching;
+mod order;
+mod outcome;
+mod plain;
+mod print;
 pub mod put;
-pub mod row;
-pub mod take;
-pub mod touch;
-pub mod tree;
+mod row;
+mod take;
+mod taking;
+mod touch;
+mod tree;
 
-pub use guard::Guard;
 pub use law::run_laws;
 pub use list::list_rows;
 pub use matching::{Matched, match_tree};

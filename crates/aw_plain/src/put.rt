@@ -1,13 +1,13 @@
 //! Values that share their parts: copies, constructors, and values with the holes of a node replaced, which a walk makes on
 //! a stack of its own.
-ghost use Rattle.std.specs.Prelude.{◌≡◌, ◌+◌, ◌*◌, ◌<◌, ◌++◌, ◌∷◌, [], List, IfOk, OnOk, map};
+ghost use Rattle.std.specs.Prelude.{◌≡◌, ◌+◌, ◌*◌, ◌<◌, ◌++◌, List, IfOk, OnOk, map};
 ghost use Rattle.aw_term.specs.Trees.{bind, join, Made, Con, Text as PlainText, Nil};
 ghost use Rattle.aw_term.specs.Names.{Ref as PlainRef, result as result_of};
 ghost use Rattle.aw_term.specs.Rules.{Value, get, nth};
 ghost use Rattle.aw_term.specs.Configs.{put, nothing};
 ghost use Rattle.aw_plain.specs.TreeView.{value_of, value_under, values_of};
 ghost use Rattle.aw_plain.specs.Places.{places, places_of_all};
-ghost use Rattle.aw_plain.specs.Jobs.{finish, made, work};
+ghost use Rattle.aw_plain.specs.Jobs.{finish, made, work, HasBegun};
 
 use crate::tree::{Tree, Trees};
 use aw_list::{Items, Text};
@@ -175,7 +175,7 @@ fn begin_put<'t>(
     node: &Node,
     results: &[Tree],
 ) -> Result<(), AllocError>
-    ensures finish { OnOk result (let f = put node.now (values_of results.now) in finish f todo.new.items (values_of values.new.items) ≡ finish f todo.old.items (values_of values.old.items ++ bind f (value_of tree.now) ∷ [])) }
+    ensures finish { OnOk result (HasBegun (put node.now (values_of results.now)) tree.now todo.old.items values.old.items todo.new.items values.new.items) }
     ensures work { OnOk result (work todo.new.items < work todo.old.items + 2 * places tree.now) }
 {
     match tree {

@@ -1,21 +1,19 @@
 use Rattle.std.proofs.Common.{◌≡◌, ◌++◌, map, take, drop, arith, ap, ◌∙◌}
-use Rattle.aw_term.specs.Configs.{Row, Done}
-use Rattle.aw_term.specs.Views.{ground_of}
-use Rattle.aw_plain.specs.TreeView.{values_of}
+use Rattle.aw_term.specs.Configs.{Row}
 use Rattle.aw_plain.specs.RowView.{config_of}
-use Rattle.aw_plain.specs.Changes.{row_after, changed}
+use Rattle.aw_plain.specs.Changes.{row_taken, changed}
 use Rattle.aw_plain.proofs.TouchLemmas.{stay_in_front, stay_behind}
 use Rattle.aw_plain.proofs.change.changes.Goals as goal
 
 pub loop-at-init : goal.loop-at-init
 loop-at-init c =
-    let f : Row → Row = row_after c.args.node.now (Done c.args.number (map ground_of c.args.args.now)) (values_of c.args.results.now) in
+    let f : Row → Row = row_taken c.args.taking.now in
     ap (λ xs. config_of (changed c.args.rows.now xs)) c.new-changes.ensures.items
     ∙ stay_in_front f (config_of c.args.rows.now) c.args.places.start c.requires.outside.0
 
 pub returns : goal.returns
 returns c =
-    let f : Row → Row = row_after c.args.node.now (Done c.args.number (map ground_of c.args.args.now)) (values_of c.args.results.now) in
+    let f : Row → Row = row_taken c.args.taking.now in
     let held = config_of c.args.rows.now in
     let last : c.loop-at.at ≡ c.args.places.end = omega (arith, c.loop-at-test.false, c.loop-at.auto.at-end, c.requires.order) in
     c.loop-at.invariant

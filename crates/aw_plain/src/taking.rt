@@ -1,0 +1,13 @@
+//! A rule that is taken on a node.
+use crate::tree::Tree;
+use aw_base::Grounds;
+use aw_name::Node;
+
+/// A rule that is taken on a node: its number, its arguments, and the results that it gives.
+#[derive(Debug, Drop)]
+pub struct Taking<'t> {
+    pub node: &'t Node,
+    pub number: u16,
+    pub args: &'t Grounds,
+    pub results: &'t [Tree],
+}
