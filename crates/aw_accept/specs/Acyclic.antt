@@ -71,9 +71,11 @@ RoundsLeaveNone g rel = (c d : Config) (n : Node) (r : ℕ) (args : List Ground)
 abbrev pub KeepsAcyclic : Grammar → Type 0
 KeepsAcyclic g = IsGivenGrammar g → HasNoCircle g (IO g) → ChoicesKeep g (IO g)
 
+-- over the dependence relation, where no occurrence reaches itself in a rule: each configuration of a run is a tree of tasks, and acyclic
 abbrev pub AllAcyclic : Grammar → Type 0
 AllAcyclic g = IsGivenGrammar g → HasNoCircle g (IO g) → RunsAreAcyclic g (IO g)
 
+-- over the dependence relation, where no occurrence reaches itself in a rule: the rounds of a taken choice leave no hole of its node
 abbrev pub LeavesNoHole : Grammar → Type 0
 LeavesNoHole g = IsGivenGrammar g → HasNoCircle g (IO g) → RoundsLeaveNone g (IO g)
 
@@ -83,5 +85,6 @@ pub record HasAcyclicRuns (g : Grammar) (rel : ℕ → ℕ → ℕ → Type 0) :
   pub all : RunsAreAcyclic g rel
   pub leaves_none : RoundsLeaveNone g rel
 
+-- each relation that is closed under the rules, and over which no occurrence reaches itself in a rule, has acyclic runs
 abbrev pub AcyclicOver : Grammar → (ℕ → ℕ → ℕ → Type 0) → Type 0
 AcyclicOver g rel = IsGivenGrammar g → IsClosedUnder g rel → HasNoCircle g rel → HasAcyclicRuns g rel

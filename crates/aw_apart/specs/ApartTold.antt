@@ -59,11 +59,13 @@ abbrev pub finding_lines : Words → Grammar → ℕ → List Finding → List �
 finding_lines w g role [] = []
 finding_lines w g role (found ∷ later) = finding_line (words_at w g role) role found ++ finding_lines w g (suc role) later
 
+-- the role says yes
 abbrev pub is_yes : Finding → Bool
 is_yes Yes = true
 is_yes (Circle fault) = false
 is_yes (Excess pair) = false
 
+-- each role says yes
 abbrev pub all_yes : List Finding → Bool
 all_yes [] = true
 all_yes (found ∷ later) = is_yes found && all_yes later

@@ -26,6 +26,7 @@ abbrev mutual
       let b = lays n f a.next ts in
       record { roots = a.roots ∷ b.roots; equations = a.equations ++ b.equations; next = b.next }
 
+-- some trees laid down at node n from part k on, one behind the other
 abbrev pub lay_list : {L : Type 0} → Node → (L → Ref) → ℕ → List (Tree L) → Laid (List Ref)
 lay_list n f k [] = record { roots = []; equations = []; next = k }
 lay_list n f k (t ∷ ts) =
@@ -66,6 +67,7 @@ abbrev pub child_refs : Node → ℕ → ℕ → List Child → List Ref
 child_refs n r k [] = []
 child_refs n r k (c ∷ cs) = map (result (below n r k)) (upto 1 c.outs) ++ child_refs n r (suc k) cs
 
+-- the equations of a taken rule, and the calls of its children
 pub record Making : Type 0 where
   pub equations : List Equation
   pub calls : List Call

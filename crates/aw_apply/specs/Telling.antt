@@ -19,6 +19,7 @@ IsLive names (guard.Waits slot) = slot < length names
 IsLive names (guard.Differs place) = Unit {0}
 IsLive names (guard.Circle slot) = slot < length names
 
+-- what a guard gives once its slots were named
 abbrev pub matched_of : Tested → Q.Matched Ref Ref
 matched_of (tested.Yes bound) = Q.Yes bound
 matched_of (tested.Waits on) = Q.Waits on

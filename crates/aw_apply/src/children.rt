@@ -1,13 +1,12 @@
 //! The children of a taken rule: their results, their nodes, and their inherited references.
 ghost use Rattle.std.specs.Prelude.{◌≡◌, ◌<◌, ◌≤◌, ◌+◌, ◌++◌, ◌∷◌, [], List, IfOk, OnOk, length, map};
 ghost use Rattle.aw_term.specs.Names.{below, result as result_ref};
-ghost use Rattle.aw_term.specs.Rules.{get, upto};
+ghost use Rattle.aw_term.specs.Rules.{upto};
 ghost use Rattle.aw_term.specs.WellFormed.{child_symbols};
 ghost use Rattle.aw_grammar.specs.declared.rule.Sort.{Sort as SortValue};
-ghost use Rattle.aw_store.specs.EquationView.{equation_of};
 ghost use Rattle.aw_grammar.specs.GrammarView.{child_of};
-ghost use Rattle.aw_apply.specs.Made.{lay_children as plain_children, child_refs as plain_refs, no_ref};
-ghost use Rattle.aw_apply.specs.MadeView.{as_children, called_of, laid_behind};
+ghost use Rattle.aw_apply.specs.Made.{child_refs as plain_refs};
+ghost use Rattle.aw_apply.specs.MadeView.{all_children, AreCalled};
 
 use crate::laid::{LaidAll, lay_terms};
 use crate::making::MadeChild;
@@ -108,7 +107,7 @@ pub fn lay_children(
     requires few { length children.now ≤ 8 }
     requires room { 0 < length children.now → length node.now.steps < 250 }
     requires parts { (sorts : List SortValue) → k + child_symbols (map (child_of sorts) children.now) ≤ 65535 }
-    ensures { IfOk result (λ c. (sorts : List SortValue) → called_of (map equation_of equations.new.items) c ≡ laid_behind (map equation_of equations.old.items) (as_children (plain_children node.now rule (get (no_ref node.now) refs.now) 1 k (map (child_of sorts) children.now)))) }
+    ensures { IfOk result (λ c. (sorts : List SortValue) → AreCalled equations.old.items equations.new.items c (all_children node.now rule refs.now k (map (child_of sorts) children.now))) }
 {
     let mut called = Called::new(alloc, k);
     for i in 0..children.len() {

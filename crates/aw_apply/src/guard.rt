@@ -1,12 +1,9 @@
 //! The guard of a rule: its patterns against the inherited references of a node.
-ghost use Rattle.std.specs.Prelude.{◌≡◌, ◌≤◌, ◌+◌, ◌<◌, List, All, map, length};
+ghost use Rattle.std.specs.Prelude.{◌≡◌, ◌≤◌, ◌+◌, ◌<◌, All, map, length};
 ghost use Rattle.aw_term.specs.Trees.{join};
-ghost use Rattle.aw_term.specs.Names.{Ref};
 ghost use Rattle.aw_term.specs.WellFormed.{all_leaves, all_nesting};
 ghost use Rattle.aw_term.specs.Views.{pattern_of};
-ghost use Rattle.aw_apply.specs.Guard.{guard_all as plain_guard};
-ghost use Rattle.aw_apply.specs.Named.{AreNamed, as_named};
-ghost use Rattle.aw_apply.specs.GuardView.{guard_of};
+ghost use Rattle.aw_apply.specs.GuardView.{IsTestable, IsGuardOf};
 
 use crate::binding::Binding;
 use crate::guarding::{Step, guard_at};
@@ -28,12 +25,8 @@ pub enum Guard {
 
 /// Patterns against slots, from the first attribute on.
 fn guard_all<F: Facts>(f: &F, patterns: &[Pattern], inherited: &[usize]) -> Guard
-    requires live { All (λ slot. slot < length (F.names f.now)) inherited.now }
-    requires same { length patterns.now ≡ length inherited.now }
-    requires few { length patterns.now ≤ 8 }
-    requires shallow { all_nesting (join (map pattern_of patterns.now)) ≤ 32 }
-    requires room { length (all_leaves (join (map pattern_of patterns.now))) ≤ 64 }
-    ensures { (rs : List Ref) → AreNamed (F.names f.now) inherited.now rs → guard_of (F.names f.now) result ≡ as_named (plain_guard (F.map f.now) 1 (map pattern_of patterns.now) rs) }
+    requires { IsTestable (F.names f.now) patterns.now inherited.now }
+    ensures { IsGuardOf (F.map f.now) (F.names f.now) patterns.now inherited.now result }
 {
     let mut bound = Binding::new();
     for i in 0..patterns.len() {
@@ -65,7 +58,7 @@ pub fn test_guard<F: Facts, L: Ledger>(
     requires few { length rule.now.patterns ≤ 8 }
     requires shallow { all_nesting (join (map pattern_of rule.now.patterns)) ≤ 32 }
     requires room { length (all_leaves (join (map pattern_of rule.now.patterns))) ≤ 64 }
-    ensures guard { (rs : List Ref) → AreNamed (F.names f.now) inherited.now rs → guard_of (F.names f.now) result ≡ as_named (plain_guard (F.map f.now) 1 (map pattern_of rule.now.patterns) rs) }
+    ensures guard { IsGuardOf (F.map f.now) (F.names f.now) rule.now.patterns inherited.now result }
     ensures step { steps.new ≡ steps.old + 1 }
 {
     steps.tick();
@@ -82,12 +75,8 @@ fn guard_in_ledger<F: Facts, L: Ledger>(
     requires name { blank.name ≡ L.name }
     requires parts { blank.parts ≡ L.parts }
     requires some { 0 < L.parts }
-    requires live { All (λ slot. slot < length (F.names f.now)) inherited.now }
-    requires same { length rule.now.patterns ≡ length inherited.now }
-    requires few { length rule.now.patterns ≤ 8 }
-    requires shallow { all_nesting (join (map pattern_of rule.now.patterns)) ≤ 32 }
-    requires room { length (all_leaves (join (map pattern_of rule.now.patterns))) ≤ 64 }
-    ensures { (rs : List Ref) → AreNamed (F.names f.now) inherited.now rs → guard_of (F.names f.now) result ≡ as_named (plain_guard (F.map f.now) 1 (map pattern_of rule.now.patterns) rs) }
+    requires testable { IsTestable (F.names f.now) rule.now.patterns inherited.now }
+    ensures { IsGuardOf (F.map f.now) (F.names f.now) rule.now.patterns inherited.now result }
 {
     let mut steps = Steps::<L>::new(blank);
     test_guard(f, rule, inherited, &mut steps)
@@ -100,7 +89,7 @@ pub fn guard_uncounted<F: Facts>(f: &F, rule: &Rule, inherited: &[usize]) -> Gua
     requires few { length rule.now.patterns ≤ 8 }
     requires shallow { all_nesting (join (map pattern_of rule.now.patterns)) ≤ 32 }
     requires room { length (all_leaves (join (map pattern_of rule.now.patterns))) ≤ 64 }
-    ensures { (rs : List Ref) → AreNamed (F.names f.now) inherited.now rs → guard_of (F.names f.now) result ≡ as_named (plain_guard (F.map f.now) 1 (map pattern_of rule.now.patterns) rs) }
+    ensures { IsGuardOf (F.map f.now) (F.names f.now) rule.now.patterns inherited.now result }
 {
     guard_in_ledger::<F, Brand>(f, rule, inherited, Blank::new(1))
 }

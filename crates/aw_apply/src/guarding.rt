@@ -1,15 +1,12 @@
 //! One pattern against the equations of a store: the first place in depth-first order that does not match decides.
-ghost use Rattle.std.specs.Prelude.{◌≡◌, ◌≤◌, ◌+◌, ◌<◌, ℕ, List, Some, map, length, slice_get};
+ghost use Rattle.std.specs.Prelude.{◌≡◌, ◌≤◌, ◌+◌, ◌<◌, ℕ, List, map, length};
 ghost use Rattle.aw_term.specs.Trees.{Con, Made, join};
-ghost use Rattle.aw_term.specs.Names.{Ref};
-ghost use Rattle.aw_term.specs.Matching.{Yes, and_then};
 ghost use Rattle.aw_term.specs.WellFormed.{leaves, all_leaves, nesting, all_nesting};
 ghost use Rattle.aw_term.specs.Views.{head_of, pattern_of};
-ghost use Rattle.aw_choice.specs.ChoiceView.{path_of};
 ghost use Rattle.aw_store.specs.NamedRefs.{body_at, parts_at};
 ghost use Rattle.aw_apply.specs.Guard.{guard as plain_guard, guard_parts as plain_parts};
-ghost use Rattle.aw_apply.specs.Named.{names_at, as_named, behind, is_head};
-ghost use Rattle.aw_apply.specs.GuardView.{step_of};
+ghost use Rattle.aw_apply.specs.Named.{is_head};
+ghost use Rattle.aw_apply.specs.GuardView.{GoesOn, GoesOnAt};
 
 use crate::binding::Binding;
 use aw_base::{Lit, Path, Pattern};
@@ -57,7 +54,7 @@ fn is_con<F: Facts>(f: &F, con: u16, parts: usize, slot: usize) -> bool
 /// A number or a text against a slot.
 fn guard_lit<F: Facts>(f: &F, lit: &Lit, slot: usize, at: &Path) -> Step
     requires { slot < length (F.names f.now) }
-    ensures { (bound : List ℕ) (r : Ref) → slice_get (F.names f.now) slot ≡ Some r → step_of (F.names f.now) bound result ≡ and_then (Yes (names_at (F.names f.now) bound)) (behind (path_of at.now) (as_named (plain_guard (F.map f.now) (pattern_of (Pattern.Lit lit.now)) r))) }
+    ensures { (bound : List ℕ) → GoesOnAt (F.names f.now) slot bound bound at.now result (plain_guard (F.map f.now) (pattern_of (Pattern.Lit lit.now))) }
 {
     match chase(f, slot) {
         Chase::Missing(end) => Step::Waits(end),
@@ -85,7 +82,7 @@ fn guard_parts<F: Facts>(
     requires few { length parts.now ≤ 8 }
     requires shallow { at.now.len + all_nesting (join (map pattern_of parts.now)) ≤ 31 }
     requires room { length bound.old + length (all_leaves (join (map pattern_of parts.now))) ≤ 64 }
-    ensures step { step_of (F.names f.now) bound.new result ≡ and_then (Yes (names_at (F.names f.now) bound.old)) (behind (path_of at.now) (as_named (plain_parts (F.map f.now) 1 (join (map pattern_of parts.now)) (parts_at (F.map f.now) (F.names f.now) slot)))) }
+    ensures step { GoesOn (F.names f.now) bound.old bound.new at.now result (plain_parts (F.map f.now) 1 (join (map pattern_of parts.now)) (parts_at (F.map f.now) (F.names f.now) slot)) }
     ensures room { length bound.new ≤ length bound.old + length (all_leaves (join (map pattern_of parts.now))) }
 {
     for i in 0..parts.len() {
@@ -112,7 +109,7 @@ fn guard_con<F: Facts>(
     requires live { slot < length (F.names f.now) }
     requires shallow { at.now.len + all_nesting (join (map pattern_of parts.now)) ≤ 31 }
     requires room { length bound.old + length (all_leaves (join (map pattern_of parts.now))) ≤ 64 }
-    ensures step { (r : Ref) → slice_get (F.names f.now) slot ≡ Some r → step_of (F.names f.now) bound.new result ≡ and_then (Yes (names_at (F.names f.now) bound.old)) (behind (path_of at.now) (as_named (plain_guard (F.map f.now) (Made (Con con) (join (map pattern_of parts.now))) r))) }
+    ensures step { GoesOnAt (F.names f.now) slot bound.old bound.new at.now result (plain_guard (F.map f.now) (Made (Con con) (join (map pattern_of parts.now)))) }
     ensures room { length bound.new ≤ length bound.old + length (all_leaves (join (map pattern_of parts.now))) }
 {
     match chase(f, slot) {
@@ -140,7 +137,7 @@ pub fn guard_at<F: Facts>(
     requires live { slot < length (F.names f.now) }
     requires shallow { at.now.len + nesting (pattern_of pattern.now) ≤ 32 }
     requires room { length bound.old + length (leaves (pattern_of pattern.now)) ≤ 64 }
-    ensures step { (r : Ref) → slice_get (F.names f.now) slot ≡ Some r → step_of (F.names f.now) bound.new result ≡ and_then (Yes (names_at (F.names f.now) bound.old)) (behind (path_of at.now) (as_named (plain_guard (F.map f.now) (pattern_of pattern.now) r))) }
+    ensures step { GoesOnAt (F.names f.now) slot bound.old bound.new at.now result (plain_guard (F.map f.now) (pattern_of pattern.now)) }
     ensures room { length bound.new ≤ length bound.old + length (leaves (pattern_of pattern.now)) }
 {
     match pattern {

@@ -8,7 +8,7 @@ ghost use Rattle.aw_term.specs.Views.{head_of, ground_of, term_of};
 ghost use Rattle.aw_store.specs.Equations.{Is};
 ghost use Rattle.aw_store.specs.EquationView.{body_of, equation_of};
 ghost use Rattle.aw_apply.specs.Made.{lay, lay_list, no_ref};
-ghost use Rattle.aw_apply.specs.MadeView.{one_of, all_of, laid_behind, with_body};
+ghost use Rattle.aw_apply.specs.MadeView.{IsLaid, AreLaid, lone, with_body};
 
 use aw_base::{Expr, Ground, Lit};
 use aw_list::Text;
@@ -113,7 +113,7 @@ fn lay_lone(
     body: Body,
 ) -> Result<LaidOne, AllocError>
     requires { k < 65535 }
-    ensures { IfOk result (λ l. one_of (map equation_of equations.new.items) l ≡ laid_behind (map equation_of equations.old.items) (record { roots = part node.now k; equations = record { left = part node.now k; body = body_of body } ∷ []; next = k + 1 })) }
+    ensures { IfOk result (λ l. IsLaid equations.old.items equations.new.items l (lone node.now k (body_of body))) }
 {
     let root = part_of(node, k)?;
     add_equation(equations, copy_ref(&root)?, body)?;
@@ -140,7 +140,7 @@ fn lay_ground(
     ground: &Ground,
 ) -> Result<LaidOne, AllocError>
     requires { k + symbols (ground_of ground.now) ≤ 65535 }
-    ensures { IfOk result (λ l. one_of (map equation_of equations.new.items) l ≡ laid_behind (map equation_of equations.old.items) (lay node.now (λ x. elim x [ ]) k (ground_of ground.now))) }
+    ensures { IfOk result (λ l. IsLaid equations.old.items equations.new.items l (lay node.now (λ x. elim x [ ]) k (ground_of ground.now))) }
 {
     match ground {
         Ground::Num(n) => lay_lone(equations, node, k, Body::Num(*n)),
@@ -169,7 +169,7 @@ pub fn lay_grounds(
     grounds: &[Ground],
 ) -> Result<LaidAll, AllocError>
     requires { k + symbols_of (map ground_of grounds.now) ≤ 65535 }
-    ensures { IfOk result (λ l. all_of (map equation_of equations.new.items) l ≡ laid_behind (map equation_of equations.old.items) (lay_list node.now (λ x. elim x [ ]) k (map ground_of grounds.now))) }
+    ensures { IfOk result (λ l. AreLaid equations.old.items equations.new.items l (lay_list node.now (λ x. elim x [ ]) k (map ground_of grounds.now))) }
 {
     let mut all = LaidAll::new(alloc, k);
     for ground in grounds {
@@ -200,7 +200,7 @@ fn lay_term(
     term: &Expr,
 ) -> Result<LaidOne, AllocError>
     requires { k + symbols (term_of term.now) ≤ 65535 }
-    ensures { IfOk result (λ l. one_of (map equation_of equations.new.items) l ≡ laid_behind (map equation_of equations.old.items) (lay node.now (get (no_ref node.now) refs.now) k (term_of term.now))) }
+    ensures { IfOk result (λ l. IsLaid equations.old.items equations.new.items l (lay node.now (get (no_ref node.now) refs.now) k (term_of term.now))) }
 {
     match term {
         Expr::Var(x) => Ok(LaidOne {
@@ -233,7 +233,7 @@ pub fn lay_terms(
     terms: &[Expr],
 ) -> Result<LaidAll, AllocError>
     requires { k + symbols_of (map term_of terms.now) ≤ 65535 }
-    ensures { IfOk result (λ l. all_of (map equation_of equations.new.items) l ≡ laid_behind (map equation_of equations.old.items) (lay_list node.now (get (no_ref node.now) refs.now) k (map term_of terms.now))) }
+    ensures { IfOk result (λ l. AreLaid equations.old.items equations.new.items l (lay_list node.now (get (no_ref node.now) refs.now) k (map term_of terms.now))) }
 {
     let mut all = LaidAll::new(alloc, k);
     for term in terms {

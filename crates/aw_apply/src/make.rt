@@ -1,15 +1,15 @@
 //! What a taken rule makes: by three groups of equations, with parts numbered from 1 over all of them.
 ghost use Rattle.std.specs.Prelude.{◌≡◌, ◌<◌, ◌≤◌, ◌+◌, ◌++◌, Some, IfOk, OnOk, IsSome, length, map, slice_get};
 ghost use Rattle.aw_term.specs.Names.{result as result_ref};
-ghost use Rattle.aw_term.specs.Rules.{Rule as PlainRule, get};
+ghost use Rattle.aw_term.specs.Rules.{get};
 ghost use Rattle.aw_term.specs.WellFormed.{symbols, symbols_of, child_symbols};
 ghost use Rattle.aw_term.specs.Views.{ground_of, term_of};
 ghost use Rattle.aw_grammar.specs.declared.rule.Rule.{Rule as RuleValue};
 ghost use Rattle.aw_grammar.specs.GrammarView.{rule_of};
 ghost use Rattle.aw_grammar.specs.GrammarOf.{grammar_of};
 ghost use Rattle.aw_store.specs.EquationView.{equation_of};
-ghost use Rattle.aw_apply.specs.Made.{lay_result as plain_result, lay_results as plain_results, child_refs, no_ref, made as plain_made};
-ghost use Rattle.aw_apply.specs.MadeView.{as_child};
+ghost use Rattle.aw_apply.specs.Made.{lay_results as plain_results, child_refs, no_ref, made as plain_made};
+ghost use Rattle.aw_apply.specs.MadeView.{as_child, result_laid, OfRule};
 
 use crate::children::{Called, lay_children, push_children_results};
 use crate::laid::{
@@ -43,8 +43,8 @@ fn lay_result(
     term: &Expr,
 ) -> Result<u16, AllocError>
     requires { k + symbols (term_of term.now) ≤ 65535 }
-    ensures equations { OnOk result (map equation_of equations.new.items ≡ map equation_of equations.old.items ++ (plain_result node.now (get (no_ref node.now) refs.now) k j (term_of term.now)).equations) }
-    ensures next { IfOk result (λ next. next ≡ (plain_result node.now (get (no_ref node.now) refs.now) k j (term_of term.now)).next) }
+    ensures equations { OnOk result (map equation_of equations.new.items ≡ map equation_of equations.old.items ++ (result_laid node.now refs.now k j (term_of term.now)).equations) }
+    ensures next { IfOk result (λ next. next ≡ (result_laid node.now refs.now k j (term_of term.now)).next) }
 {
     let left = result_of(node, j)?;
     match term {
@@ -174,8 +174,8 @@ pub fn made(
     requires declared { IsSome (slice_get g.now.rules rule) }
     requires room { (r : RuleValue) → slice_get g.now.rules rule ≡ Some r → 0 < length r.children → length node.now.steps < 250 }
     requires entered { symbols_of (map ground_of args.now) ≤ 256 }
-    ensures equations { IfOk result (λ m. (r : PlainRule) → slice_get (grammar_of g.now).rules rule ≡ Some r → map equation_of m.equations ≡ (plain_made node.now rule r (map ground_of args.now) bound.now).equations) }
-    ensures children { IfOk result (λ m. (r : PlainRule) → slice_get (grammar_of g.now).rules rule ≡ Some r → m.children ≡ map as_child (plain_made node.now rule r (map ground_of args.now) bound.now).calls) }
+    ensures equations { IfOk result (λ m. OfRule (grammar_of g.now) rule (λ r. map equation_of m.equations ≡ (plain_made node.now rule r (map ground_of args.now) bound.now).equations)) }
+    ensures children { IfOk result (λ m. OfRule (grammar_of g.now) rule (λ r. m.children ≡ map as_child (plain_made node.now rule r (map ground_of args.now) bound.now).calls)) }
 {
     match g.rule(rule) {
         Some(declared) => made_by(alloc, g, node, rule, declared, args, bound),

@@ -20,6 +20,7 @@ ref_ok g r = slot_ok g (sort_of g r.node) r.slot
 abbrev pub ground_ok : Grammar → Ground → Bool
 ground_ok g t = heads_fit g.arities t && nat_le (nesting t) 32
 
+-- each of these is such an argument
 abbrev pub grounds_ok : Grammar → List Ground → Bool
 grounds_ok g [] = true
 grounds_ok g (t ∷ ts) = ground_ok g t && grounds_ok g ts

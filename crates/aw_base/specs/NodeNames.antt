@@ -30,29 +30,36 @@ abbrev pub first_misfit : Grammar → ℕ → ℕ → List Step → Option ℕ
 first_misfit g at s [] = None
 first_misfit g at s (step ∷ steps) = misfit_or at (λ t. first_misfit g (at + 1) t steps) (sort_of_step g s step)
 
+-- the sort is declared, and it is a start sort
 abbrev pub is_start : Option Sort → Bool
 is_start None = false
 is_start (Some s) = s.start
 
+-- the node, where this is the first step of it that does not fit, or each fits
 abbrev pub fitted : Node → Option ℕ → NodeRead
 fitted n None = Named n
 fitted n (Some at) = NoFit at
 
+-- what is read with this start sort, this case and these steps, where their rules are declared
 abbrev pub with_steps : Grammar → ℕ → ℕ → Option (List Step) → NodeRead
 with_steps g s case None = NotDeclared
 with_steps g s case (Some steps) = fitted (record { start = s; case = case; steps = steps }) (first_misfit g 0 s steps)
 
+-- what is read with this start sort, where its name is declared, this case and the steps as they are spelled
 abbrev pub with_start : Words → Grammar → ℕ → List (List ℕ × ℕ) → Option ℕ → NodeRead
 with_start w g case steps None = NotDeclared
 with_start w g case steps (Some s) = if is_start (slice_get g.sorts s) then with_steps g s case (steps_named w steps) else NotDeclared
 
+-- what is read where these are the parts of the name, or the text is no node name
 abbrev pub with_parts : Words → Grammar → Option (List ℕ × ℕ × List (List ℕ × ℕ)) → NodeRead
 with_parts w g None = NoNodeName
 with_parts w g (Some parts) = if nat_lt 250 (length parts.2) then TooLong else with_start w g parts.1 parts.2 (number_named w.sorts parts.0)
 
+-- which node a text names, or the first reason why it names none
 abbrev pub node_read : Words → Grammar → List ℕ → NodeRead
 node_read w g text = with_parts w g (parts_of_name text)
 
+-- the node that was read, where one was
 abbrev pub node_in : NodeRead → Option Node
 node_in (Named n) = Some n
 node_in NoNodeName = None

@@ -1,7 +1,7 @@
 -- Who waits for whom in a world, as the sites of the nodes know it.
 use Rattle.std.specs.Prelude.{ℕ, List, [], ◌∷◌, ◌++◌, map, Option, Some, None, if◌then◌else◌}
 use Rattle.aw_term.specs.Names.{Node}
-use Rattle.aw_term.specs.Rules.{Grammar}
+use Rattle.aw_term.specs.Rules.{Grammar, upto}
 use Rattle.aw_term.specs.Choices.{Choice}
 use Rattle.aw_term.specs.Artifacts.{Item}
 use Rattle.aw_term.specs.Held.{Held}
@@ -40,3 +40,7 @@ waiter_at g k h = record { node = h.node; on = waited_in (open_items g h.state k
 -- each node that the site of a role holds
 abbrev pub waiters_at : Grammar → World → ℕ → List Waiter
 waiters_at g w role = map (waiter_at g (site_at w role).equations) (site_at w role).held
+
+-- the nodes that the sites hold, role by role
+abbrev pub waiters_in : Grammar → World → List (List Waiter)
+waiters_in g w = map (waiters_at g w) (upto 0 g.roles)

@@ -6,6 +6,7 @@ use Rattle.aw_react.specs.Worlds.{Move, Chooses, world_after}
 use Rattle.aw_tried.specs.Grammars.{rings}
 use Rattle.aw_blocked.specs.Blocks.{waiting}
 
+-- the node with which case 1 begins
 abbrev top : Node
 top = root 0 1
 

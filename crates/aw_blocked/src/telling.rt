@@ -3,11 +3,10 @@ ghost use Rattle.std.specs.Prelude.{◌≡◌, ◌++◌, ◌<◌, Some, IfOk, On
 ghost use Rattle.aw_choice.specs.ChoiceView.{choice_of};
 ghost use Rattle.aw_grammar.specs.GrammarOf.{grammar_of};
 ghost use Rattle.aw_react.specs.Worlds as V;
-ghost use Rattle.aw_term.specs.Rules.{upto};
 ghost use Rattle.aw_wait.specs.Waiting.{IsFreeOfWaiting};
 ghost use Rattle.aw_world.specs.Opened.{AreAllInOrder};
 ghost use Rattle.aw_world.specs.Shown.{Shows};
-ghost use Rattle.aw_blocked.specs.Blocks.{waiting, pair_on, pairs_with, waiters_at};
+ghost use Rattle.aw_blocked.specs.Blocks.{waiting, pair_on, pairs_with, waiters_at, waiters_in};
 ghost use Rattle.aw_blocked.specs.Laws.{StandThere, HaveNoCircle};
 
 use crate::developed::is_developed;
@@ -33,7 +32,7 @@ fn waiters_of<W: Workspace>(world: &World<W>, role: u16) -> Result<Items<Waiter>
 
 /// The nodes that the workspaces hold, role by role.
 fn all_waiters<W: Workspace>(world: &World<W>) -> Result<Items<Items<Waiter>>, AllocError>
-    ensures { IfOk result (λ all. (v : V.World) → Shows ⟦<W as Workspace>⟧ world.now v → all ≡ list_map (waiters_at (grammar_of world.now.accepted.now.grammar) v) (upto 0 (grammar_of world.now.accepted.now.grammar).roles)) }
+    ensures { IfOk result (λ all. (v : V.World) → Shows ⟦<W as Workspace>⟧ world.now v → all ≡ waiters_in (grammar_of world.now.accepted.now.grammar) v) }
 {
     let mut all = Items::new(world.allocator());
     let count = world.accepted().grammar().roles.len();
@@ -80,7 +79,7 @@ fn pairs_at<W: Workspace>(
     spots: &[Spot],
 ) -> Result<Pairs, AllocError>
     requires spots { AreAllInOrder ⟦<W as Workspace>⟧ world.now.sites.items spots.now }
-    requires all { (v : V.World) → Shows ⟦<W as Workspace>⟧ world.now v → all.now ≡ list_map (waiters_at (grammar_of world.now.accepted.now.grammar) v) (upto 0 (grammar_of world.now.accepted.now.grammar).roles) }
+    requires all { (v : V.World) → Shows ⟦<W as Workspace>⟧ world.now v → all.now ≡ waiters_in (grammar_of world.now.accepted.now.grammar) v }
     ensures { IfOk result (λ pairs. (v : V.World) → Shows ⟦<W as Workspace>⟧ world.now v → pairs ≡ waiting (grammar_of world.now.accepted.now.grammar) v) }
 {
     let mut pairs = Items::new(world.allocator());

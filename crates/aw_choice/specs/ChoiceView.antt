@@ -14,6 +14,7 @@ use Rattle.aw_choice.specs.declared.choice.Standing.TheVariants as standing
 use Rattle.aw_choice.specs.declared.choice.Answer.{Answer}
 use Rattle.aw_choice.specs.declared.choice.Answer.TheVariants.{Known, NotHere, Developed, NotItsRule, Arguments, Waits, Differs, Circle, TooDeep, Taken}
 
+-- a choice of the program, with its arguments as trees
 abbrev pub choice_of : Choice → Q.Choice
 choice_of (Start sort case) = Q.Start sort case
 choice_of (Develop node rule args) = Q.Develop node rule (map ground_of args)
@@ -26,6 +27,7 @@ path_of p = take p.len p.steps
 abbrev pub place_of : Place → List ℕ
 place_of p = p.attribute ∷ path_of p.path
 
+-- an answer of the program, with the place of a mismatch as its numbers alone
 abbrev pub answer_of : Answer → Q.Answer Ref
 answer_of Known = Q.Known
 answer_of NotHere = Q.NotHere
@@ -46,5 +48,6 @@ refusal_of (standing.Differs place) = Some (Q.Mismatch (place_of place))
 refusal_of (standing.Circle r) = Some (Q.CircleAt r)
 refusal_of standing.TooDeep = Some Q.TooDeep
 
+-- an item of a worklist of the program, with the answer that a choice of it would have where it is not ready
 abbrev pub item_of : Item → A.Item
 item_of i = record { node = i.node; rule = i.rule; refusal = refusal_of i.state }

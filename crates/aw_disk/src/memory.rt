@@ -2,11 +2,11 @@
 ghost use Rattle.std.specs.Prelude.{◌≡◌, ◌≢◌, ◌≤◌, ◌<◌, ◌+◌, ◌^◌, ◌++◌, ◌∷◌, ◌↔◌, ◌⊎◌, [], ℕ, List, IsTrue, true, false, length, take, drop, IfOk, Contains};
 ghost use Rattle.aw_out.specs.Causes.{Rose};
 ghost use Rattle.aw_out.specs.Edge.{FitsBuffer};
-ghost use Rattle.aw_disk.specs.Disk.{written, Elapses, Torn, Cut, Follows, Only, ReadsAt};
+ghost use Rattle.aw_disk.specs.Disk.{written, Torn, Cut, Follows, Only, ReadsAt};
 ghost use Rattle.aw_disk.specs.Record.{now, MayLeave, LeftSince, bytes_of, noted};
 ghost use Rattle.aw_disk.specs.Memory.{IsRefused, RefusesCall, Refuses, Idles};
 ghost use Rattle.aw_disk.specs.Record.Op.{Looked};
-ghost use Rattle.aw_disk.specs.RecordLaws.{reads, counts, no_other};
+ghost use Rattle.aw_disk.specs.RecordLaws.{reads, counts, no_other, TimePasses};
 
 use crate::edge::{Did, Disk, Size};
 use crate::record::Record;
@@ -86,7 +86,7 @@ fn refuse(past: &mut Record, fails: &DiskCalls, fits: bool, faults: &mut u64) ->
     ensures never_falls { faults.old ≤ faults.new }
     ensures seen { now past.new.start past.new.ops ≡ now past.old.start past.old.ops }
     ensures crash { (c : List ℕ) → MayLeave past.new.start past.new.ops c → MayLeave past.old.start past.old.ops c }
-    ensures time { Elapses (length past.old.ops) (length past.new.ops) (LeftSince past.old.start past.old.ops) (LeftSince past.new.start past.new.ops) (MayLeave past.new.start past.new.ops) }
+    ensures time { TimePasses past.old past.new }
 {
     if !past.has_call() {
         *faults = faults.saturating_add(1);
@@ -137,7 +137,7 @@ impl Disk for MemDisk {
         ensures tells { true ≡ true }
         ensures seen { now self.new.past.start self.new.past.ops ≡ now self.old.past.start self.old.past.ops }
         ensures crash { (c : List ℕ) → MayLeave self.new.past.start self.new.past.ops c → MayLeave self.old.past.start self.old.past.ops c }
-        ensures time { Elapses (length self.old.past.ops) (length self.new.past.ops) (LeftSince self.old.past.start self.old.past.ops) (LeftSince self.new.past.start self.new.past.ops) (MayLeave self.new.past.start self.new.past.ops) }
+        ensures time { TimePasses self.old.past self.new.past }
         ensures never_falls { self.old.faults ≤ self.new.faults }
         ensures cause { result ≡ Size.Failed → Rose self.old.faults self.new.faults }
         ensures kept { result ≢ Size.Failed → self.new.faults ≡ self.old.faults }
@@ -158,7 +158,7 @@ impl Disk for MemDisk {
         ensures tells { true ≡ true }
         ensures seen { now self.new.past.start self.new.past.ops ≡ now self.old.past.start self.old.past.ops }
         ensures crash { (c : List ℕ) → MayLeave self.new.past.start self.new.past.ops c → MayLeave self.old.past.start self.old.past.ops c }
-        ensures time { Elapses (length self.old.past.ops) (length self.new.past.ops) (LeftSince self.old.past.start self.old.past.ops) (LeftSince self.new.past.start self.new.past.ops) (MayLeave self.new.past.start self.new.past.ops) }
+        ensures time { TimePasses self.old.past self.new.past }
         ensures never_falls { self.old.faults ≤ self.new.faults }
         ensures cause { result ≡ Got.Failed → Rose self.old.faults self.new.faults }
         ensures kept { result ≢ Got.Failed → self.new.faults ≡ self.old.faults }
@@ -183,7 +183,7 @@ impl Disk for MemDisk {
         ensures partly { IsTrue true → Torn at (length b.now) (now self.old.past.start self.old.past.ops) (now self.new.past.start self.new.past.ops) }
         ensures tells { true ≡ true }
         ensures crash { Follows (Torn at (length b.now)) (MayLeave self.old.past.start self.old.past.ops) (MayLeave self.new.past.start self.new.past.ops) }
-        ensures time { Elapses (length self.old.past.ops) (length self.new.past.ops) (LeftSince self.old.past.start self.old.past.ops) (LeftSince self.new.past.start self.new.past.ops) (MayLeave self.new.past.start self.new.past.ops) }
+        ensures time { TimePasses self.old.past self.new.past }
         ensures never_falls { self.old.faults ≤ self.new.faults }
         ensures cause { result ≡ Did.Failed → Rose self.old.faults self.new.faults }
         ensures kept { result ≢ Did.Failed → self.new.faults ≡ self.old.faults }
@@ -203,7 +203,7 @@ impl Disk for MemDisk {
         ensures partly { IsTrue true → Cut len (now self.old.past.start self.old.past.ops) (now self.new.past.start self.new.past.ops) }
         ensures tells { true ≡ true }
         ensures crash { Follows (Cut len) (MayLeave self.old.past.start self.old.past.ops) (MayLeave self.new.past.start self.new.past.ops) }
-        ensures time { Elapses (length self.old.past.ops) (length self.new.past.ops) (LeftSince self.old.past.start self.old.past.ops) (LeftSince self.new.past.start self.new.past.ops) (MayLeave self.new.past.start self.new.past.ops) }
+        ensures time { TimePasses self.old.past self.new.past }
         ensures never_falls { self.old.faults ≤ self.new.faults }
         ensures cause { result ≡ Did.Failed → Rose self.old.faults self.new.faults }
         ensures kept { result ≢ Did.Failed → self.new.faults ≡ self.old.faults }
@@ -221,7 +221,7 @@ impl Disk for MemDisk {
         ensures tells { true ≡ true }
         ensures seen { now self.new.past.start self.new.past.ops ≡ now self.old.past.start self.old.past.ops }
         ensures crash { (c : List ℕ) → MayLeave self.new.past.start self.new.past.ops c → MayLeave self.old.past.start self.old.past.ops c }
-        ensures time { Elapses (length self.old.past.ops) (length self.new.past.ops) (LeftSince self.old.past.start self.old.past.ops) (LeftSince self.new.past.start self.new.past.ops) (MayLeave self.new.past.start self.new.past.ops) }
+        ensures time { TimePasses self.old.past self.new.past }
         ensures never_falls { self.old.faults ≤ self.new.faults }
         ensures cause { result ≡ Did.Failed → Rose self.old.faults self.new.faults }
         ensures kept { result ≢ Did.Failed → self.new.faults ≡ self.old.faults }

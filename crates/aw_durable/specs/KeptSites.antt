@@ -6,6 +6,7 @@ use Rattle.aw_journal.specs.Events.{Event}
 use Rattle.aw_node.specs.TypedNodes.{Rules, handle, reply}
 use Rattle.aw_durable.specs.KeptEvents.{kept_of, site_by, AreKept}
 
+-- a site, and the events that it kept so far
 pub record KeptSite : Type 0 where
   pub site : Site
   pub events : List Event

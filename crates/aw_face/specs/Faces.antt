@@ -27,6 +27,7 @@ abbrev pub here_or_later : ℕ → Option FaceKind → Option (ℕ × FaceKind) 
 here_or_later k None later = later
 here_or_later k (Some kind) later = Some (k, kind)
 
+-- the first child at fault of these, which stand in a rule of this role and are counted from k
 abbrev pub children_fault : List Sort → List ℕ → List Using → (role k : ℕ) → List Child → Option (ℕ × FaceKind)
 children_fault sorts offers uses role k [] = None
 children_fault sorts offers uses role k (c ∷ cs) =
@@ -36,10 +37,12 @@ children_fault sorts offers uses role k (c ∷ cs) =
 abbrev pub rule_fault : List Sort → List ℕ → List Using → Rule → Option (ℕ × FaceKind)
 rule_fault sorts offers uses r = children_fault sorts offers uses (role_of sorts r.sort) 1 r.children
 
+-- the fault in rule i, or else what is found in a later rule
 abbrev pub at_rule : ℕ → Option (ℕ × FaceKind) → Option (ℕ × ℕ × FaceKind) → Option (ℕ × ℕ × FaceKind)
 at_rule i None later = later
 at_rule i (Some fault) later = Some (i, fault.0, fault.1)
 
+-- the first of these rules, counted from i, in which a child is at fault, and the first such child there
 abbrev pub rules_fault : List Sort → List ℕ → List Using → ℕ → List Rule → Option (ℕ × ℕ × FaceKind)
 rules_fault sorts offers uses i [] = None
 rules_fault sorts offers uses i (r ∷ rs) = at_rule i (rule_fault sorts offers uses r) (rules_fault sorts offers uses (suc i) rs)

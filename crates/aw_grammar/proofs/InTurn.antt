@@ -2,6 +2,7 @@
 use Rattle.std.proofs.Common.{◌≡◌, ℕ, suc, ◌+◌, true, List, [], ◌∷◌, ◌++◌, Option, Some, None, Result, Ok, Err, refl, sym, ap, ◌∙◌, subst, arith, map}
 use Rattle.std.specs.Result.{IsErrAnd, IfOk}
 use Rattle.aw_term.specs.WellFormed.{IsWellFormed}
+use Rattle.aw_term.proofs.Eaches.{each_left, each_right}
 use Rattle.aw_grammar.specs.declared.fault.DeclKind.{DeclKind}
 use Rattle.aw_grammar.specs.declared.fault.DeclPlace.{DeclPlace}
 use Rattle.aw_grammar.specs.declared.fault.GrammarFault.{GrammarFault}
@@ -31,6 +32,12 @@ pub spelled_goes : {A : Type 0} (at : ℕ → DeclPlace) (wrap : A → Declarati
 spelled_goes at wrap i x rest left next each =
     let now = subst (λ xs. AllSpelled (placed at wrap i xs)) next each in
     (now.0, subst (λ n. AllSpelled (placed at wrap n rest)) (sym (suc_place i)) now.1)
+
+pub front_spelled : (xs ys : List (DeclPlace × Declaration)) → AllSpelled (xs ++ ys) → AllSpelled xs
+front_spelled xs ys each = each_left (λ x. is_spelled x.1 ≡ true) xs ys each
+
+pub rest_spelled : (xs ys : List (DeclPlace × Declaration)) → AllSpelled (xs ++ ys) → AllSpelled ys
+rest_spelled xs ys each = each_right (λ x. is_spelled x.1 ≡ true) xs ys each
 
 none_of_map : {A B : Type 0} (f : A → B) (xs : List A) → map f xs ≡ [] → xs ≡ []
 none_of_map f [] h = refl

@@ -50,6 +50,7 @@ is_spelled (Sort s) = is_name s.name
 is_spelled (Start name) = true
 is_spelled (Rule r) = is_name r.name && (all_have_contents (terms_of r) && are_names (r.params ++ results_of r.children))
 
+-- in each of these declarations the names are names and the texts are contents
 abbrev pub AllSpelled : {P : Type 0} → List (P × Declaration) → Type 0
 AllSpelled items = Each (λ x. is_spelled x.1 ≡ true) items
 
@@ -69,6 +70,7 @@ declare d (Sort s) = with_sort d s
 declare d (Start name) = with_start d name
 declare d (Rule r) = with_rule d r
 
+-- the fault at this place, or else what is found later
 abbrev pub here_or : {P : Type 0} → P → Option DeclKind → Option (P × DeclKind) → Option (P × DeclKind)
 here_or p None later = later
 here_or p (Some kind) later = Some (p, kind)
@@ -88,18 +90,23 @@ abbrev pub placed : {A : Type 0} → (ℕ → DeclPlace) → (A → Declaration)
 placed at wrap i [] = []
 placed at wrap i (x ∷ xs) = (at i, wrap x) ∷ placed at wrap (suc i) xs
 
+-- the roles at their places, counted from i
 abbrev pub roles_placed : ℕ → List (List ℕ) → List (DeclPlace × Declaration)
 roles_placed i names = placed (λ n. place.Role n) (λ name. Role name) i names
 
+-- the constructors at their places, counted from i
 abbrev pub cons_placed : ℕ → List RawCon → List (DeclPlace × Declaration)
 cons_placed i cons = placed (λ n. place.Con n) (λ c. Constructor c) i cons
 
+-- the sorts at their places, counted from i
 abbrev pub sorts_placed : ℕ → List RawSort → List (DeclPlace × Declaration)
 sorts_placed i sorts = placed (λ n. place.Sort n) (λ s. Sort s) i sorts
 
+-- the starts at their places, counted from i
 abbrev pub starts_placed : ℕ → List (List ℕ) → List (DeclPlace × Declaration)
 starts_placed i names = placed (λ n. place.Start n) (λ name. Start name) i names
 
+-- the rules at their places, counted from i
 abbrev pub rules_placed : ℕ → List RawRule → List (DeclPlace × Declaration)
 rules_placed i rules = placed (λ n. place.Rule n) (λ (r : RawRule). Rule (rule_of_raw r)) i rules
 
@@ -118,5 +125,6 @@ BuiltOn d items (Ok g) = (first_fault d items ≡ None) × (declarations_of g �
 BuiltOn d items (Err (build.Bad place kind)) = first_fault d items ≡ Some (place, kind)
 BuiltOn d items (Err build.NoMemory) = Unit {0}
 
+-- told is the first fault of a specification, and where there is none its grammar declares all that the specification does, and nothing else
 abbrev pub Built : Parts → Result Grammar GrammarFault → Type 0
 Built p result = BuiltOn no_declarations (all_placed p) result

@@ -8,9 +8,11 @@ use Rattle.aw_grammar.specs.declared.rule.Sort.{Sort}
 use Rattle.aw_grammar.specs.declared.rule.Rule.{Rule}
 use Rattle.aw_grammar.specs.declared.grammar.Grammar.{Grammar}
 
+-- a grammar of the program without its names
 abbrev pub grammar_of : Grammar → P.Grammar
 grammar_of g = plain_grammar g.roles g.cons g.sorts g.rules
 
+-- the names that a grammar of the program declares
 abbrev pub words_of : Grammar → Words
 words_of g = plain_words g.roles g.cons g.sorts g.rules
 

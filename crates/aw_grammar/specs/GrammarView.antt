@@ -9,9 +9,11 @@ use Rattle.aw_grammar.specs.declared.rule.Sort.{Sort}
 use Rattle.aw_grammar.specs.declared.rule.Child.{Child}
 use Rattle.aw_grammar.specs.declared.rule.Rule.{Rule}
 
+-- a sort without its name
 abbrev pub sort_of : Sort → P.Sort
 sort_of s = record { role = s.role; takes = s.takes; gives = s.gives; start = s.start }
 
+-- sorts without their names
 abbrev pub sorts_of : List Sort → List P.Sort
 sorts_of sorts = map sort_of sorts
 
@@ -19,6 +21,7 @@ sorts_of sorts = map sort_of sorts
 abbrev pub child_of : List Sort → Child → P.Child
 child_of sorts c = record { sort = c.sort; args = map term_of c.args; outs = Q.gives_of (slice_get (sorts_of sorts) c.sort) }
 
+-- a rule without its names, where these are the sorts
 abbrev pub rule_of : List Sort → Rule → P.Rule
 rule_of sorts r = record {
   sort = r.sort;

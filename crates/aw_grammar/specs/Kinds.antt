@@ -1,5 +1,5 @@
 -- What is wrong with a declaration, in the order in which it is told.
-use Rattle.std.specs.Prelude.{ℕ, suc, Bool, true, false, ◌&&◌, ◌||◌, not, List, [], ◌∷◌, ◌++◌, map, length, Option, Some, None, slice_get, nat_eq, nat_lt, nat_le, if◌then◌else◌, option_and_then}
+use Rattle.std.specs.Prelude.{ℕ, suc, Bool, true, false, ◌&&◌, ◌||◌, not, List, [], ◌∷◌, ◌++◌, map, length, Option, Some, None, slice_get, nat_eq, nat_lt, nat_le, option_and_then}
 use Rattle.aw_index.specs.Places.{place_of, stands, any_stands, all_stand, has_double, first_told}
 use Rattle.aw_term.specs.WellFormed.{leaves_of}
 use Rattle.aw_grammar.specs.declared.rule.Con.{Con}
@@ -17,6 +17,7 @@ use Rattle.aw_grammar.specs.Declarations.{Declarations, con_names, sort_names, r
 abbrev pub role_tests : Declarations → List ℕ → List (Bool × DeclKind)
 role_tests d name = (nat_le 64 (length d.roles), Limit) ∷ (stands name d.roles, Double) ∷ []
 
+-- the first fault of a role, where it has one
 abbrev pub role_kind : Declarations → List ℕ → Option DeclKind
 role_kind d name = first_told (role_tests d name)
 
@@ -24,6 +25,7 @@ role_kind d name = first_told (role_tests d name)
 abbrev pub con_tests : Declarations → RawCon → List (Bool × DeclKind)
 con_tests d c = (nat_le 1024 (length d.cons) || nat_lt 8 c.arity, Limit) ∷ (stands c.name (con_names d), Double) ∷ []
 
+-- the first fault of a constructor, where it has one
 abbrev pub con_kind : Declarations → RawCon → Option DeclKind
 con_kind d c = first_told (con_tests d c)
 
@@ -35,6 +37,7 @@ sort_tests d s =
     ∷ (not (stands s.role d.roles), Unknown)
     ∷ []
 
+-- the first fault of a sort, where it has one
 abbrev pub sort_kind : Declarations → RawSort → Option DeclKind
 sort_kind d s = first_told (sort_tests d s)
 
@@ -42,6 +45,7 @@ sort_kind d s = first_told (sort_tests d s)
 abbrev pub sort_called : List ℕ → List Sort → Option Sort
 sort_called name sorts = option_and_then (λ i. slice_get sorts i) (place_of name (map (λ (s : Sort). s.name) sorts))
 
+-- the first fault of a start, where this is the sort of its name
 abbrev pub start_kind_of : Option Sort → Option DeclKind
 start_kind_of None = Some Unknown
 start_kind_of (Some s) = first_told ((s.start, Double) ∷ (nat_lt 0 s.takes, Inherits) ∷ [])
@@ -56,6 +60,7 @@ is_past_counts d r =
     nat_le 1024 (length d.rules)
     || (nat_lt 8 (length r.patterns) || (nat_lt 8 (length r.results) || (nat_lt 8 (length r.params) || nat_lt 8 (length r.children))))
 
+-- a term of the rule is deeper than 32, or more than 256 symbols stand in its terms
 abbrev pub is_past_terms : WrittenRule → Bool
 is_past_terms r = nat_lt 32 (depth_of_all (terms_of r)) || nat_lt 256 (symbols_in_all (terms_of r))
 
@@ -70,6 +75,7 @@ abbrev mutual
   parts_are_known cons Empty = true
   parts_are_known cons (Then t ts) = is_known cons t && parts_are_known cons ts
 
+-- each constructor that is written with parentheses in one of these terms is declared
 abbrev pub all_known : List (List ℕ) → List Written → Bool
 all_known cons [] = true
 all_known cons (t ∷ ts) = is_known cons t && all_known cons ts
@@ -88,9 +94,11 @@ abbrev pub has_arity : ℕ → Option Con → Bool
 has_arity n None = true
 has_arity n (Some c) = nat_eq c.arity n
 
+-- the constructor of this name, where one is declared
 abbrev pub con_called : List ℕ → List Con → Option Con
 con_called name cons = option_and_then (λ i. slice_get cons i) (place_of name (map (λ (c : Con). c.name) cons))
 
+-- how many parts are written
 abbrev pub count_parts : Writtens → ℕ
 count_parts Empty = 0
 count_parts (Then t ts) = suc (count_parts ts)
@@ -106,6 +114,7 @@ abbrev mutual
   parts_have_arities cons Empty = true
   parts_have_arities cons (Then t ts) = has_arities cons t && parts_have_arities cons ts
 
+-- each constructor in one of these terms has as many parts as it is declared with
 abbrev pub all_have_arities : List Con → List Written → Bool
 all_have_arities cons [] = true
 all_have_arities cons (t ∷ ts) = has_arities cons t && all_have_arities cons ts
@@ -149,5 +158,6 @@ variable_tests d r =
 abbrev pub rule_tests : Declarations → WrittenRule → List (Bool × DeclKind)
 rule_tests d r = (is_past_counts d r || is_past_terms r, Limit) ∷ (name_tests d r ++ (term_tests d r ++ variable_tests d r))
 
+-- the first fault of a rule, where it has one
 abbrev pub rule_kind : Declarations → WrittenRule → Option DeclKind
 rule_kind d r = first_told (rule_tests d r)

@@ -14,6 +14,7 @@ word_tree x None = Leaf x
 word_tree x (Some c) = Made (Con c) Nil
 
 -- a term with its constructors by number; its leaves are the names of variables
+-- (the number of a name that is no constructor is past the last, which a rule without fault does not write)
 abbrev mutual
   pub resolved : List (List ℕ) → Written → Tree (List ℕ)
   resolved cons (Word x) = word_tree x (place_of x cons)
@@ -24,6 +25,7 @@ abbrev mutual
   resolved_parts cons Empty = Nil
   resolved_parts cons (Then t ts) = More (resolved cons t) (resolved_parts cons ts)
 
+-- these terms with their constructors by number
 abbrev pub all_resolved : List (List ℕ) → List Written → List (Tree (List ℕ))
 all_resolved cons ts = map (resolved cons) ts
 
@@ -32,13 +34,16 @@ abbrev pub entering : List (List ℕ) → WrittenRule → List (List ℕ)
 entering cons r = leaves_of (all_resolved cons r.patterns) ++ (r.params ++ results_of r.children)
 
 -- a term with its variables by number
+-- (each enters, where the rule has no fault; the number of one that does not is past the last)
 abbrev pub numbered : List (List ℕ) → List (List ℕ) → Written → Term
 numbered cons variables t = bind (λ x. Leaf (number_of x variables)) (resolved cons t)
 
+-- a subtask with what it names by number, where these are the names of constructors, of sorts, and of the variables of its rule
 abbrev pub child_numbered : List (List ℕ) → List (List ℕ) → List (List ℕ) → WrittenChild → P.Child
 child_numbered cons sorts variables c = record { sort = number_of c.sort sorts; args = map (numbered cons variables) c.args; outs = length c.results }
 
 -- a rule with what it names by number, where these are the names of constructors, of sorts, and of its variables
+-- (each is declared, or it enters, where the rule has no fault; the number of another name is past the last)
 abbrev pub rule_numbered : List (List ℕ) → List (List ℕ) → List (List ℕ) → WrittenRule → P.Rule
 rule_numbered cons sorts variables r = record {
   sort = number_of r.sort sorts;

@@ -1,5 +1,5 @@
 -- Sizes of written terms, how their words are spelled, and the terms of a rule.
-use Rattle.std.specs.Prelude.{ℕ, suc, ◌+◌, Bool, true, false, ◌&&◌, List, [], ◌∷◌, ◌++◌, max}
+use Rattle.std.specs.Prelude.{ℕ, suc, ◌≡◌, ◌+◌, ◌<◌, ◌≤◌, ◌⊎◌, Bool, true, false, ◌&&◌, List, [], ◌∷◌, ◌++◌, max, Option, MatchOption}
 use Rattle.aw_text.specs.Spelling.{is_name, is_content}
 use Rattle.aw_term.specs.Trees.{Head, Con, Num, Text}
 use Rattle.aw_grammar.specs.Written.{Written, Word, Apply, Literal, Writtens, Empty, Then, WrittenChild, WrittenRule}
@@ -15,6 +15,7 @@ abbrev mutual
   symbols_in_parts Empty = 0
   symbols_in_parts (Then t ts) = symbols_in t + symbols_in_parts ts
 
+-- how many stand in these terms together
 abbrev pub symbols_in_all : List Written → ℕ
 symbols_in_all [] = 0
 symbols_in_all (t ∷ ts) = symbols_in t + symbols_in_all ts
@@ -35,6 +36,11 @@ abbrev pub depth_of_all : List Written → ℕ
 depth_of_all [] = 0
 depth_of_all (t ∷ ts) = max (depth_of t) (depth_of_all ts)
 
+-- what is left of a room for symbols; nothing is left where the depth is past what is allowed, or the symbols are more than the room
+abbrev pub IsLeftOf : ℕ → ℕ → ℕ → ℕ → Option ℕ → Type 0
+IsLeftOf room allowed depth symbols result =
+    MatchOption result ((allowed < depth) ⊎ (room < symbols)) (λ left. (depth ≤ allowed) × (left + symbols ≡ room))
+
 -- a number, or a text that is a content
 abbrev pub is_literal : Head → Bool
 is_literal (Con c) = false
@@ -52,6 +58,7 @@ abbrev mutual
   parts_have_contents Empty = true
   parts_have_contents (Then t ts) = has_contents t && parts_have_contents ts
 
+-- each bare word of these terms is a name, and each literal is a number, or a text that is a content
 abbrev pub all_have_contents : List Written → Bool
 all_have_contents [] = true
 all_have_contents (t ∷ ts) = has_contents t && all_have_contents ts
@@ -61,10 +68,12 @@ abbrev pub are_names : List (List ℕ) → Bool
 are_names [] = true
 are_names (x ∷ xs) = is_name x && are_names xs
 
+-- the arguments of some subtasks, one behind the other
 abbrev pub args_of : List WrittenChild → List Written
 args_of [] = []
 args_of (c ∷ cs) = c.args ++ args_of cs
 
+-- the names of the results of some subtasks, one behind the other
 abbrev pub results_of : List WrittenChild → List (List ℕ)
 results_of [] = []
 results_of (c ∷ cs) = c.results ++ results_of cs

@@ -23,6 +23,7 @@ abbrev pub side_by_side : List Written → Writtens
 side_by_side [] = Empty
 side_by_side (t ∷ ts) = Then t (side_by_side ts)
 
+-- a raw term of the program as it is written, and a row of raw terms as the parts of one
 abbrev mutual
   pub written_of : RawTerm → Written
   written_of (raw.Word name) = Word name
@@ -48,8 +49,10 @@ pub record WrittenRule : Type 0 where
   pub results : List Written
   pub children : List WrittenChild
 
+-- a raw subtask of the program as it is written
 abbrev pub child_of_raw : RawChild → WrittenChild
 child_of_raw c = record { sort = c.sort; args = map written_of c.args; results = c.results }
 
+-- a raw rule of the program as it is written
 abbrev pub rule_of_raw : RawRule → WrittenRule
 rule_of_raw r = record { name = r.name; params = r.params; sort = r.sort; patterns = map written_of r.patterns; results = map written_of r.results; children = map child_of_raw r.children }

@@ -3,11 +3,12 @@ ghost use Rattle.std.specs.Prelude.{◌≡◌, ◌+◌, ◌<◌, ◌≤◌, ◌+
 ghost use Rattle.aw_index.specs.Places.{any_stands, all_stand};
 ghost use Rattle.aw_term.specs.WellFormed.{leaves_of};
 ghost use Rattle.aw_grammar.specs.Written.{child_of_raw};
-ghost use Rattle.aw_grammar.specs.Terms.{args_of, results_of, depth_of_all, symbols_in_all};
+ghost use Rattle.aw_grammar.specs.Terms.{args_of, results_of, depth_of_all, symbols_in_all, IsLeftOf};
 ghost use Rattle.aw_grammar.specs.Resolved.{all_resolved};
 ghost use Rattle.aw_grammar.specs.Kinds.{child_sorts, all_known, all_have_arities, children_fit, takes_and_gives, sort_called};
 
 use crate::grammar::Grammar;
+use crate::limits::MOST_LEVELS;
 use crate::raw::{RawChild, RawChildren};
 use crate::resolve::have_arities;
 use crate::rule::Names;
@@ -18,11 +19,11 @@ use std::alloc::AllocError;
 
 /// What is left of the room for symbols after all arguments, or nothing where one is deeper than 32 or the symbols are more.
 pub(crate) fn room_after_args(children: &RawChildren, room: u16) -> Option<u16>
-    ensures { MatchOption result ((32 < depth_of_all (args_of (map child_of_raw children.now))) ⊎ (room < symbols_in_all (args_of (map child_of_raw children.now)))) (λ left. (depth_of_all (args_of (map child_of_raw children.now)) ≤ 32) × (left + symbols_in_all (args_of (map child_of_raw children.now)) ≡ room)) }
+    ensures { IsLeftOf room 32 (depth_of_all (args_of (map child_of_raw children.now))) (symbols_in_all (args_of (map child_of_raw children.now))) result }
 {
     let mut left = room;
     for child in children.as_slice() {
-        left = room_after_all(&child.args, 32, left)?;
+        left = room_after_all(&child.args, MOST_LEVELS, left)?;
     }
     Some(left)
 }

@@ -4,6 +4,7 @@ ghost use Rattle.aw_index.specs.Places.{number_of};
 
 use crate::fault::DeclKind;
 use crate::grammar::Grammar;
+use crate::limits::{MOST_CONS, MOST_PARTS, MOST_ROLES, MOST_SORTS, MOST_VALUES};
 use crate::raw::{RawCon, RawSort};
 use crate::rule::{Con, Sort};
 use aw_list::Text;
@@ -16,7 +17,7 @@ impl Grammar {
     pub(crate) fn kind_of_role(&self, name: &Text) -> Option<DeclKind>
         ensures { result ≡ role_kind (declarations_of self.now) name.now }
     {
-        if self.roles.len() >= 64 {
+        if self.roles.len() >= MOST_ROLES {
             return Some(DeclKind::Limit);
         }
         if self.role_index.contains(name.as_slice()) {
@@ -28,7 +29,7 @@ impl Grammar {
     pub(crate) fn kind_of_con(&self, con: &RawCon) -> Option<DeclKind>
         ensures { result ≡ con_kind (declarations_of self.now) con.now }
     {
-        if self.cons.len() >= 1024 || con.arity > 8 {
+        if self.cons.len() >= MOST_CONS || con.arity > MOST_PARTS {
             return Some(DeclKind::Limit);
         }
         if self.con_index.contains(con.name.as_slice()) {
@@ -40,7 +41,7 @@ impl Grammar {
     pub(crate) fn kind_of_sort(&self, sort: &RawSort) -> Option<DeclKind>
         ensures { result ≡ sort_kind (declarations_of self.now) sort.now }
     {
-        if self.sorts.len() >= 256 || sort.takes > 8 || sort.gives > 8 {
+        if self.sorts.len() >= MOST_SORTS || sort.takes > MOST_VALUES || sort.gives > MOST_VALUES {
             return Some(DeclKind::Limit);
         }
         if self.sort_index.contains(sort.name.as_slice()) {

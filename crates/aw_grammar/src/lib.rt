@@ -8,6 +8,7 @@ mod copies;
 pub mod fault;
 pub mod grammar;
 mod kinds;
+mod limits;
 mod made;
 mod named;
 mod of_declared;

@@ -3,7 +3,7 @@ ghost use Rattle.std.specs.Prelude.{◌≡◌, ◌+◌, ◌<◌, ◌≤◌, ◌+
 ghost use Rattle.aw_index.specs.Places.{any_stands, all_stand, stands, first_told};
 ghost use Rattle.aw_term.specs.WellFormed.{leaves_of};
 ghost use Rattle.aw_grammar.specs.Written.{rule_of_raw};
-ghost use Rattle.aw_grammar.specs.Terms.{results_of, uses_of, terms_of, depth_of_all, symbols_in_all};
+ghost use Rattle.aw_grammar.specs.Terms.{results_of, uses_of, terms_of, depth_of_all, symbols_in_all, IsLeftOf};
 ghost use Rattle.aw_grammar.specs.Resolved.{all_resolved, entering};
 ghost use Rattle.aw_grammar.specs.Kinds.{is_past_counts, is_past_terms, all_known, all_have_arities, takes_and_gives, sort_called, names_unknown, arity_differs, name_tests, term_tests};
 ghost use Rattle.aw_grammar.specs.GrammarOf.{declarations_of, words_of};
@@ -14,6 +14,7 @@ use crate::children::{
 };
 use crate::fault::DeclKind;
 use crate::grammar::Grammar;
+use crate::limits::{MOST_LEVELS, MOST_OF_RULE, MOST_RULES, MOST_SYMBOLS, MOST_VARIABLES};
 use crate::raw::RawRule;
 use crate::resolve::have_arities;
 use crate::rule::Names;
@@ -25,20 +26,20 @@ use std::alloc::AllocError;
 pub(crate) fn is_past_counts(grammar: &Grammar, rule: &RawRule) -> bool
     ensures { result ≡ is_past_counts (declarations_of grammar.now) (rule_of_raw rule.now) }
 {
-    grammar.rules.len() >= 1024
-        || rule.patterns.len() > 8
-        || rule.results.len() > 8
-        || rule.params.len() > 8
-        || rule.children.len() > 8
+    grammar.rules.len() >= MOST_RULES
+        || rule.patterns.len() > MOST_OF_RULE
+        || rule.results.len() > MOST_OF_RULE
+        || rule.params.len() > MOST_OF_RULE
+        || rule.children.len() > MOST_OF_RULE
 }
 
 /// What is left of the room for the symbols of a rule, or nothing where they are too many or a term is too deep.
 fn room_after_rule(rule: &RawRule) -> Option<u16>
-    ensures { MatchOption result ((32 < depth_of_all (terms_of (rule_of_raw rule.now))) ⊎ (256 < symbols_in_all (terms_of (rule_of_raw rule.now)))) (λ left. (depth_of_all (terms_of (rule_of_raw rule.now)) ≤ 32) × (left + symbols_in_all (terms_of (rule_of_raw rule.now)) ≡ 256)) }
+    ensures { IsLeftOf 256 32 (depth_of_all (terms_of (rule_of_raw rule.now))) (symbols_in_all (terms_of (rule_of_raw rule.now))) result }
 {
-    let left = room_after_all(&rule.patterns, 32, 256)?;
+    let left = room_after_all(&rule.patterns, MOST_LEVELS, MOST_SYMBOLS)?;
     let left = room_after_args(&rule.children, left)?;
-    room_after_all(&rule.results, 32, left)
+    room_after_all(&rule.results, MOST_LEVELS, left)
 }
 
 /// Whether a term of the rule is too deep, or its symbols are too many.
@@ -132,7 +133,7 @@ pub(crate) fn kind_of_names(grammar: &Grammar, rule: &RawRule, names: &Names) ->
     requires { names.now ≡ entering (words_of grammar.now).cons (rule_of_raw rule.now) }
     ensures { result ≡ first_told (name_tests (declarations_of grammar.now) (rule_of_raw rule.now)) }
 {
-    if names.len() > 64 {
+    if names.len() > MOST_VARIABLES {
         return Some(DeclKind::Limit);
     }
     if grammar.rule_index.contains(rule.name.as_slice()) {

@@ -4,7 +4,7 @@ ghost use Rattle.aw_index.specs.Places.{number_of};
 ghost use Rattle.aw_term.specs.Views.{pattern_of, term_of};
 ghost use Rattle.aw_term.specs.WellFormed.{leaves, leaves_of};
 ghost use Rattle.aw_grammar.specs.Written.{written_of};
-ghost use Rattle.aw_grammar.specs.Terms.{depth_of, depth_of_all, symbols_in, symbols_in_all};
+ghost use Rattle.aw_grammar.specs.Terms.{depth_of, depth_of_all, symbols_in, symbols_in_all, IsLeftOf};
 ghost use Rattle.aw_grammar.specs.Resolved.{resolved, all_resolved};
 ghost use Rattle.aw_grammar.specs.Kinds.{is_known, all_known};
 
@@ -16,7 +16,7 @@ use std::alloc::AllocError;
 /// What is left of the room for symbols after a term, or nothing where it is deeper than `depth` or has more symbols than `room`.
 #[cycle(room)]
 pub(crate) fn room_after(term: &RawTerm, depth: u8, room: u16) -> Option<u16>
-    ensures { MatchOption result ((depth < depth_of (written_of term.now)) ⊎ (room < symbols_in (written_of term.now))) (λ left. (depth_of (written_of term.now) ≤ depth) × (left + symbols_in (written_of term.now) ≡ room)) }
+    ensures { IsLeftOf room depth (depth_of (written_of term.now)) (symbols_in (written_of term.now)) result }
 {
     if depth == 0 || room == 0 {
         return None;
@@ -30,7 +30,7 @@ pub(crate) fn room_after(term: &RawTerm, depth: u8, room: u16) -> Option<u16>
 /// What is left of the room for symbols after some terms, or nothing where one is deeper than `depth` or they have more symbols than `room`.
 #[cycle(room)]
 pub fn room_after_all(terms: &RawTerms, depth: u8, room: u16) -> Option<u16>
-    ensures { MatchOption result ((depth < depth_of_all (map written_of terms.now)) ⊎ (room < symbols_in_all (map written_of terms.now))) (λ left. (depth_of_all (map written_of terms.now) ≤ depth) × (left + symbols_in_all (map written_of terms.now) ≡ room)) }
+    ensures { IsLeftOf room depth (depth_of_all (map written_of terms.now)) (symbols_in_all (map written_of terms.now)) result }
 {
     let mut left = room;
     for term in terms.as_slice() {

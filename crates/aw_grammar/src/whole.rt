@@ -113,48 +113,6 @@ pub(crate) fn add_rules(grammar: Grammar, rules: RawRules) -> Result<Grammar, Gr
     Ok(grammar)
 }
 
-fn add_from_starts(
-    grammar: Grammar,
-    starts: Names,
-    rules: RawRules,
-) -> Result<Grammar, GrammarFault>
-    requires spelled { AllSpelled (starts_placed 0 starts ++ rules_placed 0 rules) }
-    requires no_rules { grammar.rules ≡ [] }
-    ensures { BuiltOn (declarations_of grammar) (starts_placed 0 starts ++ rules_placed 0 rules) result }
-{
-    let grammar = add_starts(grammar, starts)?;
-    add_rules(grammar, rules)
-}
-
-fn add_from_sorts(
-    grammar: Grammar,
-    sorts: RawSorts,
-    starts: Names,
-    rules: RawRules,
-) -> Result<Grammar, GrammarFault>
-    requires spelled { AllSpelled (sorts_placed 0 sorts ++ (starts_placed 0 starts ++ rules_placed 0 rules)) }
-    requires no_rules { grammar.rules ≡ [] }
-    ensures { BuiltOn (declarations_of grammar) (sorts_placed 0 sorts ++ (starts_placed 0 starts ++ rules_placed 0 rules)) result }
-{
-    let grammar = add_sorts(grammar, sorts)?;
-    add_from_starts(grammar, starts, rules)
-}
-
-fn add_from_cons(
-    grammar: Grammar,
-    cons: RawCons,
-    sorts: RawSorts,
-    starts: Names,
-    rules: RawRules,
-) -> Result<Grammar, GrammarFault>
-    requires spelled { AllSpelled (cons_placed 0 cons ++ (sorts_placed 0 sorts ++ (starts_placed 0 starts ++ rules_placed 0 rules))) }
-    requires no_rules { grammar.rules ≡ [] }
-    ensures { BuiltOn (declarations_of grammar) (cons_placed 0 cons ++ (sorts_placed 0 sorts ++ (starts_placed 0 starts ++ rules_placed 0 rules))) result }
-{
-    let grammar = add_cons(grammar, cons)?;
-    add_from_sorts(grammar, sorts, starts, rules)
-}
-
 /// Declares all declarations of a specification, class by class.
 pub(crate) fn add_all(grammar: Grammar, parts: Parts) -> Result<Grammar, GrammarFault>
     requires spelled { AllSpelled (all_placed parts) }
@@ -169,6 +127,9 @@ pub(crate) fn add_all(grammar: Grammar, parts: Parts) -> Result<Grammar, Grammar
         starts,
         rules,
     } = parts;
-    let grammar = add_roles(grammar, roles)?;
-    add_from_cons(grammar, cons, sorts, starts, rules)
+    let with_roles = add_roles(grammar, roles)?;
+    let with_cons = add_cons(with_roles, cons)?;
+    let with_sorts = add_sorts(with_cons, sorts)?;
+    let with_starts = add_starts(with_sorts, starts)?;
+    add_rules(with_starts, rules)
 }

@@ -15,6 +15,7 @@ state_of (Some (Start sort case)) = Done 0 []
 state_of (Some (Develop node rule args)) = Done rule (map ground_of args)
 
 -- the number of a sort, and 0 where there is none
+-- (the held nodes of a workspace have valid names, and so each has one)
 abbrev pub sort_or : Option ℕ → ℕ
 sort_or None = 0
 sort_or (Some s) = s

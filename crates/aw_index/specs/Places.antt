@@ -16,6 +16,7 @@ abbrev pub stands : List ℕ → List (List ℕ) → Bool
 stands x [] = false
 stands x (y ∷ ys) = is_same x y || stands x ys
 
+-- the place that was found, or d where none was
 abbrev pub or_else : ℕ → Option ℕ → ℕ
 or_else d None = d
 or_else d (Some i) = i

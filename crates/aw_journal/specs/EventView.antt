@@ -5,6 +5,7 @@ use Rattle.aw_journal.specs.Events as plain
 use Rattle.aw_journal.specs.declared.payload.NodeEvent.{NodeEvent}
 use Rattle.aw_journal.specs.declared.payload.NodeEvent.TheVariants.{Took, Got}
 
+-- an event of the program, with its choice as the plain one
 abbrev pub event_of : NodeEvent → plain.Event
 event_of (Took c) = plain.Took (choice_of c)
 event_of (Got m) = plain.Got m

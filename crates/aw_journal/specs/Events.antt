@@ -40,5 +40,6 @@ EventSized (Got m) = MessageSized m
 abbrev pub IsEvent : Event → Type 0
 IsEvent event = EventSized event × EventInRange event
 
+-- each of these has the sizes and the ranges of an event
 abbrev pub AllEvents : List Event → Type 0
 AllEvents events = Each IsEvent events

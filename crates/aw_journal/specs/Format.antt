@@ -13,9 +13,11 @@ with_length n (Some event) = Some (event, 8 + n)
 unfoldable pub u64_bytes : ℕ → List ℕ
 u64_bytes n = to_be_bytes w64 n
 
+-- the number that the first eight bytes are
 unfoldable pub u64_in : List ℕ → ℕ
 u64_in bytes = from_be_bytes w64 bytes
 
+-- a number in two bytes
 unfoldable pub u16_bytes : ℕ → List ℕ
 u16_bytes n = to_be_bytes w16 n
 

@@ -15,6 +15,7 @@ pub record Kept : Type 0 where
   pub limit : ℕ
   pub usable : Bool
 
+-- what is seen of the inside of a journal
 abbrev pub kept : Inside → Kept
 kept j = record { role = j.role; text = j.text; events = j.events.items; limit = j.limit; usable = j.usable }
 

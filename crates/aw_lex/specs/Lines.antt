@@ -10,10 +10,12 @@ without_empty_last [] = []
 without_empty_last (line ∷ []) = if length line == 0 then [] else line ∷ []
 without_empty_last (line ∷ next ∷ more) = line ∷ without_empty_last (next ∷ more)
 
+-- the lines of a text, each without its line feed
 abbrev pub lines_of : List ℕ → List (List ℕ)
 lines_of text = without_empty_last (slice_split (λ b. b == 10) text)
 
 -- the first line, and the text behind its line feed
+-- (without a line feed the text is one line, with nothing behind it)
 abbrev pub first_line : List ℕ → Option (List ℕ × List ℕ)
 first_line [] = None
 first_line (b ∷ bs) = Some (unwrap_or (cut 10 (b ∷ bs)) (b ∷ bs, []))

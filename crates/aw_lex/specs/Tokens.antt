@@ -14,6 +14,7 @@ use Rattle.aw_lex.specs.declared.front.Front.TheVariants as front
 abbrev pub is_blank : ℕ → Bool
 is_blank b = (b == 32 || b == 9) || b == 13
 
+-- one of the marks ( ) < > { } , : = and ;
 abbrev pub is_mark : ℕ → Bool
 is_mark b = list_any (λ mark. b == mark) (codes "()<>{},:=;")
 
@@ -30,6 +31,7 @@ word_len (b ∷ bs) = if is_word_byte b then suc (word_len bs) else 0
 abbrev pub kind_of_word : List ℕ → Option TokenKind
 kind_of_word word = if is_name word then Some Name else if is_some (number_of word) then Some Number else if node_name word then Some Node else None
 
+-- a word of this length at the front: a token where it is of a kind
 abbrev pub front_of_word : ℕ → Option TokenKind → Front
 front_of_word len None = front.Bad
 front_of_word len (Some kind) = front.Token kind len
@@ -55,6 +57,7 @@ Fits front.Blank n = Unit {0}
 Fits (front.Token kind len) n = (0 < len) × (len ≤ n)
 Fits front.Bad n = Unit {0}
 
+-- a token in front of those that follow, where these are tokens
 abbrev pub with_token : Token → Result (List Token) ℕ → Result (List Token) ℕ
 with_token token (Ok more) = Ok (token ∷ more)
 with_token token (Err at) = Err at

@@ -107,7 +107,7 @@ impl<T> Items<T> {
 }
 
 impl<T> Items<T> {
-    /// Adds an item at the end. An error changes nothing and hands the item back: there is no memory for it.
+    /// Adds an item at the end. An error changes nothing: there is no memory for the item.
     pub fn push(&mut self, item: T) -> Result<(), AllocFailed<T>>
         ensures ok { OnOk result (self.new ≡ self.old ++ item ∷ []) }
         ensures err { OnErr result (self.new ≡ self.old) }

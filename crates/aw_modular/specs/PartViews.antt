@@ -4,6 +4,7 @@ use Rattle.aw_grammar.specs.GrammarOf.{grammar_of}
 use Rattle.aw_modular.specs.Roles as R
 use Rattle.aw_modular.specs.declared.part.Part.{Part}
 
+-- the plain grammar of a part, and which role uses which sort
 abbrev pub part_of : Part → R.Part
 part_of p = record { grammar = grammar_of p.grammar; uses = p.faces.uses }
 

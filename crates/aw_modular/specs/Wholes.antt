@@ -88,10 +88,12 @@ pub record HasAll (s : Shared) (all : List Rule) (g : Grammar) : Type 0 where
   pub sorts : g.sorts ≡ s.sorts
   pub rules : g.rules ≡ all
 
+-- the grammar is the whole of these parts, of which there is one at least
 abbrev pub IsWholeOf : List RoleYes → Grammar → Type 0
 IsWholeOf [] g = Never
 IsWholeOf (y ∷ ys) g = HasAll (shared_of y) (all_rules (y ∷ ys)) g
 
+-- the part of a role that said yes, as the definitions speak of it
 abbrev pub yes_part : RoleYes → R.Part
 yes_part y = part_of y.part
 

@@ -4,6 +4,7 @@ use Rattle.aw_msg.specs.Frames as plain
 use Rattle.aw_msg.specs.declared.frame.Frame.{Frame}
 use Rattle.aw_msg.specs.declared.frame.Frame.TheVariants as frames
 
+-- a frame, with its choice as the plain one
 abbrev pub frame_of : Frame → plain.Frame
 frame_of (frames.Push m) = plain.Push m
 frame_of (frames.Choose c) = plain.Choose (choice_of c)

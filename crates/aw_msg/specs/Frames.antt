@@ -18,12 +18,14 @@ pub data Frame : Type 0 where
 
 -- ---- the spelling
 
+-- the byte that tells what is asked for
 abbrev pub frame_kind : Frame → ℕ
 frame_kind (Push m) = 1
 frame_kind (Choose c) = 2
 frame_kind (Pull place) = 3
 frame_kind (Listed place) = 4
 
+-- a message or a choice, or a place in eight bytes
 abbrev pub spelled_payload : Frame → List ℕ
 spelled_payload (Push m) = spelled_message m
 spelled_payload (Choose c) = spelled_choice c
@@ -36,12 +38,14 @@ spelled_frame f = frame_kind f ∷ (to_be_bytes w32 (length (spelled_payload f))
 
 -- ---- what has a spelling
 
+-- its numbers have the sizes of the program's types
 abbrev pub FrameSized : Frame → Type 0
 FrameSized (Push m) = MessageSized m
 FrameSized (Choose c) = ChoiceSized c
 FrameSized (Pull place) = place < 2 ^ 64
 FrameSized (Listed place) = place < 2 ^ 64
 
+-- its message or its choice is in range
 abbrev pub FrameInRange : Frame → Type 0
 FrameInRange (Push m) = MessageInRange m
 FrameInRange (Choose c) = ChoiceInRange c
@@ -59,6 +63,7 @@ all_of (Err e) = None
 abbrev pub whole : {A : Type 0} → Reader A → List ℕ → Option A
 whole read bytes = all_of (read bytes)
 
+-- the request that all of these bytes are, where they are one of this kind
 unfoldable pub payload : ℕ → List ℕ → Option Frame
 payload zero bytes = None
 payload (suc zero) bytes = option_map Push (whole message bytes)

@@ -16,6 +16,7 @@ kind_with sort (Call n inherited load) = P.Calls (record { node = n; sort = sort
 kind_with sort (Ask r from) = P.Asks r from
 kind_with sort (Tell e load) = P.Tells (equation_of e) (map equation_of load)
 
+-- a message as the plain one, where a called node has the sort that is given for it
 abbrev pub message_with : (Node → ℕ) → Message → P.Message
 message_with sort m = record { to = m.to; kind = kind_with sort m.kind }
 
@@ -31,9 +32,11 @@ message_of g m = message_with (sort_or_zero g) m
 abbrev pub plain_kind : MsgKind → P.Kind
 plain_kind k = kind_with (λ n. 0) k
 
+-- the whole message without a grammar
 abbrev pub plain_message : Message → P.Message
 plain_message m = message_with (λ n. 0) m
 
+-- what can contradict, as the plain one: the inherited references of a node, or the body of a reference
 abbrev pub content_of : Content → P.Content
 content_of (Inherited refs) = P.OfNode refs
 content_of (Body body) = P.OfReference (body_of body)

@@ -16,17 +16,21 @@ use Rattle.aw_msg.specs.MessageView.{plain_message}
 
 -- ---- the spelling, and what has one
 
+-- the bytes of a message; the sort of a called node has none
 abbrev pub spelled_message : Message → List ℕ
 spelled_message m = spelling.spelled_message (plain_message m)
 
+-- the numbers of a message have the sizes of the program's types
 abbrev pub MessageSized : Message → Type 0
 MessageSized m = ranges.MessageSized (plain_message m)
 
+-- what a message says is in range: its names, its bodies and its load
 abbrev pub MessageInRange : Message → Type 0
 MessageInRange m = ranges.MessageInRange (plain_message m)
 
 -- ---- reading
 
+-- 0 and a reference, 1 and a constructor, 2 and a number, or 3 and a text
 unfoldable pub body : Reader Body
 body [] = Err Short
 body (zero ∷ rest) = seen Same reference rest
@@ -35,6 +39,7 @@ body (suc (suc zero) ∷ rest) = seen Num (number w64) rest
 body (suc (suc (suc zero)) ∷ rest) = seen Text text rest
 body (suc (suc (suc (suc b))) ∷ rest) = Err (Bad (suc (length rest)))
 
+-- the left side, and then the body
 unfoldable pub equation : Reader Equation
 equation = seen (λ x. record { left = x.0; body = x.1 }) (both reference body)
 
@@ -60,6 +65,7 @@ kind loaded (suc zero ∷ rest) = ask loaded rest
 kind loaded (suc (suc zero) ∷ rest) = seen (λ x. Tell x.0 x.1) (both equation (load loaded)) rest
 kind loaded (suc (suc (suc b)) ∷ rest) = Err (Bad (suc (length rest)))
 
+-- the byte of a version: 1 or 2
 abbrev pub is_version : ℕ → Bool
 is_version v = v == 1 || v == 2
 

@@ -5,6 +5,7 @@ use Rattle.aw_msg.specs.FrameView.{frame_of}
 use Rattle.aw_msg.specs.declared.frame_reader.Next.{Next}
 use Rattle.aw_msg.specs.declared.frame_reader.Next.TheVariants.{Frame, Need, Bad}
 
+-- a frame, less than a frame, or no frame, as the plain answer
 abbrev pub answer_of : Next → plain.Next
 answer_of (Frame f) = plain.Ready (frame_of f)
 answer_of Need = plain.Need

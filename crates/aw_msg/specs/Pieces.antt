@@ -9,6 +9,7 @@ abbrev pub Yields : List ℕ → List Frame → List ℕ → Type 0
 Yields bytes [] rest = bytes ≡ rest
 Yields bytes (f ∷ fs) rest = (more : List ℕ) × (frame bytes ≡ Ok (f, more)) × Yields more fs rest
 
+-- what stands there is no frame, however it goes on
 abbrev pub IsBad : Result (Frame × List ℕ) Fault → Type 0
 IsBad read = (left : ℕ) × (read ≡ Err (Bad left))
 

@@ -12,9 +12,11 @@ abbrev pub content_text : Words → Content → List ℕ
 content_text w (OfNode refs) = codes "(" ++ (listed (map (ref_text w) refs) ++ codes ")")
 content_text w (OfReference body) = body_text w body
 
+-- what was kept, and what came and contradicts it
 abbrev pub conflict_text : Words → Content → Content → List ℕ
 conflict_text w kept came = codes "kept " ++ (content_text w kept ++ (codes " came " ++ content_text w came))
 
+-- the byte that tells which reply it is
 abbrev pub reply_kind : Response → ℕ
 reply_kind WasNew = 1
 reply_kind WasHeld = 2
@@ -28,6 +30,7 @@ reply_kind BadFrame = 9
 reply_kind (Ended n) = 10
 reply_kind (Shows i) = 11
 
+-- what a reply says beside its kind: texts, but for a message in its bytes and a number in eight bytes
 abbrev pub reply_payload : Words → Response → List ℕ
 reply_payload w WasNew = []
 reply_payload w WasHeld = []

@@ -6,6 +6,7 @@ use Rattle.aw_msg.specs.Responses as P
 use Rattle.aw_msg.specs.declared.reply.Answered.{Answered}
 use Rattle.aw_msg.specs.declared.reply.Answered.TheVariants.{New, Again, Conflict, NotMine, BadName, Answer, Message, TooLong, BadFrame, Nothing, Item}
 
+-- a reply, where this is the grammar that gives a called node its sort
 abbrev pub response_of : Grammar → Answered → P.Response
 response_of g New = P.WasNew
 response_of g Again = P.WasHeld

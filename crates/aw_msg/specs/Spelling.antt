@@ -45,6 +45,7 @@ is_loaded (Calls c load) = has_some load
 is_loaded (Asks r from) = false
 is_loaded (Tells e load) = has_some load
 
+-- the version of a message that has a load, or has none
 abbrev pub version_of : Bool → ℕ
 version_of loaded = if loaded then 2 else 1
 

@@ -14,6 +14,7 @@ pub data Next : Type 0 where
   Need : Next
   Wrong : Next
 
+-- what stands next, where this was read of the bytes that came
 abbrev pub next_in : Result (Frame × List ℕ) Fault → Next
 next_in (Ok x) = Ready x.0
 next_in (Err Short) = Need
@@ -23,6 +24,7 @@ next_in (Err (Bad left)) = Wrong
 abbrev pub next_of : Stream → Next
 next_of s = if s.failed then Wrong else next_in (frame s.bytes)
 
+-- the stream behind that: a frame is taken, less than one stays, and what is no frame ends all
 abbrev pub left_in : Stream → Result (Frame × List ℕ) Fault → Stream
 left_in s (Ok x) = record s { bytes = x.1 }
 left_in s (Err Short) = s

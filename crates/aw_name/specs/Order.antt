@@ -24,5 +24,6 @@ slot_cmp (Result i) (Part k) = Less
 slot_cmp (Part k) (Result j) = Greater
 slot_cmp (Part k) (Part l) = nat_cmp k l
 
+-- by node, and then by slot
 abbrev pub ref_cmp : Ref → Ref → Ordering
 ref_cmp a b = ordering_then (node_cmp a.node b.node) (slot_cmp a.slot b.slot)

@@ -59,6 +59,7 @@ abbrev pub replies : Rules → Site → List F.Frame → List (List ℕ)
 replies r s [] = []
 replies r s (f ∷ fs) = reply r s f ∷ replies r (handle r s f).site fs
 
+-- the site behind some frames
 abbrev pub site_after : Rules → Site → List F.Frame → Site
 site_after r s [] = s
 site_after r s (f ∷ fs) = site_after r (handle r s f).site fs

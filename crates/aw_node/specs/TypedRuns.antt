@@ -36,6 +36,7 @@ plain_frame g (F.Choose c) = N.Choose c
 plain_frame g (F.Pull place) = N.Pull place
 plain_frame g (F.Listed place) = N.Listed place
 
+-- what was asked of a role, with the sorts of called nodes
 abbrev pub plain_asked : Grammar → Asked → N.Asked
 plain_asked g a = record { role = a.role; frame = plain_frame g a.frame }
 
@@ -47,6 +48,7 @@ handled r ss a = handle r (site_of ss a.role) a.frame
 abbrev pub ask : Rules → List Site → Asked → List Site
 ask r ss a = slice_set ss a.role (handled r ss a).site
 
+-- the sites of all nodes after frames, in the order in which these were answered
 abbrev pub sites_after : Rules → List Site → List Asked → List Site
 sites_after r ss [] = ss
 sites_after r ss (a ∷ as_) = sites_after r (ask r ss a) as_

@@ -44,6 +44,7 @@ SettlingEnds g loads es =
 abbrev pub plain_of : {W : Type 0} {f : Ghosts W} → World W f → Grammar
 plain_of w = grammar_of w.accepted.now.grammar
 
+-- the names that the grammar of a world declares
 abbrev pub named_by : {W : Type 0} {f : Ghosts W} → World W f → Words
 named_by w = words_of w.accepted.now.grammar
 

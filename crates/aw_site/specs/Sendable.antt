@@ -38,13 +38,16 @@ abbrev pub short_refs : List Ref → Bool
 short_refs [] = true
 short_refs (r ∷ rs) = is_short r.node && short_refs rs
 
+-- all names in a body are short
 abbrev pub short_body : Body → Bool
 short_body (Same r) = is_short r.node
 short_body (Is h rs) = short_refs rs
 
+-- all names in an equation are short
 abbrev pub short_equation : Equation → Bool
 short_equation e = is_short e.left.node && short_body e.body
 
+-- all names in these equations are short
 abbrev pub short_equations : List Equation → Bool
 short_equations [] = true
 short_equations (e ∷ es) = short_equation e && short_equations es

@@ -21,5 +21,6 @@ child_call g c = call_of g c.node c.inherited
 abbrev pub kind_of : Grammar → MsgKind → P.Kind
 kind_of g k = kind_with (sort_or_zero g) k
 
+-- what was kept and what came that contradicts it, as plain ones
 abbrev pub clash_of : Clash → P.Clash
 clash_of c = record { kept = content_of c.kept; came = content_of c.came }

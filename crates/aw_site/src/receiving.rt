@@ -1,5 +1,5 @@
 //! A message at a site, over the parts of the site.
-ghost use Rattle.std.specs.Prelude.{◌≡◌, ◌++◌, ◌<◌, [], None, true, Bool, List, IfOk, OnOk, OnErr, length, map as list_map, option_map};
+ghost use Rattle.std.specs.Prelude.{◌≡◌, ◌++◌, ◌<◌, [], None, true, Bool, List, IfOk, OnOk, OnErr, length, map as list_map};
 ghost use Rattle.std.specs.Option.{option_copied};
 ghost use Rattle.aw_grammar.specs.GrammarOf.{grammar_of};
 ghost use Rattle.aw_store.specs.EquationView.{equation_of};
@@ -9,7 +9,7 @@ ghost use Rattle.aw_react.specs.Reacting.{receive as plain_receive, react as pla
 ghost use Rattle.aw_react.specs.SiteEvents.{after_message};
 ghost use Rattle.aw_react.specs.Sites as P;
 ghost use Rattle.aw_space.specs.Keeping.{KeepsFacts, KeepsNodes};
-ghost use Rattle.aw_space.specs.Placings.{MayBeCalledIf, MayBeLearnt, placed_call};
+ghost use Rattle.aw_space.specs.Placings.{MayBeCalledIf, MayBeLearnt, called_by};
 ghost use Rattle.aw_space.specs.Seen.{space_seen};
 ghost use Rattle.aw_space.specs.Spaces.{clash_with};
 ghost use Rattle.aw_site.specs.Answers.{sent_for, IsReceived};
@@ -109,7 +109,7 @@ fn answer_ask<'g, F: Facts>(
 
 /// Copies of the references of a call, if there is one.
 fn inherited_by(alloc: Global, call: Option<&Placing>) -> Result<Refs, AllocError>
-    ensures { IfOk result (λ rs. (g : T.Grammar) → rs ≡ inherited_by (option_map (placed_call g) (option_copied call.entry))) }
+    ensures { IfOk result (λ rs. (g : T.Grammar) → rs ≡ inherited_by (called_by g (option_copied call.entry))) }
 {
     match call {
         Some(placing) => placing.inherited.clone(),
@@ -129,8 +129,8 @@ fn plan_came<'g, F: Facts>(
 ) -> Result<Plan, AllocError>
     requires { g.now.grammar ≡ space.now.accepted.now.grammar }
     ensures { IfOk result (λ p. (s : P.Site) → HoldsAs ⟦<F as Facts>⟧ space.now subs.now loads s → IsPlanned (grammar_of g.now.grammar)
-        (holding s (option_map (placed_call (grammar_of g.now.grammar)) (option_copied call.entry)) (list_map equation_of es.now))
-        (came (grammar_of g.now.grammar) s (option_map (placed_call (grammar_of g.now.grammar)) (option_copied call.entry)) (list_map equation_of es.now)) p) }
+        (holding s (called_by (grammar_of g.now.grammar) (option_copied call.entry)) (list_map equation_of es.now))
+        (came (grammar_of g.now.grammar) s (called_by (grammar_of g.now.grammar) (option_copied call.entry)) (list_map equation_of es.now)) p) }
 {
     let inherited = inherited_by(alloc, call)?;
     let sender = Sender {
@@ -157,18 +157,18 @@ fn take_in<'g, F: Facts>(
     copy: &mut Vec<Message>,
 ) -> Result<usize, AllocError>
     requires grammar { g.now.grammar ≡ space.old.accepted.now.grammar }
-    requires call { MayBeCalledIf (grammar_of g.now.grammar) space.old.role (option_map (placed_call (grammar_of g.now.grammar)) (option_copied call)) }
+    requires call { MayBeCalledIf (grammar_of g.now.grammar) space.old.role (called_by (grammar_of g.now.grammar) (option_copied call)) }
     requires ok { MayBeLearnt (grammar_of g.now.grammar) space.old.role (list_map equation_of es.now) }
-    requires free { clash_with (option_map (placed_call (grammar_of g.now.grammar)) (option_copied call)) (list_map equation_of es.now) (space_seen ⟦<F as Facts>⟧ space.old) ≡ None }
+    requires free { clash_with (called_by (grammar_of g.now.grammar) (option_copied call)) (list_map equation_of es.now) (space_seen ⟦<F as Facts>⟧ space.old) ≡ None }
     ensures grammar { space.new.accepted.now.grammar ≡ space.old.accepted.now.grammar }
     ensures role { space.new.role ≡ space.old.role }
     ensures count { IfOk result (λ n. (s : P.Site) → Shows ⟦<F as Facts>⟧ space.old subs.old outbox.old.items loads s →
-        n ≡ length (came (grammar_of g.now.grammar) s (option_map (placed_call (grammar_of g.now.grammar)) (option_copied call.entry)) (list_map equation_of es.now)).sent) }
+        n ≡ length (came (grammar_of g.now.grammar) s (called_by (grammar_of g.now.grammar) (option_copied call.entry)) (list_map equation_of es.now)).sent) }
     ensures site { OnOk result ((s : P.Site) → Shows ⟦<F as Facts>⟧ space.old subs.old outbox.old.items loads s → Shows ⟦<F as Facts>⟧ space.new subs.new outbox.new.items loads
-        (came (grammar_of g.now.grammar) s (option_map (placed_call (grammar_of g.now.grammar)) (option_copied call.entry)) (list_map equation_of es.now)).site) }
+        (came (grammar_of g.now.grammar) s (called_by (grammar_of g.now.grammar) (option_copied call.entry)) (list_map equation_of es.now)).site) }
     ensures copy { OnOk result ((s : P.Site) → Shows ⟦<F as Facts>⟧ space.old subs.old outbox.old.items loads s →
         list_map (message_of (grammar_of g.now.grammar)) copy.new.items ≡ list_map (message_of (grammar_of g.now.grammar)) copy.old.items
-        ++ (came (grammar_of g.now.grammar) s (option_map (placed_call (grammar_of g.now.grammar)) (option_copied call.entry)) (list_map equation_of es.now)).sent) }
+        ++ (came (grammar_of g.now.grammar) s (called_by (grammar_of g.now.grammar) (option_copied call.entry)) (list_map equation_of es.now)).sent) }
     ensures err { OnErr result ((s : P.Site) → Shows ⟦<F as Facts>⟧ space.old subs.old outbox.old.items loads s → Shows ⟦<F as Facts>⟧ space.new subs.new outbox.new.items loads s) }
     ensures err_copy { OnErr result (copy.new.items ≡ copy.old.items) }
     ensures short { all_short outbox.old.items ≡ true → all_short outbox.new.items ≡ true }

@@ -1,5 +1,5 @@
 //! Calls of a space where nobody counts the tests of guards.
-ghost use Rattle.std.specs.Prelude.{◌≡◌, ◌<◌, true, false, None, IfOk, OnOk, OnErr, map as list_map, option_map};
+ghost use Rattle.std.specs.Prelude.{◌≡◌, ◌<◌, true, false, None, IfOk, OnOk, OnErr, map as list_map};
 ghost use Rattle.std.specs.Option.{option_copied};
 ghost use Rattle.aw_choice.specs.ChoiceView.{choice_of, item_of};
 ghost use Rattle.aw_grammar.specs.GrammarOf.{grammar_of};
@@ -8,7 +8,7 @@ ghost use Rattle.aw_store.specs.EquationView.{equation_of};
 ghost use Rattle.aw_react.specs.Worlds.{node_of};
 ghost use Rattle.aw_space.specs.Keeping.{KeepsFacts, KeepsNodes, KeepsNodesBut};
 ghost use Rattle.aw_space.specs.Outcomes.{IsOutcome};
-ghost use Rattle.aw_space.specs.Placings.{MayBeCalledIf, MayBeLearnt, placed_call};
+ghost use Rattle.aw_space.specs.Placings.{MayBeCalledIf, MayBeLearnt, called_by};
 ghost use Rattle.aw_space.specs.Seen.{space_seen, IsUnchanged};
 ghost use Rattle.aw_space.specs.Spaces.{is_home, outcome, space_after, taken_in, clash_with, worklist};
 
@@ -107,12 +107,12 @@ fn take_in_ledger<'g, F: Facts, L: Ledger>(
     requires parts { blank.parts ≡ L.parts }
     requires some { 0 < L.parts }
     requires grammar { g.now.grammar ≡ space.old.accepted.now.grammar }
-    requires call { MayBeCalledIf (grammar_of g.now.grammar) space.old.role (option_map (placed_call (grammar_of g.now.grammar)) (option_copied call)) }
+    requires call { MayBeCalledIf (grammar_of g.now.grammar) space.old.role (called_by (grammar_of g.now.grammar) (option_copied call)) }
     requires ok { MayBeLearnt (grammar_of g.now.grammar) space.old.role (list_map equation_of es.now) }
-    requires free { clash_with (option_map (placed_call (grammar_of g.now.grammar)) (option_copied call)) (list_map equation_of es.now) (space_seen ⟦<F as Facts>⟧ space.old) ≡ None }
+    requires free { clash_with (called_by (grammar_of g.now.grammar) (option_copied call)) (list_map equation_of es.now) (space_seen ⟦<F as Facts>⟧ space.old) ≡ None }
     ensures grammar { space.new.accepted.now.grammar ≡ space.old.accepted.now.grammar }
     ensures role { space.new.role ≡ space.old.role }
-    ensures space { OnOk result (space_seen ⟦<F as Facts>⟧ space.new ≡ taken_in (option_map (placed_call (grammar_of g.now.grammar)) (option_copied call.entry)) (list_map equation_of es.now) (space_seen ⟦<F as Facts>⟧ space.old)) }
+    ensures space { OnOk result (space_seen ⟦<F as Facts>⟧ space.new ≡ taken_in (called_by (grammar_of g.now.grammar) (option_copied call.entry)) (list_map equation_of es.now) (space_seen ⟦<F as Facts>⟧ space.old)) }
     ensures err { OnErr result (IsUnchanged ⟦<F as Facts>⟧ space.old space.new) }
     ensures facts { KeepsFacts (F.map space.old.facts) (F.map space.new.facts) }
     ensures nodes { KeepsNodes (space_seen ⟦<F as Facts>⟧ space.old).held (space_seen ⟦<F as Facts>⟧ space.new).held }
@@ -130,12 +130,12 @@ pub fn take_in<'g, F: Facts>(
     es: &Equations,
 ) -> Result<(), AllocError>
     requires grammar { g.now.grammar ≡ space.old.accepted.now.grammar }
-    requires call { MayBeCalledIf (grammar_of g.now.grammar) space.old.role (option_map (placed_call (grammar_of g.now.grammar)) (option_copied call)) }
+    requires call { MayBeCalledIf (grammar_of g.now.grammar) space.old.role (called_by (grammar_of g.now.grammar) (option_copied call)) }
     requires ok { MayBeLearnt (grammar_of g.now.grammar) space.old.role (list_map equation_of es.now) }
-    requires free { clash_with (option_map (placed_call (grammar_of g.now.grammar)) (option_copied call)) (list_map equation_of es.now) (space_seen ⟦<F as Facts>⟧ space.old) ≡ None }
+    requires free { clash_with (called_by (grammar_of g.now.grammar) (option_copied call)) (list_map equation_of es.now) (space_seen ⟦<F as Facts>⟧ space.old) ≡ None }
     ensures grammar { space.new.accepted.now.grammar ≡ space.old.accepted.now.grammar }
     ensures role { space.new.role ≡ space.old.role }
-    ensures space { OnOk result (space_seen ⟦<F as Facts>⟧ space.new ≡ taken_in (option_map (placed_call (grammar_of g.now.grammar)) (option_copied call.entry)) (list_map equation_of es.now) (space_seen ⟦<F as Facts>⟧ space.old)) }
+    ensures space { OnOk result (space_seen ⟦<F as Facts>⟧ space.new ≡ taken_in (called_by (grammar_of g.now.grammar) (option_copied call.entry)) (list_map equation_of es.now) (space_seen ⟦<F as Facts>⟧ space.old)) }
     ensures err { OnErr result (IsUnchanged ⟦<F as Facts>⟧ space.old space.new) }
     ensures facts { KeepsFacts (F.map space.old.facts) (F.map space.new.facts) }
     ensures nodes { KeepsNodes (space_seen ⟦<F as Facts>⟧ space.old).held (space_seen ⟦<F as Facts>⟧ space.new).held }

@@ -1,5 +1,5 @@
 -- Which calls and equations may come, and what a call comes to.
-use Rattle.std.specs.Prelude.{◌≡◌, ◌≢◌, ℕ, true, false, List, Option, Some, None, slice_get}
+use Rattle.std.specs.Prelude.{◌≡◌, ◌≢◌, ℕ, true, false, List, Option, Some, None, slice_get, option_map}
 use Rattle.aw_term.specs.Trees.{Never}
 use Rattle.aw_term.specs.Names.{Node, Ref}
 use Rattle.aw_term.specs.Rules.{Grammar}
@@ -38,6 +38,10 @@ pub record MayBeLearnt (g : Grammar) (role : ℕ) (es : List Equation) : Type 0 
 -- the call of a placing
 abbrev pub placed_call : Grammar → Placing → Call
 placed_call g p = call_of g p.node p.inherited
+
+-- the call of a node that may be there
+abbrev pub called_by : Grammar → Option Placing → Option Call
+called_by g entry = option_map (placed_call g) entry
 
 -- New where the node was not held, Same where it was held with these references, Conflict where it was held with others; only New adds a node.
 abbrev pub Places : List Held → Call → Placed → List Held → Type 0

@@ -60,6 +60,7 @@ abbrev pub space_after : Grammar → ℕ → Space → Choice → Space
 space_after g role s c = space_on g role s c (outcome g s c)
 
 -- the call of a node with these references
+-- (sort 0 where its name is not valid, which does not come of a call that may be made)
 abbrev pub call_of : Grammar → Node → List Ref → Call
 call_of g n rs = record { node = n; sort = unwrap_or (sort_of g n) 0; inherited = rs }
 

@@ -1,5 +1,5 @@
 //! What one role holds of a case.
-ghost use Rattle.std.specs.Prelude.{◌≡◌, ◌+◌, ◌≤◌, ◌∷◌, [], None, true, false, IfOk, OnOk, OnErr, map as list_map, option_map};
+ghost use Rattle.std.specs.Prelude.{◌≡◌, ◌+◌, ◌≤◌, ◌∷◌, [], None, true, false, IfOk, OnOk, OnErr, map as list_map};
 ghost use Rattle.std.specs.Option.{option_copied};
 ghost use Rattle.aw_choice.specs.ChoiceView.{answer_of, choice_of, item_of};
 ghost use Rattle.aw_term.specs.Choices.{Taken, answer_of as plain_answer};
@@ -48,7 +48,7 @@ impl<'g, F: Facts> Space<'g, F> {
     ghost use Rattle.aw_space.specs.Costs.{rules_of, waiting_on, choice_cost, taking_cost};
     ghost use Rattle.aw_space.specs.Keeping.{KeepsFacts, KeepsNodes, KeepsNodesBut};
     ghost use Rattle.aw_space.specs.Outcomes.{IsMade, IsOutcome};
-    ghost use Rattle.aw_space.specs.Placings.{MayBeCalled, MayBeCalledIf, MayBeLearnt, Places, placed_call};
+    ghost use Rattle.aw_space.specs.Placings.{MayBeCalled, MayBeCalledIf, MayBeLearnt, Places, called_by};
     ghost use Rattle.aw_space.specs.Seen.{grammar_in, space_seen, IsUnchanged};
 
     /// A space of a role that holds nothing, over a store without equations.
@@ -249,16 +249,16 @@ impl<'g, F: Facts> Space<'g, F> {
         steps: &mut Steps<L>,
     ) -> Result<(), AllocError>
         requires grammar { g.now.grammar ≡ self.old.accepted.now.grammar }
-        requires call { MayBeCalledIf (grammar_of g.now.grammar) self.old.role (option_map (placed_call (grammar_of g.now.grammar)) (option_copied call)) }
+        requires call { MayBeCalledIf (grammar_of g.now.grammar) self.old.role (called_by (grammar_of g.now.grammar) (option_copied call)) }
         requires ok { MayBeLearnt (grammar_of g.now.grammar) self.old.role (list_map equation_of es.now) }
-        requires free { clash_with (option_map (placed_call (grammar_of g.now.grammar)) (option_copied call)) (list_map equation_of es.now) (space_seen ⟦<F as Facts>⟧ self.old) ≡ None }
+        requires free { clash_with (called_by (grammar_of g.now.grammar) (option_copied call)) (list_map equation_of es.now) (space_seen ⟦<F as Facts>⟧ self.old) ≡ None }
         ensures grammar { self.new.accepted.now.grammar ≡ self.old.accepted.now.grammar }
         ensures role { self.new.role ≡ self.old.role }
-        ensures space { OnOk result (space_seen ⟦<F as Facts>⟧ self.new ≡ taken_in (option_map (placed_call (grammar_of g.now.grammar)) (option_copied call.entry)) (list_map equation_of es.now) (space_seen ⟦<F as Facts>⟧ self.old)) }
+        ensures space { OnOk result (space_seen ⟦<F as Facts>⟧ self.new ≡ taken_in (called_by (grammar_of g.now.grammar) (option_copied call.entry)) (list_map equation_of es.now) (space_seen ⟦<F as Facts>⟧ self.old)) }
         ensures err { OnErr result (IsUnchanged ⟦<F as Facts>⟧ self.old self.new) }
         ensures facts { KeepsFacts (F.map self.old.facts) (F.map self.new.facts) }
         ensures nodes { KeepsNodes (space_seen ⟦<F as Facts>⟧ self.old).held (space_seen ⟦<F as Facts>⟧ self.new).held }
-        ensures steps { steps.new ≤ steps.old + taking_cost (grammar_of g.now.grammar) (option_map (placed_call (grammar_of g.now.grammar)) (option_copied call.entry)) (list_map equation_of es.now) (space_seen ⟦<F as Facts>⟧ self.old) }
+        ensures steps { steps.new ≤ steps.old + taking_cost (grammar_of g.now.grammar) (called_by (grammar_of g.now.grammar) (option_copied call.entry)) (list_map equation_of es.now) (space_seen ⟦<F as Facts>⟧ self.old) }
     {
         take_in(
             g.grammar(),

@@ -10,6 +10,7 @@ pub data Chased : Type 0 where
   Missing : (at : Ref) → Chased
   Round : Chased
 
+-- what the chase from a reference comes to, where this is its body, or it has no equation, and `go` chases on
 abbrev pub chase_on : (Ref → Chased) → Ref → Option Body → Chased
 chase_on go r None = Missing r
 chase_on go r (Some (Is h rs)) = Found h rs
@@ -29,6 +30,7 @@ pub data End : Type 0 where
   At_body : (head : Head) → (parts : List Ref) → End
   At_missing : (at : Ref) → End
 
+-- an end as what a chase comes to
 abbrev pub as_chased : End → Chased
 as_chased (At_body h rs) = Found h rs
 as_chased (At_missing r) = Missing r

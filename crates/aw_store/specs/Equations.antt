@@ -9,10 +9,12 @@ pub data Body : Type 0 where
   Same : (to : Ref) → Body
   Is : (head : Head) → (parts : List Ref) → Body
 
+-- what one reference stands for
 pub record Equation : Type 0 where
   pub left : Ref
   pub body : Body
 
+-- equations, read as a finite map from references to bodies
 abbrev pub Map : Type 0
 Map = List Equation
 

@@ -5,10 +5,12 @@ use Rattle.aw_term.specs.Names.{Ref}
 use Rattle.aw_store.specs.Refs.{ref_eq}
 use Rattle.aw_store.specs.Equations.{Body, Is, Equation, Map, find, mentions}
 
+-- the reference is among the names
 abbrev pub is_named : List Ref → Ref → Bool
 is_named [] r = false
 is_named (n ∷ names) r = ref_eq r n || is_named names r
 
+-- each of these references is among the names
 abbrev pub all_named : List Ref → List Ref → Bool
 all_named names [] = true
 all_named names (r ∷ rs) = is_named names r && all_named names rs
@@ -17,6 +19,7 @@ all_named names (r ∷ rs) = is_named names r && all_named names rs
 abbrev pub has_names_of : List Ref → Equation → Bool
 has_names_of names e = is_named names e.left && all_named names (mentions e.body)
 
+-- in each of these equations the left side is named, and each reference in the body
 abbrev pub has_names : List Ref → Map → Bool
 has_names names [] = true
 has_names names (e ∷ es) = has_names_of names e && has_names names es
@@ -50,6 +53,7 @@ abbrev pub con_parts : Option Body → List Ref
 con_parts (Some (Is (Con c) parts)) = parts
 con_parts _ = []
 
+-- the parts of the constructor at a slot; none where no constructor is there
 abbrev pub parts_at : Map → List Ref → ℕ → List Ref
 parts_at k names slot = con_parts (body_at k names slot)
 
@@ -58,5 +62,6 @@ abbrev pub as_text : Option Body → Option (List ℕ)
 as_text (Some (Is (Text t) parts)) = Some t
 as_text _ = None
 
+-- the text at a slot, where its reference stands for one
 abbrev pub text_at : Map → List Ref → ℕ → Option (List ℕ)
 text_at k names slot = as_text (body_at k names slot)

@@ -36,6 +36,7 @@ IsAddable k e = (find k e.left ≡ None) ⊎ (find k e.left ≡ Some e.body)
 abbrev pub has_few : P.Equation → Bool
 has_few e = nat_le (length (mentions e.body)) 8
 
+-- each of these equations has at most 8 references in its body
 abbrev pub all_few : Map → Bool
 all_few [] = true
 all_few (e ∷ es) = has_few e && all_few es

@@ -20,11 +20,13 @@ abbrev pub unfold_all : (Ref → Option (Tree Ref)) → List Ref → Option (Tre
 unfold_all f [] = Some Nil
 unfold_all f (r ∷ rs) = option_and_then (λ t. option_map (More t) (unfold_all f rs)) (f r)
 
+-- the value of a reference, where this is its body, or it has no equation, and `go` unfolds what the body names
 abbrev pub unfold_on : (Ref → Option (Tree Ref)) → Ref → Option Body → Option (Tree Ref)
 unfold_on go r None = Some (Leaf r)
 unfold_on go r (Some (Same s)) = go s
 unfold_on go r (Some (Is h rs)) = option_map (Made h) (unfold_all go rs)
 
+-- the value of a reference, where at most n references stand one behind the other on the way down to any part of it
 abbrev pub unfold_in : ℕ → Map → Ref → Option (Tree Ref)
 unfold_in zero k r = None
 unfold_in (suc n) k r = unfold_on (unfold_in n k) r (find k r)

@@ -9,6 +9,7 @@ use Rattle.aw_term.specs.Configs.{State, Pending, Done, Row, Config}
 use Rattle.aw_term.specs.Choices.{Answer, Known, NotHere, Developed, NotItsRule, Arguments, WaitsFor, Mismatch, CircleAt, TooDeep, Taken}
 
 -- the names that a specification declares, each list in its order
+-- (in the texts below a number without a name here is written as nothing, which does not come of a well-formed grammar and valid nodes)
 pub record Words : Type 0 where
   pub roles : List (List ℕ)
   pub cons : List (List ℕ)
@@ -29,6 +30,7 @@ listed ts = joined (codes ", ") ts
 abbrev pub step_text : Words → Step → List ℕ
 step_text w s = codes "/" ++ (get [] w.rules s.rule ++ (codes "." ++ decimal s.child))
 
+-- the texts of some steps, one behind the other
 abbrev pub steps_text : Words → List Step → List ℕ
 steps_text w [] = []
 steps_text w (s ∷ ss) = step_text w s ++ steps_text w ss
@@ -37,6 +39,7 @@ steps_text w (s ∷ ss) = step_text w s ++ steps_text w ss
 abbrev pub node_text : Words → Node → List ℕ
 node_text w n = get [] w.sorts n.start ++ (codes "#" ++ (decimal n.case ++ steps_text w n.steps))
 
+-- `:r1`, `:p2`
 abbrev pub slot_text : Slot → List ℕ
 slot_text (Result j) = codes ":r" ++ decimal j
 slot_text (Part k) = codes ":p" ++ decimal k
@@ -45,6 +48,7 @@ slot_text (Part k) = codes ":p" ++ decimal k
 abbrev pub ref_text : Words → Ref → List ℕ
 ref_text w r = node_text w r.node ++ slot_text r.slot
 
+-- a constructor by its name, a number in digits, a text between quotes
 abbrev pub head_text : Words → Head → List ℕ
 head_text w (Con c) = get [] w.cons c
 head_text w (Num n) = decimal n
@@ -112,6 +116,7 @@ pub record Item : Type 0 where
   pub rule : ℕ
   pub refusal : Option (Answer Ref)
 
+-- `ready`, or the text of the answer that a choice would have
 abbrev pub standing_text : Words → Option (Answer Ref) → List ℕ
 standing_text w None = codes "ready"
 standing_text w (Some a) = answer_text w a

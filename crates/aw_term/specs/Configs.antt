@@ -5,6 +5,7 @@ use Rattle.aw_term.specs.Names.{Node, Ref, Slot, Result, Part, node_eq, below, r
 use Rattle.aw_term.specs.ByNode.{insert_by, insert_all_by, find_by}
 use Rattle.aw_term.specs.Rules.{Term, Ground, Value, Child, Rule, get, nth, upto}
 
+-- no rule was taken yet, or this rule with these arguments
 pub data State : Type 0 where
   Pending : State
   Done : (rule : ℕ) → (args : List Ground) → State
@@ -17,6 +18,7 @@ pub record Row : Type 0 where
   pub results : List Value
   pub state : State
 
+-- a configuration: the rows of all nodes, in the order of nodes
 abbrev pub Config : Type 0
 Config = List Row
 
@@ -68,6 +70,8 @@ row_of n c = find_by (λ (q : Row). q.node) n c
 abbrev pub done_row : Node → State → Row → Row
 done_row n s q = if node_eq n q.node then record q { state = s } else q
 
+-- what stands for a value of a node that has these results: result j is the j-th of them. A part, or a j past the last, does not come: a hole of
+-- a configuration is one of the results of its node.
 abbrev pub result_at : List Value → Ref → Slot → Value
 result_at results h (Result j) = nth nothing results j
 result_at results h (Part k) = Leaf h
@@ -80,6 +84,7 @@ put n results h = if node_eq n h.node then result_at results h h.slot else Leaf 
 abbrev pub row_put : (Ref → Value) → Row → Row
 row_put f q = record q { inherited = map (bind f) q.inherited; results = map (bind f) q.results }
 
+-- what comes of x after this many rounds of f
 abbrev pub rounds : {A : Type 0} → ℕ → (A → A) → A → A
 rounds zero f x = x
 rounds (suc m) f x = rounds m f (f x)

@@ -6,6 +6,7 @@ pub use Rattle.aw_name.specs.declared.node.Slot.{Slot}
 pub use Rattle.aw_name.specs.declared.node.Slot.TheVariants.{Result, Part}
 pub use Rattle.aw_name.specs.declared.node.Ref.{Ref}
 
+-- whether the steps of two nodes are the same
 abbrev pub steps_eq : List Step → List Step → Bool
 steps_eq [] [] = true
 steps_eq (a ∷ xs) (b ∷ ys) = nat_eq a.rule b.rule && (nat_eq a.child b.child && steps_eq xs ys)
@@ -15,6 +16,7 @@ steps_eq _ _ = false
 abbrev pub node_eq : Node → Node → Bool
 node_eq a b = nat_eq a.start b.start && (nat_eq a.case b.case && steps_eq a.steps b.steps)
 
+-- whether steps come before others: at the first that differs by rule and then by child, a proper prefix first
 abbrev pub steps_lt : List Step → List Step → Bool
 steps_lt [] [] = false
 steps_lt [] (b ∷ ys) = true

@@ -30,12 +30,14 @@ pub record Rule : Type 0 where
   pub results : List Term
   pub children : List Child
 
+-- a sort of tasks: its role, how many inherited values it takes and results it gives, and whether cases start with it
 pub record Sort : Type 0 where
   pub role : ℕ
   pub takes : ℕ
   pub gives : ℕ
   pub start : Bool
 
+-- a specification by numbers: how many roles there are, how many parts each constructor has, the sorts and the rules
 pub record Grammar : Type 0 where
   pub roles : ℕ
   pub arities : List ℕ
@@ -96,6 +98,7 @@ last_step (step ∷ next ∷ steps) = last_step (next ∷ steps)
 abbrev pub sort_at : Grammar → Node → ℕ
 sort_at g n = unwrap_or (option_map (sort_of_child g) (last_step n.steps)) n.start
 
+-- the role of a sort, or 0 where there is no such sort
 abbrev pub role_or_0 : Option Sort → ℕ
 role_or_0 None = 0
 role_or_0 (Some s) = s.role

@@ -50,6 +50,7 @@ abbrev mutual
   Ins x Nil = Never
   Ins x (More t ts) = In x t ⊎ Ins x ts
 
+-- whether two texts have the same bytes
 abbrev pub nats_eq : List ℕ → List ℕ → Bool
 nats_eq [] [] = true
 nats_eq (x ∷ xs) (y ∷ ys) = nat_eq x y && nats_eq xs ys

@@ -12,10 +12,12 @@ use Rattle.aw_term.specs.declared.term.Expr as expr
 use Rattle.aw_term.specs.declared.ground.Ground.{Ground, Row_of-Ground, end_of-Ground, more_of-Ground}
 use Rattle.aw_term.specs.declared.ground.Ground as grounds
 
+-- a literal of the program: a number or a text
 abbrev pub head_of : Lit → P.Head
 head_of (lit.Num n) = P.Num n
 head_of (lit.Text t) = P.Text t
 
+-- a pattern of the program as a term, and a row of patterns as the parts of one
 abbrev mutual
   pub pattern_of : Pattern → R.Term
   pattern_of (pattern.Var x) = Leaf x
@@ -26,6 +28,7 @@ abbrev mutual
   pattern_row end_of-Pattern = Nil
   pattern_row (more_of-Pattern p rest) = More (pattern_of p) (pattern_row rest)
 
+-- an expression of the program as a term, and a row of expressions as the parts of one
 abbrev mutual
   pub term_of : Expr → R.Term
   term_of (expr.Var x) = Leaf x
@@ -36,6 +39,7 @@ abbrev mutual
   term_row end_of-Expr = Nil
   term_row (more_of-Expr p rest) = More (term_of p) (term_row rest)
 
+-- an argument of the program as a tree without leaves, and a row of arguments as the parts of one
 abbrev mutual
   pub ground_of : Ground → R.Ground
   ground_of (grounds.Num n) = Made (P.Num n) Nil

@@ -45,6 +45,7 @@ abbrev mutual
   all_symbols Nil = 0
   all_symbols (More t ts) = symbols t + all_symbols ts
 
+-- how many symbols stand in some trees together
 abbrev pub symbols_of : {A : Type 0} → List (Tree A) → ℕ
 symbols_of [] = 0
 symbols_of (t ∷ ts) = symbols t + symbols_of ts
@@ -84,6 +85,7 @@ pub record TermFits {A : Type 0} (arities : List ℕ) (t : Tree A) : Type 0 wher
   pub heads : heads_fit arities t ≡ true
   pub depth : nesting t ≤ 32
 
+-- how many inherited values a sort takes; 0 where no such sort is declared, which a well-formed grammar excludes by `declared`
 abbrev pub takes_of : Option Sort → ℕ
 takes_of None = 0
 takes_of (Some s) = s.takes
@@ -96,10 +98,12 @@ pub record ChildFits (g : Grammar) (variables : ℕ) (c : Child) : Type 0 where
   pub terms : Each (TermFits g.arities) c.args
   pub enter : Each (λ v. v < variables) (leaves_of c.args)
 
+-- how many results some subtasks give together
 abbrev pub outs_of : List Child → ℕ
 outs_of [] = 0
 outs_of (c ∷ cs) = c.outs + outs_of cs
 
+-- how many symbols stand in the arguments of some subtasks together
 abbrev pub child_symbols : List Child → ℕ
 child_symbols [] = 0
 child_symbols (c ∷ cs) = symbols_of c.args + child_symbols cs
@@ -108,6 +112,8 @@ child_symbols (c ∷ cs) = symbols_of c.args + child_symbols cs
 abbrev pub variables : Rule → ℕ
 variables r = length (leaves_of r.patterns) + r.params + outs_of r.children
 
+-- A rule has the patterns and the results that its sort says, its numbers of things are within the limits, and all that it writes fits. Each variable
+-- that it uses enters, and those of its patterns are numbered as they stand.
 pub record RuleFits (g : Grammar) (r : Rule) : Type 0 where
   pub declared : r.sort < length g.sorts
   pub takes : length r.patterns ≡ takes_of (slice_get g.sorts r.sort)

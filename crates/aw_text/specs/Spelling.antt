@@ -4,15 +4,19 @@ use Rattle.std.specs.List.{list_all, slice_split}
 
 -- Names: a letter from a to z, and then letters, digits and '_'; at most 64 bytes.
 
+-- a letter from a to z
 abbrev pub is_letter : ℕ → Bool
 is_letter b = nat_le 97 b && nat_le b 122
 
+-- a digit from 0 to 9
 abbrev pub is_digit : ℕ → Bool
 is_digit b = nat_le 48 b && nat_le b 57
 
+-- what may follow the first letter of a name
 abbrev pub is_name_byte : ℕ → Bool
 is_name_byte b = (is_letter b || is_digit b) || b == 95
 
+-- whether the bytes are a name
 abbrev pub is_name : List ℕ → Bool
 is_name [] = false
 is_name (b ∷ bs) = nat_le (length (b ∷ bs)) 64 && (is_letter b && list_all is_name_byte bs)
@@ -24,14 +28,17 @@ abbrev pub value_after : ℕ → List ℕ → ℕ
 value_after n [] = n
 value_after n (d ∷ ds) = value_after (n * 10 + (d - 48)) ds
 
+-- digits alone, with no zero in front of others
 abbrev pub is_numeral : List ℕ → Bool
 is_numeral [] = false
 is_numeral (d ∷ []) = is_digit d
 is_numeral (d ∷ e ∷ ds) = not (d == 48) && list_all is_digit (d ∷ e ∷ ds)
 
+-- the number, where it is below 2 ^ 64
 abbrev pub if_word : ℕ → Option ℕ
 if_word n = if nat_lt n (2 ^ 64) then Some n else None
 
+-- the number that the bytes write, where they are one
 abbrev pub number_of : List ℕ → Option ℕ
 number_of bs = if is_numeral bs then if_word (value_after 0 bs) else None
 
@@ -42,6 +49,7 @@ number_of bs = if is_numeral bs then if_word (value_after 0 bs) else None
 abbrev pub is_content_byte : ℕ → Bool
 is_content_byte b = b == 10 || (nat_le 32 b && not (b == 127))
 
+-- whether the bytes are a content: at most 1,024 of them, each a byte of a content
 abbrev pub is_content : List ℕ → Bool
 is_content bs = nat_le (length bs) 1024 && list_all is_content_byte bs
 
@@ -49,6 +57,7 @@ is_content bs = nat_le (length bs) 1024 && list_all is_content_byte bs
 abbrev pub spelled : ℕ → List ℕ
 spelled b = if b == 34 then 92 ∷ 34 ∷ [] else if b == 92 then 92 ∷ 92 ∷ [] else if b == 10 then 92 ∷ 110 ∷ [] else b ∷ []
 
+-- the text with this content
 abbrev pub quoted : List ℕ → List ℕ
 quoted content = 34 ∷ (flat_map spelled content ++ 34 ∷ [])
 
@@ -108,6 +117,7 @@ child_of (d ∷ e ∷ ds) = None
 abbrev pub step_of : List ℕ → Option (List ℕ × ℕ)
 step_of part = option_and_then (λ halves. if is_name halves.0 then option_map (λ child. (halves.0, child)) (child_of halves.1) else None) (cut 46 part)
 
+-- the rules and children of all these parts, where each part is a step
 abbrev pub steps_of : List (List ℕ) → Option (List (List ℕ × ℕ))
 steps_of [] = Some []
 steps_of (part ∷ parts) = option_and_then (λ step. option_map (λ steps. step ∷ steps) (steps_of parts)) (step_of part)
@@ -126,9 +136,11 @@ abbrev pub name_from : List (List ℕ) → Option (List ℕ × ℕ × List (List
 name_from [] = None
 name_from (part ∷ steps) = option_and_then (λ start. option_map (λ trail. (start.0, start.1, trail)) (steps_of steps)) (start_of part)
 
+-- start sort, case and steps of a node name, where the bytes are one
 abbrev pub parts_of_name : List ℕ → Option (List ℕ × ℕ × List (List ℕ × ℕ))
 parts_of_name bs = name_from (parts bs)
 
+-- whether the bytes are a node name
 abbrev pub node_name : List ℕ → Bool
 node_name bs = is_some (parts_of_name bs)
 
@@ -136,6 +148,7 @@ node_name bs = is_some (parts_of_name bs)
 abbrev pub is_step : List ℕ × ℕ → Bool
 is_step step = is_name step.0 && (nat_le 1 step.1 && nat_le step.1 8)
 
+-- a start sort that is a name, a case below 2 ^ 64, and steps that each have a spelling
 abbrev pub has_spelling : List ℕ × ℕ × List (List ℕ × ℕ) → Bool
 has_spelling name = is_name name.0 && (nat_lt name.1 (2 ^ 64) && list_all is_step name.2)
 
@@ -144,5 +157,6 @@ abbrev pub spelled_steps : List (List ℕ × ℕ) → List ℕ
 spelled_steps [] = []
 spelled_steps (step ∷ steps) = 47 ∷ (step.0 ++ (46 ∷ (48 + step.1) ∷ spelled_steps steps))
 
+-- the node name with this start sort, this case and these steps
 abbrev pub spelled_name : List ℕ × ℕ × List (List ℕ × ℕ) → List ℕ
 spelled_name name = name.0 ++ (35 ∷ (decimal name.1 ++ spelled_steps name.2))

@@ -1,11 +1,11 @@
 //! Names, numbers, quoted texts and node names as bytes: `specs/Spelling.antt` says how each is spelled.
 #![tactic(auto)]
 
-pub mod cut;
-pub mod name;
-pub mod node_name;
-pub mod number;
-pub mod quote;
+mod cut;
+mod name;
+mod node_name;
+mod number;
+mod quote;
 
 pub use cut::cut_at;
 pub use name::{content_ok, name_ok};

@@ -3,9 +3,11 @@ use Rattle.std.specs.Prelude.{ℕ, Bool, false, ◌&&◌, Option, None, Some, sl
 use Rattle.aw_iograph.specs.declared.io.Io.{Io}
 use Rattle.aw_iograph.specs.Pairs.{mark_of}
 
+-- from 1 to 8, as inherited values and results are numbered
 abbrev pub is_number : ℕ → Bool
 is_number i = nat_lt 0 i && nat_le i 8
 
+-- there is such a mark, and it is set
 abbrev pub is_set : Option Bool → Bool
 is_set None = false
 is_set (Some mark) = mark

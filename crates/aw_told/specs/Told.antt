@@ -41,6 +41,7 @@ IsDependence g depends = (s i j : ℕ) → IsTrue (depends s i j) ↔ IO g s i j
 abbrev pub TellsAccepted : Words → Grammar → List ℕ → Type 0
 TellsAccepted w g text = (depends : ℕ → ℕ → ℕ → Bool) × IsDependence g depends × (text ≡ accepted_text depends w g)
 
+-- `out` for a result, `in` for an inherited value
 abbrev pub side_text : Bool → List ℕ
 side_text is_result = if is_result then codes "out" else codes "in"
 

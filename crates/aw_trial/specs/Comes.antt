@@ -35,5 +35,6 @@ AddsOne t u = (n : ℕ) → AreUpTo n t → AreUpTo (suc n) u
 abbrev pub plain_of : {W : Type 0} {f : Ghosts W} → World W f → Grammar
 plain_of w = grammar_of w.accepted.now.grammar
 
+-- the names that the grammar of a world declares
 abbrev pub named_by : {W : Type 0} {f : Ghosts W} → World W f → Words
 named_by w = words_of w.accepted.now.grammar

@@ -1,8 +1,9 @@
 -- What is counted of a trial.
-use Rattle.std.specs.Prelude.{ℕ, false, [], length}
+use Rattle.std.specs.Prelude.{ℕ, false, List, [], length}
 use Rattle.aw_term.specs.Rules.{Grammar}
 use Rattle.aw_term.specs.Configs.{Config}
 use Rattle.aw_term.specs.Choices.{undivided, or_same}
+use Rattle.aw_choice.specs.Events.{Event}
 use Rattle.aw_term.specs.Artifacts.{Words, artifact_text}
 use Rattle.aw_react.specs.Worlds.{World, empty_world}
 use Rattle.aw_react.specs.Bounds.{settled}
@@ -38,6 +39,10 @@ counted w g t v = record {
 -- the counts after so many turns and a settling
 abbrev pub counted_after : Words → Grammar → State → Summary
 counted_after w g s = counted w g s.tally (settled g s.world)
+
+-- the counts after so many turns more in a world, where these events led to it
+abbrev pub counted_from : Words → Grammar → ℕ → Tally → World → List Event → Summary
+counted_from w g count t v es = counted_after w g (turns count g (record { world = v; tally = t; events = es }))
 
 -- so many turns in the world of a grammar, drawn from n, and everything settled
 abbrev pub trial_in : Words → Grammar → ℕ → ℕ → Summary

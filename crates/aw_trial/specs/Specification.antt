@@ -119,6 +119,7 @@ split_rule = record {
       ∷ [];
 }
 
+-- all rules, in the order in which they are declared
 abbrev pub trial_rules : List WrittenRule
 trial_rules = begin_rule ∷ measure_rule ∷ refer_rule ∷ write_rule ∷ file_rule ∷ hold_rule ∷ split_rule ∷ []
 
@@ -136,6 +137,7 @@ trial_placed =
     roles_placed 0 trial_roles
     ++ (cons_placed 0 trial_cons ++ (sorts_placed 0 trial_sorts ++ (starts_placed 0 trial_starts ++ placed (λ n. place.Rule n) (λ r. Rule r) 0 trial_rules)))
 
+-- what is declared after all of them
 abbrev pub trial_declarations : Declarations
 trial_declarations = declare_all no_declarations trial_placed
 
@@ -143,5 +145,6 @@ trial_declarations = declare_all no_declarations trial_placed
 abbrev pub trial_grammar : Grammar
 trial_grammar = grammar_in trial_declarations
 
+-- the names that they declare
 abbrev pub trial_words : Words
 trial_words = words_in trial_declarations

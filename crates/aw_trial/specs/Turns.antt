@@ -57,13 +57,16 @@ start_case g s = record {
 abbrev pub counts_choice : Tally → Reply → Tally
 counts_choice t r = record t { choices = suc t.choices; taken = t.taken + one_if (replies_taken r) }
 
+-- how far a trial came once a choice was answered so
 abbrev pub chosen : State → Choice → Stepped → State
 chosen s c x = record { world = x.world; tally = counts_choice s.tally x.reply; events = s.events ++ E.Chooses c ∷ [] }
 
+-- the choice is made, and it is counted
 abbrev pub make_choice : Grammar → Choice → State → State
 make_choice g c s = chosen s c (step g s.world (V.Chooses c))
 
 -- how many parameters a rule has
+-- (0 where there is no such rule, which is not drawn)
 abbrev pub params_of : Option Rule → ℕ
 params_of None = 0
 params_of (Some r) = r.params
@@ -112,6 +115,7 @@ choose_some g s = among_nodes g (open_nodes (gather s.world.sites)) s
 abbrev pub counts_delivery : Tally → Reply → Tally
 counts_delivery t r = record t { repeats = t.repeats + one_if (replies_again r) }
 
+-- how far a trial came once message k, which was drawn, was delivered and answered so
 abbrev pub delivered : State → ℕ → Stepped → State
 delivered s k x = record { world = x.world; tally = counts_delivery (drew s.tally) x.reply; events = s.events ++ E.Delivers k ∷ [] }
 
@@ -129,6 +133,7 @@ deliver_some g s = among_messages g (length s.world.messages) s
 abbrev pub turn_on : Grammar → ℕ → State → State
 turn_on g d s = if nat_eq d 0 then start_case g s else if nat_le d 3 then choose_some g s else deliver_some g s
 
+-- a number below 8 is drawn, and what it says is done
 abbrev pub turn : Grammar → State → State
 turn g s = turn_on g (next_below 8 s.tally) (record s { tally = drew s.tally })
 

@@ -7,8 +7,7 @@ ghost use Rattle.aw_grammar.specs.GrammarOf.{grammar_of, words_of};
 ghost use Rattle.aw_react.specs.Worlds as V;
 ghost use Rattle.aw_world.specs.Shown.{Shows, first_open};
 ghost use Rattle.aw_trial.specs.Comes.{plain_of, named_by, AreUpTo};
-ghost use Rattle.aw_trial.specs.Counts.{counted, counted_after, trial_in, trial};
-ghost use Rattle.aw_trial.specs.Turns.{turns};
+ghost use Rattle.aw_trial.specs.Counts.{counted, counted_from, trial_in, trial};
 ghost use Rattle.aw_trial.specs.Told.{CountsLines, Tells};
 
 use crate::making::trial_accepted;
@@ -55,7 +54,7 @@ fn count_all<W: Workspace>(world: &World<W>, tally: &Tally) -> Result<Summary, P
 fn run_trial<W: Workspace>(world: &mut World<W>, tally: &mut Tally) -> Result<Summary, PrintFault>
     requires start { is_start (slice_get (plain_of world.old).sorts 0) ≡ true }
     requires new { AreUpTo 0 tally.old }
-    ensures { (v : V.World) (es : List Event) → Shows ⟦<W as Workspace>⟧ world.old v → Tells (counted_after (named_by world.old) (plain_of world.old) (turns 2000 (plain_of world.old) (record { world = v; tally = tally.old; events = es }))) result }
+    ensures { (v : V.World) (es : List Event) → Shows ⟦<W as Workspace>⟧ world.old v → Tells (counted_from (named_by world.old) (plain_of world.old) 2000 tally.old v es) result }
 {
     turns(world, tally, TURNS)?;
     settle(world)?;

@@ -9,6 +9,7 @@ use Rattle.aw_term.specs.Rules.{Term, Child, Rule, Sort, Grammar}
 abbrev con1 : {A : Type 0} → ℕ → Tree A → Tree A
 con1 c a = Made (Con c) (More a Nil)
 
+-- a constructor with two parts
 abbrev con2 : {A : Type 0} → ℕ → Tree A → Tree A → Tree A
 con2 c a b = Made (Con c) (More a (More b Nil))
 
@@ -16,6 +17,7 @@ con2 c a b = Made (Con c) (More a (More b Nil))
 abbrev var : ℕ → Term
 var v = Leaf v
 
+-- a sort at a role, with how many values it takes and gives, and whether cases start with it
 abbrev sort : (role takes gives : ℕ) → Bool → Sort
 sort role takes gives start = record { role = role; takes = takes; gives = gives; start = start }
 

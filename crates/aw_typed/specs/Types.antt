@@ -37,6 +37,7 @@ abbrev pub takes_in : Option Carry → List ℕ
 takes_in None = []
 takes_in (Some k) = k.takes
 
+-- the types that a carry gives; none where it is not declared
 abbrev pub gives_in : Option Carry → List ℕ
 gives_in None = []
 gives_in (Some k) = k.gives

@@ -15,9 +15,11 @@ use Rattle.aw_typed.specs.declared.data.TypeFault.TheVariants.{NoShape, NoCarry,
 abbrev pub shape_of : Shape → T.Shape
 shape_of x = record { parts = x.parts; own = x.own }
 
+-- a carry of the program as the plain one
 abbrev pub carry_of : Carry → T.Carry
 carry_of k = record { takes = k.takes; gives = k.gives }
 
+-- types of the program as the plain ones, with their number for their names
 abbrev pub types_of : Types → T.Types
 types_of t = record { typed = t.typed; names = length t.names; shapes = map (λ o. option_map shape_of o) t.shapes; carries = map (λ o. option_map carry_of o) t.carries }
 

@@ -16,6 +16,7 @@ use Rattle.aw_typed.specs.WellTyped.{hole_has}
 abbrev shape : List ℕ → ℕ → Option Shape
 shape parts own = Some (record { parts = parts; own = own })
 
+-- a carry that is declared
 abbrev carry : List ℕ → List ℕ → Option Carry
 carry takes gives = Some (record { takes = takes; gives = gives })
 
@@ -50,9 +51,11 @@ GapIsTold = type_fault (types_with (shape (1 ∷ 0 ∷ []) 3) None) clinic ≡ S
 abbrev visit : Node
 visit = root 0 1
 
+-- the argument `"Ada"`
 abbrev ada : Ground
 ada = Made (Text (codes "Ada")) Nil
 
+-- the argument n
 abbrev number : ℕ → Ground
 number n = Made (Num n) Nil
 
@@ -60,6 +63,7 @@ number n = Made (Num n) Nil
 abbrev pub ArgumentsFit : Type 0
 ArgumentsFit = (arg_ok types clinic (Develop visit 0 (ada ∷ [])) ≡ true) × (arg_ok types clinic (Develop visit 0 (number 7 ∷ [])) ≡ false) × (arg_ok types clinic (Develop visit 0 []) ≡ true)
 
+-- start visit 1, choose visit#1 admit with the one argument, choose visit#1/admit.1 analyse with the other
 abbrev pub choices_with : Ground → Ground → List Choice
 choices_with who found = Start 0 1 ∷ Develop visit 0 (who ∷ []) ∷ Develop (below visit 0 1) 1 (found ∷ []) ∷ []
 

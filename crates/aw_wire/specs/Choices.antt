@@ -11,6 +11,7 @@ abbrev pub spelled_choice : Choice → List ℕ
 spelled_choice (Start sort case) = 0 ∷ (to_be_bytes w16 sort ++ to_be_bytes w64 case)
 spelled_choice (Develop n rule args) = 1 ∷ (spelled_node n ++ (to_be_bytes w16 rule ++ spelled_grounds args))
 
+-- 0 and a start, or 1 and a rule with its arguments on a node
 unfoldable pub choice : Reader Choice
 choice [] = Err Short
 choice (zero ∷ rest) = seen (λ c. Start c.0 c.1) (both (number w16) (number w64)) rest

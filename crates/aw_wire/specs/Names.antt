@@ -20,6 +20,7 @@ abbrev pub spelled_slot : Slot → List ℕ
 spelled_slot (Result j) = 0 ∷ to_be_bytes w16 j
 spelled_slot (Part k) = 1 ∷ to_be_bytes w16 k
 
+-- the node, and then the slot
 abbrev pub spelled_ref : Ref → List ℕ
 spelled_ref r = spelled_node r.node ++ spelled_slot r.slot
 
@@ -33,11 +34,13 @@ spelled_refs rs = length rs ∷ flat_map spelled_ref rs
 abbrev pub is_from_1_to : ℕ → ℕ → Bool
 is_from_1_to most n = nat_le 1 n && nat_le n most
 
+-- from 0 to most
 abbrev pub is_at_most : ℕ → ℕ → Bool
 is_at_most most n = nat_le n most
 
 -- ---- reading
 
+-- the rule, and a child from 1 to 8
 unfoldable pub step : Reader Step
 step = seen (λ s. record { rule = s.0; child = s.1 }) (both (number w16) (such_that (is_from_1_to 8) byte))
 
@@ -45,15 +48,18 @@ step = seen (λ s. record { rule = s.0; child = s.1 }) (both (number w16) (such_
 unfoldable pub trail : Reader (List Step)
 trail = counted (such_that (is_at_most 250) byte) step
 
+-- the start sort, the case and the steps
 unfoldable pub node : Reader Node
 node = seen (λ n. record { start = n.0; case = n.1.0; steps = n.1.1 }) (both (number w16) (both (number w64) trail))
 
+-- 0 and a result from 1 to 8, or 1 and a part from 1 to 512
 unfoldable pub slot : Reader Slot
 slot [] = Err Short
 slot (zero ∷ rest) = seen Result (such_that (is_from_1_to 8) (number w16)) rest
 slot (suc zero ∷ rest) = seen Part (such_that (is_from_1_to 512) (number w16)) rest
 slot (suc (suc b) ∷ rest) = Err (Bad (suc (length rest)))
 
+-- the node, and then the slot
 unfoldable pub reference : Reader Ref
 reference = seen (λ r. record { node = r.0; slot = r.1 }) (both node slot)
 

@@ -11,6 +11,7 @@ pub data Fault : Type 0 where
   Short : Fault
   Bad : (at : ℕ) → Fault
 
+-- what was read at the front of these bytes, with how many of them it has in place of those behind it, or with the place of the fault
 abbrev pub placed : {A : Type 0} → List ℕ → Result (A × List ℕ) reading.Fault → Result (A × ℕ) Fault
 placed bytes (Ok x) = Ok (x.0, length bytes - length x.1)
 placed bytes (Err reading.Short) = Err Short
@@ -23,6 +24,7 @@ Decodes view (Err told.Short) read = read ≡ Err Short
 Decodes view (Err (told.Bad at)) read = read ≡ Err (Bad at)
 Decodes view (Err told.NoMemory) read = Unit {0}
 
+-- a fault of reading so many bytes, as it is told: with its place from their front
 abbrev pub placed_fault : ℕ → Unread → MsgFault
 placed_fault whole unread.Short = told.Short
 placed_fault whole (unread.Bad left) = told.Bad (whole - left)

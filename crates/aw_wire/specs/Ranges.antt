@@ -13,12 +13,15 @@ use Rattle.aw_term.specs.WellFormed.{Each, symbols_of, nesting}
 abbrev pub From1To : ℕ → ℕ → Type 0
 From1To most n = (1 ≤ n) × (n ≤ most)
 
+-- the rule of a step has two bytes, and its child one
 abbrev pub StepSized : Step → Type 0
 StepSized s = (s.rule < 2 ^ 16) × (s.child < 2 ^ 8)
 
+-- its child is from 1 to 8
 abbrev pub StepInRange : Step → Type 0
 StepInRange s = From1To 8 s.child
 
+-- the start sort of a node has two bytes, its case eight, and its steps have their sizes
 abbrev pub NodeSized : Node → Type 0
 NodeSized n = (n.start < 2 ^ 16) × (n.case < 2 ^ 64) × Each StepSized n.steps
 
@@ -26,20 +29,25 @@ NodeSized n = (n.start < 2 ^ 16) × (n.case < 2 ^ 64) × Each StepSized n.steps
 abbrev pub NodeInRange : Node → Type 0
 NodeInRange n = (length n.steps ≤ 250) × Each StepInRange n.steps
 
+-- the number of a slot has two bytes
 abbrev pub SlotSized : Slot → Type 0
 SlotSized (Result j) = j < 2 ^ 16
 SlotSized (Part k) = k < 2 ^ 16
 
+-- a result is from 1 to 8, and a part from 1 to 512
 abbrev pub SlotInRange : Slot → Type 0
 SlotInRange (Result j) = From1To 8 j
 SlotInRange (Part k) = From1To 512 k
 
+-- the numbers of a reference have their sizes
 abbrev pub RefSized : Ref → Type 0
 RefSized r = NodeSized r.node × SlotSized r.slot
 
+-- the node of a reference is in range, and so is its slot
 abbrev pub RefInRange : Ref → Type 0
 RefInRange r = NodeInRange r.node × SlotInRange r.slot
 
+-- the numbers of these references have their sizes
 abbrev pub RefsSized : List Ref → Type 0
 RefsSized rs = Each RefSized rs
 
@@ -49,6 +57,7 @@ RefsInRange rs = (length rs ≤ 8) × Each RefInRange rs
 
 -- ---- texts and arguments
 
+-- each number of a text is a byte
 abbrev pub TextSized : List ℕ → Type 0
 TextSized t = Each (λ b. b < 2 ^ 8) t
 
@@ -56,6 +65,7 @@ TextSized t = Each (λ b. b < 2 ^ 8) t
 abbrev pub TextInRange : List ℕ → Type 0
 TextInRange t = is_content t ≡ true
 
+-- a constructor has two bytes, a number eight, and each number of a text is a byte
 abbrev pub HeadSized : Head → Type 0
 HeadSized (Con c) = c < 2 ^ 16
 HeadSized (Num n) = n < 2 ^ 64
@@ -67,6 +77,7 @@ HeadInRange (Con c) parts = parts ≤ 8
 HeadInRange (Num n) parts = parts ≡ 0
 HeadInRange (Text t) parts = (parts ≡ 0) × TextInRange t
 
+-- each head of an argument has its size, and so have those of its parts
 abbrev mutual
   pub GroundSized : Ground → Type 0
   GroundSized (Leaf x) = Never
@@ -76,6 +87,7 @@ abbrev mutual
   PartsSized Nil = Unit {0}
   PartsSized (More t ts) = GroundSized t × PartsSized ts
 
+-- each head of an argument is in range with its parts, and so are those of its parts
 abbrev mutual
   pub HeadsInRange : Ground → Type 0
   HeadsInRange (Leaf x) = Never
@@ -89,6 +101,7 @@ abbrev mutual
 abbrev pub GroundInRange : ℕ → Ground → Type 0
 GroundInRange levels t = HeadsInRange t × (nesting t ≤ levels)
 
+-- each head of these arguments has its size
 abbrev pub GroundsSized : List Ground → Type 0
 GroundsSized ts = Each GroundSized ts
 
@@ -98,10 +111,12 @@ GroundsInRange ts = (length ts ≤ 8) × (symbols_of ts ≤ 256) × Each (Ground
 
 -- ---- choices
 
+-- the numbers of a choice have their sizes
 abbrev pub ChoiceSized : Choice → Type 0
 ChoiceSized (Start sort case) = (sort < 2 ^ 16) × (case < 2 ^ 64)
 ChoiceSized (Develop n rule args) = NodeSized n × (rule < 2 ^ 16) × GroundsSized args
 
+-- the node of a choice and its arguments are in range; of a start, nothing more is asked
 abbrev pub ChoiceInRange : Choice → Type 0
 ChoiceInRange (Start sort case) = Unit {0}
 ChoiceInRange (Develop n rule args) = NodeInRange n × GroundsInRange args

@@ -7,14 +7,17 @@ pub data Fault : Type 0 where
   Short : Fault
   Bad : (left : ℕ) → Fault
 
+-- what reads an A at the front of bytes, with the bytes behind it, or tells the first fault
 abbrev pub Reader : Type 0 → Type 0
 Reader A = List ℕ → Result (A × List ℕ) Fault
 
 infixl 10 ◌>>=◌
+-- the second goes on with what the first read, unless that was a fault
 abbrev pub ◌>>=◌ : {A B : Type 0} → Result A Fault → (A → Result B Fault) → Result B Fault
 (Ok x) >>= f = f x
 (Err e) >>= f = Err e
 
+-- one byte
 abbrev pub byte : Reader ℕ
 byte [] = Err Short
 byte (b ∷ rest) = Ok (b, rest)

@@ -27,9 +27,11 @@ abbrev mutual
   parts_behind Empty = []
   parts_behind (Then t ts) = codes ", " ++ (term_text t ++ parts_behind ts)
 
+-- terms with a comma and a space between each two
 abbrev pub terms_text : List Written → List ℕ
 terms_text ts = parts_text (side_by_side ts)
 
+-- names with a comma and a space between each two
 abbrev pub names_text : List (List ℕ) → List ℕ
 names_text ns = terms_text (as_words ns)
 
@@ -58,6 +60,7 @@ rule_text r =
     codes "rule " ++ (r.name ++ (params_text r.params ++ (codes " : " ++ (r.sort
     ++ (codes "(" ++ (terms_text r.patterns ++ (codes ")<" ++ (terms_text r.results ++ (codes ">" ++ children_text r.children)))))))))
 
+-- a line, without its line feed
 abbrev pub line_text : Line → List ℕ
 line_text (RoleLine name) = codes "role " ++ name
 line_text (ConLine name arity) = codes "con " ++ (name ++ (codes " " ++ decimal arity))

@@ -10,8 +10,8 @@ ghost use Rattle.aw_grammar.specs.GrammarOf.{words_of, entry, declarations_of};
 ghost use Rattle.aw_grammar.specs.GrammarView.{sorts_of, child_of, rule_of};
 ghost use Rattle.aw_grammar.specs.Declarations.{Entry};
 ghost use Rattle.aw_spec.specs.Lines.{RuleLine};
-ghost use Rattle.aw_write.specs.LineTexts.{terms_text, params_text, child_text, children_text, text_of_lines};
-ghost use Rattle.aw_write.specs.SpecLines.{named, named_child, named_children, later_variables, named_rule, rule_lines};
+ghost use Rattle.aw_write.specs.LineTexts.{params_text, child_text, children_text, text_of_lines};
+ghost use Rattle.aw_write.specs.SpecLines.{named, sides_text, named_child, named_children, later_variables, named_rule, rule_lines};
 ghost use Rattle.aw_write.specs.Writable.{NumbersFit, SmallNumbers};
 
 use crate::names::{push_names, push_params, split_names};
@@ -125,7 +125,7 @@ fn push_head(text: &mut Text, g: &Grammar, rule: &Rule, params: &[Text]) -> Resu
 
 /// Adds the patterns and the results of a rule.
 fn push_both(text: &mut Text, g: &Grammar, rule: &Rule) -> Result<(), AllocError>
-    ensures text { OnOk result (text.new ≡ text.old ++ (codes "(" ++ (terms_text (map (named (words_of g.now).cons rule.now.vars) (map pattern_of rule.now.patterns)) ++ (codes ")<" ++ (terms_text (map (named (words_of g.now).cons rule.now.vars) (map term_of rule.now.results)) ++ codes ">"))))) }
+    ensures text { OnOk result (text.new ≡ text.old ++ sides_text (words_of g.now).cons rule.now.vars (map pattern_of rule.now.patterns) (map term_of rule.now.results)) }
     ensures patterns { OnOk result (Each NumbersFit (map pattern_of rule.now.patterns)) }
     ensures results { OnOk result (Each NumbersFit (map term_of rule.now.results)) }
 {
