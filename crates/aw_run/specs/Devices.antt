@@ -9,6 +9,7 @@ pub record Contents : Type 0 where
   pub before : Option Content
   pub after : Option Content
 
+-- what a wire told before and after
 abbrev pub contents : Option Content → Option Content → Contents
 contents before after = record { before = before; after = after }
 
@@ -23,6 +24,7 @@ pub record Devices : Type 1 where
   pub disk_before : D
   pub disk_after : D
 
+-- what is seen of a wire and a disk, with both before a run and after it
 abbrev pub around : {W D : Type 0} → wires.Ghosts W → disks.Ghosts D → W → W → D → D → Devices
 around {W} {D} w d u v old new = record { W = W; D = D; wire = w; disk = d; wire_before = u; wire_after = v; disk_before = old; disk_after = new }
 
@@ -37,6 +39,7 @@ pub record Wired : Type 1 where
   pub before : W
   pub after : W
 
+-- what is seen of a wire, with the wire before a run and after it
 abbrev pub wired : {W : Type 0} → wires.Ghosts W → W → W → Wired
 wired {W} w u v = record { W = W; wire = w; before = u; after = v }
 

@@ -88,6 +88,7 @@ abbrev pub OfRead : (Types → Words → Grammar → Bool → List Event → Typ
 OfRead P s loads (Events es) = P (types_of s.types) (words_in s.declared) (grammar_in s.declared) loads es
 OfRead P s loads (FaultAt line kind) = Unit {0}
 
+-- P of the events that these lines spell behind this specification, where none of them is at fault
 abbrev pub OfSchedule : (Types → Words → Grammar → Bool → List Event → Type 0) → Spec → (loads : Bool) → List (List ℕ) → Type 0
 OfSchedule P s loads schedule = OfRead P s loads (read_lines (types_of s.types) s.declared 1 schedule)
 

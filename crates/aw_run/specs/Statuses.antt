@@ -26,6 +26,7 @@ code_of BadReply = 14
 code_of BadTypes = 15
 code_of JournalFull = 16
 
+-- what stopped a run, as how the run ended
 abbrev pub status_of_stop : Stop → Status
 status_of_stop stop.ReadFault = ReadFault
 status_of_stop stop.NetFault = NetFault

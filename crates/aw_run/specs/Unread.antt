@@ -8,6 +8,7 @@ use Rattle.aw_run.specs.declared.reply.Stop.TheVariants as stop
 use Rattle.aw_run.specs.Output.{PastInputLimit}
 use Rattle.aw_run.specs.Replies.{reply_with}
 
+-- what a run says of such a source: too long an input is told, and each other end stops the run
 abbrev pub unread_gives : ReadError → Result Reply Stop
 unread_gives error.TooLong = Ok (reply_with PastInputLimit)
 unread_gives error.ReadFault = Err stop.ReadFault

@@ -72,7 +72,11 @@ fn carry_input<W: Wire>(
     ensures no_journal { IfErr result (λ stop. IsJournalStop (status_of_stop stop) → ⊥) }
 {
     match front_of_input(alloc, input, false)? {
-        Front::Ready(opened) => carry_accepted(alloc, &opened.accepted, rounds, wire),
+        Front::Ready(opened) => {
+            let came = carry_accepted(alloc, &opened.accepted, rounds, wire);
+            drop(opened);
+            came
+        }
         Front::Refused(reply) => Ok(reply),
     }
 }

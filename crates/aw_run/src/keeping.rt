@@ -100,16 +100,21 @@ fn keep_input<W: Wire, D: Disk>(
     ensures no_read_fault { result ≢ Err Stop.ReadFault }
 {
     match front_of_input(alloc, input, true)? {
-        Front::Ready(opened) => keep_named(
-            alloc,
-            &opened.accepted,
-            &opened.typed,
-            opened.text.as_slice(),
-            name,
-            sessions,
-            wire,
-            disk,
-        ),
+        Front::Ready(opened) => {
+            let (accepted, typed) = (&opened.accepted, &opened.typed);
+            let came = keep_named(
+                alloc,
+                accepted,
+                typed,
+                opened.text.as_slice(),
+                name,
+                sessions,
+                wire,
+                disk,
+            );
+            drop(opened);
+            came
+        }
         Front::Refused(reply) => Ok(reply),
     }
 }

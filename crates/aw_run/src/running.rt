@@ -79,6 +79,7 @@ fn deliver<K: Sink>(out: &mut K, reply: &Reply) -> Status
     ensures status { result ≡ reply.now.status ⊎ result ≡ Status.WriteFault }
     ensures untouched { reply.now.text ≡ [] → (out.new ≡ out.old) × (result ≡ reply.now.status) }
     ensures whole { IsReply result → Gets (K.written out.old) (K.written out.new) reply.now.text }
+    ensures some { result ≡ Status.WriteFault → reply.now.text ≢ [] }
     ensures prefix { result ≡ Status.WriteFault → GetsPrefix (K.written out.old) (K.written out.new) reply.now.text }
     ensures cause { result ≡ Status.WriteFault → Rose (K.faults out.old) (K.faults out.new) }
     ensures kept { result ≢ Status.WriteFault → K.faults out.new ≡ K.faults out.old }
@@ -161,11 +162,11 @@ pub fn run<S: Source, K: Sink, W: Wire, D: Disk>(
     ensures read_before { result ≡ Status.ReadFault → GivesSome (S.left src.old) (S.left src.new) (λ bytes. length bytes ≤ INPUT_LIMIT) }
     ensures read_command { result ≡ Status.ReadFault → reads (command_of words.now) ≡ true }
 
-    // A sink that fails has got the front of the reply.
+    // A sink that fails has got the front of the reply, which has a text.
     ensures write_fault { result ≡ Status.WriteFault → Rose (K.faults out.old) (K.faults out.new) }
     ensures prefix { result ≡ Status.WriteFault → ForInput (S.left src.old) (λ input.
         SomeReply words.now input (around ⟦<W as Wire>⟧ ⟦<D as Disk>⟧ wire.old wire.new disk.old disk.new) (λ said.
-        GetsPrefix (K.written out.old) (K.written out.new) said.text)) }
+        (said.text ≢ []) × GetsPrefix (K.written out.old) (K.written out.new) said.text)) }
     ensures silent { IsSilent result → out.new ≡ out.old }
 
     // Only a command that reads touches the source, and it goes on only from the end.

@@ -88,14 +88,12 @@ fn serve_input<W: Wire>(
     ensures no_journal { IfErr result (λ stop. IsJournalStop (status_of_stop stop) → ⊥) }
 {
     match front_of_input(alloc, input, false)? {
-        Front::Ready(opened) => serve_named(
-            alloc,
-            &opened.accepted,
-            &opened.typed,
-            name,
-            sessions,
-            wire,
-        ),
+        Front::Ready(opened) => {
+            let (accepted, typed) = (&opened.accepted, &opened.typed);
+            let came = serve_named(alloc, accepted, typed, name, sessions, wire);
+            drop(opened);
+            came
+        }
         Front::Refused(reply) => Ok(reply),
     }
 }
