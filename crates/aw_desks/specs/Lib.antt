@@ -1,0 +1,4 @@
+pub mod Alike
+pub mod Asking
+pub mod Calls
+pub mod Honest
