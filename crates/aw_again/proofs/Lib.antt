@@ -1,0 +1,3 @@
+pub mod BackTerms
+pub mod BackRules
+pub mod ReadRules
