@@ -3,7 +3,7 @@
 
 Changes inputs at each byte, or at each Nth: the byte is taken out, doubled, or replaced by one that begins something else.
 Each answer is compared with the second reader in reading.py: the status, the line of a refusal, and what `check` writes.
-Prints the counts, and each run that differs. Without FILE the inputs are the four examples.
+Prints the counts, and each run that differs. Without FILE the inputs are the examples.
 """
 import argparse
 import os
@@ -67,7 +67,7 @@ def main():
     parser.add_argument("binary")
     parser.add_argument("files", nargs="*")
     parser.add_argument("--every", type=int, default=1)
-    arguments = parser.parse_args()
+    arguments = parser.parse_intermixed_args()
     binary, faults = os.path.abspath(arguments.binary), 0
     paths = arguments.files or [os.path.join(cuts.HERE, "..", "examples", name) for name in cuts.EXAMPLES]
     for path in paths:

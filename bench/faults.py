@@ -1,14 +1,21 @@
 #!/usr/bin/env python3
-"""faults.py BIN [--most N]
+"""faults.py BIN [--first N] [--more N] [--only WORD..]
 
-Makes allocations, reads and writes of the program fail in turn, takes its memory away, and gives it broken input and
-output. What has to come is in docs/SCHEDULE.md ("Statuses"):
+Makes each call of the program fail in turn, takes its memory away, and gives it broken input and output, in every command. What has to come is
+in docs/SCHEDULE.md ("Statuses") and docs/JOURNAL.md:
 
 - an allocation that fails: status 10 and nothing written, or the answer unchanged;
 - a read that fails: status 7 and nothing written; a write that fails: status 8 and a beginning of the answer;
-- reads and writes that move one byte: the answer unchanged.
+- a call on the network that fails: status 9 and nothing written; but a read or write in a node's session ends that session alone, and the rest is
+  as where its peer had ended it;
+- a call of the disk that fails, or at which the program is killed: status 12 and nothing written; and whatever a crash leaves of the journal has
+  what was answered when it is opened again;
+- moves of one byte: the answer unchanged.
 
-Prints the counts, and each run that differs. Needs cc, for faulty.c.
+Where an input has more calls than the first thousand (`--first`), of those behind every Nth is made to fail, so that at most 500 (`--more`) are.
+Each fails once alone, and once with all behind it. `--only` takes words of `check`, `plain`, `replay`, `trial`, `node`, `kept`, `courier`, `pieces`,
+`ends`, `limits`. Prints the counts, and each run that differs. Needs cc, for faulty.c; nodes are in a network of their own where the system lets
+them, else the ports from 7400 on have to be free.
 """
 import argparse
 import os
@@ -21,12 +28,17 @@ from concurrent.futures import ThreadPoolExecutor
 
 sys.dont_write_bytecode = True
 import inputs
+import nodes
+import served
+import sessions
 
 HERE = os.path.dirname(os.path.abspath(__file__))
 READ_FAULT, WRITE_FAULT, NO_MEMORY, USAGE = 7, 8, 10, 2
 
 MEMO = open(os.path.join(HERE, "..", "crates", "aw_prog", "stdin"), "rb").read()
-CLINIC = open(os.path.join(HERE, "..", "examples", "clinical-test.aw"), "rb").read()
+CLINIC = sessions.example("clinical-test.aw")
+CLAIM = sessions.example("insurance-claim-typed.aw")
+APART = sessions.example("tutorial/apart.aw")
 OWN_RESULT = inputs.text([
     "role r", "con ok 0", "con two 2", "sort top r 0 1", "sort s r 1 2", "start top",
     "rule call : top()<two(y1, y2)> = s(y2)<y1, y2>", "rule body : s(x)<x, ok>", "schedule",
@@ -42,20 +54,27 @@ CASES = [
     ("a refused event", "replay", MEMO + b"choose task#1 note {memo(1, 2)}\n"),
     ("an empty input", "replay", b""),
     ("a wrong word", "play", MEMO),
-    ("a circle", "check", CIRCULAR),
-    ("the dependences of an example", "check", CLINIC),
-    ("the undivided run of an example", "plain", CLINIC),
     ("the replay of an example of two roles", "replay", CLINIC),
+    ("the replay of an example with types, with loads", "replay", CLAIM.replace(b"\nschedule\n", b"\nschedule 2\n")),
     ("a worklist", "replay", MEMO + b"start task 2\nlist desk\n"),
     ("ten doublings", "replay", inputs.doubled(10)),
     ("a case of 30 forks", "replay", inputs.tree(30)),
+    ("a circle", "check", CIRCULAR),
+    ("the dependences of an example", "check", CLINIC),
+    ("an example with types", "check", CLAIM),
+    ("roles apart, and waiting", "check", APART.replace(b"rule", b"free\nrule", 1)),
+    ("the undivided run of an example", "plain", CLINIC),
+    ("the undivided run of an example with types", "plain", CLAIM),
     ("a hundred cases", "plain", inputs.visits(100)),
+    ("a trial", "trial 0", b""),
+    ("another trial", "trial 7", b""),
+    ("a trial of the largest number", "trial 18446744073709551615", b""),
 ]
 
 
 class Program:
-    def __init__(self, binary, shim):
-        self.binary, self.shim = binary, shim
+    def __init__(self, binary, shim, jobs):
+        self.binary, self.shim, self.jobs = binary, shim, jobs
 
     def run(self, word, data, **settings):
         """Status, what was written, and how many calls were counted."""
@@ -64,7 +83,7 @@ class Program:
             source.seek(0)
             env = {"LD_PRELOAD": self.shim, "FAULTY_COUNT": count.name}
             env.update({"FAULTY_" + name.upper(): str(value) for name, value in settings.items()})
-            run = subprocess.run([self.binary, word], stdin=source, stdout=subprocess.PIPE, stderr=subprocess.PIPE,
+            run = subprocess.run([self.binary, *word.split()], stdin=source, stdout=subprocess.PIPE, stderr=subprocess.PIPE,
                                  env=env, timeout=60)
             told = count.read()
             return run.returncode, run.stdout, int(told) if told else -1
@@ -74,35 +93,42 @@ class Told:
     """What is wrong, counted and printed."""
 
     def __init__(self):
-        self.wrong = 0
+        self.judged = self.wrong = 0
 
     def check(self, good, text):
+        self.judged += 1
         if not good:
             self.wrong += 1
             print("  WRONG " + text)
 
 
-def spread(total, most):
-    """All numbers up to a total, or so many of them at equal distances."""
-    step = max(1, -(-total // most))
-    return list(range(1, total + 1, step)), step
+class Spread:
+    """Which of some calls are made to fail: the first ones, and of the others every Nth."""
+
+    def __init__(self, first, more):
+        self.first, self.more = first, more
+
+    def __call__(self, total):
+        """The numbers, from 1, and how they are told."""
+        step = max(1, -(-(total - self.first) // self.more))
+        numbers = list(range(1, min(total, self.first) + 1)) + list(range(self.first + step, total + 1, step))
+        return numbers, "each" if len(numbers) == total else "each of %d, then each %dth" % (self.first, step)
 
 
-def fail_each(program, told, case, call, most, good, **settings):
+def fail_each(program, told, case, call, spread, good, **settings):
     """Makes each call fail, once alone and once with all behind it. `good` judges an answer."""
     name, word, data = case
     whole = program.run(word, data, call=call, **settings)
-    numbers, step = spread(whole[2], most)
+    numbers, which = spread(whole[2])
     runs = [(at, rest) for at in numbers for rest in (0, 1)]
-    with ThreadPoolExecutor(2) as pool:
+    with ThreadPoolExecutor(program.jobs) as pool:
         answers = list(pool.map(lambda run: program.run(word, data, call=call, at=run[0], rest=run[1], **settings), runs))
     kinds = Counter()
     for (at, rest), (status, written, _) in zip(runs, answers):
         kinds["unchanged" if (status, written) == whole[:2] else status] += 1
         told.check(good(at, status, written, whole), "%s: %s %d%s: status %d, %d bytes" % (
             name, call, at, " and all behind it" if rest else "", status, len(written)))
-    print("| %s | %s | %d | %s | %s |" % (name, call, whole[2], "each" if step == 1 else "each %dth" % step,
-                                         ", ".join("%s: %d" % pair for pair in sorted(kinds.items(), key=str))), flush=True)
+    served.row("`%s`: %s" % (word.split()[0], name), call, settings, whole[2], which, kinds)
 
 
 def memory_good(at, status, written, whole):
@@ -117,15 +143,16 @@ def write_good(at, status, written, whole):
     return status == WRITE_FAULT and written == whole[1][:10 * (at - 1)]
 
 
-def fail_all(program, told, most):
-    print("| Input | Call that fails | Calls | Which | Answers |\n|---|---|---|---|---|")
-    for case in CASES:
-        fail_each(program, told, case, "memory", most, memory_good)
-    for case in CASES:
-        if case[1] != "play":
-            fail_each(program, told, case, "read", most, read_good, piece=40)
-    for case in CASES:
-        fail_each(program, told, case, "write", most, write_good, piece=10)
+def fail_all(program, told, spread, word):
+    """Makes each call of a command fail."""
+    cases = [case for case in CASES if case[1].split()[0] in (word, "play" if word == "replay" else word)]
+    for case in cases:
+        fail_each(program, told, case, "memory", spread, memory_good)
+    for case in cases:
+        if case[1] != "play" and word != "trial":
+            fail_each(program, told, case, "read", spread, read_good, piece=40)
+    for case in cases:
+        fail_each(program, told, case, "write", spread, write_good, piece=10)
 
 
 def move_one_byte(program, told):
@@ -232,23 +259,46 @@ def close_early(binary, told, length):
         return status
 
 
+COMMANDS = ("check", "plain", "replay", "trial")
+ALL = (*COMMANDS, "node", "kept", "courier", "pieces", "ends", "limits")
+
+
+def fail_calls(program, told, spread, only):
+    print("| Input | Call that fails | Calls | Which | Answers |\n|---|---|---|---|---|")
+    for word in COMMANDS:
+        if word in only:
+            fail_all(program, told, spread, word)
+    for word in ("node", "kept"):
+        for case in served.node_cases(program.binary, program.shim, word == "kept") if word in only else ():
+            served.fail_node(case, told, spread)
+    for carried in served.CARRIED if "courier" in only else ():
+        served.fail_courier(served.CourierCase(program.binary, program.shim, carried), told, spread)
+
+
 def main():
     parser = argparse.ArgumentParser(description=__doc__, formatter_class=argparse.RawDescriptionHelpFormatter)
     parser.add_argument("binary")
-    parser.add_argument("--most", type=int, default=4000, help="calls of a kind that are made to fail, for each input")
+    parser.add_argument("--first", type=int, default=1000, help="calls of a kind that are all made to fail, for each input")
+    parser.add_argument("--more", type=int, default=500, help="and how many of those behind, at most")
+    parser.add_argument("--only", nargs="*", default=ALL, choices=ALL, metavar="WORD")
+    parser.add_argument("--jobs", type=int, default=2, help="runs beside each other, where they need no network")
     arguments = parser.parse_args()
-    binary, told = os.path.abspath(arguments.binary), Told()
+    binary, told, only = os.path.abspath(arguments.binary), Told(), arguments.only
     with tempfile.TemporaryDirectory() as folder:
         shim = os.path.join(folder, "faulty.so")
         subprocess.run(["cc", "-O2", "-shared", "-fPIC", "-o", shim, os.path.join(HERE, "faulty.c")], check=True)
-        program = Program(binary, shim)
-        fail_all(program, told, arguments.most)
-        move_one_byte(program, told)
-    break_ends(binary, told)
-    limit_memory(binary, told)
-    print("\n%d runs differ" % told.wrong)
+        program = Program(binary, shim, arguments.jobs)
+        fail_calls(program, told, Spread(arguments.first, arguments.more), only)
+        if "pieces" in only:
+            move_one_byte(program, told)
+    if "ends" in only:
+        break_ends(binary, told)
+    if "limits" in only:
+        limit_memory(binary, told)
+    print("\n%d answers judged, %d differ" % (told.judged, told.wrong))
     sys.exit(1 if told.wrong else 0)
 
 
 if __name__ == "__main__":
+    nodes.alone()
     main()

@@ -131,6 +131,26 @@ def late_values(count):
     return text(lines + ["settle"])
 
 
+HANDED = ["role desk", "con ok 0", "sort case desk 0 1", "sort judge desk 0 1", "sort many desk 1 0", "sort wait desk 1 0", "start case",
+          "rule open : case()<v> = judge()<v> ; many(v)<>", "rule hand : judge()<v> = judge()<v>", "rule say : judge()<ok>",
+          "rule fork : many(v)<> = many(v)<> ; many(v)<>", "rule leaf : many(v)<> = wait(v)<>", "rule go : wait(ok)<>", "schedule",
+          "start case 1", "choose case#1 open"]
+
+
+def handed(tasks, times):
+    """So many tasks that wait for one result, which is handed on, unchanged, so many times."""
+    lines, waiting = list(HANDED), [("case#1/open.2", tasks)]
+    while waiting:
+        node, leaves = waiting.pop()
+        if leaves == 1:
+            lines.append("choose %s leaf" % node)
+        else:
+            lines.append("choose %s fork" % node)
+            waiting += [(node + "/fork.2", leaves - leaves // 2), (node + "/fork.1", leaves // 2)]
+    judge = "case#1/open.1"
+    return text(lines + ["choose %s hand" % (judge + "/hand.1" * time) for time in range(times)])
+
+
 # One case.
 
 TREE = text(["role desk", "con leaf 0", "con pair 2", "sort task desk 0 1", "start task",

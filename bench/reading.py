@@ -1,5 +1,6 @@
 """A second reader of specifications and schedules, written from docs/LANGUAGE.md and docs/SCHEDULE.md and not from the
-program: `refusal` tells the line and status that a text is refused with, or that it is good. It is slow and plain."""
+program: `refusal` tells the line and status that a text is refused with, or that it is good, and `accepted` what `check` writes of it.
+It is slow and plain."""
 import re
 
 WORD_BYTES = b"abcdefghijklmnopqrstuvwxyz0123456789_#/."
@@ -7,8 +8,9 @@ NAME = re.compile(rb"[a-z][a-z0-9_]{0,63}\Z")
 NUMBER = re.compile(rb"(0|[1-9][0-9]*)\Z")
 NODE = re.compile(rb"([a-z][a-z0-9_]*)#(0|[1-9][0-9]*)((?:/[a-z][a-z0-9_]*\.[1-8])*)\Z")
 BIGGEST = 2 ** 64 - 1
-ORDER = ["role", "con", "sort", "start", "offer", "use", "free", "rule", "schedule"]
-MOST = {"role": 64, "con": 1024, "sort": 256, "rule": 1024}
+ORDER = ["role", "con", "sort", "start", "offer", "use", "type", "shape", "carry", "depends", "free", "rule", "schedule"]
+MOST = {"role": 64, "con": 1024, "sort": 256, "type": 256, "rule": 1024}
+NUM, TEXT = b"num", b"text"
 
 
 class Bad(Exception):
@@ -162,6 +164,20 @@ def read_rule(line):
     return name, params, sort, patterns, results, children
 
 
+def read_shape(line):
+    con = line.take("name")
+    line.mark(b"(")
+    return con, line.names(b")"), line.take("name")
+
+
+def read_carry(line):
+    sort = line.take("name")
+    line.mark(b"(")
+    takes = line.names(b")")
+    line.mark(b"<")
+    return sort, takes, line.names(b">")
+
+
 def read_version(line):
     """What stands behind `schedule`: nothing, or the number 2."""
     if not line.left:
@@ -176,11 +192,11 @@ def read_form(found):
     line = Reader(found)
     word = line.take("name").decode()
     parts = {"role": ["name"], "con": ["name", "number"], "sort": ["name", "name", "number", "number"],
-             "start": ["name"], "offer": ["name"], "use": ["name", "name"], "free": []}
-    if word == "rule":
-        said = read_rule(line)
-    elif word == "schedule":
-        said = read_version(line)
+             "start": ["name"], "offer": ["name"], "use": ["name", "name"], "type": ["name"],
+             "depends": ["name", "number", "number"], "free": []}
+    readers = {"rule": read_rule, "shape": read_shape, "carry": read_carry, "schedule": read_version}
+    if word in readers:
+        said = readers[word](line)
     elif word in parts:
         said = tuple(line.take(kind) for kind in parts[word])
     else:
@@ -228,7 +244,8 @@ class Specification:
     def __init__(self):
         self.roles, self.cons, self.sorts, self.rules = {}, {}, {}, {}
         self.starts, self.offers, self.uses = set(), set(), set()
-        self.free = False
+        self.types, self.shapes, self.carries, self.depends = {}, {}, {}, set()
+        self.free = self.typed = False
         self.last = 0
 
     def declare(self, word, said):
@@ -285,6 +302,47 @@ class Specification:
             raise Bad("unknown")
         self.uses.add((role, sort))
 
+    def is_type(self, name):
+        return name in (NUM, TEXT) or name in self.types
+
+    def add_type(self, name):
+        self.typed = True
+        if len(self.types) >= MOST["type"]:
+            raise Bad("limit")
+        if self.is_type(name):
+            raise Bad("double")
+        self.types[name] = len(self.types)
+
+    def add_shape(self, con, parts, own):
+        self.typed = True
+        if con in self.shapes:
+            raise Bad("double")
+        if con not in self.cons or not all(map(self.is_type, parts + [own])):
+            raise Bad("unknown")
+        if len(parts) != self.cons[con]:
+            raise Bad("arity")
+        self.shapes[con] = (parts, own)
+
+    def add_carry(self, sort, takes, gives):
+        self.typed = True
+        if sort in self.carries:
+            raise Bad("double")
+        if sort not in self.sorts or not all(map(self.is_type, takes + gives)):
+            raise Bad("unknown")
+        if self.sorts[sort][1:] != (len(takes), len(gives)):
+            raise Bad("arity")
+        self.carries[sort] = (takes, gives)
+
+    def add_depends(self, sort, i, j):
+        pair = (sort, int(i), int(j))
+        if pair in self.depends:
+            raise Bad("double")
+        if sort not in self.sorts:
+            raise Bad("unknown")
+        if not (1 <= pair[1] <= self.sorts[sort][1] and 1 <= pair[2] <= self.sorts[sort][2]):
+            raise Bad("arity")
+        self.depends.add(pair)
+
     def add_free(self):
         if self.free:
             raise Bad("double")
@@ -322,6 +380,79 @@ class Specification:
                     raise Bad("notused")
                 if sort not in self.offers:
                     raise Bad("notoffered")
+
+
+# Types.
+
+def place(number, side, position):
+    """The text of an occurrence."""
+    return "%d.%s%d" % (number, ("in", "out")[side], position)
+
+
+def places_of(spec, term, own, found):
+    """Each variable of a term with the type of its place, into a list."""
+    if term[0] == "word" and term[1] not in spec.cons:
+        found.append((term[1], own))
+    elif term[0] == "apply":
+        for part, kind in zip(term[2], spec.shapes[term[1]][0]):
+            places_of(spec, part, kind, found)
+    return found
+
+
+def has_type(spec, term, own, variables):
+    """Whether a term has a type. A variable without a type has any."""
+    if term[0] in ("number", "text"):
+        return own == (NUM if term[0] == "number" else TEXT)
+    if term[0] == "word" and term[1] not in spec.cons:
+        return variables.get(term[1], own) == own
+    parts, kind = spec.shapes[term[1]]
+    return kind == own and all(has_type(spec, part, one, variables) for part, one in zip(term[2] if term[0] == "apply" else [], parts))
+
+
+def parameter_types(spec, rule):
+    """The type of each parameter, None where it stands nowhere."""
+    sort, params, _, results, children = rule
+    found = []
+    for term, own in zip(results, spec.carries[sort][1]):
+        places_of(spec, term, own, found)
+    for child, args, _ in children:
+        for term, own in zip(args, spec.carries[child][0]):
+            places_of(spec, term, own, found)
+    return [next((own for name, own in found if name == param), None) for param in params]
+
+
+def rule_type_fault(spec, rule):
+    """The occurrence of the first term that has another type than its place, or nothing."""
+    sort, params, patterns, results, children = rule
+    variables = {name: own for name, own in zip(params, parameter_types(spec, rule)) if own}
+    for term, own in zip(patterns, spec.carries[sort][0]):
+        variables.update(places_of(spec, term, own, []))
+    for child, _, names in children:
+        variables.update(zip(names, spec.carries[child][1]))
+    given = [(0, 0, patterns, spec.carries[sort][0]), (0, 1, results, spec.carries[sort][1])]
+    given += [(number, 0, child[1], spec.carries[child[0]][0]) for number, child in enumerate(children, 1)]
+    for number, side, terms, kinds in given:
+        for position, (term, own) in enumerate(zip(terms, kinds), 1):
+            if not has_type(spec, term, own, variables):
+                return place(number, side, position)
+    return None
+
+
+def type_fault(spec):
+    """The line of the first fault of types, or nothing."""
+    if not spec.typed:
+        return None
+    for con in spec.cons:
+        if con not in spec.shapes:
+            return "bad types con %s" % con.decode()
+    for sort in spec.sorts:
+        if sort not in spec.carries:
+            return "bad types sort %s" % sort.decode()
+    for name, rule in spec.rules.items():
+        found = rule_type_fault(spec, rule)
+        if found:
+            return "bad types rule %s at %s" % (name.decode(), found)
+    return None
 
 
 # Acceptance.
@@ -362,12 +493,13 @@ def all_edges(spec, name, relation):
     return edges
 
 
-def relations(spec):
-    relation = set()
+def relations(spec, rules=None, seed=frozenset()):
+    """The least relation that holds the seed and is closed under these rules, or under all."""
+    relation = set(seed)
     while True:
         more = set()
-        for name, rule in spec.rules.items():
-            edges = all_edges(spec, name, relation)
+        for name in spec.rules if rules is None else rules:
+            rule, edges = spec.rules[name], all_edges(spec, name, relation)
             for i in range(1, len(rule[2]) + 1):
                 more |= {(rule[0], i, to[2]) for to in reached(edges, (0, 0, i)) if to[:2] == (0, 1)}
         if more <= relation:
@@ -375,15 +507,43 @@ def relations(spec):
         relation |= more
 
 
-def circle(spec):
-    """The line of the least circle, or nothing."""
-    relation = relations(spec)
-    for name in spec.rules:
+def circle(spec, relation, rules=None):
+    """The least circle, as a rule and an occurrence, or nothing."""
+    for name in spec.rules if rules is None else rules:
         edges = all_edges(spec, name, relation)
         for at in sorted({one for edge in edges for one in edge}):
             if at in reached(edges, at):
-                return "circular %s at %d.%s%d" % (name.decode(), at[0], ("in", "out")[at[1]], at[2])
+                return "%s at %s" % (name.decode(), place(*at))
     return None
+
+
+def in_order(spec, relation):
+    order = {name: number for number, name in enumerate(spec.sorts)}
+    return sorted(relation, key=lambda pair: (order[pair[0]],) + pair[1:])
+
+
+# Roles apart, and waiting.
+
+def role_line(spec, role):
+    """What a role finds that is checked by its own rules and what is declared."""
+    rules = [name for name, rule in spec.rules.items() if spec.sorts[rule[0]][0] == role]
+    declared = {pair for pair in spec.depends if spec.sorts[pair[0]][0] != role}
+    relation = relations(spec, rules, declared)
+    found = circle(spec, relation, rules)
+    if found:
+        return "circular " + found
+    own = {pair for pair in relation if spec.sorts[pair[0]][0] == role and pair[0] in spec.offers}
+    past = in_order(spec, own - spec.depends)
+    return "exceeds %s %d %d" % (past[0][0].decode(), *past[0][1:]) if past else "ok"
+
+
+def wait_line(spec):
+    def is_guard(term):
+        return term[0] != "word" or term[1] in spec.cons
+    guarded = {(rule[0], i) for rule in spec.rules.values() for i, term in enumerate(rule[2], 1) if is_guard(term)}
+    seed = {(sort, i, j) for sort, i in guarded for j in range(1, spec.sorts[sort][2] + 1)}
+    found = circle(spec, relations(spec, None, seed))
+    return "wait circle " + found if found else "wait free"
 
 
 # Schedules.
@@ -446,6 +606,10 @@ def check_choice(spec, node, rule, args):
         raise Bad("arity")
     if not check_node(spec, node):
         raise Bad("name")
+    if spec.typed and len(args) == len(spec.rules[rule][1]):
+        for term, own in zip(args, parameter_types(spec, spec.rules[rule])):
+            if own and not has_type(spec, term, own, {}):
+                raise Bad("type")
 
 
 # Whole texts.
@@ -476,9 +640,12 @@ def refusal(data, command, one_role):
         if word == "schedule":
             events = number
             break
-    found = circle(spec)
+    found = type_fault(spec)
     if found:
-        return 4, found
+        return 15, found
+    found = circle(spec, relations(spec))
+    if found:
+        return 4, "circular " + found
     if command == "check":
         return 0, None
     behind = len(lines) if events is None else events
@@ -503,6 +670,11 @@ def accepted(data):
             if word == "schedule":
                 break
             spec.declare(word, said)
-    order = {name: number for number, name in enumerate(spec.sorts)}
-    pairs = sorted(relations(spec), key=lambda pair: (order[pair[0]],) + pair[1:])
-    return "accepted\n" + "".join("io %s %d %d\n" % (sort.decode(), i, j) for sort, i, j in pairs)
+    lines = ["accepted"] + ["io %s %d %d" % (sort.decode(), i, j) for sort, i, j in in_order(spec, relations(spec))]
+    if spec.depends:
+        apart = [role_line(spec, role) for role in spec.roles]
+        lines += ["role %s %s" % (role.decode(), line) for role, line in zip(spec.roles, apart)]
+        lines += ["joined"] * all(line == "ok" for line in apart)
+    if spec.free:
+        lines.append(wait_line(spec))
+    return "".join(line + "\n" for line in lines)
