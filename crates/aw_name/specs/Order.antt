@@ -3,15 +3,11 @@ use Rattle.std.specs.Ordering.{nat_cmp, ordering_then}
 use Rattle.std.specs.Cmp.Lexicographic.{slice_cmp}
 use Rattle.std.specs.declared.cmp.Ordering.{Ordering}
 use Rattle.std.specs.declared.cmp.Ordering.TheVariants.{Less, Greater}
-use Rattle.aw_name.specs.declared.node.Step.{Step}
+pub use Rattle.aw_name.specs.Steps.{step_cmp}
 use Rattle.aw_name.specs.declared.node.Node.{Node}
 use Rattle.aw_name.specs.declared.node.Slot.{Slot}
 use Rattle.aw_name.specs.declared.node.Slot.TheVariants.{Result, Part}
 use Rattle.aw_name.specs.declared.node.Ref.{Ref}
-
--- by rule, and then by child
-abbrev pub step_cmp : Step → Step → Ordering
-step_cmp a b = ordering_then (nat_cmp a.rule b.rule) (nat_cmp a.child b.child)
 
 -- by start sort, then by case, then by steps; a proper prefix comes first
 abbrev pub node_cmp : Node → Node → Ordering

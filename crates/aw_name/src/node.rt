@@ -1,15 +1,18 @@
 ghost use Rattle.std.specs.Prelude.{◌≡◌, ◌↔◌, ◌≤◌, ◌<◌, ◌++◌, ◌∷◌, [], IsTrue, IfOk, OnOk, OnErr, ℕ, List, length, take};
 ghost use Rattle.std.specs.Hash as fed;
 ghost use Rattle.std.specs.Hash.{same_Alike};
-ghost use Rattle.std.specs.Cmp.{partial_equiv_from_equiv};
+ghost use Rattle.std.specs.Cmp.{partial_equiv_from_equiv, partial_order_from_agreeing_total};
 ghost use Rattle.std.specs.Cmp.Rules.{comparing};
-ghost use Rattle.std.specs.Cmp.Lexicographic.{pointwise, lists_equiv};
-ghost use Rattle.std.proofs.Common.{rules};
+ghost use Rattle.std.specs.Cmp.Lexicographic.{pointwise, slice_cmp, lists_equiv, lists_total, lists_ties};
+ghost use Rattle.std.specs.Ordering.{as_partial_cmp};
+ghost use Rattle.std.proofs.Common.{rules, refl};
 ghost use Rattle.aw_name.specs.Digest.{digest_with, digest_of};
+ghost use Rattle.aw_name.specs.Steps.{step_cmp, step_total, step_ties};
 ghost use Rattle.aw_name.specs.Same.{step_eq, steps_Decide};
 
 use aw_list::Shared;
 use std::alloc::{AllocError, Global};
+use std::cmp::Ordering;
 use std::hash::{Hash, Hasher};
 use std::marker::Model;
 
@@ -24,10 +27,8 @@ pub struct Step {
 /// The steps from a start node down to a node, at most 250; none for the start node itself. Beside them stands a number that is
 /// made of them, so that a trail is hashed at once, and trails that differ mostly do so there.
 #[derive(Debug, Clone, Drop)]
-#[derive_where(PartialOrd, Ord)]
 pub struct Trail {
     steps: Shared<Step>,
-    #[derive_where(skip(EqHashOrd))]
     digest: u64,
 }
 
@@ -54,12 +55,37 @@ impl PartialEq for Trail {
     ghost laws = { partial_equiv_from_equiv (lists_equiv (Prim.search (comparing, rules))) };
 
     fn eq(&self, other: &Trail) -> bool {
-        self.digest == other.digest && self.steps == other.steps
+        self.digest == other.digest
+            && compare_steps(self.steps.as_slice(), other.steps.as_slice()).is_eq()
     }
 }
 
 impl Eq for Trail {
     ghost laws = { lists_equiv (Prim.search (comparing, rules)) };
+}
+
+impl PartialOrd for Trail {
+    ghost partial_cmp = { as_partial_cmp (slice_cmp step_cmp) };
+
+    ghost laws = { partial_order_from_agreeing_total (slice_cmp step_cmp) (lists_total step_total) (λ _ _. refl) (lists_ties step_cmp step_ties) };
+
+    fn partial_cmp(&self, other: &Trail) -> Option<Ordering> {
+        Some(self.cmp(other))
+    }
+}
+
+impl Ord for Trail {
+    ghost cmp = { slice_cmp step_cmp };
+
+    ghost total = { lists_total step_total };
+
+    ghost matches_partial_cmp = { λ _ _. refl };
+
+    ghost matches_eq = { lists_ties step_cmp step_ties };
+
+    fn cmp(&self, other: &Trail) -> Ordering {
+        compare_steps(self.steps.as_slice(), other.steps.as_slice())
+    }
 }
 
 impl Hash for Trail {
@@ -70,6 +96,20 @@ impl Hash for Trail {
     fn hash<H: Hasher>(&self, state: &mut H) {
         self.digest.hash(state);
     }
+}
+
+/// The order of steps: the first two that differ decide, and else the lengths do. It is one loop over both slices, since names
+/// of one case mostly have many steps in common.
+fn compare_steps(a: &[Step], b: &[Step]) -> Ordering
+    ensures { result ≡ slice_cmp step_cmp a.now b.now }
+{
+    for i in 0..a.len().min(b.len()) {
+        let found = a[i].cmp(&b[i]);
+        if found.is_ne() {
+            return found;
+        }
+    }
+    a.len().cmp(&b.len())
 }
 
 /// What a digest is multiplied by before a step is added.
