@@ -201,13 +201,13 @@ impl<'g> Case<'g> {
     }
 
     /// Takes a rule on a node, unless it is refused, and tells what it makes.
-    fn develop(&mut self, node: &Node, rule: u16, args: &Grounds) -> Result<(), AllocError> {
+    fn develop(&mut self, node: &Node, rule: u16, args: &Grounds) -> Result<(), Unread> {
         let Some(at) = place_of(self.held.as_slice(), node) else {
-            return self.refuse(&Answer::NotHere);
+            return Ok(self.refuse(&Answer::NotHere)?);
         };
         let held = &self.held[at];
         if held.developed {
-            return self.refuse(&Answer::Developed);
+            return Ok(self.refuse(&Answer::Developed)?);
         }
         let alloc = self.told.allocator();
         match weigh(
@@ -219,7 +219,8 @@ impl<'g> Case<'g> {
             rule,
             args,
         )? {
-            Answered::Refused(answer) => self.refuse(&answer),
+            Answered::Untested => Err(Unread::Form),
+            Answered::Refused(answer) => Ok(self.refuse(&answer)?),
             Answered::Gives(
                 Made {
                     equations,
@@ -229,7 +230,7 @@ impl<'g> Case<'g> {
                 self.held[at].developed = true;
                 self.told.push_bytes(b"taken\n")?;
                 self.add_all(equations)?;
-                self.hold_all(children)
+                Ok(self.hold_all(children)?)
             }
         }
     }
@@ -250,7 +251,7 @@ impl<'g> Case<'g> {
         self.told.push_bytes(b": ")?;
         match choice {
             Choice::Start { sort, case } => Ok(self.start(*sort, *case)?),
-            Choice::Develop { node, rule, args } => Ok(self.develop(node, *rule, args)?),
+            Choice::Develop { node, rule, args } => self.develop(node, *rule, args),
         }
     }
 

@@ -11,11 +11,12 @@ use aw_base::{Answer, Grammar, Grounds, Node, Ref, Rule, args_ok, sort_of};
 use aw_store::{Facts, Refs};
 use std::alloc::{AllocError, Global};
 
-/// A refusal, or what a taken rule makes.
+/// A refusal, what a taken rule makes, or nothing, where the node was put there with references that no guard is tested on.
 #[derive(Debug, Drop)]
 pub enum Answered {
     Refused(Answer),
     Gives(Made),
+    Untested,
 }
 
 /// The slots of references, where all of them are named.
@@ -32,25 +33,25 @@ fn slots_of<F: Facts>(f: &F, alloc: Global, refs: &[Ref]) -> Result<Option<Vec<u
     Ok(Some(slots))
 }
 
-/// The guard of a rule on references that are named.
+/// The guard of a rule on references that are named, one for each of its patterns.
 fn guard<F: Facts>(
     f: &F,
     alloc: Global,
     node: &Node,
     rule: &Rule,
     inherited: &[Ref],
-) -> Result<Weighed, AllocError>
+) -> Result<Option<Weighed>, AllocError>
     requires shallow { all_nesting (join (map pattern_of rule.now.patterns)) ≤ 32 }
     requires room { length (all_leaves (join (map pattern_of rule.now.patterns))) ≤ 64 }
-    ensures { IfOk result (λ w. HasRoom (length rule.now.children) node.now w) }
+    ensures { IfOk result (λ tested. IfSome tested (λ w. HasRoom (length rule.now.children) node.now w)) }
 {
     let slots = match slots_of(f, alloc, inherited)? {
         Some(slots) if slots.len() == rule.patterns.len() && slots.len() <= 8 => slots,
-        _ => return Ok(Weighed::Refused(Answer::NotItsRule)),
+        _ => return Ok(None),
     };
     let guard = guard_uncounted(f, rule, slots.as_slice());
     let tested = tell_guard(alloc, f, &guard)?;
-    Ok(weigh_guard(node, rule, tested))
+    Ok(Some(weigh_guard(node, rule, tested)))
 }
 
 /// What a choice of a rule on an open node leads to, where its inherited references are named.
@@ -73,8 +74,9 @@ pub fn weigh<F: Facts>(
         return Ok(Answered::Refused(Answer::Arguments));
     }
     match guard(f, alloc, node, rule, inherited.as_slice())? {
-        Weighed::Refused(answer) => Ok(Answered::Refused(answer)),
-        Weighed::Takes(bound) => {
+        None => Ok(Answered::Untested),
+        Some(Weighed::Refused(answer)) => Ok(Answered::Refused(answer)),
+        Some(Weighed::Takes(bound)) => {
             let made = made(alloc, g, node, number, args, &bound)?;
             Ok(Answered::Gives(made))
         }

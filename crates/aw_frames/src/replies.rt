@@ -5,7 +5,7 @@ ghost use Rattle.aw_msg.specs.ReplyRanges.{ReplyInRange};
 use crate::fault::TableFault;
 use crate::table::bytes_of;
 use aw_base::{Answer, Grammar, Item};
-use aw_choice::Standing;
+use aw_choice::{Path, Place, Standing};
 use aw_list::Text;
 use aw_msg::equations::body_at;
 use aw_msg::{Answered, decode, reply_bytes};
@@ -50,22 +50,61 @@ fn conflict_of(alloc: Global, text: &[u8]) -> Result<Answered, TableFault>
     })
 }
 
-/// `taken`, `waits REFERENCE` or `circle REFERENCE`.
+/// A number from 0 to 255.
+fn byte_of(digits: &[u8]) -> Result<u8, TableFault> {
+    u8::try_from(number_of(digits)?).map_err(|_| TableFault::Unreadable)
+}
+
+/// `ATTRIBUTE` or `ATTRIBUTE.PART`.
+fn place_of(text: &[u8]) -> Result<Place, TableFault> {
+    let (attribute, part) = text.split_once_str(b".").unwrap_or((text, b""));
+    let mut path = Path::new();
+    if !part.is_empty() {
+        path.push(byte_of(part)?);
+    }
+    Ok(Place {
+        attribute: byte_of(attribute)?,
+        path,
+    })
+}
+
+/// An answer that is one of the words alone.
+fn plain_answer(text: &[u8]) -> Result<Answer, TableFault> {
+    if text == b"known".as_slice() {
+        Ok(Answer::Known)
+    } else if text == b"unknown".as_slice() {
+        Ok(Answer::NotHere)
+    } else if text == b"developed".as_slice() {
+        Ok(Answer::Developed)
+    } else if text == b"wrong rule".as_slice() {
+        Ok(Answer::NotItsRule)
+    } else if text == b"arguments".as_slice() {
+        Ok(Answer::Arguments)
+    } else if text == b"deep".as_slice() {
+        Ok(Answer::TooDeep)
+    } else if text == b"taken".as_slice() {
+        Ok(Answer::Taken)
+    } else {
+        Err(TableFault::Unreadable)
+    }
+}
+
+/// `waits REFERENCE`, `mismatch PLACE`, `circle REFERENCE`, or an answer that is one of the words alone.
 fn answer_of(alloc: Global, text: &[u8]) -> Result<Answer, TableFault> {
     let (word, rest) = first_word(text);
-    if word == b"taken".as_slice() {
-        return Ok(Answer::Taken);
-    }
     if word == b"waits".as_slice() {
         return Ok(Answer::Waits(reference_of(alloc, rest)?));
+    }
+    if word == b"mismatch".as_slice() {
+        return Ok(Answer::Differs(place_of(rest)?));
     }
     if word == b"circle".as_slice() {
         return Ok(Answer::Circle(reference_of(alloc, rest)?));
     }
-    Err(TableFault::Unreadable)
+    plain_answer(text)
 }
 
-/// `ready`, `waits REFERENCE` or `circle REFERENCE`.
+/// `ready`, `waits REFERENCE`, `mismatch PLACE`, `circle REFERENCE` or `deep`.
 fn state_of(alloc: Global, text: &[u8]) -> Result<Standing, TableFault> {
     let (word, rest) = first_word(text);
     if word == b"ready".as_slice() {
@@ -74,8 +113,14 @@ fn state_of(alloc: Global, text: &[u8]) -> Result<Standing, TableFault> {
     if word == b"waits".as_slice() {
         return Ok(Standing::Waits(reference_of(alloc, rest)?));
     }
+    if word == b"mismatch".as_slice() {
+        return Ok(Standing::Differs(place_of(rest)?));
+    }
     if word == b"circle".as_slice() {
         return Ok(Standing::Circle(reference_of(alloc, rest)?));
+    }
+    if word == b"deep".as_slice() {
+        return Ok(Standing::TooDeep);
     }
     Err(TableFault::Unreadable)
 }
