@@ -82,7 +82,7 @@ fn push_sessions(alloc: Global, told: &mut Text) -> Result<(), AllocError> {
     let mut before = Text::new(alloc);
     for number in 0..CALLS + 1 {
         let mut disk = disk_of(alloc, b"", &[number])?;
-        let came = serve(alloc, b"lab", FIRST, &mut disk)?;
+        let came = serve(alloc, b"lab", &FIRST, &mut disk)?;
         told.push_bytes(b"calls ")?;
         push_number(told, number as u64)?;
         told.push_bytes(b"\n")?;
@@ -104,7 +104,7 @@ fn push_line(alloc: Global, told: &mut Text, line: &[u8]) -> Result<(), AllocErr
         return told.push_bytes(b"not read\n");
     };
     let mut disk = disk_of(alloc, journal.as_slice(), &[])?;
-    let came = serve(alloc, role, frames.as_slice(), &mut disk)?;
+    let came = serve(alloc, role, &[frames.as_slice()], &mut disk)?;
     told.push_bytes(role)?;
     told.push_bytes(b"\n")?;
     push_outcome(alloc, told, &came)?;
@@ -117,8 +117,8 @@ fn push_twice<D: Disk>(alloc: Global, told: &mut Text, disk: &mut D) -> Result<(
     if disk.cut(0) == Did::Failed {
         return told.push_bytes(b"not cut\n");
     }
-    push_outcome(alloc, told, &serve(alloc, b"lab", FIRST, disk)?)?;
-    push_outcome(alloc, told, &serve(alloc, b"lab", AGAIN, disk)?)
+    push_outcome(alloc, told, &serve(alloc, b"lab", &FIRST, disk)?)?;
+    push_outcome(alloc, told, &serve(alloc, b"lab", &AGAIN, disk)?)
 }
 
 /// All that is told.

@@ -23,13 +23,26 @@ rule analyse {v} : test(blood(w))<found(w, v)>
 rule skip : test(x)<none>
 ";
 
-/// The laboratory is called for `visit#1/admit.1`; its first message is pulled, with which it asks for `visit#1:p2`; and it skips the test.
-pub const FIRST: &[u8] =
-    b"\x01\x00\x00\x00\x21\x01\x00\x01\x00\x00\x00\x00\x00\x00\x00\x00\x00\x00\x01\x01\x00\x00\x01\x01\x00\x00\x00\x00\x00\x00\x00\x00\x00\x01\x00\x01\x00\x02\x03\x00\x00\x00\x08\x00\x00\x00\x00\x00\x00\x00\x00\x02\x00\x00\x00\x12\x01\x00\x00\x00\x00\x00\x00\x00\x00\x00\x01\x01\x00\x00\x01\x00\x02\x00";
+/// A frame with a message: the laboratory is called for `visit#1/admit.1`.
+const CALLED: &[u8] = b"\x01\x00\x00\x00\x21\
+    \x01\x00\x01\x00\x00\x00\x00\x00\x00\x00\x00\x00\x00\x01\x01\x00\x00\x01\
+    \x01\x00\x00\x00\x00\x00\x00\x00\x00\x00\x01\x00\x01\x00\x02";
 
-/// The first message is pulled again, and then the second one, which is not there.
-pub const AGAIN: &[u8] =
-    b"\x03\x00\x00\x00\x08\x00\x00\x00\x00\x00\x00\x00\x00\x03\x00\x00\x00\x08\x00\x00\x00\x00\x00\x00\x00\x01";
+/// A frame that pulls the first message, with which the laboratory asks for `visit#1:p2`.
+const PULLED: &[u8] = b"\x03\x00\x00\x00\x08\x00\x00\x00\x00\x00\x00\x00\x00";
+
+/// A frame that pulls a second message, which is not there.
+const PULLED_PAST: &[u8] = b"\x03\x00\x00\x00\x08\x00\x00\x00\x00\x00\x00\x00\x01";
+
+/// A frame with a choice: the laboratory skips the test.
+const SKIPPED: &[u8] = b"\x02\x00\x00\x00\x12\
+    \x01\x00\x00\x00\x00\x00\x00\x00\x00\x00\x01\x01\x00\x00\x01\x00\x02\x00";
+
+/// The laboratory is called; its first message is pulled; and it skips the test.
+pub const FIRST: [&[u8]; 3] = [CALLED, PULLED, SKIPPED];
+
+/// The first message is pulled again, and then the second one.
+pub const AGAIN: [&[u8]; 2] = [PULLED, PULLED_PAST];
 
 /// The most bytes that are written in a run, on its output or its wire.
 const ROOM: usize = 4096;
@@ -59,10 +72,19 @@ fn words_for(alloc: Global, role: &[u8]) -> Result<Vec<Word>, AllocError> {
     Ok(words)
 }
 
-/// A wire on which one session comes, with these bytes.
-fn wire_of(alloc: Global, frames: &[u8]) -> Result<MemWire, AllocError> {
+/// The bytes of frames, one after the other.
+fn joined(alloc: Global, frames: &[&[u8]]) -> Result<Text, AllocError> {
+    let mut bytes = Text::new(alloc);
+    for frame in frames {
+        bytes.push_bytes(frame)?;
+    }
+    Ok(bytes)
+}
+
+/// A wire on which one session comes, with these frames.
+fn wire_of(alloc: Global, frames: &[&[u8]]) -> Result<MemWire, AllocError> {
     let mut sessions = Vec::new(alloc);
-    sessions.push(Text::from_bytes(alloc, frames)?)?;
+    sessions.push(joined(alloc, frames)?)?;
     let mut pieces = Numbers::new(alloc);
     pieces.push(PIECE)?;
     MemWire::new(
@@ -83,11 +105,11 @@ fn replies_on(alloc: Global, wire: &MemWire) -> Result<Text, AllocError> {
     Text::from_bytes(alloc, wire.written(0))
 }
 
-/// Serves one session of a role with these bytes, kept on a disk.
+/// Serves one session of a role with these frames, kept on a disk.
 pub fn serve<D: Disk>(
     alloc: Global,
     role: &[u8],
-    frames: &[u8],
+    frames: &[&[u8]],
     disk: &mut D,
 ) -> Result<Outcome, AllocError> {
     let words = words_for(alloc, role)?;
