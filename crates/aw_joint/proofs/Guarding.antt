@@ -6,7 +6,8 @@ use Rattle.aw_term.specs.Names.{Ref}
 use Rattle.aw_term.specs.Rules.{Term}
 use Rattle.aw_term.specs.Matching.{Matched, Yes, Waits, Differs, Circle, and_then, under, match, match_parts, match_all}
 use Rattle.aw_store.specs.Equations.{Body, Same, Map, find}
-use Rattle.aw_store.specs.Chase.{Chased, Found, Missing, Round, chase, At_body, At_missing, Ends, stands, lacks, follows}
+use Rattle.aw_store.specs.Chase.{Chased, Found, Missing, Round, chase}
+use Rattle.aw_store.proofs.Ends.{At_body, At_missing, Ends, stands, lacks, follows}
 use Rattle.aw_store.specs.Unfold.{Unfolds, UnfoldAll, missing, same, is, none, one}
 use Rattle.aw_store.proofs.ChaseEnds.{ends-chase, found-more, missing-more, round-more}
 use Rattle.aw_apply.specs.Guard.{guard_end, guard, guard_parts, guard_all}

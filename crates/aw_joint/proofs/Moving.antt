@@ -6,7 +6,8 @@ use Rattle.aw_term.specs.Names.{Ref}
 use Rattle.aw_term.specs.Rules.{Term}
 use Rattle.aw_term.specs.Matching.{Matched, Yes, Waits, Differs, Circle, and_then, under}
 use Rattle.aw_store.specs.Equations.{Same, Map, find}
-use Rattle.aw_store.specs.Chase.{Chased, Found, Missing, Round, chase, End, At_missing, Ends, stands, lacks, follows}
+use Rattle.aw_store.specs.Chase.{Chased, Found, Missing, Round, chase}
+use Rattle.aw_store.proofs.Ends.{End, At_missing, Ends, stands, lacks, follows}
 use Rattle.aw_store.proofs.ChaseEnds.{same_to, ends-chase, chase_in-ends, found-more}
 use Rattle.aw_apply.specs.Guard.{guard_end, guard, guard_parts, guard_all}
 use Rattle.aw_joint.specs.Laws.{IsSubmap}

@@ -10,7 +10,8 @@ use Rattle.aw_iograph.specs.Graphs.{Member}
 use Rattle.aw_iograph.specs.Occurrences.{inherited, pattern_entries}
 use Rattle.aw_iograph.proofs.Members.{member_split, never}
 use Rattle.aw_accept.proofs.Binding.{and_then-yes, cond-yes, under-yes, yes-inj}
-use Rattle.aw_store.specs.Chase.{At_body, Chased, Ends, Found, Missing, Round, chase, follows, lacks, stands}
+use Rattle.aw_store.specs.Chase.{Chased, Found, Missing, Round, chase}
+use Rattle.aw_store.proofs.Ends.{At_body, Ends, follows, lacks, stands}
 use Rattle.aw_store.specs.Equations.{Is, Map, find}
 use Rattle.aw_store.proofs.ChaseEnds.{chase_in-ends}
 use Rattle.aw_apply.specs.Guard.{guard, guard_all, guard_end, guard_parts}

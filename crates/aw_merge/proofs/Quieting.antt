@@ -16,7 +16,8 @@ use Rattle.aw_iograph.specs.Graphs.{Member}
 use Rattle.aw_iograph.proofs.Members.{never}
 use Rattle.aw_accept.specs.Acyclic.{IsGivenGrammar, Pairs}
 use Rattle.aw_accept.proofs.Fitting.{each_member, given_of}
-use Rattle.aw_store.specs.Chase.{At_body, At_missing, End, Ends, Found, as_chased, chase, follows, lacks, stands}
+use Rattle.aw_store.specs.Chase.{Found, chase}
+use Rattle.aw_store.proofs.Ends.{At_body, At_missing, End, Ends, as_chased, follows, lacks, stands}
 use Rattle.aw_store.specs.Equations.{Body, Map, Same, find, mentions}
 use Rattle.aw_store.specs.Unfold.{UnfoldAll, Unfolds, is, missing, none, one, same}
 use Rattle.aw_store.proofs.ChaseEnds.{ends-chase, found-more}

@@ -9,7 +9,8 @@ use Rattle.aw_store.specs.Equations as P
 use Rattle.aw_store.specs.Equations.{Map, find}
 use Rattle.aw_store.specs.NamedRefs.{con_parts, body_at, parts_at}
 use Rattle.aw_store.specs.StoreView.{IsKindOf}
-use Rattle.aw_store.specs.Chase.{Chased, Found, chase, At_body, stands}
+use Rattle.aw_store.specs.Chase.{Chased, Found, chase}
+use Rattle.aw_store.proofs.Ends.{At_body, stands}
 use Rattle.aw_store.specs.ChaseView.{IsChasedTo}
 use Rattle.aw_store.specs.declared.facts.Kind.TheVariants as kind
 use Rattle.aw_store.specs.declared.facts.Chase.TheVariants as answer

@@ -5,7 +5,7 @@ use Rattle.aw_term.specs.Trees.{Head}
 use Rattle.aw_term.specs.Names.{Ref}
 use Rattle.aw_term.specs.Artifacts.{Words, head_text}
 use Rattle.aw_store.specs.Equations.{Map}
-use Rattle.aw_store.specs.Chase.{At_body, Ends, stands, follows}
+use Rattle.aw_store.proofs.Ends.{At_body, Ends, stands, follows}
 use Rattle.aw_out.specs.Report.{Bounded}
 use Rattle.aw_out.specs.declared.error.PrintFault.{PrintFault}
 use Rattle.aw_print.specs.Drafts.{Draft, Whole, Front, then, following, listed, with_parts, draft_on, draft}

@@ -7,7 +7,7 @@ use Rattle.aw_term.specs.Configs.{State}
 use Rattle.aw_term.specs.Artifacts as A
 use Rattle.aw_term.specs.Artifacts.{Words, head_text, ref_text, value_text, trees_texts, node_text, state_text}
 use Rattle.aw_store.specs.Equations.{Same, Map, find}
-use Rattle.aw_store.specs.Chase.{At_body, At_missing, Ends, stands, lacks, follows}
+use Rattle.aw_store.proofs.Ends.{At_body, At_missing, Ends, stands, lacks, follows}
 use Rattle.aw_store.specs.Unfold.{Unfolds, UnfoldAll, missing, same, is, none, one}
 use Rattle.aw_print.specs.Drafts.{Whole, then, listed, with_parts, draft_on, draft}
 use Rattle.aw_print.specs.Rows.{AllUnfold, opening_of_row, row_draft, line_text}

@@ -3,7 +3,8 @@ use Rattle.std.proofs.Common.{◌≡◌, ℕ, zero, suc, ◌<◌, ◌≤◌, Boo
 use Rattle.aw_term.specs.Trees.{Head}
 use Rattle.aw_term.specs.Names.{Ref, ref_eq}
 use Rattle.aw_store.specs.Equations.{Body, Same, Is, Equation, Map, find}
-use Rattle.aw_store.specs.Chase.{Chased, Found, Missing, Round, chase_on, chase_in, chase, End, At_body, At_missing, as_chased, Ends, stands, lacks, follows}
+use Rattle.aw_store.specs.Chase.{Chased, Found, Missing, Round, chase_on, chase_in, chase}
+use Rattle.aw_store.proofs.Ends.{End, At_body, At_missing, as_chased, Ends, stands, lacks, follows}
 use Rattle.aw_term.proofs.RefTests.{ref_eq-true}
 
 -- the equations of all other references

@@ -4,5 +4,6 @@ pub mod StoreLemmas
 pub mod BodyLemmas
 pub mod AddLemmas
 pub mod ChaseEnds
+pub mod Ends
 pub mod MoreEquations
 pub mod SlotLemmas
