@@ -2,13 +2,13 @@
 //! its home, and a choice is tried against its grammar; the rest stands in the crates below and is handed on.
 #![tactic(auto)]
 
-pub mod choice_fits;
+mod choice_fits;
 pub mod declared;
-pub mod homes;
-pub mod lines;
-pub mod names;
-pub mod read_node;
-pub mod texts;
+mod homes;
+mod lines;
+mod names;
+mod read_node;
+mod texts;
 
 pub use aw_choice::{Answer, Choice, Item, Path, Place, Standing, Worklist};
 pub use aw_grammar::{
@@ -22,7 +22,7 @@ pub use aw_name::{
 };
 pub use aw_term::{Expr, Ground, Grounds, Lit, Pattern, Patterns, Terms};
 pub use aw_text::{content_ok, name_ok};
-pub use choice_fits::{args_ok, choice_ok, is_start};
+pub use choice_fits::{MOST_ARGUMENTS, MOST_NESTING, MOST_SYMBOLS, args_ok, choice_ok, is_start};
 pub use declared::{Declared, Triple};
 pub use homes::{home_at, home_of_valid, sort_at};
 pub use lines::{push_artifacts_line, push_choice, push_choice_line, push_item_lines};

@@ -5,9 +5,7 @@ ghost use Rattle.aw_grammar.specs.GrammarOf.{grammar_of};
 ghost use Rattle.aw_base.specs.declared.read_node.NameFault.TheVariants.{NoMemory};
 ghost use Rattle.aw_printed.specs.Printed.{IsHeld, PrintedNodeIsRead};
 
-use aw_base::Grammar;
-use aw_base::read_node::{NameFault, parse_node};
-use aw_base::texts::node_text;
+use aw_base::{Grammar, NameFault, node_text, parse_node};
 use aw_name::Node;
 use std::alloc::Global;
 

@@ -8,8 +8,10 @@ ghost use Rattle.aw_grammar.specs.Named.{number_named};
 ghost use Rattle.aw_sched.specs.Grounds.{Finds, known_ground, known_grounds};
 
 use crate::fault::{LineFault, SchedKind};
-use aw_base::choice_fits::{MOST_ARGUMENTS, MOST_NESTING, MOST_SYMBOLS};
-use aw_base::{Grammar, Ground, Grounds, Lit, RawTerm, RawTerms, Text, room_after_all};
+use aw_base::{
+    Grammar, Ground, Grounds, Lit, MOST_ARGUMENTS, MOST_NESTING, MOST_SYMBOLS, RawTerm, RawTerms,
+    Text, room_after_all,
+};
 use std::alloc::Global;
 
 /// Whether arguments are past a limit: 8 arguments, 256 symbols together, 32 levels each.
