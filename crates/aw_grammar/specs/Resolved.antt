@@ -2,6 +2,7 @@
 use Rattle.std.specs.Prelude.{ℕ, List, ◌++◌, map, length, Option, Some, None}
 use Rattle.aw_index.specs.Places.{place_of, number_of}
 use Rattle.aw_term.specs.Trees.{Con, Tree, Leaf, Made, Trees, Nil, More, bind}
+use Rattle.aw_term.specs.Artifacts.{Words}
 use Rattle.aw_term.specs.Rules.{Term}
 use Rattle.aw_term.specs.Rules as P
 use Rattle.aw_term.specs.WellFormed.{leaves_of}
@@ -41,6 +42,10 @@ numbered cons variables t = bind (λ x. Leaf (number_of x variables)) (resolved 
 -- a subtask with what it names by number, where these are the names of constructors, of sorts, and of the variables of its rule
 abbrev pub child_numbered : List (List ℕ) → List (List ℕ) → List (List ℕ) → WrittenChild → P.Child
 child_numbered cons sorts variables c = record { sort = number_of c.sort sorts; args = map (numbered cons variables) c.args; outs = length c.results }
+
+-- subtasks with what they name by number, where these are the words of the grammar, and the names of the variables of their rule
+abbrev pub children_numbered : Words → List (List ℕ) → List WrittenChild → List P.Child
+children_numbered words variables cs = map (child_numbered words.cons words.sorts variables) cs
 
 -- a rule with what it names by number, where these are the names of constructors, of sorts, and of its variables
 -- (each is declared, or it enters, where the rule has no fault; the number of another name is past the last)

@@ -1,7 +1,7 @@
 //! The rule that a written rule stands for.
 ghost use Rattle.std.specs.Prelude.{◌≡◌, ◌≤◌, length, map, true, IfOk, Some};
 ghost use Rattle.aw_grammar.specs.Written.{child_of_raw, rule_of_raw};
-ghost use Rattle.aw_grammar.specs.Resolved.{entering, child_numbered};
+ghost use Rattle.aw_grammar.specs.Resolved.{entering, child_numbered, children_numbered};
 ghost use Rattle.aw_grammar.specs.Declarations.{entry_of};
 ghost use Rattle.aw_grammar.specs.Kinds.{rule_kind, children_fit, takes_and_gives, sort_called};
 ghost use Rattle.aw_grammar.specs.GrammarView.{child_of};
@@ -35,7 +35,7 @@ fn to_children(
     children: &RawChildren,
 ) -> Result<Children, AllocError>
     requires { children_fit grammar.now.sorts (map child_of_raw children.now) ≡ true }
-    ensures { IfOk result (λ cs. map (child_of grammar.now.sorts) cs ≡ map (child_numbered (words_of grammar.now).cons (words_of grammar.now).sorts variables.now.names) (map child_of_raw children.now)) }
+    ensures { IfOk result (λ cs. map (child_of grammar.now.sorts) cs ≡ children_numbered (words_of grammar.now) variables.now.names (map child_of_raw children.now)) }
 {
     let mut made = Items::new(children.allocator());
     for child in children.as_slice() {
