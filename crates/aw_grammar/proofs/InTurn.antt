@@ -5,14 +5,13 @@ use Rattle.aw_term.specs.WellFormed.{IsWellFormed}
 use Rattle.aw_term.proofs.Eaches.{each_left, each_right}
 use Rattle.aw_grammar.specs.declared.fault.DeclKind.{DeclKind}
 use Rattle.aw_grammar.specs.declared.fault.DeclPlace.{DeclPlace}
+use Rattle.aw_grammar.specs.declared.fault.AddFault.{AddFault}
 use Rattle.aw_grammar.specs.declared.fault.GrammarFault.{GrammarFault}
 use Rattle.aw_grammar.specs.declared.fault.GrammarFault.TheVariants as build
-use Rattle.aw_grammar.specs.declared.raw.RawCon.{RawCon}
-use Rattle.aw_grammar.specs.declared.raw.RawSort.{RawSort}
 use Rattle.aw_grammar.specs.declared.grammar.Grammar.{Grammar}
-use Rattle.aw_grammar.specs.Declarations.{Declarations, with_role, with_con, with_sort, grammar_in, words_in}
+use Rattle.aw_grammar.specs.Declarations.{Declarations, with_role, grammar_in, words_in}
 use Rattle.aw_grammar.specs.GrammarOf.{declarations_of, entry, grammar_of, words_of}
-use Rattle.aw_grammar.specs.Build.{Declaration, kind_of, declare, here_or, first_fault, declare_all, placed, is_spelled, AllSpelled, BuiltOn, roles_placed, cons_placed, sorts_placed}
+use Rattle.aw_grammar.specs.Build.{Declaration, kind_of, declare, here_or, first_fault, declare_all, placed, is_spelled, Added, AllSpelled, BuiltOn}
 use Rattle.aw_grammar.proofs.Entries.{declared_grammar, declared_words}
 
 suc_place : (n : ℕ) → n + 1 ≡ suc n
@@ -44,8 +43,18 @@ none_of_map f [] h = refl
 none_of_map f (x ∷ xs) h = cc
 
 -- a declaration that is no rule leaves the grammar without rules
-pub still_no_rules : (g h : Grammar) → (declarations_of h).rules ≡ (declarations_of g).rules → g.rules ≡ [] → h.rules ≡ []
+still_no_rules : (g h : Grammar) → (declarations_of h).rules ≡ (declarations_of g).rules → g.rules ≡ [] → h.rules ≡ []
 still_no_rules g h same none = none_of_map (entry h.sorts) h.rules (same ∙ ap (map (entry g.sorts)) none)
+
+-- after a declaration that is neither a sort nor a rule there are no sorts and no rules yet
+pub still_before_sorts : (kind : Option DeclKind) (g : Grammar) (name : List ℕ) (result : Result Grammar AddFault) → Added kind (with_role (declarations_of g) name) result → (g.sorts ≡ []) × (g.rules ≡ []) → IfOk result (λ h. (h.sorts ≡ []) × (h.rules ≡ []))
+still_before_sorts kind g name (Ok h) added none = (ap (λ (z : Declarations). z.sorts) added.1 ∙ none.0, still_no_rules g h (ap (λ (z : Declarations). z.rules) added.1) none.1)
+still_before_sorts kind g name (Err fault) added none = tt
+
+-- after a declaration that is no rule there are no rules yet
+pub still_before_rules : (kind : Option DeclKind) (g : Grammar) (after : Declarations) (result : Result Grammar AddFault) → Added kind after result → after.rules ≡ (declarations_of g).rules → g.rules ≡ [] → IfOk result (λ h. h.rules ≡ [])
+still_before_rules kind g after (Ok h) added same none = still_no_rules g h (ap (λ (z : Declarations). z.rules) added.1 ∙ same) none
+still_before_rules kind g after (Err fault) added same none = tt
 
 or_later : {P : Type 0} → Option (P × DeclKind) → Option (P × DeclKind) → Option (P × DeclKind)
 or_later None later = later
@@ -87,22 +96,6 @@ built_before_err d xs ys build.NoMemory h = tt
 pub stops_before : (d : Declarations) (xs ys : List (DeclPlace × Declaration)) (fault : GrammarFault) (result : Result Grammar GrammarFault) → IsErrAnd result (λ e. e ≡ fault) → BuiltOn d xs (Err fault) → BuiltOn d (xs ++ ys) result
 stops_before d xs ys fault (Ok g) h told = absurd h
 stops_before d xs ys fault (Err e) h told = subst (λ f. BuiltOn d (xs ++ ys) (Err f)) (sym h) (built_before_err d xs ys fault told)
-
--- declarations that are no rules leave the rules as they are
-pub roles_keep : (d : Declarations) (i : ℕ) (names : List (List ℕ)) → (declare_all d (roles_placed i names)).rules ≡ d.rules
-roles_keep d i [] = refl
-roles_keep d i (x ∷ xs) = roles_keep (with_role d x) (suc i) xs
-
-pub cons_keep : (d : Declarations) (i : ℕ) (cons : List RawCon) → (declare_all d (cons_placed i cons)).rules ≡ d.rules
-cons_keep d i [] = refl
-cons_keep d i (x ∷ xs) = cons_keep (with_con d x) (suc i) xs
-
-pub sorts_keep : (d : Declarations) (i : ℕ) (sorts : List RawSort) → (declare_all d (sorts_placed i sorts)).rules ≡ d.rules
-sorts_keep d i [] = refl
-sorts_keep d i (x ∷ xs) = sorts_keep (with_sort d x) (suc i) xs
-
-pub rules_of_none : (g h : Grammar) (xs : List (DeclPlace × Declaration)) → BuiltOn (declarations_of g) xs (Ok h) → (declare_all (declarations_of g) xs).rules ≡ (declarations_of g).rules → g.rules ≡ [] → h.rules ≡ []
-rules_of_none g h xs built keep none = still_no_rules g h (ap (λ (z : Declarations). z.rules) built.1 ∙ keep) none
 
 -- the grammar and the words of what is declared
 pub grammar_is : (g : Grammar) (d : Declarations) → declarations_of g ≡ d → grammar_of g ≡ grammar_in d

@@ -5,6 +5,7 @@
 pub mod build;
 mod children;
 mod copies;
+mod declares;
 pub mod fault;
 pub mod grammar;
 mod kinds;

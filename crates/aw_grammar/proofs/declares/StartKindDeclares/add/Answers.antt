@@ -1,0 +1,11 @@
+use Rattle.std.proofs.Common.{refl}
+use Rattle.aw_grammar.specs.Declarations.{with_start}
+use Rattle.aw_grammar.specs.Kinds.{start_kind}
+use Rattle.aw_grammar.specs.GrammarOf.{declarations_of}
+use Rattle.aw_grammar.proofs.InTurn.{still_before_rules}
+use Rattle.aw_grammar.proofs.declares.StartKindDeclares.add.Goals as goal
+
+pub returns-clause-may_come : goal.returns-clause-may_come
+returns-clause-may_come c =
+    let d = declarations_of c.args.grammar in
+    still_before_rules (start_kind d c.args.item) c.args.grammar (with_start d c.args.item) c.add_start.result c.add_start.ensures refl c.requires.may_come
