@@ -75,6 +75,7 @@ module _ (names more : List Ref) (grows : Grows names more) where
     live = λ i d l. omega (arith, f.live i d l, longer);
     takes = f.takes;
     rules = f.rules;
+    rising = f.rising;
     stand = λ j m e. live_stays m.stands (f.stand j m e);
   }
 

@@ -24,6 +24,7 @@ use Rattle.aw_react.specs.Worklists.{site_item, site_items, open_items, site_wor
 use Rattle.aw_work.specs.declared.block.Triple.{Triple}
 use Rattle.aw_work.specs.Triples.{waiting_at}
 use Rattle.aw_choice.specs.ChoiceView.{place_of}
+use Rattle.aw_choice.specs.declared.choice.Standing.{Standing}
 use Rattle.aw_kept.specs.declared.record.Stands.{Stands}
 use Rattle.aw_kept.specs.declared.record.Stands.TheVariants as stands
 use Rattle.aw_kept.specs.declared.record.Mark.{Mark}
@@ -32,7 +33,8 @@ use Rattle.aw_kept.specs.Standings.{kept_refusal, waits_for_one, is_one_of}
 use Rattle.aw_kept.specs.Records.{IsOf, IsTold, mark_rule, rules_of, open_rules, has_live}
 use Rattle.aw_kept.specs.Due.{due_of, due_marks, due_record, due}
 use Rattle.aw_kept.specs.KeptStates.{AreKept}
-use Rattle.aw_kept.specs.Items.{said_refusal, kept_item, waits_on, waiting_on}
+use Rattle.aw_kept.specs.Items.{said_refusal, kept_item, SayOf, StandsAt, waits_on, waiting_on}
+use Rattle.aw_kept.proofs.Rising.{rule_among, mark_behind}
 
 -- a refusal that is kept is said by the references of its slots
 pub said : (names : List Ref) (n : Node) (rule : Rule) (s : Stands) (m : Matched Ref Ref) → kept_refusal names s ≡ refusal_of (after_guard n rule (as_named m)) → said_refusal names s ≡ refusal_of (after_guard n rule m)
@@ -117,6 +119,19 @@ none_late names (stands.Waits c) = by (slice_get names c)
 pub items_at : (g : Grammar) (k : Map) (names : List Ref) (hs : List Held) (ns : List ℕ) (xs : List Record) (ts : List Triple) (at n : ℕ) (h : Held) (x : Record) → AreKept g hs k names [] ns xs ts →
     slice_get ns at ≡ Some n → slice_get hs at ≡ Some h → slice_get xs n ≡ Some x → map (kept_item names h.node) x.marks.items ≡ open_items g (state_of h.done) k (held_of g h)
 items_at g k names hs ns xs ts at n h x f e u v = items_kept g k names h x (f.of_node at n h x e u v) (λ j m w. f.told at n h x e u v j m w (none_late names m.stands))
+
+-- what the mark of a rule says is how the rule stands at the node at a place
+pub stands_said : (g : Grammar) (k : Map) (names : List Ref) (hs : List Held) (ns : List ℕ) (xs : List Record) (ts : List Triple) (at n : ℕ) (h : Held) (x : Record) (number : ℕ) (s : Standing) → AreKept g hs k names [] ns xs ts →
+    slice_get ns at ≡ Some n → slice_get hs at ≡ Some h → slice_get xs n ≡ Some x → SayOf names x.marks.items number s → StandsAt g k h number s
+stands_said g k names hs ns xs ts at n h x number s f e u v says rule here sort idle =
+    let o = f.of_node at n h x e u v in
+    let listing : map mark_rule x.marks.items ≡ rules_of x.sort 0 g.rules = o.rules ∙ ap (λ d. open_rules g x.sort (state_of d)) idle in
+    let (j, listed) = rule_among x.sort 0 g.rules number rule here (sort ∙ o.sort) in
+    let (m, mark, of_rule) = mark_behind x.marks.items j (number + 0) (ap (λ l. slice_get l j) listing ∙ listed) in
+    let same : m.rule ≡ number = omega (arith, of_rule) in
+    let there : slice_get g.rules m.rule ≡ Some rule = ap (slice_get g.rules) same ∙ here in
+    says (f.fits.fit at n x e v).rising j m mark same
+    ∙ said names h.node rule m.stands (guard_all k 1 rule.patterns h.inherited) (f.told at n h x e u v j m mark (none_late names m.stands) rule there)
 
 -- which slots wait, and which items
 module _ (names : List Ref) (once : IsNamedOnce names) (slot : ℕ) (r : Ref) (named : slice_get names slot ≡ Some r) where

@@ -23,7 +23,7 @@ use Rattle.aw_kept.specs.declared.record.Mark.{Mark}
 use Rattle.aw_kept.specs.declared.record.Record.{Record}
 use Rattle.aw_kept.specs.declared.kept.Kept.{Kept}
 use Rattle.aw_kept.specs.Standings.{waits_for_one, is_one_of}
-use Rattle.aw_kept.specs.Records.{IsFit, IsOf, IsTold, AreTold, WaitsAtEnd, stand_at, with_stands, mark_rule, open_rules, has_live, is_of_sort}
+use Rattle.aw_kept.specs.Records.{AreRising, IsFit, IsOf, IsTold, AreTold, WaitsAtEnd, stand_at, with_stands, mark_rule, open_rules, has_live, is_of_sort}
 use Rattle.aw_kept.specs.Due.{due_of, due_marks, due_record, due, AreSame, waiting_mark}
 use Rattle.aw_kept.specs.Tested.{IsSet, LacksBody}
 use Rattle.aw_held.specs.Picked.{AreApart}
@@ -76,6 +76,7 @@ module _ (g : Grammar) (names : List Ref) (n j : ℕ) (m : Mark) (s : Stands) (x
     live = subst (λ v. All (λ q. q < length names) v.items) (sym set.slots) f.live;
     takes = ap (λ v. length v.items) set.slots ∙ f.takes ∙ ap (λ q. takes_of (slice_get g.sorts q)) (sym set.sort);
     rules = λ q z e. rules_by q z (get-stand_at s j x.marks.items m q z mark (ap (λ l. slice_get l q) (sym set.marks) ∙ e));
+    rising = subst AreRising (sym (ap (map mark_rule) set.marks ∙ rules-stand_at s j x.marks.items)) f.rising;
     stand = λ q z e. stand_by q z (get-stand_at s j x.marks.items m q z mark (ap (λ l. slice_get l q) (sym set.marks) ∙ e));
   }
     where

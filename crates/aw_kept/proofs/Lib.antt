@@ -6,6 +6,7 @@ pub mod WaitEnds
 pub mod AllTested
 pub mod Opening
 pub mod MarkLemmas
+pub mod Rising
 pub mod Growing
 pub mod ItemLemmas
 pub mod Placed

@@ -21,8 +21,9 @@ use Rattle.aw_grammar.specs.GrammarOf.{grammar_of}
 use Rattle.aw_kept.specs.declared.record.Stands.TheVariants as stands
 use Rattle.aw_kept.specs.declared.record.Mark.{Mark}
 use Rattle.aw_kept.specs.declared.record.Record.{Record}
-use Rattle.aw_kept.specs.Records.{IsFit, mark_rule, rules_of, is_of_sort, has_live}
+use Rattle.aw_kept.specs.Records.{AreRising, IsFit, mark_rule, rules_of, is_of_sort, has_live}
 use Rattle.aw_kept.specs.Due.{due_of, due_marks}
+use Rattle.aw_kept.proofs.Rising.{rules_rise}
 use Rattle.aw_kept.specs.Tested.{IsUntested}
 
 -- each of the rules of a sort is of that sort
@@ -113,6 +114,7 @@ fit_prepared g names n rs x sort named takes rules untested = record {
   live = named_live names x.slots.items rs named;
   takes = sym (length-map x.slots.items (slice_get names)) ∙ ap length named ∙ length-map rs Some ∙ takes ∙ ap (λ s. takes_of (slice_get g.sorts s)) sort;
   rules = marks_listed g x.sort x.marks.items rules;
+  rising = subst AreRising (sym rules) (rules_rise x.sort 0 g.rules);
   stand = untested_live (length names) x.marks.items untested;
 }
 

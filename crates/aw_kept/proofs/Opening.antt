@@ -15,7 +15,7 @@ use Rattle.aw_work.specs.declared.block.Triple.{Triple}
 use Rattle.aw_work.specs.Triples.{others_than}
 use Rattle.aw_kept.specs.declared.record.Mark.{Mark}
 use Rattle.aw_kept.specs.declared.record.Record.{Record}
-use Rattle.aw_kept.specs.Records.{IsFit, IsOf, AreTold, WaitsAtEnd, open_rules, mark_rule}
+use Rattle.aw_kept.specs.Records.{AreRising, IsFit, IsOf, AreTold, WaitsAtEnd, open_rules, mark_rule}
 use Rattle.aw_kept.specs.Due.{due_marks, due_record}
 use Rattle.aw_kept.specs.Tested.{AreTested}
 use Rattle.aw_kept.specs.KeptStates.{AreFit, AreKept}
@@ -136,6 +136,7 @@ module _ (g : Grammar) (names : List Ref) (at n : ℕ) (ns : List ℕ) (xs ys : 
     live = subst (λ v. All (λ s. s < length names) v.items) (sym slots) f.live;
     takes = ap (λ v. length v.items) slots ∙ f.takes ∙ ap (λ s. takes_of (slice_get g.sorts s)) (sym sort);
     rules = λ j m e. absurd (no_mark j m e);
+    rising = subst (λ l. AreRising (map mark_rule l)) (sym marks) (λ i j a b l e d. absurd cc);
     stand = λ j m e. absurd (no_mark j m e);
   }
     where

@@ -1,13 +1,21 @@
--- What is kept as items of a worklist, and how many items wait for a reference.
-use Rattle.std.specs.Prelude.{ℕ, Bool, false, List, Option, None, Some, count_by, option_map, slice_get}
+-- What is kept as items of a worklist, how a rule stands that is asked for, and how many items wait for a reference.
+use Rattle.std.specs.Prelude.{◌≡◌, ℕ, Bool, false, List, Option, None, Some, count_by, map, option_map, slice_get}
 use Rattle.aw_term.specs.Names.{Node, Ref}
-use Rattle.aw_term.specs.Choices.{Answer, WaitsFor, Mismatch, CircleAt, TooDeep}
+use Rattle.aw_term.specs.Rules.{Rule, Grammar, sort_of}
+use Rattle.aw_term.specs.Choices.{Answer, WaitsFor, Mismatch, CircleAt, TooDeep, after_guard}
+use Rattle.aw_term.specs.Runs.{refusal_of as plain_refusal}
 use Rattle.aw_term.specs.Artifacts.{Item}
-use Rattle.aw_choice.specs.ChoiceView.{place_of}
+use Rattle.aw_choice.specs.ChoiceView.{place_of, refusal_of}
+use Rattle.aw_choice.specs.declared.choice.Standing.{Standing}
 use Rattle.aw_store.specs.Refs.{ref_eq}
+use Rattle.aw_store.specs.Equations.{Map}
+use Rattle.aw_apply.specs.Guard.{guard_all}
+use Rattle.aw_held.specs.declared.held.Held.{Held}
+use Rattle.aw_held.specs.HeldView.{sort_or}
 use Rattle.aw_kept.specs.declared.record.Stands.{Stands}
 use Rattle.aw_kept.specs.declared.record.Stands.TheVariants as stands
 use Rattle.aw_kept.specs.declared.record.Mark.{Mark}
+use Rattle.aw_kept.specs.Records.{AreRising, mark_rule}
 
 -- the refusal that is kept, by the references that the slots name
 abbrev pub said_refusal : List Ref → Stands → Option (Answer Ref)
@@ -20,6 +28,15 @@ said_refusal names stands.TooDeep = Some TooDeep
 -- a mark as an item at its node
 abbrev pub kept_item : List Ref → Node → Mark → Item
 kept_item names n m = record { node = n; rule = m.rule; refusal = said_refusal names m.stands }
+
+-- where these marks are in the order of their rules, the one of this rule says that it stands so
+abbrev pub SayOf : List Ref → List Mark → ℕ → Standing → Type 0
+SayOf names ms number s = AreRising (map mark_rule ms) → (j : ℕ) (m : Mark) → slice_get ms j ≡ Some m → m.rule ≡ number → refusal_of s ≡ said_refusal names m.stands
+
+-- the rule with this number stands so at the node, where the node is open and of the rule's sort
+abbrev pub StandsAt : Grammar → Map → Held → ℕ → Standing → Type 0
+StandsAt g k h number s = (rule : Rule) → slice_get g.rules number ≡ Some rule → rule.sort ≡ sort_or (sort_of g h.node) → h.done ≡ None →
+    refusal_of s ≡ plain_refusal (after_guard h.node rule (guard_all k 1 rule.patterns h.inherited))
 
 -- the refusal is that this reference is missing
 abbrev pub waits_on : Ref → Option (Answer Ref) → Bool

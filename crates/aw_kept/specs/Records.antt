@@ -30,6 +30,10 @@ open_rules g s (Done rule args) = []
 abbrev pub mark_rule : Mark → ℕ
 mark_rule m = m.rule
 
+-- each of these numbers is below those behind it
+abbrev pub AreRising : List ℕ → Type 0
+AreRising ns = (i j a b : ℕ) → i < j → slice_get ns i ≡ Some a → slice_get ns j ≡ Some b → a < b
+
 -- the rule is of this sort
 abbrev pub is_of_sort : ℕ → Option Rule → Bool
 is_of_sort s None = false
@@ -45,11 +49,12 @@ has_live n _ = true
 abbrev pub AreLive : List Ref → List Mark → Type 0
 AreLive names ms = (j : ℕ) (m : Mark) → slice_get ms j ≡ Some m → has_live (length names) m.stands ≡ true
 
--- A record in which each slot has a name, as many as the sort takes, and each mark is of a rule of the sort.
+-- A record in which each slot has a name, as many as the sort takes, and each mark is of a rule of the sort, in the order of the rules.
 pub record IsFit (g : Grammar) (names : List Ref) (x : Record) : Type 0 where
   pub live : All (λ slot. slot < length names) x.slots.items
   pub takes : length x.slots.items ≡ takes_of (slice_get g.sorts x.sort)
   pub rules : (j : ℕ) (m : Mark) → slice_get x.marks.items j ≡ Some m → is_of_sort x.sort (slice_get g.rules m.rule) ≡ true
+  pub rising : AreRising (map mark_rule x.marks.items)
   pub stand : (j : ℕ) (m : Mark) → slice_get x.marks.items j ≡ Some m → has_live (length names) m.stands ≡ true
 
 -- an open node that inherits these references

@@ -1,4 +1,4 @@
-//! The items of a worklist, from what is kept.
+//! The items of a worklist, and how a rule stands that is asked for, from what is kept.
 ghost use Rattle.std.specs.Prelude.{◌≡◌, ◌<◌, ◌++◌, List, Some, true, IfOk, OnOk, length, map as list_map, slice_get, vec_len};
 ghost use Rattle.aw_term.specs.Rules.{Grammar as PlainGrammar};
 ghost use Rattle.aw_choice.specs.ChoiceView.{item_of, refusal_of};
@@ -6,11 +6,11 @@ ghost use Rattle.aw_held.specs.declared.held.Held.{Held as HeldValue};
 ghost use Rattle.aw_held.specs.HeldView.{held_of, state_of};
 ghost use Rattle.aw_react.specs.Worklists.{open_items};
 ghost use Rattle.aw_kept.specs.Records.{AreLive, has_live};
-ghost use Rattle.aw_kept.specs.Items.{said_refusal, kept_item};
+ghost use Rattle.aw_kept.specs.Items.{said_refusal, kept_item, SayOf, StandsAt};
 ghost use Rattle.aw_kept.specs.KeptStates.{AreLiveAt, IsKept};
 
 use crate::kept::Kept;
-use crate::record::{Mark, Stands};
+use crate::record::{Mark, Stands, rule_place};
 use aw_base::{Item, Standing};
 use aw_name::{Node, copy_node};
 use aw_store::{Facts, ref_at};
@@ -42,6 +42,17 @@ fn item<F: Facts>(facts: &F, node: &Node, mark: &Mark) -> Result<Item, AllocErro
     })
 }
 
+/// How the rule with this number stands by the mark of it. Where there is none, nothing refuses it.
+fn standing_in<F: Facts>(facts: &F, marks: &[Mark], number: u16) -> Result<Standing, AllocError>
+    requires { AreLive (F.names facts.now) marks.now }
+    ensures { IfOk result (λ s. SayOf (F.names facts.now) marks.now number s) }
+{
+    match rule_place(marks, number) {
+        Some(at) => standing(facts, &marks[at].stands),
+        None => Ok(Standing::Ready),
+    }
+}
+
 /// Adds an item for each mark.
 fn push_marks<F: Facts>(
     items: &mut Vec<Item>,
@@ -59,6 +70,25 @@ fn push_marks<F: Facts>(
 }
 
 impl Kept {
+    /// How the rule with this number stands at the node at this place, where that is open and of the rule's sort. Nothing is
+    /// tested. Want of memory is the only error.
+    pub fn standing<F: Facts>(
+        &self,
+        at: usize,
+        number: u16,
+        facts: &F,
+    ) -> Result<Standing, AllocError>
+        requires within { at < vec_len self.now.numbers }
+        requires live { AreLiveAt (F.names facts.now) at self.now }
+        ensures { IfOk result (λ s. (g : PlainGrammar) (hs : List HeldValue) (h : HeldValue) → slice_get hs at ≡ Some h → IsKept g hs (F.map facts.now) (F.names facts.now) self.now →
+            StandsAt g (F.map facts.now) h number s) }
+    {
+        match self.records.get(self.numbers[at] as usize) {
+            Some(record) => standing_in(facts, record.marks.as_slice(), number),
+            None => Ok(Standing::Ready),
+        }
+    }
+
     /// Adds the items of the node at this place: one for each rule of its sort where the node is open. Nothing is tested. Want
     /// of memory is the only error.
     pub fn push_items<F: Facts>(

@@ -1,8 +1,9 @@
 //! What is kept of one node.
-ghost use Rattle.std.specs.Prelude.{◌≡◌, ◌≢◌, ◌<◌, ◌≤◌, ◌+◌, ℕ, Bool, Some, true, false, IfSome, IfNone, length, count_by, slice_get, vec_len};
+ghost use Rattle.std.specs.Prelude.{◌≡◌, ◌≢◌, ◌<◌, ◌≤◌, ◌+◌, ℕ, Bool, Some, true, false, IfSome, IfNone, length, count_by, map, slice_get, vec_len};
 ghost use Rattle.aw_work.specs.declared.block.Triple.{Triple as TripleValue};
-ghost use Rattle.aw_kept.specs.Due.{waiting_mark};
-ghost use Rattle.aw_kept.specs.Due.{due_of};
+ghost use Rattle.aw_kept.specs.declared.record.Mark.{Mark as MarkValue};
+ghost use Rattle.aw_kept.specs.Records.{AreRising, mark_rule};
+ghost use Rattle.aw_kept.specs.Due.{due_of, waiting_mark};
 
 use aw_base::Place;
 use aw_work::{Pair, Work};
@@ -69,16 +70,30 @@ fn waits_so(mark: &Mark, rule: u16, slot: usize) -> bool
     }
 }
 
-/// The place of a mark of this rule, where it waits for the slot.
+/// The place of the mark of this rule, where the marks are in the order of their rules.
+pub(crate) fn rule_place(marks: &[Mark], rule: u16) -> Option<usize>
+    ensures found { IfSome result (λ at. (m : MarkValue) × (slice_get marks.now at ≡ Some m) × (m.rule ≡ rule)) }
+    ensures within { IfSome result (λ at. at < length marks.now) }
+    ensures none { IfNone result (AreRising (map mark_rule marks.now) → (j : ℕ) (m : MarkValue) → slice_get marks.now j ≡ Some m → m.rule ≢ rule) }
+{
+    let at = marks.partition_point(|mark| mark.rule < rule);
+    if marks.get(at)?.rule == rule {
+        Some(at)
+    } else {
+        None
+    }
+}
+
+/// The place of the mark of this rule, where it waits for the slot and the marks are in the order of their rules.
 pub(crate) fn place_of(marks: &[Mark], rule: u16, slot: usize) -> Option<usize>
     ensures within { IfSome result (λ at. at < length marks.now) }
     ensures found { IfSome result (λ at. slice_get marks.now at ≡ Some (waiting_mark rule slot)) }
-    ensures none { IfNone result ((j : ℕ) → slice_get marks.now j ≢ Some (waiting_mark rule slot)) }
+    ensures none { IfNone result (AreRising (map mark_rule marks.now) → (j : ℕ) → slice_get marks.now j ≢ Some (waiting_mark rule slot)) }
 {
-    for at in 0..marks.len() {
-        if waits_so(&marks[at], rule, slot) {
-            return Some(at);
-        }
+    let at = rule_place(marks, rule)?;
+    if waits_so(&marks[at], rule, slot) {
+        Some(at)
+    } else {
+        None
     }
-    None
 }

@@ -1,8 +1,9 @@
-use Rattle.std.proofs.Common.{◌∙◌, slice_get, length, ap, refl, sym, arith}
+use Rattle.std.proofs.Common.{◌∙◌, slice_get, length, map, ap, refl, subst, sym, arith}
 use Rattle.std.specs.Prelude.{slice_set}
 use Rattle.std.proofs.lemmas.Option.{slice_get_read, slice_get_within}
 use Rattle.aw_grammar.specs.GrammarOf.{grammar_of}
 use Rattle.aw_kept.specs.Due.{waiting_mark}
+use Rattle.aw_kept.specs.Records.{AreRising, mark_rule}
 use Rattle.aw_kept.specs.declared.record.Record.{Record}
 use Rattle.aw_kept.proofs.Places.{set_at}
 use Rattle.aw_kept.proofs.WaitEnds.{known_live}
@@ -23,7 +24,8 @@ unreachable-requires g c =
     let w = taken_waits (grammar_of c.args.grammar.now) (g.F.Facts.names c.args.facts.now) c.args.slot n c.args.pair.rule c.args.self.now.numbers.items xs c.args.self.now.work.waiting c.requires.fits in
     let here = slice_get_read xs (length xs) n x refl (slice_get_within xs n w.1 w.3) c.index_mut-entry.ensures.value in
     let same = one_record xs n w.1 x w.3 here in
-    c.in_default.ensures.none w.4.0
+    let fit = c.requires.fits.fit w.0 n x w.2 here in
+    c.in_default.ensures.none (subst (λ l. AreRising (map mark_rule l)) (sym c.as_slice.ensures.value) fit.rising) w.4.0
     (ap (λ l. slice_get l w.4.0) (c.as_slice.ensures.value ∙ ap (λ (z : Record). z.marks.items) (sym same)) ∙ w.4.1)
 
 pub look_again-stands-requires-clause-fit : goal.look_again-stands-requires-clause-fit
