@@ -12,6 +12,7 @@ use crate::serving::serve_kept_workspace;
 use aw_accept::Accepted;
 use aw_cells::CellFacts;
 use aw_disk::Disk;
+use aw_node::ListedSite;
 use aw_out::Wire;
 use aw_session::Log;
 use aw_site::Site;
@@ -41,5 +42,15 @@ pub fn serve_kept<W: Wire, D: Disk>(
     ensures stopped { IfErr result (StopsKept ⟦<W as Wire>⟧ ⟦<D as Disk>⟧ (rules_of g.now.grammar t.now) role text.now (empty_site true role) wire.old wire.new disk.old disk.new) }
 {
     let site = Site::new(alloc, g, role, CellFacts::new(alloc), true);
-    serve_kept_workspace(alloc, g, t, site, role, sessions, text, wire, disk)
+    serve_kept_workspace(
+        alloc,
+        g,
+        t,
+        ListedSite::new(site),
+        role,
+        sessions,
+        text,
+        wire,
+        disk,
+    )
 }

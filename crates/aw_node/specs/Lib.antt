@@ -1,3 +1,4 @@
+pub mod Listed
 pub mod Serving
 pub mod TypedNodes
 pub mod TypedRuns

@@ -3,6 +3,7 @@
 
 pub mod handling;
 pub mod law;
+pub mod listed;
 pub mod node;
 pub mod serving;
 pub mod sites;
@@ -10,6 +11,7 @@ pub mod workspace;
 
 pub use handling::handle;
 pub use law::served_nodes;
+pub use listed::ListedSite;
 pub use node::Node;
 pub use serving::{ServeFault, serve, serve_workspace};
 pub use workspace::Workspace;

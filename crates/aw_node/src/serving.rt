@@ -8,6 +8,7 @@ ghost use Rattle.aw_react.specs.Sites.{empty_site};
 ghost use Rattle.aw_session.specs.Sessions.{NoneComes};
 ghost use Rattle.aw_typed.specs.Typing.{IsMadeFor};
 
+use crate::listed::ListedSite;
 use crate::node::Node;
 use crate::workspace::Workspace;
 use aw_accept::Accepted;
@@ -76,5 +77,5 @@ pub fn serve<W: Wire>(
     ensures stopped { IfErr result (Stops W.content W.failed_openings (rules_of g.now.grammar t.now) role (empty_site true role) wire.old wire.new) }
 {
     let site = Site::new(alloc, g, role, CellFacts::new(alloc), true);
-    serve_workspace(alloc, g, t, site, role, sessions, wire)
+    serve_workspace(alloc, g, t, ListedSite::new(site), role, sessions, wire)
 }

@@ -59,7 +59,7 @@ fn copy_item(item: &Item) -> Result<Item, AllocError>
 }
 
 /// The item at a place, or how many there are.
-fn item_at(items: &Worklist, place: u64) -> Result<Answered, AllocError>
+pub(crate) fn item_at(items: &Worklist, place: u64) -> Result<Answered, AllocError>
     ensures range { IfOk result ReplyInRange }
     ensures reply { IfOk result (λ a. (g : PlainGrammar) → response_of g a
         ≡ told (N.at_place N.Shows (length (list_map item_of items.now)) (slice_get (list_map item_of items.now) place))) }
@@ -95,7 +95,7 @@ impl<'g, F: Facts> Workspace for Site<'g, F> {
         message_at(self.outbox(), place)
     }
 
-    fn list(&self, g: &Accepted, place: u64) -> Result<Answered, AllocError> {
+    fn list(&mut self, g: &Accepted, place: u64) -> Result<Answered, AllocError> {
         let items = Site::list(self, g)?;
         item_at(&items, place)
     }

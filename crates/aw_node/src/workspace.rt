@@ -59,8 +59,11 @@ pub trait Workspace {
         ensures answer { IfOk result (λ a. RepliesAs (grammar_of g.now.grammar) (N.Pull place) (shows self.now) (shows self.now) (response_of (grammar_of g.now.grammar) a)) };
 
     /// The item at a place of the worklist, from 0, or how many there are.
-    fn list(&self, g: &Accepted, place: u64) -> Result<Answered, AllocError>
-        requires grammar { g.now.grammar ≡ grammar self.now }
+    /// Nothing that is shown changes.
+    fn list(&mut self, g: &Accepted, place: u64) -> Result<Answered, AllocError>
+        requires grammar { g.now.grammar ≡ grammar self.old }
+        ensures grammar { grammar self.new ≡ grammar self.old }
         ensures range { IfOk result ReplyInRange }
-        ensures answer { IfOk result (λ a. RepliesAs (grammar_of g.now.grammar) (N.Listed place) (shows self.now) (shows self.now) (response_of (grammar_of g.now.grammar) a)) };
+        ensures answer { IfOk result (λ a. RepliesAs (grammar_of g.now.grammar) (N.Listed place) (shows self.old) (shows self.new) (response_of (grammar_of g.now.grammar) a)) }
+        ensures err { (s : Site) → shows self.old s → OnErr result (shows self.new s) };
 }

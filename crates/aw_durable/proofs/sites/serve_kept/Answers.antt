@@ -9,7 +9,7 @@ serve_kept_workspace-requires-clause-role g c =
     omega (arith, few, c.requires.role)
 
 pub returns-clause-served : goal.returns-clause-served
-returns-clause-served g c = c.serve_kept_workspace.ensures.served (empty_site true c.args.role) c.new-site.ensures.site
+returns-clause-served g c = c.serve_kept_workspace.ensures.served (empty_site true c.args.role) (rw c.new-2.ensures.site c.new-site.ensures.site)
 
 pub returns-clause-stopped : goal.returns-clause-stopped
-returns-clause-stopped g c = c.serve_kept_workspace.ensures.stopped (empty_site true c.args.role) c.new-site.ensures.site
+returns-clause-stopped g c = c.serve_kept_workspace.ensures.stopped (empty_site true c.args.role) (rw c.new-2.ensures.site c.new-site.ensures.site)

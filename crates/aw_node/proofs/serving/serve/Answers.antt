@@ -9,4 +9,4 @@ serve_workspace-requires-clause-role g c =
     omega (arith, few, c.requires.role)
 
 pub returns-clause-stopped : goal.returns-clause-stopped
-returns-clause-stopped g c = c.serve_workspace.ensures.stopped (empty_site true c.args.role) c.new-site.ensures.site
+returns-clause-stopped g c = c.serve_workspace.ensures.stopped (empty_site true c.args.role) (rw c.new-2.ensures.site c.new-site.ensures.site)
