@@ -5,6 +5,7 @@ pub mod KeptSound
 pub mod KeptValid
 pub mod OwnChildren
 pub mod Standing
+pub mod Weighed
 pub mod TakenOn
 pub mod Foretelling
 pub mod Clashes

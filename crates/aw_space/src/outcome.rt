@@ -1,7 +1,7 @@
 //! What a choice leads to at a space.
 ghost use Rattle.std.specs.Prelude.{◌≡◌, ◌↔◌, ◌≤◌, ◌+◌, [], true, IsTrue, IfOk, OnOk, OnErr};
-ghost use Rattle.aw_term.specs.Choices.{answer_of as plain_answer, Taken as PlainTaken};
-ghost use Rattle.aw_choice.specs.ChoiceView.{choice_of};
+ghost use Rattle.aw_term.specs.Choices.{answer_of as plain_answer, Taken};
+ghost use Rattle.aw_choice.specs.ChoiceView.{answer_of, choice_of};
 ghost use Rattle.aw_grammar.specs.GrammarOf.{grammar_of};
 ghost use Rattle.aw_base.specs.ChoiceFits.{choice_ok};
 ghost use Rattle.aw_held.specs.HeldView.{all_of};
@@ -59,21 +59,25 @@ impl Outcome {
     }
 }
 
-/// What a choice leads to, and what it makes. It changes nothing.
+/// What a choice leads to, and what it makes. It changes nothing. How a rule stands is kept, so that a choice which is not taken
+/// tests no guard.
 pub fn foresee<F: Facts, L: Ledger>(
     alloc: Global,
     grammar: &Grammar,
     role: u16,
     held: &Holding,
     facts: &F,
+    kept: &Kept,
     choice: &Choice,
     steps: &mut Steps<L>,
 ) -> Result<Outcome, AllocError>
     requires sound { IsSound (grammar_of grammar.now) role held.now.items (F.map facts.now) (F.names facts.now) }
+    requires stands { IsKept (grammar_of grammar.now) held.now.items (F.map facts.now) (F.names facts.now) kept.now }
     requires ok { choice_ok (grammar_of grammar.now) (choice_of choice.now) ≡ true }
     ensures outcome { IfOk result (λ o. IsOutcome o (choice_of choice.now)
         (outcome_in (all_of (grammar_of grammar.now) held.now.items) (F.map facts.now) (grammar_of grammar.now) (choice_of choice.now))) }
     ensures steps { steps.new ≤ steps.old + 1 }
+    ensures untested { IfOk result (λ o. (answer_of o.answer ≡ Taken → ⊥) → steps.new ≡ steps.old) }
 {
     match choice {
         Choice::Start { sort, case } => {
@@ -84,7 +88,9 @@ pub fn foresee<F: Facts, L: Ledger>(
             Ok(Outcome::plainly(alloc, answer))
         }
         Choice::Develop { node, rule, args } => {
-            match weigh(alloc, grammar, role, held, facts, node, *rule, args, steps)? {
+            match weigh(
+                alloc, grammar, role, held, facts, kept, node, *rule, args, steps,
+            )? {
                 Weighed::Refused(answer) => Ok(Outcome::plainly(alloc, answer)),
                 Weighed::Takes(bound) => Ok(Outcome {
                     answer: Answer::Taken,
@@ -112,7 +118,7 @@ pub fn carry_out<F: Facts, L: Ledger>(
     requires valid { IsValid (grammar_of grammar.now) held.old.items (F.map facts.old) }
     requires ok { choice_ok (grammar_of grammar.now) (choice_of choice.now) ≡ true }
     requires here { is_home (grammar_of grammar.now) role (node_of (choice_of choice.now)) ≡ true }
-    requires taken { plain_answer (outcome_in (all_of (grammar_of grammar.now) held.old.items) (F.map facts.old) (grammar_of grammar.now) (choice_of choice.now)) ≡ PlainTaken }
+    requires taken { plain_answer (outcome_in (all_of (grammar_of grammar.now) held.old.items) (F.map facts.old) (grammar_of grammar.now) (choice_of choice.now)) ≡ Taken }
     requires made { IsMade made.now (choice_of choice.now)
         (outcome_in (all_of (grammar_of grammar.now) held.old.items) (F.map facts.old) (grammar_of grammar.now) (choice_of choice.now)) }
     requires stands { IsKept (grammar_of grammar.now) held.old.items (F.map facts.old) (F.names facts.old) kept.old }

@@ -100,7 +100,8 @@ impl<'g, F: Facts> Space<'g, F> {
         self.role
     }
 
-    /// What a choice leads to, and what it makes. It changes nothing, and tests at most one guard.
+    /// What a choice leads to, and what it makes. It changes nothing, and tests at most one guard, and none for a choice that is
+    /// not taken.
     pub fn foresee<L: Ledger>(
         &self,
         g: &Accepted,
@@ -112,6 +113,7 @@ impl<'g, F: Facts> Space<'g, F> {
         requires here { is_home (grammar_of g.now.grammar) self.now.role (node_of (choice_of choice.now)) ≡ true }
         ensures outcome { IfOk result (λ o. IsOutcome o (choice_of choice.now) (outcome (grammar_of g.now.grammar) (space_seen ⟦<F as Facts>⟧ self.now) (choice_of choice.now))) }
         ensures steps { steps.new ≤ steps.old + 1 }
+        ensures untested { IfOk result (λ o. (answer_of o.answer ≡ Taken → ⊥) → steps.new ≡ steps.old) }
     {
         foresee(
             self.held.allocator(),
@@ -119,13 +121,14 @@ impl<'g, F: Facts> Space<'g, F> {
             self.role,
             &self.held,
             &self.facts,
+            &self.kept,
             choice,
             steps,
         )
     }
 
     /// Answers a choice, and takes it where the answer is `Taken`. A refused choice and an error change neither nodes,
-    /// choices nor equations.
+    /// choices nor equations, and a refused choice tests no guard.
     pub fn choose<L: Ledger>(
         &mut self,
         g: &Accepted,
@@ -144,13 +147,40 @@ impl<'g, F: Facts> Space<'g, F> {
         ensures facts { KeepsFacts (F.map self.old.facts) (F.map self.new.facts) }
         ensures nodes { KeepsNodesBut (node_of (choice_of choice.now)) (space_seen ⟦<F as Facts>⟧ self.old).held (space_seen ⟦<F as Facts>⟧ self.new).held }
         ensures steps { steps.new ≤ steps.old + choice_cost (grammar_of g.now.grammar) self.old.role (space_seen ⟦<F as Facts>⟧ self.old) (choice_of choice.now) }
+        ensures untested { IfOk result (λ o. (answer_of o.answer ≡ Taken → ⊥) → steps.new ≡ steps.old) }
     {
         let outcome = self.foresee(g, choice, steps)?;
-        if !outcome.is_taken() {
-            return Ok(outcome);
-        }
-        self.take(g, choice, &outcome.made, steps)?;
+        self.follow(g, choice, &outcome, steps)?;
         Ok(outcome)
+    }
+
+    /// Does what a choice was foreseen to lead to. A refused choice and an error change neither nodes, choices nor equations.
+    pub fn follow<L: Ledger>(
+        &mut self,
+        g: &Accepted,
+        choice: &Choice,
+        foreseen: &Outcome,
+        steps: &mut Steps<L>,
+    ) -> Result<(), AllocError>
+        requires grammar { g.now.grammar ≡ self.old.accepted.now.grammar }
+        requires ok { choice_ok (grammar_of g.now.grammar) (choice_of choice.now) ≡ true }
+        requires here { is_home (grammar_of g.now.grammar) self.old.role (node_of (choice_of choice.now)) ≡ true }
+        requires foreseen { IsOutcome foreseen.now (choice_of choice.now) (outcome (grammar_of g.now.grammar) (space_seen ⟦<F as Facts>⟧ self.old) (choice_of choice.now)) }
+        ensures grammar { self.new.accepted.now.grammar ≡ self.old.accepted.now.grammar }
+        ensures role { self.new.role ≡ self.old.role }
+        ensures space { OnOk result (space_seen ⟦<F as Facts>⟧ self.new ≡ space_after (grammar_of g.now.grammar) self.old.role (space_seen ⟦<F as Facts>⟧ self.old) (choice_of choice.now)) }
+        ensures refused { (answer_of foreseen.now.answer ≡ Taken → ⊥) → IsUnchanged ⟦<F as Facts>⟧ self.old self.new }
+        ensures err { OnErr result (IsUnchanged ⟦<F as Facts>⟧ self.old self.new) }
+        ensures facts { KeepsFacts (F.map self.old.facts) (F.map self.new.facts) }
+        ensures nodes { KeepsNodesBut (node_of (choice_of choice.now)) (space_seen ⟦<F as Facts>⟧ self.old).held (space_seen ⟦<F as Facts>⟧ self.new).held }
+        ensures steps { answer_of foreseen.now.answer ≡ Taken → steps.new + 1 ≤ steps.old + choice_cost (grammar_of g.now.grammar) self.old.role (space_seen ⟦<F as Facts>⟧ self.old) (choice_of choice.now) }
+        ensures untested { (answer_of foreseen.now.answer ≡ Taken → ⊥) → steps.new ≡ steps.old }
+    {
+        if !foreseen.is_taken() {
+            return Ok(());
+        }
+        self.take(g, choice, &foreseen.made, steps)?;
+        Ok(())
     }
 
     /// Takes a choice that was foreseen to be taken. An error changes neither nodes, choices nor equations.

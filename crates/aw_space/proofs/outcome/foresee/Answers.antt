@@ -8,6 +8,7 @@ use Rattle.aw_held.specs.InOrder.{place_in}
 use Rattle.aw_joint.specs.Joint.{outcome_in}
 use Rattle.aw_apply.specs.Telling.{HasRoom}
 use Rattle.aw_space.specs.Outcomes.{IsOutcome}
+use Rattle.aw_space.proofs.Weighed.{refused_other}
 use Rattle.aw_space.proofs.Foretelling.{refused_foretold, taken_foretold, known_foretold, starts_foretold}
 use Rattle.aw_choice.specs.declared.choice.Answer.TheVariants as answer
 use Rattle.aw_space.specs.declared.outcome.Outcome.{Outcome}
@@ -47,3 +48,6 @@ returns-in_ok-made-in-Takes-clause-outcome g c =
     subst (λ ch. IsOutcome o (choice_of ch) (outcome_in (all_of gr c.args.held.now.items) k gr (choice_of ch))) (sym c.in-Develop.is)
     (taken_foretold gr c.in_ok-made-in-Takes.field-0 c.in-Develop.node c.in-Develop.rule (map ground_of c.in-Develop.args) c.in_ok-answer-in-Develop.field-0 c.in-Takes.bound _ ok c.in_ok-answer-in-Develop.ensures.value c.in-Takes.is
     c.in_ok-made-in-Takes.ensures.equations c.in_ok-made-in-Takes.ensures.children)
+
+pub returns-in-Refused-clause-untested : goal.returns-in-Refused-clause-untested
+returns-in-Refused-clause-untested g c = λ other. c.in_ok-answer-in-Develop.ensures.untested (λ bound e. refused_other c.in-Refused.answer bound (sym c.in-Refused.is ∙ e))

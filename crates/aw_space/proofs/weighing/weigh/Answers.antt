@@ -23,8 +23,11 @@ weigh_at-requires-clause-named g c =
     let here = c.at.ensures in
     named_here (g.F.Facts.names c.args.facts.now) hs c.in-Some.at c.at.result.now c.requires.sound.named here
 
-pub returns-in-Some-clause-value : goal.returns-in-Some-clause-value
-returns-in-Some-clause-value g c =
+pub weigh_at-requires-clause-stands : goal.weigh_at-requires-clause-stands
+weigh_at-requires-clause-stands g c = c.in_ok-stands-in-Some.ensures (grammar_of c.args.grammar.now) c.args.held.now.items c.at.result.now c.at.ensures c.requires.stands
+
+pub returns-in_ok-stands-in-Some-clause-value : goal.returns-in_ok-stands-in-Some-clause-value
+returns-in_ok-stands-in-Some-clause-value g c =
     let hs = c.args.held.now.items in
     let gr = grammar_of c.args.grammar.now in
     let k = g.F.Facts.map c.args.facts.now in
@@ -42,8 +45,8 @@ returns-in-None-clause-value g c = λ rule here.
     ap (λ o. by_held o (grammar_of c.args.grammar.now) (g.F.Facts.map c.args.facts.now) c.args.node.now c.args.number (map ground_of c.args.args.now))
     (sym (held_nowhere (grammar_of c.args.grammar.now) c.args.node.now c.args.held.now.items (sym c.in-None.ensures.place)))
 
-pub returns-in-Some-clause-room : goal.returns-in-Some-clause-room
-returns-in-Some-clause-room g c =
+pub returns-in_ok-stands-in-Some-clause-room : goal.returns-in_ok-stands-in-Some-clause-room
+returns-in_ok-stands-in-Some-clause-room g c =
     let hs = c.args.held.now.items in
     let h = c.at.result.now in
     let here = c.at.ensures in

@@ -9,7 +9,7 @@ use Rattle.aw_space.specs.Spaces as P
 use Rattle.aw_space.specs.Spaces.{outcome}
 use Rattle.aw_space.proofs.Refused.{told_refused, refused_stays}
 use Rattle.aw_space.proofs.Staying.{facts_after, nodes_after}
-use Rattle.aw_space.proofs.space.Space.choose.Goals as goal
+use Rattle.aw_space.proofs.space.Space.follow.Goals as goal
 
 pub returns-then-not-is_taken-clause-space : goal.returns-then-not-is_taken-clause-space
 returns-then-not-is_taken-clause-space g c =
@@ -17,7 +17,7 @@ returns-then-not-is_taken-clause-space g c =
     let s = space_seen g.F.Facts c.args.self.now in
     let ch = choice_of c.args.choice.now in
     sym (refused_stays gr c.args.self.now.role s ch
-    (told_refused c.is_taken.result c.in_ok-outcome.outcome.answer (answer_of (outcome gr s ch)) c.is_taken.ensures c.in_ok-outcome.ensures.outcome.answer c.if-not-is_taken.true))
+    (told_refused c.is_taken.result c.args.foreseen.now.answer (answer_of (outcome gr s ch)) c.is_taken.ensures c.requires.foreseen.answer c.if-not-is_taken.true))
 
 pub returns-clause-facts : goal.returns-clause-facts
 returns-clause-facts g c =
