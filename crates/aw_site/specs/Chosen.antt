@@ -24,5 +24,5 @@ reaction_of s (Did x) = x
 
 -- the answer to the choice, and what is then asked for and sent
 pub record Prepares (g : Grammar) (s : Site) (c : Choice) (p : Prepared) : Type 0 where
-  pub answer : answer_of p.answer ≡ answer_to (choose g s c)
+  pub answer : answer_of p.outcome.answer ≡ answer_to (choose g s c)
   pub plan : IsPlanned g (worked g s c (outcome g s c)) (reaction_of s (choose g s c)) p.plan

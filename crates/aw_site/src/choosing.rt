@@ -10,8 +10,9 @@ ghost use Rattle.aw_react.specs.SiteEvents.{after_choice};
 ghost use Rattle.aw_react.specs.Sites as P;
 ghost use Rattle.aw_react.specs.Worlds.{node_of};
 ghost use Rattle.aw_space.specs.Keeping.{KeepsFacts, KeepsNodesBut};
+ghost use Rattle.aw_space.specs.Outcomes.{IsOutcome};
 ghost use Rattle.aw_space.specs.Seen.{space_seen};
-ghost use Rattle.aw_space.specs.Spaces.{is_home};
+ghost use Rattle.aw_space.specs.Spaces.{is_home, outcome};
 ghost use Rattle.aw_site.specs.Answers.{sent_by};
 ghost use Rattle.aw_site.specs.Chosen.{Prepares};
 ghost use Rattle.aw_site.specs.Sendable.{all_short};
@@ -22,18 +23,17 @@ use crate::sender::Sender;
 use crate::sending::{carry_out, make_room};
 use crate::uncounted;
 use aw_accept::Accepted;
-use aw_apply::Made;
 use aw_choice::{Answer, Choice};
 use aw_msg::Message;
-use aw_space::Space;
+use aw_space::{Outcome, Space};
 use aw_store::Facts;
 use aw_subs::Subs;
 use std::alloc::{AllocError, Global};
 
-/// The answer to a choice, and what is to be sent where it is carried out.
+/// What a choice leads to, and what is to be sent where it is followed.
 #[derive(Drop)]
 pub struct Prepared {
-    pub answer: Answer,
+    pub outcome: Outcome,
     pub plan: Plan,
 }
 
@@ -49,7 +49,8 @@ fn prepare<'g, F: Facts>(
     requires grammar { g.now.grammar ≡ space.now.accepted.now.grammar }
     requires ok { choice_ok (grammar_of g.now.grammar) (choice_of choice.now) ≡ true }
     requires here { is_home (grammar_of g.now.grammar) space.now.role (node_of (choice_of choice.now)) ≡ true }
-    ensures { IfOk result (λ p. (s : P.Site) → HoldsAs ⟦<F as Facts>⟧ space.now subs.now loads s → Prepares (grammar_of g.now.grammar) s (choice_of choice.now) p) }
+    ensures prepares { IfOk result (λ p. (s : P.Site) → HoldsAs ⟦<F as Facts>⟧ space.now subs.now loads s → Prepares (grammar_of g.now.grammar) s (choice_of choice.now) p) }
+    ensures foreseen { IfOk result (λ p. IsOutcome p.outcome (choice_of choice.now) (outcome (grammar_of g.now.grammar) (space_seen ⟦<F as Facts>⟧ space.now) (choice_of choice.now))) }
 {
     let outcome = uncounted::foresee(space, g, choice)?;
     let sender = Sender {
@@ -61,10 +62,7 @@ fn prepare<'g, F: Facts>(
         more: outcome.made.equations.as_slice(),
     };
     let plan = sender.plan_made(subs, &outcome.made)?;
-    Ok(Prepared {
-        answer: outcome.answer,
-        plan,
-    })
+    Ok(Prepared { outcome, plan })
 }
 
 /// Answers a choice; how many messages it sent, which are added to the outbox and to a copy. Only `Taken` changes anything, and an error
@@ -99,10 +97,10 @@ pub fn choose<'g, F: Facts>(
     ensures nodes { KeepsNodesBut (node_of (choice_of choice.now)) (space_seen ⟦<F as Facts>⟧ space.old).held (space_seen ⟦<F as Facts>⟧ space.new).held }
 {
     let alloc = *outbox.allocator();
-    let Prepared { answer, plan } = prepare(alloc, g, space, subs, loads, choice)?;
+    let Prepared { outcome, plan } = prepare(alloc, g, space, subs, loads, choice)?;
     let copies = make_room(alloc, &plan, subs, outbox, copy)?;
     let count = copies.len();
-    uncounted::choose(space, g, choice)?;
+    uncounted::follow(space, g, choice, &outcome)?;
     carry_out(plan, copies, subs, outbox, copy);
-    Ok((answer, count))
+    Ok((outcome.answer, count))
 }

@@ -53,10 +53,11 @@ pub fn foresee<'g, F: Facts>(
     foresee_in_ledger::<F, Brand>(space, g, choice, Blank::new(1))
 }
 
-fn choose_in_ledger<'g, F: Facts, L: Ledger>(
+fn follow_in_ledger<'g, F: Facts, L: Ledger>(
     space: &mut Space<'g, F>,
     g: &Accepted,
     choice: &Choice,
+    foreseen: &Outcome,
     blank: Blank,
 ) -> Result<(), AllocError>
     requires name { blank.name ≡ L.name }
@@ -65,6 +66,7 @@ fn choose_in_ledger<'g, F: Facts, L: Ledger>(
     requires grammar { g.now.grammar ≡ space.old.accepted.now.grammar }
     requires ok { choice_ok (grammar_of g.now.grammar) (choice_of choice.now) ≡ true }
     requires here { is_home (grammar_of g.now.grammar) space.old.role (node_of (choice_of choice.now)) ≡ true }
+    requires foreseen { IsOutcome foreseen.now (choice_of choice.now) (outcome (grammar_of g.now.grammar) (space_seen ⟦<F as Facts>⟧ space.old) (choice_of choice.now)) }
     ensures grammar { space.new.accepted.now.grammar ≡ space.old.accepted.now.grammar }
     ensures role { space.new.role ≡ space.old.role }
     ensures space { OnOk result (space_seen ⟦<F as Facts>⟧ space.new ≡ space_after (grammar_of g.now.grammar) space.old.role (space_seen ⟦<F as Facts>⟧ space.old) (choice_of choice.now)) }
@@ -73,19 +75,20 @@ fn choose_in_ledger<'g, F: Facts, L: Ledger>(
     ensures nodes { KeepsNodesBut (node_of (choice_of choice.now)) (space_seen ⟦<F as Facts>⟧ space.old).held (space_seen ⟦<F as Facts>⟧ space.new).held }
 {
     let mut steps = Steps::<L>::new(blank);
-    space.choose(g, choice, &mut steps)?;
-    Ok(())
+    space.follow(g, choice, foreseen, &mut steps)
 }
 
-/// Takes a choice where it is not refused. A refused choice and an error change neither nodes, choices nor equations.
-pub fn choose<'g, F: Facts>(
+/// Does what a choice was foreseen to lead to. A refused choice and an error change neither nodes, choices nor equations.
+pub fn follow<'g, F: Facts>(
     space: &mut Space<'g, F>,
     g: &Accepted,
     choice: &Choice,
+    foreseen: &Outcome,
 ) -> Result<(), AllocError>
     requires grammar { g.now.grammar ≡ space.old.accepted.now.grammar }
     requires ok { choice_ok (grammar_of g.now.grammar) (choice_of choice.now) ≡ true }
     requires here { is_home (grammar_of g.now.grammar) space.old.role (node_of (choice_of choice.now)) ≡ true }
+    requires foreseen { IsOutcome foreseen.now (choice_of choice.now) (outcome (grammar_of g.now.grammar) (space_seen ⟦<F as Facts>⟧ space.old) (choice_of choice.now)) }
     ensures grammar { space.new.accepted.now.grammar ≡ space.old.accepted.now.grammar }
     ensures role { space.new.role ≡ space.old.role }
     ensures space { OnOk result (space_seen ⟦<F as Facts>⟧ space.new ≡ space_after (grammar_of g.now.grammar) space.old.role (space_seen ⟦<F as Facts>⟧ space.old) (choice_of choice.now)) }
@@ -93,7 +96,7 @@ pub fn choose<'g, F: Facts>(
     ensures facts { KeepsFacts (F.map space.old.facts) (F.map space.new.facts) }
     ensures nodes { KeepsNodesBut (node_of (choice_of choice.now)) (space_seen ⟦<F as Facts>⟧ space.old).held (space_seen ⟦<F as Facts>⟧ space.new).held }
 {
-    choose_in_ledger::<F, Brand>(space, g, choice, Blank::new(1))
+    follow_in_ledger::<F, Brand>(space, g, choice, foreseen, Blank::new(1))
 }
 
 fn take_in_ledger<'g, F: Facts, L: Ledger>(

@@ -19,9 +19,9 @@ returns-clause-count g c = λ s shows.
     let ch = choice_of c.args.choice.now in
     let t = worked gr s ch (outcome gr s ch) in
     let x = reaction_of s (choose gr s ch) in
-    let planned = (c.in_ok-answer.ensures s shows.holds).plan in
+    let planned = (c.in_ok-outcome.ensures.prepares s shows.holds).plan in
     let counted : c.len-count.result ≡ length c.in_ok-copies.copies.items = search rules in
-    count_planned c.args.g.now.grammar t x c.in_ok-answer.field-0.plan c.in_ok-copies.copies.items c.len-count.result counted c.in_ok-copies.ensures.copies planned
+    count_planned c.args.g.now.grammar t x c.in_ok-outcome.field-0.plan c.in_ok-copies.copies.items c.len-count.result counted c.in_ok-copies.ensures.copies planned
     ∙ ap length (sent_reacted s (choose gr s ch))
 
 pub returns-clause-site : goal.returns-clause-site
@@ -31,12 +31,12 @@ returns-clause-site g c = λ s shows.
     let h = shows.holds in
     let t = worked gr s ch (outcome gr s ch) in
     let x = reaction_of s (choose gr s ch) in
-    let planned = (c.in_ok-answer.ensures s h).plan in
-    subst (λ (p : Site). Shows g.F.Facts c.choose.new.space c.carry_out.new.subs c.carry_out.new.outbox.items c.args.loads p) (site_reacted s (choose gr s ch))
-    (shown_planned g.F.Facts c.choose.new.space c.carry_out.new.subs c.args.loads c.args.g.now.grammar t x c.in_ok-answer.field-0.plan
+    let planned = (c.in_ok-outcome.ensures.prepares s h).plan in
+    subst (λ (p : Site). Shows g.F.Facts c.follow.new.space c.carry_out.new.subs c.carry_out.new.outbox.items c.args.loads p) (site_reacted s (choose gr s ch))
+    (shown_planned g.F.Facts c.follow.new.space c.carry_out.new.subs c.args.loads c.args.g.now.grammar t x c.in_ok-outcome.field-0.plan
     c.args.outbox.now.items c.make_room.new.outbox.items c.carry_out.new.outbox.items
-    (c.requires.grammar ∙ sym c.choose.ensures.grammar) (h.role ∙ sym c.choose.ensures.role) h.flag
-    ((λ i. space_on gr (h.role i) (h.holds i) ch (S.outcome gr (h.holds i) ch)) ∙ sym c.in_ok-choose.ensures.space)
+    (c.requires.grammar ∙ sym c.follow.ensures.grammar) (h.role ∙ sym c.follow.ensures.role) h.flag
+    ((λ i. space_on gr (h.role i) (h.holds i) ch (S.outcome gr (h.holds i) ch)) ∙ sym c.in_ok-follow.ensures.space)
     (c.carry_out.ensures.asked s.asked (c.make_room.ensures.asked s.asked h.asked))
     (c.carry_out.ensures.watchers s.watchers (c.make_room.ensures.watchers s.watchers h.watchers))
     (shows.sent ∙ (λ i. map (message_of (grammar_of (sym c.requires.grammar i))) c.args.outbox.now.items))
@@ -48,11 +48,11 @@ returns-clause-copy g c = λ s shows.
     let ch = choice_of c.args.choice.now in
     let t = worked gr s ch (outcome gr s ch) in
     let x = reaction_of s (choose gr s ch) in
-    let planned = (c.in_ok-answer.ensures s shows.holds).plan in
-    copy_planned c.args.g.now.grammar t x c.in_ok-answer.field-0.plan c.args.copy.now.items c.make_room.new.copy.items c.carry_out.new.copy.items c.in_ok-copies.copies.items
+    let planned = (c.in_ok-outcome.ensures.prepares s shows.holds).plan in
+    copy_planned c.args.g.now.grammar t x c.in_ok-outcome.field-0.plan c.args.copy.now.items c.make_room.new.copy.items c.carry_out.new.copy.items c.in_ok-copies.copies.items
     c.make_room.ensures.copy c.carry_out.ensures.copy c.in_ok-copies.ensures.copies planned
     ∙ ap (λ ms. map (message_of gr) c.args.copy.now.items ++ ms) (sent_reacted s (choose gr s ch))
 
 pub returns-clause-short : goal.returns-clause-short
 returns-clause-short g c =
-    short_more c.args.outbox.now.items c.make_room.new.outbox.items c.in_ok-answer.field-0.plan.sent.items c.carry_out.new.outbox.items c.make_room.ensures.outbox c.carry_out.ensures.outbox c.in_ok-copies.ensures.short
+    short_more c.args.outbox.now.items c.make_room.new.outbox.items c.in_ok-outcome.field-0.plan.sent.items c.carry_out.new.outbox.items c.make_room.ensures.outbox c.carry_out.ensures.outbox c.in_ok-copies.ensures.short

@@ -14,8 +14,8 @@ use Rattle.aw_site.proofs.Coming.{sends_as}
 use Rattle.aw_site.proofs.Holding.{seen_by}
 use Rattle.aw_site.proofs.choosing.prepare.Goals as goal
 
-pub returns : goal.returns
-returns g c = λ s h.
+pub returns-clause-prepares : goal.returns-clause-prepares
+returns-clause-prepares g c = λ s h.
     let gr = grammar_of c.args.g.now.grammar in
     let space = c.args.space.now in
     let ch = choice_of c.args.choice.now in
