@@ -1,4 +1,5 @@
 //! The worked session: a journal is opened, two events are appended, and it is opened again.
+ghost use Rattle.std.specs.Prelude.{IfOk};
 ghost use Rattle.aw_journal.specs.Events.{EventInRange};
 ghost use Rattle.aw_journal.specs.EventView.{event_of};
 
@@ -7,7 +8,7 @@ use aw_disk::MemDisk;
 use aw_journal::{AppendFault, Journal, NodeEvent, OpenFault};
 use aw_msg::{Message, MsgKind};
 use aw_name::{Node, Ref, Slot, Trail};
-use std::alloc::Global;
+use std::alloc::{AllocError, Global};
 
 /// The role of the head.
 pub const ROLE: u16 = 2;
@@ -28,8 +29,8 @@ fn start_event() -> NodeEvent
 }
 
 /// The third role asks the second one for the first result of case 9 of the second sort.
-fn ask_event(alloc: Global) -> NodeEvent
-    ensures { EventInRange (event_of result) }
+fn ask_event(alloc: Global) -> Result<NodeEvent, AllocError>
+    ensures { IfOk result (λ event. EventInRange (event_of event)) }
 {
     let node = Node {
         start: 1,
@@ -41,7 +42,7 @@ fn ask_event(alloc: Global) -> NodeEvent
         slot: Slot::Result(1),
     };
     let kind = MsgKind::Ask { reference, from: 2 };
-    NodeEvent::Got(Message { to: 1, kind })
+    Ok(NodeEvent::Got(Message::new(alloc, 1, kind)?))
 }
 
 /// Where a session ended.
@@ -69,11 +70,15 @@ pub fn run_session(alloc: Global, disk: &mut MemDisk, limit: u64) -> Came {
         Ok(journal) => journal,
         Err(fault) => return end_at(0, End::Opening(fault)),
     };
+    let question = match ask_event(alloc) {
+        Ok(event) => event,
+        Err(_) => return end_at(0, End::Appending(AppendFault::NoMemory)),
+    };
     match journal.append(disk, start_event()) {
         Ok(()) => {}
         Err(fault) => return end_at(0, End::Appending(fault)),
     }
-    match journal.append(disk, ask_event(alloc)) {
+    match journal.append(disk, question) {
         Ok(()) => {}
         Err(fault) => return end_at(1, End::Appending(fault)),
     }

@@ -87,7 +87,7 @@ fn push_load(told: &mut Text, load: &[Equation]) -> Result<(), AllocError> {
 pub fn push_message(told: &mut Text, message: &Message) -> Result<(), AllocError> {
     told.push_bytes(b"to ")?;
     push_number(told, u64::from(message.to))?;
-    match &message.kind {
+    match message.kind.get() {
         MsgKind::Call {
             node,
             inherited,

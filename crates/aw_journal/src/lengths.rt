@@ -117,7 +117,7 @@ fn kind_len(kind: &MsgKind) -> u64
 fn message_len(m: &Message) -> u64
     ensures { result ≡ capped (length (spelled_message m.now)) }
 {
-    kind_len(&m.kind).saturating_add(3)
+    kind_len(m.kind.get()).saturating_add(3)
 }
 
 #[cycle(counting)]

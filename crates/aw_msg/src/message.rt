@@ -1,16 +1,17 @@
 //! Messages between workspaces.
 ghost use Rattle.std.specs.Prelude.{◌≡◌, IfOk};
 
+use crate::counted::Counted;
 use aw_list::Items;
-use aw_name::{Node, Ref, Refs, copy_node, copy_ref};
-use aw_store::{Equation, Equations, copy_equation, copy_equations};
-use std::alloc::AllocError;
+use aw_name::{Node, Ref, Refs};
+use aw_store::{Equation, Equations};
+use std::alloc::{AllocError, Global};
 
-/// What one workspace tells another, by position of its role in the specification.
+/// What one workspace tells another, by position of its role in the specification. Its copies share what it says.
 #[derive(Debug, Clone, PartialEq, Eq, Drop)]
 pub struct Message {
     pub to: u16,
-    pub kind: MsgKind,
+    pub kind: Counted<MsgKind>,
 }
 
 /// A subtask with the references that it inherits; a question for an equation, with the role that asks; or an equation. A subtask and an
@@ -35,43 +36,24 @@ pub enum MsgKind {
 /// Messages in their order, as those of an outbox.
 pub type Messages = Items<Message>;
 
-fn copy_load(load: &Equations) -> Result<Equations, AllocError>
-    ensures { IfOk result (λ c. c ≡ load.now) }
-{
-    let copies = copy_equations(load.allocator(), load.as_slice())?;
-    Ok(Equations::from_vec(copies))
-}
-
-fn copy_kind(kind: &MsgKind) -> Result<MsgKind, AllocError>
-    ensures { IfOk result (λ c. c ≡ kind.now) }
-{
-    match kind {
-        MsgKind::Call {
-            node,
-            inherited,
-            load,
-        } => Ok(MsgKind::Call {
-            node: copy_node(node)?,
-            inherited: inherited.clone()?,
-            load: copy_load(load)?,
-        }),
-        MsgKind::Ask { reference, from } => Ok(MsgKind::Ask {
-            reference: copy_ref(reference)?,
-            from: *from,
-        }),
-        MsgKind::Tell { equation, load } => Ok(MsgKind::Tell {
-            equation: copy_equation(equation)?,
-            load: copy_load(load)?,
-        }),
+impl Message {
+    /// A message of this kind for a role.
+    pub fn new(alloc: Global, to: u16, kind: MsgKind) -> Result<Message, AllocError>
+        ensures { IfOk result (λ m. m ≡ record { to = to; kind = kind }) }
+    {
+        Ok(Message {
+            to,
+            kind: Counted::new(alloc, kind)?,
+        })
     }
 }
 
-/// A copy of a message.
+/// A copy of a message. It takes no memory.
 pub fn copy_message(m: &Message) -> Result<Message, AllocError>
     ensures { IfOk result (λ c. c ≡ m.now) }
 {
     Ok(Message {
         to: m.to,
-        kind: copy_kind(&m.kind)?,
+        kind: m.kind.clone()?,
     })
 }

@@ -75,5 +75,5 @@ pub fn message_at(alloc: Global, bytes: &[u8]) -> Result<(Message, &[u8]), Unrea
     let (version, rest) = version_at(bytes)?;
     let (to, rest) = u16_at(rest)?;
     let (kind, rest) = kind_at(alloc, version == 2, rest)?;
-    Ok((Message { to, kind }, rest))
+    Ok((Message::new(alloc, to, kind)?, rest))
 }

@@ -127,9 +127,9 @@ pub fn add_message(text: &mut Text, m: &Message) -> Result<(), AllocError>
     ensures err { OnErr result (StartsWith text.new text.old) }
     ensures sized { OnOk result (MessageSized m.now) }
 {
-    add_byte(text, if has_load(&m.kind) { 2 } else { 1 })?;
+    add_byte(text, if has_load(m.kind.get()) { 2 } else { 1 })?;
     add_u16(text, m.to)?;
-    add_kind(text, &m.kind)
+    add_kind(text, m.kind.get())
 }
 
 /// The one spelling of a message.

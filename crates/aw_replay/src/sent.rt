@@ -101,7 +101,7 @@ fn push_message(
     text.push_bytes(b" to ")?;
     text.push_bytes(role_name(g, message.to))?;
     text.push_bytes(b" ")?;
-    push_kind(text, g, &message.kind)?;
+    push_kind(text, g, message.kind.get())?;
     text.push_bytes(b"\n")
 }
 

@@ -47,18 +47,18 @@ module _ {F : Type 0} (f : Ghosts F) (space : Space F f) (subs : Subs) (loads : 
   pub mine_by : (m : Message) (other : program.Grammar) (role : ℕ) (b : Bool) → other ≡ g → role ≡ space.role → b ≡ is_mine (grammar_of other) role (message_of (grammar_of other) m) → is_mine (grammar_of g) s.role (message_of (grammar_of g) m) ≡ b
   mine_by m other role b e r v = sym (v ∙ (λ i. is_mine (grammar_of (e i)) ((r ∙ sym h.role) i) (message_of (grammar_of (e i)) m)))
 
-  pub clash_by : (kind : MsgKind) (nodes : List Node) (facts : F) (o : Option Clash) → nodes ≡ space.held.items → facts ≡ space.facts
-      → ((gr : Grammar) → option_map clash_of o ≡ clash (holder (all_of gr nodes) (f.map facts) []) (kind_of gr kind)) → clash s (kind_of (grammar_of g) kind) ≡ option_map clash_of o
-  clash_by kind nodes facts o n e v =
+  pub clash_by : (kind lent : MsgKind) (nodes : List Node) (facts : F) (o : Option Clash) → lent ≡ kind → nodes ≡ space.held.items → facts ≡ space.facts
+      → ((gr : Grammar) → option_map clash_of o ≡ clash (holder (all_of gr nodes) (f.map facts) []) (kind_of gr lent)) → clash s (kind_of (grammar_of g) kind) ≡ option_map clash_of o
+  clash_by kind lent nodes facts o k n e v =
       sym (v (grammar_of g)
-      ∙ (λ i. clash (holder (all_of (grammar_of g) (n i)) (f.map (e i)) []) (kind_of (grammar_of g) kind))
+      ∙ (λ i. clash (holder (all_of (grammar_of g) (n i)) (f.map (e i)) []) (kind_of (grammar_of g) (k i)))
       ∙ clash_same s (all_of (grammar_of g) space.held.items) (f.map space.facts) [] (kind_of (grammar_of g) kind) held_by equations_by)
 
-  pub repeat_by : (kind : MsgKind) (nodes : List Node) (facts : F) (b : Bool) → nodes ≡ space.held.items → facts ≡ space.facts
-      → ((gr : Grammar) (ws : List Watch) → ShowsWatchers subs ws → b ≡ is_repeat (holder (all_of gr nodes) (f.map facts) ws) (kind_of gr kind)) → is_repeat s (kind_of (grammar_of g) kind) ≡ b
-  repeat_by kind nodes facts b n e v =
+  pub repeat_by : (kind lent : MsgKind) (nodes : List Node) (facts : F) (b : Bool) → lent ≡ kind → nodes ≡ space.held.items → facts ≡ space.facts
+      → ((gr : Grammar) (ws : List Watch) → ShowsWatchers subs ws → b ≡ is_repeat (holder (all_of gr nodes) (f.map facts) ws) (kind_of gr lent)) → is_repeat s (kind_of (grammar_of g) kind) ≡ b
+  repeat_by kind lent nodes facts b k n e v =
       sym (v (grammar_of g) s.watchers h.watchers
-      ∙ (λ i. is_repeat (holder (all_of (grammar_of g) (n i)) (f.map (e i)) s.watchers) (kind_of (grammar_of g) kind))
+      ∙ (λ i. is_repeat (holder (all_of (grammar_of g) (n i)) (f.map (e i)) s.watchers) (kind_of (grammar_of g) (k i)))
       ∙ repeat_same s (all_of (grammar_of g) space.held.items) (f.map space.facts) (kind_of (grammar_of g) kind) held_by equations_by)
 
 -- a question in a valid message is of a role

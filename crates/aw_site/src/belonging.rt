@@ -42,5 +42,5 @@ fn about_ok(g: &Grammar, role: u16, kind: &MsgKind) -> bool
 pub fn is_mine(g: &Grammar, role: u16, m: &Message) -> bool
     ensures { result ≡ is_mine (grammar_of g.now) role (message_of (grammar_of g.now) m.now) }
 {
-    m.to == role && about_ok(g, role, &m.kind)
+    m.to == role && about_ok(g, role, m.kind.get())
 }

@@ -23,14 +23,13 @@ impl<'a, F: Facts> Sender<'a, F> {
             message_of (grammar_of self.now.grammar.now) m ≡ call_out (grammar_of self.now.grammar.now) s (child_call (grammar_of self.now.grammar.now) child.now)) }
     {
         let load = self.load(None, child.inherited.as_slice())?;
-        Ok(Message {
-            to: home(self.grammar, &child.node),
-            kind: MsgKind::Call {
-                node: copy_node(&child.node)?,
-                inherited: child.inherited.clone()?,
-                load,
-            },
-        })
+        let to = home(self.grammar, &child.node);
+        let kind = MsgKind::Call {
+            node: copy_node(&child.node)?,
+            inherited: child.inherited.clone()?,
+            load,
+        };
+        Message::new(self.alloc, to, kind)
     }
 
     /// Adds the call of a child, where it is of another role.

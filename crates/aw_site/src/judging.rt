@@ -113,10 +113,10 @@ pub fn judge<'g, F: Facts>(
     if !is_mine(grammar, role, m) {
         return Ok(Judged::NotMine);
     }
-    if let Some(clash) = clash(alloc, space.facts(), space.nodes(), &m.kind, es)? {
+    if let Some(clash) = clash(alloc, space.facts(), space.nodes(), m.kind.get(), es)? {
         return Ok(Judged::Clashes(clash));
     }
-    if is_repeat(space.facts(), space.nodes(), subs, &m.kind) {
+    if is_repeat(space.facts(), space.nodes(), subs, m.kind.get()) {
         return Ok(Judged::Repeat);
     }
     Ok(Judged::Fresh)

@@ -214,7 +214,7 @@ fn react<'g, F: Facts>(
     ensures facts { KeepsFacts (F.map space.old.facts) (F.map space.new.facts) }
     ensures nodes { KeepsNodes (space_seen ⟦<F as Facts>⟧ space.old).held (space_seen ⟦<F as Facts>⟧ space.new).held }
 {
-    match &m.kind {
+    match m.kind.get() {
         MsgKind::Call {
             node,
             inherited,
@@ -261,7 +261,7 @@ pub fn receive<'g, F: Facts>(
     ensures nodes { KeepsNodes (space_seen ⟦<F as Facts>⟧ space.old).held (space_seen ⟦<F as Facts>⟧ space.new).held }
 {
     let alloc = *outbox.allocator();
-    let es = carried(alloc, &m.kind)?;
+    let es = carried(alloc, m.kind.get())?;
     match judge(alloc, g, space, subs, m, &es)? {
         Judged::BadName => Ok(Received::BadName),
         Judged::NotMine => Ok(Received::NotMine),

@@ -79,6 +79,6 @@ pub fn messages_are_short(messages: &[Message])
     ensures { all_short messages.now ≡ true }
 {
     for m in messages {
-        kind_is_short(&m.kind);
+        kind_is_short(m.kind.get());
     }
 }

@@ -41,13 +41,8 @@ impl<'a, F: Facts> Sender<'a, F> {
             message_of (grammar_of self.now.grammar.now) m ≡ tell (grammar_of self.now.grammar.now) s (equation_of e.now) role) }
     {
         let load = self.load_of_body(&e.left, &e.body)?;
-        Ok(Message {
-            to: role,
-            kind: MsgKind::Tell {
-                equation: copy_equation(e)?,
-                load,
-            },
-        })
+        let equation = copy_equation(e)?;
+        Message::new(self.alloc, role, MsgKind::Tell { equation, load })
     }
 
     /// Adds an equation for a role, where that is one of those that watch its left side.

@@ -154,8 +154,8 @@ fn origin_ok(alloc: Global, g: &Grammar, role: u16, kind: &MsgKind) -> Result<bo
 pub fn message_ok(alloc: Global, g: &Grammar, role: u16, m: &Message) -> Result<bool, AllocError>
     ensures { IfOk result (λ ok. ok ≡ message_ok (grammar_of g.now) role (message_of (grammar_of g.now) m.now)) }
 {
-    if is_role(g, m.to) && names_ok(g, &m.kind) {
-        origin_ok(alloc, g, role, &m.kind)
+    if is_role(g, m.to) && names_ok(g, m.kind.get()) {
+        origin_ok(alloc, g, role, m.kind.get())
     } else {
         Ok(false)
     }

@@ -143,13 +143,12 @@ impl<'a, F: Facts> Sender<'a, F> {
     fn ask(&self, r: &Ref) -> Result<Message, AllocError>
         ensures { IfOk result (λ m. message_of (grammar_of self.now.grammar.now) m ≡ ask_message (grammar_of self.now.grammar.now) self.now.role r.now) }
     {
-        Ok(Message {
-            to: home(self.grammar, &r.node),
-            kind: MsgKind::Ask {
-                reference: copy_ref(r)?,
-                from: self.role,
-            },
-        })
+        let to = home(self.grammar, &r.node);
+        let kind = MsgKind::Ask {
+            reference: copy_ref(r)?,
+            from: self.role,
+        };
+        Message::new(self.alloc, to, kind)
     }
 
     /// Adds a question for each of the references.

@@ -87,7 +87,7 @@ pub fn copy_equation(e: &Equation) -> Result<Equation, AllocError>
 pub fn copy_equations(alloc: Global, es: &[Equation]) -> Result<Vec<Equation>, AllocError>
     ensures { IfOk result (λ copies. copies.items ≡ es.now) }
 {
-    let mut copies = Vec::new(alloc);
+    let mut copies = Vec::with_capacity(alloc, es.len())?;
     for e in es {
         copies.push(copy_equation(e)?)?;
     }

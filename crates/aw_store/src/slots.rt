@@ -22,7 +22,7 @@ pub fn refs_at<F: Facts>(alloc: Global, f: &F, slots: &[usize]) -> Result<Refs, 
     requires { All (λ slot. slot < length (F.names f.now)) slots.now }
     ensures { IfOk result (λ refs. AreNamed (F.names f.now) slots.now refs) }
 {
-    let mut refs = Vec::new(alloc);
+    let mut refs = Vec::with_capacity(alloc, slots.len())?;
     for slot in slots {
         refs.push(ref_at(f, *slot)?)?;
     }
@@ -42,7 +42,7 @@ fn parts_of<F: Facts>(alloc: Global, f: &F, slot: usize, count: u8) -> Result<Re
     requires { count ≡ length (parts_at (F.map f.now) (F.names f.now) slot) }
     ensures { IfOk result (λ refs. refs ≡ parts_at (F.map f.now) (F.names f.now) slot) }
 {
-    let mut refs = Vec::new(alloc);
+    let mut refs = Vec::with_capacity(alloc, usize::from(count))?;
     for k in 0..count {
         refs.push(part_at(f, slot, k)?)?;
     }
