@@ -1,8 +1,9 @@
 //! A node of one session, over a wire in memory.
 use aw_disk::Disk;
 use aw_list::Text;
+use aw_once::run_over;
 use aw_out::{Calls, MemSink, Sizes, SureSource, Texts};
-use aw_run::{Status, Word, run};
+use aw_run::{Status, Word};
 use aw_wires::{MemWire, Numbers};
 use std::alloc::{AllocError, Global};
 
@@ -115,12 +116,12 @@ pub fn serve<D: Disk>(
     let words = words_for(alloc, role)?;
     let mut src = SureSource::new(Text::from_bytes(alloc, SPECIFICATION)?);
     let pieces = Sizes::from_slice(alloc, &[PIECE])?;
-    let mut out = MemSink::new(alloc, pieces, Calls::from_slice(alloc, &[])?, ROOM)?;
+    let out = MemSink::new(alloc, pieces, Calls::from_slice(alloc, &[])?, ROOM)?;
     let mut wire = wire_of(alloc, frames)?;
-    let status = run(alloc, words.as_slice(), &mut src, &mut out, &mut wire, disk);
+    let came = run_over(alloc, words.as_slice(), &mut src, out, &mut wire, disk)?;
     Ok(Outcome {
-        status,
-        text: Text::from_bytes(alloc, out.written())?,
+        status: came.status,
+        text: came.text,
         replies: replies_on(alloc, &wire)?,
     })
 }

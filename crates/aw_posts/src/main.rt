@@ -3,10 +3,10 @@
 //! those that the undivided run writes of the same choices.
 #![tactic(auto)]
 
-use aw_disk::{DiskCalls, MemDisk};
 use aw_list::Text;
-use aw_out::{Calls, MemSink, MemSource, OUTPUT_LIMIT, Sizes, StdSink, SureWire, Texts, write_all};
-use aw_run::{Status, Word, run};
+use aw_once::{Outcome, run_alone};
+use aw_out::{Calls, MemSink, MemSource, OUTPUT_LIMIT, Sizes, StdSink, write_all};
+use aw_run::Word;
 use aw_text::push_number;
 use bstr::ByteSlice;
 use std::alloc::{AllocError, Global};
@@ -39,13 +39,6 @@ rule skip : test(x)<none>
 schedule
 ";
 
-/// How a run came out.
-#[derive(Drop)]
-struct Outcome {
-    status: Status,
-    text: Text,
-}
-
 /// Adds the start of a case and its choice.
 fn push_case(text: &mut Text, case: u64) -> Result<(), AllocError> {
     text.push_bytes(b"start visit ")?;
@@ -74,20 +67,8 @@ fn run_word(alloc: Global, word: &[u8], input: &[u8]) -> Result<Outcome, AllocEr
     let mut src = MemSource::new(Text::from_bytes(alloc, input)?, pieces, fails);
     let pieces = Sizes::from_slice(alloc, &[PIECE])?;
     let fails = Calls::from_slice(alloc, &[NEVER])?;
-    let mut out = MemSink::new(alloc, pieces, fails, OUTPUT_LIMIT)?;
-    let mut wire = SureWire::new(Texts::new(alloc));
-    let fails = DiskCalls::from_slice(alloc, &[])?;
-    let mut disk = MemDisk::new(alloc, Text::new(alloc), fails, 0, 0)?;
-    let status = run(
-        alloc,
-        words.as_slice(),
-        &mut src,
-        &mut out,
-        &mut wire,
-        &mut disk,
-    );
-    let text = Text::from_bytes(alloc, out.written())?;
-    Ok(Outcome { status, text })
+    let out = MemSink::new(alloc, pieces, fails, OUTPUT_LIMIT)?;
+    run_alone(alloc, words.as_slice(), &mut src, out)
 }
 
 /// The text from the last line on that these bytes begin.

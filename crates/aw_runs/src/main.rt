@@ -4,12 +4,10 @@
 //! in them comes from the program.
 #![tactic(auto)]
 
-use aw_disk::{DiskCalls, MemDisk};
 use aw_list::Text;
-use aw_out::{
-    Calls, MemSink, MemSource, Sizes, StdSink, StdSource, SureWire, Texts, read_all, write_all,
-};
-use aw_run::{Status, Word, run};
+use aw_once::{Outcome, run_alone};
+use aw_out::{Calls, MemSink, MemSource, Sizes, StdSink, StdSource, read_all, write_all};
+use aw_run::{Status, Word};
 use aw_text::{number_value, push_number};
 use bstr::ByteSlice;
 use std::alloc::{AllocError, Global};
@@ -28,13 +26,6 @@ const NEVER: usize = usize::MAX;
 const READ: usize = 40;
 
 const WRITTEN: usize = 10;
-
-/// How a run came out.
-#[derive(Drop)]
-struct Outcome {
-    status: Status,
-    text: Text,
-}
 
 /// The words of a line.
 fn words_of(alloc: Global, line: &[u8]) -> Result<Vec<Word>, AllocError> {
@@ -59,13 +50,8 @@ fn run_once(
     let mut src = MemSource::new(Text::from_bytes(alloc, input)?, pieces, fails);
     let pieces = Sizes::from_slice(alloc, &[WRITTEN])?;
     let fails = Calls::from_slice(alloc, &[write_fails])?;
-    let mut out = MemSink::new(alloc, pieces, fails, LIMIT)?;
-    let mut wire = SureWire::new(Texts::new(alloc));
-    let fails = DiskCalls::from_slice(alloc, &[])?;
-    let mut disk = MemDisk::new(alloc, Text::new(alloc), fails, 0, 0)?;
-    let status = run(alloc, words, &mut src, &mut out, &mut wire, &mut disk);
-    let text = Text::from_bytes(alloc, out.written())?;
-    Ok(Outcome { status, text })
+    let out = MemSink::new(alloc, pieces, fails, LIMIT)?;
+    run_alone(alloc, words, &mut src, out)
 }
 
 /// Adds the status and what was written.

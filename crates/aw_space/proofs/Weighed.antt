@@ -24,8 +24,8 @@ use Rattle.aw_apply.specs.declared.telling.Weighed.{Weighed}
 use Rattle.aw_apply.specs.declared.telling.Weighed.TheVariants as weighed
 use Rattle.aw_held.specs.declared.held.Held.{Held}
 use Rattle.aw_held.specs.HeldView.{sort_or}
-use Rattle.aw_kept.specs.Items.{StandsAt}
-use Rattle.aw_space.specs.Weighing.{IsRefused, Stands}
+use Rattle.aw_kept.specs.Items.{RuleStands, StandsAt}
+use Rattle.aw_space.specs.Weighing.{IsRefused}
 
 -- what leads to a refusal is refused so
 pub refused_is : (x : Q.Outcome Ref Ref) (a : Q.Answer Ref) → Some a ≡ plain_refusal x → Q.Refused a ≡ x
@@ -54,5 +54,5 @@ by_guard k n args h r rs x same many inherited e =
 
 -- a rule of the node's sort stands at the open node as it stands by its number
 pub stands_there : (g : Grammar) (k : Map) (held : Held) (number : ℕ) (rule : Rule) (sort : ℕ) (s : Standing) → StandsAt (grammar_of g) k held number s → slice_get g.rules number ≡ Some rule →
-    sort_or (sort_of (grammar_of g) held.node) ≡ sort → held.done ≡ None → rule.sort ≡ sort → Stands k held.node held.inherited (rule_of g.sorts rule) s
+    sort_or (sort_of (grammar_of g) held.node) ≡ sort → held.done ≡ None → rule.sort ≡ sort → RuleStands k held.node held.inherited (rule_of g.sorts rule) s
 stands_there g k held number rule sort s stands here last idle same = stands (rule_of g.sorts rule) (slice_get-map (rule_of g.sorts) g.rules number ∙ ap (option_map (rule_of g.sorts)) here) (same ∙ sym last) idle

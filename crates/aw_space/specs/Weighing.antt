@@ -2,12 +2,7 @@
 use Rattle.std.specs.Prelude.{◌≡◌, ◌≢◌, ℕ, List, length, Some, slice_get}
 use Rattle.aw_term.specs.Names.{Node, Ref}
 use Rattle.aw_term.specs.Rules as P
-use Rattle.aw_term.specs.Choices.{Outcome, after_guard}
-use Rattle.aw_term.specs.Runs.{refusal_of as plain_refusal}
-use Rattle.aw_choice.specs.ChoiceView.{refusal_of}
-use Rattle.aw_choice.specs.declared.choice.Standing.{Standing}
-use Rattle.aw_store.specs.Equations.{Map}
-use Rattle.aw_apply.specs.Guard.{guard_all}
+use Rattle.aw_term.specs.Choices.{Outcome}
 use Rattle.aw_grammar.specs.declared.grammar.Grammar.{Grammar}
 use Rattle.aw_grammar.specs.declared.rule.Rule.{Rule}
 use Rattle.aw_apply.specs.declared.telling.Weighed.{Weighed}
@@ -21,10 +16,6 @@ Weighs g number w x = (rule : P.Rule) → slice_get g.rules number ≡ Some rule
 -- where the rule with this number is taken, there is room for a child's step below the node
 abbrev pub HasRoomFor : Grammar → ℕ → Node → Weighed → Type 0
 HasRoomFor g number n w = (rule : Rule) → slice_get g.rules number ≡ Some rule → HasRoom (length rule.children) n w
-
--- the rule stands so at a node that inherits these references
-abbrev pub Stands : Map → Node → List Ref → P.Rule → Standing → Type 0
-Stands k n rs rule s = refusal_of s ≡ plain_refusal (after_guard n rule (guard_all k 1 rule.patterns rs))
 
 -- it is a refusal
 abbrev pub IsRefused : Weighed → Type 0

@@ -12,7 +12,8 @@ use Rattle.aw_apply.specs.Telling.{weighed_of, HasRoom}
 use Rattle.aw_apply.specs.declared.telling.Weighed.{Weighed}
 use Rattle.aw_held.specs.HeldView.{held_of}
 use Rattle.aw_joint.specs.Joint.{by_rule, by_held}
-use Rattle.aw_space.specs.Weighing.{Weighs, HasRoomFor, IsRefused, Stands}
+use Rattle.aw_kept.specs.Items.{RuleStands}
+use Rattle.aw_space.specs.Weighing.{Weighs, HasRoomFor, IsRefused}
 use Rattle.aw_space.proofs.Weighed.{stands_there}
 use Rattle.aw_space.proofs.Standing.{patterns_room, found_rule, none_noted, same_many, sort_here, weighs_open, weighs_done}
 use Rattle.aw_space.proofs.weighing.weigh_at.Goals as goal
@@ -42,7 +43,7 @@ returns-clause-value g c =
     let idle = none_noted held.done (sym c.is_some.ensures ∙ c.if-is_some.false) in
     let sort = sort_here (grammar_of gr) held.node held.inherited c.requires.takes ∙ sym c.sort_at-sort.ensures in
     IfOk-weaker c.weigh_rule.result
-    (λ (w : Weighed). (sorts : List Sort) (h : P.Held) → h.sort ≡ c.sort_at-sort.result → h.inherited ≡ held.inherited → (rule.sort ≡ c.sort_at-sort.result → Stands k held.node held.inherited (rule_of sorts rule) c.args.stands) → weighed_of (rule_of sorts rule) w ≡ by_rule (Some (rule_of sorts rule)) k held.node args h)
+    (λ (w : Weighed). (sorts : List Sort) (h : P.Held) → h.sort ≡ c.sort_at-sort.result → h.inherited ≡ held.inherited → (rule.sort ≡ c.sort_at-sort.result → RuleStands k held.node held.inherited (rule_of sorts rule) c.args.stands) → weighed_of (rule_of sorts rule) w ≡ by_rule (Some (rule_of sorts rule)) k held.node args h)
     (λ (w : Weighed). Weighs (grammar_of gr) c.args.number w (by_held (Some (held_of (grammar_of gr) held)) (grammar_of gr) k held.node c.args.number (map ground_of c.args.args.now)))
     (λ w h.
     subst (λ xs. Weighs (grammar_of gr) c.args.number w (by_held (Some (held_of (grammar_of gr) held)) (grammar_of gr) k held.node c.args.number (map ground_of xs))) c.as_slice.ensures
@@ -70,7 +71,7 @@ returns-clause-untested g c =
     let idle = none_noted held.done (sym c.is_some.ensures ∙ c.if-is_some.false) in
     let sort = sort_here (grammar_of gr) held.node held.inherited c.requires.takes ∙ sym c.sort_at-sort.ensures in
     IfOk-weaker c.weigh_rule.result
-    (λ (w : Weighed). (sorts : List Sort) → (rule.sort ≡ c.sort_at-sort.result → Stands k held.node held.inherited (rule_of sorts rule) c.args.stands) → IsRefused w → c.weigh_rule.new.steps ≡ c.args.steps.now)
+    (λ (w : Weighed). (sorts : List Sort) → (rule.sort ≡ c.sort_at-sort.result → RuleStands k held.node held.inherited (rule_of sorts rule) c.args.stands) → IsRefused w → c.weigh_rule.new.steps ≡ c.args.steps.now)
     (λ (w : Weighed). IsRefused w → c.weigh_rule.new.steps ≡ c.args.steps.now)
     (λ w h. h gr.sorts (stands_there gr k held c.args.number rule c.sort_at-sort.result c.args.stands c.requires.stands here sort idle))
     c.weigh_rule.ensures.untested
