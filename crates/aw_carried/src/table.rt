@@ -3,8 +3,9 @@ use crate::case::{Case, read_case};
 use crate::fault::TableFault;
 use crate::told::{push_answer, push_written};
 use aw_accept::{Accepted, accept};
-use aw_courier::carry;
+use aw_courier::{Carried, CarryFault, carry};
 use aw_list::Text;
+use aw_out::Wire;
 use aw_spec::{SpecText, read_spec};
 use aw_wires::{MemWire, Numbers};
 use bstr::ByteSlice;
@@ -35,11 +36,22 @@ fn wire_of(alloc: Global, case: Case) -> Result<MemWire, TableFault> {
     Ok(MemWire::new(alloc, bytes, pieces, fails, ROOM, MOST)?)
 }
 
+/// Lets a courier carry. It stands apart, over any wire, since what `carry` promises of a wire in memory takes long to prove and is asked
+/// for by nobody here.
+fn carry_over<W: Wire>(
+    alloc: Global,
+    g: &Accepted,
+    wire: &mut W,
+    rounds: u64,
+) -> Result<Carried, CarryFault> {
+    carry(alloc, g, wire, rounds)
+}
+
 /// Adds what is told of a case: what the courier wrote in each session, and its answer.
 fn push_case(alloc: Global, told: &mut Text, g: &Accepted, case: Case) -> Result<(), TableFault> {
     let rounds = case.rounds;
     let mut wire = wire_of(alloc, case)?;
-    let answer = carry(alloc, g, &mut wire, rounds);
+    let answer = carry_over(alloc, g, &mut wire, rounds);
     for session in 0..wire.passed() {
         push_written(alloc, told, wire.written(session))?;
     }

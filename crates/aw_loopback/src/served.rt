@@ -70,6 +70,21 @@ impl From<io::Error> for ServedFault {
     }
 }
 
+/// Serves a node that holds nothing at first. It stands apart, over any wire, since what `serve_workspace` promises of sockets takes long
+/// to prove and is asked for by nobody here.
+fn serve_over<W: Wire>(
+    alloc: Global,
+    g: &Accepted,
+    t: &Typed,
+    sessions: u32,
+    wire: &mut W,
+) -> Result<Log, ServeFault>
+    requires { IsMadeFor (grammar_of g.now.grammar) t.now }
+{
+    let site = Site::new(alloc, g, ROLE, CellFacts::new(alloc), true);
+    serve_workspace(alloc, g, t, site, PORT_ROLE, sessions, wire)
+}
+
 /// Serves a node that holds nothing at first, and then closes its sockets, so that each peer comes to the end of what it reads.
 fn serve_node<R: Net>(
     alloc: Global,
@@ -80,8 +95,7 @@ fn serve_node<R: Net>(
 ) -> Result<Log, ServeFault>
     requires { IsMadeFor (grammar_of g.now.grammar) t.now }
 {
-    let site = Site::new(alloc, g, ROLE, CellFacts::new(alloc), true);
-    serve_workspace(alloc, g, t, site, PORT_ROLE, sessions, &mut wire)
+    serve_over(alloc, g, t, sessions, &mut wire)
 }
 
 /// Peers that end their writing sides.

@@ -10,14 +10,26 @@ use crate::session::ask;
 use crate::steps::{Step, read_step};
 use crate::told::{push_answer, push_count, push_hex};
 use aw_accept::{Accepted, accept};
-use aw_courier::carry;
+use aw_courier::{Carried, CarryFault, carry};
 use aw_desks::DeskWire;
 use aw_list::Text;
 use aw_offices::SiteWire;
+use aw_out::Wire;
 use aw_spec::{SpecText, read_spec};
 use aw_typed::{Typed, type_check};
 use bstr::ByteSlice;
 use std::alloc::{AllocError, Global};
+
+/// Lets a courier carry. It stands apart, over any wire, since what `carry` promises of a wire over offices takes long to prove and is
+/// asked for by nobody here.
+fn carry_over<W: Wire>(
+    alloc: Global,
+    g: &Accepted,
+    wire: &mut W,
+    rounds: u64,
+) -> Result<Carried, CarryFault> {
+    carry(alloc, g, wire, rounds)
+}
 
 /// Lets a courier carry, and tells what it wrote in each session and what it answered.
 fn push_carried(
@@ -28,7 +40,7 @@ fn push_carried(
     rounds: u64,
 ) -> Result<(), AllocError> {
     let before = wire.passed();
-    let answer = carry(alloc, g, wire, rounds);
+    let answer = carry_over(alloc, g, wire, rounds);
     for session in before..wire.passed() {
         push_hex(alloc, told, b"written", wire.written(session))?;
     }

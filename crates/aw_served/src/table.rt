@@ -1,5 +1,5 @@
 //! The table: a specification, and behind it the cases.
-ghost use Rattle.std.specs.Prelude.{◌≡◌};
+ghost use Rattle.std.specs.Prelude.{◌≡◌, ◌<◌};
 ghost use Rattle.aw_grammar.specs.GrammarOf.{grammar_of};
 ghost use Rattle.aw_typed.specs.Types.{AreFor};
 ghost use Rattle.aw_typed.specs.Typing.{types_of, IsMadeFor, NumbersInRange};
@@ -10,6 +10,7 @@ use crate::told::{push_session, push_written};
 use aw_accept::{Accepted, accept};
 use aw_list::Text;
 use aw_node::{ServeFault, serve, serve_workspace};
+use aw_out::Wire;
 use aw_session::Log;
 use aw_site::Site;
 use aw_spec::{SpecText, read_spec};
@@ -70,7 +71,39 @@ fn told_of_served(
     Ok(told)
 }
 
-/// What is told of a case at a node as the program serves it: its store finds references by hashes.
+/// Serves sessions at a node as the program does: its store finds references by hashes. It stands apart, over any wire, since what `serve`
+/// promises of a wire in memory takes long to prove and is asked for by nobody here.
+fn serve_by_cells<W: Wire>(
+    alloc: Global,
+    g: &Accepted,
+    t: &Typed,
+    role: u16,
+    sessions: u32,
+    wire: &mut W,
+) -> Result<Log, ServeFault>
+    requires role { role < (grammar_of g.now.grammar).roles }
+    requires types { IsMadeFor (grammar_of g.now.grammar) t.now }
+{
+    serve(alloc, g, t, role, sessions, wire)
+}
+
+/// Serves sessions at a node whose store scans a list.
+fn serve_by_list<W: Wire>(
+    alloc: Global,
+    g: &Accepted,
+    t: &Typed,
+    role: u16,
+    sessions: u32,
+    wire: &mut W,
+) -> Result<Log, ServeFault>
+    requires role { role < 64 }
+    requires types { IsMadeFor (grammar_of g.now.grammar) t.now }
+{
+    let site = Site::new(alloc, g, role, ListFacts::new(alloc), true);
+    serve_workspace(alloc, g, t, site, role, sessions, wire)
+}
+
+/// What is told of a case at a node as the program serves it.
 fn told_by_cells(alloc: Global, g: &Accepted, t: &Typed, case: Case) -> Result<Text, TableFault>
     requires { IsMadeFor (grammar_of g.now.grammar) t.now }
 {
@@ -80,7 +113,7 @@ fn told_by_cells(alloc: Global, g: &Accepted, t: &Typed, case: Case) -> Result<T
         return Err(TableFault::Unreadable);
     }
     let mut wire = wire_of(alloc, case)?;
-    let served = serve(alloc, g, t, role, sessions, &mut wire);
+    let served = serve_by_cells(alloc, g, t, role, sessions, &mut wire);
     told_of_served(alloc, &wire, served)
 }
 
@@ -94,8 +127,7 @@ fn told_by_list(alloc: Global, g: &Accepted, t: &Typed, case: Case) -> Result<Te
         return Err(TableFault::Unreadable);
     }
     let mut wire = wire_of(alloc, case)?;
-    let site = Site::new(alloc, g, role, ListFacts::new(alloc), true);
-    let served = serve_workspace(alloc, g, t, site, role, sessions, &mut wire);
+    let served = serve_by_list(alloc, g, t, role, sessions, &mut wire);
     told_of_served(alloc, &wire, served)
 }
 
