@@ -4,11 +4,13 @@
 
 mod filling;
 
+ghost use Rattle.aw_print.specs.Ends.{AreEnds};
+
 use aw_base::{Choice, Grammar, Ground, Items};
 use aw_cells::CellFacts;
 use aw_list::Text;
 use aw_out::{PrintFault, Report, StdSink, write_all};
-use aw_print::artifact_row;
+use aw_print::{Ends, artifact_row};
 use aw_spec::read_spec;
 use aw_store::{Facts, ListFacts};
 use filling::{BOX, NONE, fill, node, parts};
@@ -41,12 +43,16 @@ fn push_line<F: Facts>(
     f: &F,
     asked: &Asked,
     done: &Option<Choice>,
-) -> Result<(), AllocError> {
+    ends: &mut Ends,
+) -> Result<(), AllocError>
+    requires { AreEnds (F.map f.now) (F.names f.now) ends.old }
+    ensures { AreEnds (F.map f.now) (F.names f.now) ends.new }
+{
     let alloc = told.allocator();
     let node = node(alloc, asked.case);
     let inherited = parts(alloc, asked.inherited)?;
     let mut report = Report::new(alloc, asked.limit);
-    match artifact_row(alloc, g, &node, &inherited, done, f, &mut report) {
+    match artifact_row(alloc, g, &node, &inherited, done, f, ends, &mut report) {
         Ok(()) => told.push_bytes(report.bytes()),
         Err(PrintFault::TooLarge) => told.push_bytes(b"too large\n"),
         Err(PrintFault::NoMemory) => Err(AllocError),
@@ -69,44 +75,59 @@ fn admitted(alloc: Global) -> Result<Choice, AllocError> {
 
 /// Adds lines whose values end: what is missing and what goes round prints with a mark, and a line of
 /// 96 bytes has room in 96.
-fn push_ending<F: Facts>(told: &mut Text, g: &Grammar, f: &F) -> Result<(), AllocError> {
+fn push_ending<F: Facts>(
+    told: &mut Text,
+    g: &Grammar,
+    f: &F,
+    ends: &mut Ends,
+) -> Result<(), AllocError>
+    requires { AreEnds (F.map f.now) (F.names f.now) ends.old }
+    ensures { AreEnds (F.map f.now) (F.names f.now) ends.new }
+{
     let done = Some(admitted(told.allocator())?);
     let mut asked = Asked {
         case: 1,
         inherited: &[8, 6, 9],
         limit: 96,
     };
-    push_line(told, g, f, &asked, &done)?;
+    push_line(told, g, f, &asked, &done, ends)?;
     asked.limit = 95;
-    push_line(told, g, f, &asked, &done)?;
+    push_line(told, g, f, &asked, &done, ends)?;
     asked.inherited = &[];
-    push_line(told, g, f, &asked, &None)?;
+    push_line(told, g, f, &asked, &None, ends)?;
     asked.case = 2;
-    push_line(told, g, f, &asked, &None)
+    push_line(told, g, f, &asked, &None, ends)
 }
 
 /// Adds lines that pass their limits: of a value without an end, at a small limit and at one a quarter of a million levels
 /// deep; and of a value that is shared at each of 40 levels.
-fn push_passing<F: Facts>(told: &mut Text, g: &Grammar, f: &F) -> Result<(), AllocError> {
+fn push_passing<F: Facts>(
+    told: &mut Text,
+    g: &Grammar,
+    f: &F,
+    ends: &mut Ends,
+) -> Result<(), AllocError>
+    requires { AreEnds (F.map f.now) (F.names f.now) ends.old }
+{
     let mut asked = Asked {
         case: 1,
         inherited: &[1],
-        limit: 0,
+        limit: 1_000,
     };
-    for limit in [1_000, 1_000_100] {
-        asked.limit = limit;
-        push_line(told, g, f, &asked, &None)?;
-    }
+    push_line(told, g, f, &asked, &None, ends)?;
+    asked.limit = 1_000_100;
+    push_line(told, g, f, &asked, &None, ends)?;
     asked.inherited = &[10];
     asked.limit = 100_000;
-    push_line(told, g, f, &asked, &None)
+    push_line(told, g, f, &asked, &None, ends)
 }
 
 /// Adds all lines over a store that was empty.
 fn push_lines<F: Facts>(told: &mut Text, g: &Grammar, f: &mut F) -> Result<(), AllocError> {
     fill(told.allocator(), f)?;
-    push_ending(told, g, f)?;
-    push_passing(told, g, f)
+    let mut ends = Ends::new(told.allocator());
+    push_ending(told, g, f, &mut ends)?;
+    push_passing(told, g, f, &mut ends)
 }
 
 /// What is told of both stores.

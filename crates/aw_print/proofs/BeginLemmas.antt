@@ -24,7 +24,8 @@ use Rattle.aw_print.specs.declared.stack.Piece.TheVariants.{First, Next, Close}
 use Rattle.aw_print.specs.declared.stack.Span.{Span}
 use Rattle.aw_print.specs.Drafts.{Draft, Whole, then, listed, with_parts, draft_on, draft}
 use Rattle.aw_print.specs.Growing.{Begins, LeadTo, Printing, Underway, Puts, PutsTo, made, printing}
-use Rattle.aw_print.specs.Stacks.{named_draft, piece_draft, AreLive, IsOpen, AreOpen, IsKept, AreKept, Holds, Origin, Desk, pieces_draft, begun_draft, end_draft, Notes, Begun, OpensCon, OpensBody, OpensSlot, BeginsPiece, Closes, copied, IsSound, IsSoundWith, IsAtRest, IsLess}
+use Rattle.aw_print.specs.Ends.{AreEnds}
+use Rattle.aw_print.specs.Stacks.{Table, named_draft, piece_draft, AreLive, IsOpen, AreOpen, IsKept, AreKept, Holds, Origin, Desk, pieces_draft, begun_draft, end_draft, Notes, Begun, OpensCon, OpensBody, OpensSlot, BeginsPiece, Closes, copied, IsSound, IsSoundWith, IsAtRest, IsLess}
 use Rattle.aw_print.proofs.DraftLemmas.{then-assoc, Begins-self}
 use Rattle.aw_print.proofs.GrowingLemmas.{goes_on, gathers, first_of, first_stops, stops_later, hands_on}
 use Rattle.aw_print.proofs.LeadLemmas.{lead-same, lead-on, lead-then, lead-behind}
@@ -35,15 +36,18 @@ pub made_on : (old new : Printing) (out : List ℕ) → new.gathered ≡ old.gat
 made_on old new out g r =
     ap (λ (b : Bounded). b.text ++ new.gathered) r ∙ ap (λ t. old.report.text ++ t) g ∙ sym (append_assoc old.report.text old.gathered out)
 
-pub kept_grows : (o : Origin) (old new : Desk) (out : List ℕ) → new.printing.gathered ≡ old.printing.gathered ++ out → new.printing.report ≡ old.printing.report → new.spans ≡ old.spans → AreKept o old → AreKept o new
-kept_grows o old new out g r s kept = λ x h. kept_on o (made old.printing) (made new.printing) out x (made_on old.printing new.printing out g r) (kept x (subst (λ spans. Holds spans x) s h))
+pub kept_grows : (o : Origin) (old new : Desk) (out : List ℕ) → new.printing.gathered ≡ old.printing.gathered ++ out → new.printing.report ≡ old.printing.report → new.table ≡ old.table → AreKept o old → AreKept o new
+kept_grows o old new out g r s kept = record {
+  texts = λ x h. kept_on o (made old.printing) (made new.printing) out x (made_on old.printing new.printing out g r) (kept.texts x (subst (λ (t : Table). Holds t.spans x) s h));
+  ends = subst (λ (t : Table). AreEnds o.equations o.names t.ends) (sym s) kept.ends;
+}
 
 -- no piece is left, also when more was gathered
-pub rest_on : (o : Origin) (old new : Desk) (out : List ℕ) → new.printing.gathered ≡ old.printing.gathered ++ out → new.printing.report ≡ old.printing.report → new.pieces ≡ old.pieces → new.spans ≡ old.spans → IsAtRest o old → IsAtRest o new
+pub rest_on : (o : Origin) (old new : Desk) (out : List ℕ) → new.printing.gathered ≡ old.printing.gathered ++ out → new.printing.report ≡ old.printing.report → new.pieces ≡ old.pieces → new.table ≡ old.table → IsAtRest o old → IsAtRest o new
 rest_on o old new out g r p s rest = (p ∙ rest.0, kept_grows o old new out g r s rest.1)
 
 -- a text behind which nothing is left
-pub begun_leaf : (o : Origin) (all : ℕ → Draft) (old new : Desk) (out : List ℕ) → new.printing.gathered ≡ old.printing.gathered ++ out → new.printing.report ≡ old.printing.report → new.pieces ≡ old.pieces → new.spans ≡ old.spans →
+pub begun_leaf : (o : Origin) (all : ℕ → Draft) (old new : Desk) (out : List ℕ) → new.printing.gathered ≡ old.printing.gathered ++ out → new.printing.report ≡ old.printing.report → new.pieces ≡ old.pieces → new.table ≡ old.table →
     AreKept o old → (m : ℕ) → all m ≡ Whole out → Begun o all None old new
 begun_leaf o all old new out g r p s kept m e = record {
   out = out;
@@ -101,10 +105,10 @@ named_by k names c n None w = elim w [ ]
 named_by k names c n (Some r) w = (r, refl)
 
 -- the text of the constructor at a slot is kept
-pub begun_kept : (o : Origin) (d : Desk) (c at n : ℕ) (x : Span) (r : Ref) → IsKindOf o.names (body_at o.equations o.names at) (kind.Con c n) → AreKept o d → x.slot ≡ at → Holds d.spans x →
+pub begun_kept : (o : Origin) (d : Desk) (c at n : ℕ) (x : Span) (r : Ref) → IsKindOf o.names (body_at o.equations o.names at) (kind.Con c n) → AreKept o d → x.slot ≡ at → Holds d.table.spans x →
     Begun o (end_draft o r (Found (T.Con c) (parts_at o.equations o.names at))) (Some x) d d
 begun_kept o d c at n x r w kept e h =
-    let is = kept x h in
+    let is = kept.texts x h in
     let (s, named) = named_by o.equations o.names c n (slice_get o.names at) w in
     let (m, f) = is.text s (ap (slice_get o.names) e ∙ named) in
     let (l, g) = con_text o r s c (parts_at o.equations o.names at) _ (con_chase o.equations o.names at c n s w named) m f in
@@ -121,7 +125,7 @@ con_draft head f [] inner l e = absurd (omega (arith, l))
 con_draft head f (r ∷ rs) inner l e = ap (λ d. then (Whole (head ++ codes "(")) (then d (Whole (codes ")")))) e
 
 pub begun_con : (o : Origin) (old new : Desk) (c at n from : ℕ) (mid : List ℕ) (noted : List Piece) (r : Ref) → IsKindOf o.names (body_at o.equations o.names at) (kind.Con c n) → 0 < length (parts_at o.equations o.names at) →
-    mid ≡ old.printing.gathered ++ head_text o.words (T.Con c) → new.printing.gathered ≡ mid ++ codes "(" → new.printing.report ≡ old.printing.report → new.spans ≡ old.spans → from ≡ length (made old.printing) →
+    mid ≡ old.printing.gathered ++ head_text o.words (T.Con c) → new.printing.gathered ≡ mid ++ codes "(" → new.printing.report ≡ old.printing.report → new.table ≡ old.table → from ≡ length (made old.printing) →
     noted ≡ old.pieces ++ Close at from ∷ [] → Notes o (λ m. listed (map (draft m o.words o.equations) (parts_at o.equations o.names at))) noted new.pieces → length new.pieces ≤ length noted + 256 → AreKept o old →
     Begun o (end_draft o r (Found (T.Con c) (parts_at o.equations o.names at))) None old new
 begun_con o old new c at n from mid noted r w some e f report spans start g notes few kept =
@@ -192,6 +196,26 @@ begun_as o all more again old new h b = record {
   work = b.work;
 }
 
+-- what is begun behind a chase is begun, whatever the chase kept
+pub begun_since : (o : Origin) (all : ℕ → Draft) (again : Option Span) (old mid new : Desk) → mid.printing ≡ old.printing → mid.pieces ≡ old.pieces → Begun o all again mid new → Begun o all again old new
+begun_since o all again old mid new p q b = record {
+  out = b.out;
+  gathered = b.gathered ∙ ap (λ (x : Printing). x.gathered ++ b.out) p;
+  report = b.report ∙ ap (λ (x : Printing). x.report) p;
+  within = b.within;
+  added = b.added;
+  stack = b.stack ∙ ap (λ ps. ps ++ b.added) q;
+  leads = b.leads;
+  live = b.live;
+  ends = b.ends;
+  kept = b.kept;
+  work = omega (arith, b.work, ap length q);
+}
+
+pub slot_since : {E : Type 0} (o : Origin) (slot : ℕ) (result : Result (Option Span) E) (old mid new : Desk) → mid.printing ≡ old.printing → mid.pieces ≡ old.pieces → IfOk result (λ again. OpensSlot o slot again mid new) → IfOk result (λ again. OpensSlot o slot again old new)
+slot_since o slot (Ok again) old mid new p q h = λ r e. begun_since o (end_draft o r (chase o.equations r)) again old mid new p q (h r e)
+slot_since o slot (Err fault) old mid new p q h = tt
+
 pub begun_first : (o : Origin) (slot : ℕ) (r : Ref) (again : Option Span) (old new : Desk) → slice_get o.names slot ≡ Some r → Begun o (end_draft o r (chase o.equations r)) again old new → Begun o (λ n. piece_draft n o.words o.equations o.names (First slot)) again old new
 begun_first o slot r again old new e b =
     begun_as o (end_draft o r (chase o.equations r)) (λ n. piece_draft n o.words o.equations o.names (First slot)) again old new
@@ -238,10 +262,13 @@ begun_close o slot from again old new c is_open kept =
       leads = λ n. (n, subst (Begins (Whole ((codes ")" ++ []) ++ []))) (ap Whole (append-nil (codes ")" ++ []) ∙ append-nil (codes ")"))) (Begins-self (Whole ((codes ")" ++ []) ++ []))));
       live = tt;
       ends = tt;
-      kept = λ x h. elim (c.kept x h) [
-        | inl e ↦ subst (IsKept o (made new.printing)) (sym e) (closed_kept o (made old.printing) (made new.printing) slot from is_made is_open)
-        | inr g ↦ kept_on o (made old.printing) (made new.printing) (codes ")") x is_made (kept x g)
-      ];
+      kept = record {
+        texts = λ x h. elim (c.kept x h) [
+          | inl e ↦ subst (IsKept o (made new.printing)) (sym e) (closed_kept o (made old.printing) (made new.printing) slot from is_made is_open)
+          | inr g ↦ kept_on o (made old.printing) (made new.printing) (codes ")") x is_made (kept.texts x g)
+        ];
+        ends = subst (AreEnds o.equations o.names) (sym c.ends) kept.ends;
+      };
       work = omega (arith, ap length c.pieces);
     })
   where
@@ -276,7 +303,7 @@ piece_underway o p again old new b =
 
 -- what holds behind a piece
 pub sound_on : (o : Origin) (p : Piece) (again : Option Span) (old new last : Desk) → Begun o (λ n. piece_draft n o.words o.equations o.names p) again old new → IsSoundWith o p old →
-    last.pieces ≡ new.pieces → last.spans ≡ new.spans → made last.printing ≡ made new.printing ++ copied (made new.printing) again → IsSound o last
+    last.pieces ≡ new.pieces → last.table ≡ new.table → made last.printing ≡ made new.printing ++ copied (made new.printing) again → IsSound o last
 sound_on o p again old new last b sound ps ss e =
     let bytes = copied (made new.printing) again in
     let is_made : made last.printing ≡ made old.printing ++ (b.out ++ bytes) = e ∙ ap (λ t. t ++ bytes) (made_on old.printing new.printing b.out b.gathered b.report) ∙ append_assoc (made old.printing) b.out bytes in
@@ -284,7 +311,10 @@ sound_on o p again old new last b sound ps ss e =
     record {
       live = subst (AreLive o.names) (sym (ps ∙ b.stack)) (live_append o.names old.pieces b.added below.0 b.live);
       ends = subst (AreOpen o (made last.printing)) (sym (ps ∙ b.stack)) (opens_on o (made old.printing) (made last.printing) (b.out ++ bytes) p b.added is_made b.leads (subst (λ t. AreOpen o t b.added) (sym e) b.ends) old.pieces sound.ends);
-      kept = λ x h. kept_on o (made new.printing) (made last.printing) bytes x e (b.kept x (subst (λ spans. Holds spans x) ss h));
+      kept = record {
+        texts = λ x h. kept_on o (made new.printing) (made last.printing) bytes x e (b.kept.texts x (subst (λ (t : Table). Holds t.spans x) ss h));
+        ends = subst (λ (t : Table). AreEnds o.equations o.names t.ends) (sym ss) b.kept.ends;
+      };
     }
 
 -- all bytes, once something was printed
@@ -301,11 +331,14 @@ pub made_puts : (c : List ℕ) (old new : Printing) → Puts (λ n. Whole c) old
 made_puts c old new u = let (m, p) = u.rest 0 in made_under (λ n. Whole c) (λ n. Whole []) old new u ∙ ap (λ t. made old ++ t) (sym (append-nil u.out) ∙ sym p)
 
 -- the same pieces, table and bytes
-pub sound_same : (o : Origin) (old new : Desk) → new.pieces ≡ old.pieces → new.spans ≡ old.spans → made new.printing ≡ made old.printing → IsSound o old → IsSound o new
+pub sound_same : (o : Origin) (old new : Desk) → new.pieces ≡ old.pieces → new.table ≡ old.table → made new.printing ≡ made old.printing → IsSound o old → IsSound o new
 sound_same o old new p s e sound = record {
   live = subst (AreLive o.names) (sym p) sound.live;
   ends = subst (AreOpen o (made new.printing)) (sym p) (subst (λ t. AreOpen o t old.pieces) (sym e) sound.ends);
-  kept = λ x h. subst (λ t. IsKept o t x) (sym e) (sound.kept x (subst (λ spans. Holds spans x) s h));
+  kept = record {
+    texts = λ x h. subst (λ t. IsKept o t x) (sym e) (sound.kept.texts x (subst (λ (t : Table). Holds t.spans x) s h));
+    ends = subst (λ (t : Table). AreEnds o.equations o.names t.ends) (sym s) sound.kept.ends;
+  };
 }
 
 -- a piece, the copy behind it, and then what was gathered goes to the report or not
@@ -332,7 +365,7 @@ piece_stops o p again old new mid fault result left b c e =
     (first_stops (λ n. Whole bytes) (pieces_draft o new.pieces) new.printing mid.report fault c))
 
 pub piece_sound : (o : Origin) (p : Piece) (again : Option Span) (old new last : Desk) (mid : Printing) (result : Result Unit PrintFault) → Begun o (λ n. piece_draft n o.words o.equations o.names p) again old new → IsSoundWith o p old →
-    last.pieces ≡ new.pieces → last.spans ≡ new.spans → Puts (λ n. Whole (copied (made new.printing) again)) new.printing mid (Ok tt) →
+    last.pieces ≡ new.pieces → last.table ≡ new.table → Puts (λ n. Whole (copied (made new.printing) again)) new.printing mid (Ok tt) →
     OnOk result ((taken : List ℕ) × (last.printing.report ≡ printed mid.report taken) × (taken ++ last.printing.gathered ≡ mid.gathered)) → OnOk result (IsSound o last)
 piece_sound o p again old new last mid (Ok done) b sound ps ss c ok =
     let (taken, e, f) = ok in

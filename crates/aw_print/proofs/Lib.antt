@@ -5,6 +5,7 @@ pub mod StackLemmas
 pub mod BeginLemmas
 pub mod CopyLemmas
 pub mod TableLemmas
+pub mod EndsLemmas
 pub mod ListLemmas
 pub mod RowLemmas
 pub mod EndlessLemmas

@@ -3,6 +3,7 @@ use Rattle.std.proofs.Common.{◌≡◌, ℕ, zero, suc, List, [], ◌∷◌, �
 use Rattle.std.proofs.lemmas.List.{nil_from_length, length-take}
 use Rattle.std.specs.Prelude.{Option, None, Result, OnOk, is_ok, if◌then◌else◌, ◌⊎◌, slice_get, slice_set}
 use Rattle.aw_print.specs.declared.stack.Span.{Span}
+use Rattle.aw_print.specs.Ends.{AreEnds}
 use Rattle.aw_print.specs.Stacks.{Holds, Origin, Desk, IsAtRest}
 
 abbrev no_span : Option Span
@@ -31,6 +32,6 @@ holds_empty : (spans : List (Option Span)) (x : Span) → spans ≡ [] → Holds
 holds_empty [] x e h = cc (h.1)
 holds_empty (y ∷ ys) x e h = cc e
 
--- nothing is left and nothing kept
-pub rest_new : (o : Origin) (d : Desk) → d.pieces ≡ [] → d.spans ≡ [] → IsAtRest o d
-rest_new o d e f = (e, λ x h. absurd (holds_empty d.spans x f h))
+-- nothing is left, and no text is kept
+pub rest_new : (o : Origin) (d : Desk) → d.pieces ≡ [] → d.table.spans ≡ [] → AreEnds o.equations o.names d.table.ends → IsAtRest o d
+rest_new o d e f ends = (e, record { texts = λ x h. absurd (holds_empty d.table.spans x f h); ends = ends })

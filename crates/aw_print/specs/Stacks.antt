@@ -14,6 +14,8 @@ use Rattle.aw_print.specs.declared.stack.Piece.{Piece}
 use Rattle.aw_print.specs.declared.stack.Piece.TheVariants.{First, Next, Close}
 use Rattle.aw_print.specs.declared.stack.Span.{Span}
 use Rattle.aw_print.specs.declared.stack.Stack.{Stack}
+use Rattle.aw_print.specs.declared.ends.Ends.{Ends}
+use Rattle.aw_print.specs.Ends.{AreEnds}
 use Rattle.aw_print.specs.Drafts.{Draft, Whole, then, following, listed, draft_on, draft}
 use Rattle.aw_print.specs.Growing.{LeadTo, Printing, printing, made, PutsTo}
 
@@ -54,15 +56,20 @@ pub record Origin : Type 0 where
 abbrev pub origin : made_of.Grammar → Map → List Ref → Origin
 origin g k names = record { words = words_of g; equations = k; names = names }
 
--- what was printed so far, the pieces that are left, and the texts that are kept
+-- the texts that are kept, and where chases end
+pub record Table : Type 0 where
+  pub spans : List (Option Span)
+  pub ends : Ends
+
+-- what was printed so far, the pieces that are left, and what is kept
 pub record Desk : Type 0 where
   pub printing : Printing
   pub pieces : List Piece
-  pub spans : List (Option Span)
+  pub table : Table
 
 -- the desk with this text gathered, this report and this stack
 abbrev pub desk : List ℕ → Bounded → Stack → Desk
-desk gathered report stack = record { printing = printing gathered report; pieces = stack.pieces.items; spans = stack.spans.items }
+desk gathered report stack = record { printing = printing gathered report; pieces = stack.pieces.items; table = record { spans = stack.spans.items; ends = stack.ends } }
 
 -- what the pieces of a stack stand for
 abbrev pub pieces_draft : Origin → List Piece → ℕ → Draft
@@ -108,9 +115,10 @@ pub record IsKept (o : Origin) (bytes : List ℕ) (span : Span) : Type 0 where
 abbrev pub Holds : List (Option Span) → Span → Type 0
 Holds spans span = (i : ℕ) × (slice_get spans i ≡ Some (Some span))
 
--- each text of the table stands where it is said
-abbrev pub AreKept : Origin → Desk → Type 0
-AreKept o d = (span : Span) → Holds d.spans span → IsKept o (made d.printing) span
+-- Each text of the table stands where it is said, and chases end where it is said.
+pub record AreKept (o : Origin) (d : Desk) : Type 0 where
+  pub texts : (span : Span) → Holds d.table.spans span → IsKept o (made d.printing) span
+  pub ends : AreEnds o.equations o.names d.table.ends
 
 -- What is left on the stack is known, and what the table has.
 pub record IsSound (o : Origin) (d : Desk) : Type 0 where
@@ -196,7 +204,8 @@ pub record Closes (slot from : ℕ) (again : Option Span) (old new : Desk) : Typ
   pub gathered : new.printing.gathered ≡ old.printing.gathered ++ codes ")"
   pub report : new.printing.report ≡ old.printing.report
   pub pieces : new.pieces ≡ old.pieces
-  pub kept : (x : Span) → Holds new.spans x → (x ≡ record { slot = slot; from = from; until = length (made new.printing) }) ⊎ Holds old.spans x
+  pub kept : (x : Span) → Holds new.table.spans x → (x ≡ record { slot = slot; from = from; until = length (made new.printing) }) ⊎ Holds old.table.spans x
+  pub ends : new.table.ends ≡ old.table.ends
 
 -- a piece was begun
 abbrev pub BeginsPiece : Origin → Piece → Option Span → Desk → Desk → Type 0

@@ -1,6 +1,7 @@
 //! The artifact text of a node whose values stand in equations: one line, over every store, forged ones too.
 #![tactic(auto)]
 
+pub mod ends;
 pub mod gather;
 pub mod ground;
 pub mod list;
@@ -8,4 +9,5 @@ pub mod row;
 pub mod stack;
 pub mod value;
 
+pub use ends::Ends;
 pub use row::artifact_row;

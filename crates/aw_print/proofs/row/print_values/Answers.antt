@@ -7,28 +7,27 @@ use Rattle.aw_print.specs.Rows.{result_refs}
 use Rattle.aw_print.specs.Stacks.{origin, desk}
 use Rattle.aw_print.proofs.GrowingLemmas.{first_stops, hands_on, out_of_memory, stops_later}
 use Rattle.aw_print.proofs.RowLemmas.{after_inherited, after_results, values_1, values_2, values_3, values_4, same_values}
-use Rattle.aw_print.proofs.TableLemmas.{rest_new}
 use Rattle.aw_print.proofs.BeginLemmas.{rest_on}
 use Rattle.aw_print.proofs.row.print_values.Goals as goal
 
-pub returns-in_err-print_refs : goal.returns-in_err-print_refs
-returns-in_err-print_refs g c =
+pub returns-in_err-print_refs-clause-prints : goal.returns-in_err-print_refs-clause-prints
+returns-in_err-print_refs-clause-prints g c =
     let w = words_of c.args.g.now in
     let k = g.F.Facts.map c.args.f.now in
     let outs = result_refs (grammar_of c.args.g.now) c.args.node.now in
     same_values w k _ _ outs outs _ _ c.from_residual.result c.as_slice.ensures refl
     (hands_on _ _ _ _ _ c.from_residual.result (search rules) (first_stops (λ n. listed (map (draft n w k) c.as_slice.result.now)) (after_inherited w k outs) _ _ _ c.in_err-print_refs.ensures.prints))
 
-pub returns-in_err-push_bytes : goal.returns-in_err-push_bytes
-returns-in_err-push_bytes g c =
+pub returns-in_err-push_bytes-clause-prints : goal.returns-in_err-push_bytes-clause-prints
+returns-in_err-push_bytes-clause-prints g c =
     let w = words_of c.args.g.now in
     let k = g.F.Facts.map c.args.f.now in
     let outs = result_refs (grammar_of c.args.g.now) c.args.node.now in
     same_values w k _ _ outs outs _ _ c.from_residual-in_err-push_bytes.result c.as_slice.ensures refl
     (hands_on _ _ _ _ _ c.from_residual-in_err-push_bytes.result (search rules) (out_of_memory _ _ _ _ _ refl (values_1 w k c.as_slice.result.now outs _ _ c.in_ok-print_refs.ensures.prints)))
 
-pub returns-in_err-print_results : goal.returns-in_err-print_results
-returns-in_err-print_results g c =
+pub returns-in_err-print_results-clause-prints : goal.returns-in_err-print_results-clause-prints
+returns-in_err-print_results-clause-prints g c =
     let w = words_of c.args.g.now in
     let k = g.F.Facts.map c.args.f.now in
     let node = c.args.node.now in
@@ -37,8 +36,8 @@ returns-in_err-print_results g c =
     same_values w k _ _ outs _ _ _ c.from_residual-in_err-print_results.result c.as_slice.ensures (ap (λ m. map (result node) (upto 1 m)) c.gives_of.ensures)
     (hands_on _ _ _ _ _ c.from_residual-in_err-print_results.result (search rules) (stops_later _ _ _ _ _ _ before (first_stops (λ n. listed (map (draft n w k) outs)) after_results _ _ _ c.in_err-print_results.ensures.prints)))
 
-pub returns-in_err-push_bytes-2 : goal.returns-in_err-push_bytes-2
-returns-in_err-push_bytes-2 g c =
+pub returns-in_err-push_bytes-2-clause-prints : goal.returns-in_err-push_bytes-2-clause-prints
+returns-in_err-push_bytes-2-clause-prints g c =
     let w = words_of c.args.g.now in
     let k = g.F.Facts.map c.args.f.now in
     let node = c.args.node.now in
@@ -47,8 +46,8 @@ returns-in_err-push_bytes-2 g c =
     same_values w k _ _ outs _ _ _ c.from_residual-in_err-push_bytes-2.result c.as_slice.ensures (ap (λ m. map (result node) (upto 1 m)) c.gives_of.ensures)
     (hands_on _ _ _ _ _ c.from_residual-in_err-push_bytes-2.result (search rules) (out_of_memory _ _ _ _ _ refl (values_3 w k c.as_slice.result.now outs _ _ _ before c.in_ok-print_results.ensures.prints)))
 
-pub returns : goal.returns
-returns g c =
+pub returns-clause-prints : goal.returns-clause-prints
+returns-clause-prints g c =
     let w = words_of c.args.g.now in
     let k = g.F.Facts.map c.args.f.now in
     let node = c.args.node.now in
@@ -56,9 +55,6 @@ returns g c =
     let before = values_2 w k c.as_slice.result.now outs _ _ _ _ (values_1 w k c.as_slice.result.now outs _ _ c.in_ok-print_refs.ensures.prints) c.in_ok-push_bytes.ensures.ok in
     same_values w k _ _ outs _ _ _ (Ok tt) c.as_slice.ensures (ap (λ m. map (result node) (upto 1 m)) c.gives_of.ensures)
     (values_4 w k c.as_slice.result.now outs _ _ _ _ (values_3 w k c.as_slice.result.now outs _ _ _ before c.in_ok-print_results.ensures.prints) c.in_ok-push_bytes-2.ensures.ok)
-
-pub print_refs-requires : goal.print_refs-requires
-print_refs-requires g c = rest_new (origin c.args.g.now (g.F.Facts.map c.args.f.now) (g.F.Facts.names c.args.f.now)) (desk c.args.text.now c.args.report.now c.new-stack.result) c.new-stack.ensures.pieces c.new-stack.ensures.spans
 
 pub print_results-requires : goal.print_results-requires
 print_results-requires g c =

@@ -1,9 +1,9 @@
-use Rattle.std.proofs.Common.{◌++◌, ◌∷◌, [], refl, sym, arith, rules}
+use Rattle.std.proofs.Common.{◌++◌, ◌∷◌, [], Err, ap, ◌∙◌, refl, sym, arith, rules}
 use Rattle.std.proofs.lemmas.List.{nil_from_length}
 use Rattle.aw_print.specs.Stacks.{origin, desk, stack_draft}
 use Rattle.aw_print.proofs.StackLemmas.{popped, emptied}
 use Rattle.aw_print.proofs.BeginLemmas.{made_flushed, sound_same}
-use Rattle.aw_print.proofs.GrowingLemmas.{flushed, goes_on, stops_later, hands_on}
+use Rattle.aw_print.proofs.GrowingLemmas.{flushed, not_flushed, goes_on, stops_later, hands_on}
 use Rattle.aw_print.proofs.value.print_pieces.Goals as goal
 
 pub loop-piece-init : goal.loop-piece-init
@@ -16,6 +16,12 @@ loop-piece-init g c =
       short = c.in_ok-add_gathered.ensures.short;
       within = c.add_gathered.ensures.within;
     }
+
+pub returns-in_err-add_gathered-clause-prints : goal.returns-in_err-add_gathered-clause-prints
+returns-in_err-add_gathered-clause-prints g c =
+    let o = origin c.args.g.now (g.F.Facts.map c.args.f.now) (g.F.Facts.names c.args.f.now) in
+    hands_on _ _ _ _ _ c.from_residual.result (search rules)
+    (not_flushed (stack_draft o c.args.stack.now) c.args.text.now c.args.report.now c.add_gathered.new.report _ c.in_err-add_gathered.ensures.err (λ e. c.add_gathered.ensures.too_large (c.in_err-add_gathered.was ∙ ap Err e)))
 
 pub print_piece-requires : goal.print_piece-requires
 print_piece-requires g c =
