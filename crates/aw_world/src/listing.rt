@@ -13,7 +13,7 @@ ghost use Rattle.aw_world.specs.Merged.{merged, nodes_of, held_at};
 ghost use Rattle.aw_world.specs.Opened.{AreAllInOrder, AreAtHome, open_on, open_nodes, without_count};
 ghost use Rattle.aw_world.specs.PrintedRows.{PrintsRow};
 ghost use Rattle.aw_world.specs.Reactions.{PrintsRows, PrintsArtifacts, HasRows};
-ghost use Rattle.aw_world.specs.Seen.{ArePlaced, ShowEach};
+ghost use Rattle.aw_world.specs.Seen.{ArePlaced, ShowEach, KeepEach};
 
 use crate::merging::{Spot, in_order};
 use crate::workspace::Workspace;
@@ -24,10 +24,22 @@ use aw_held::Held;
 use aw_list::Items;
 use aw_name::{Node, copy_node};
 use aw_out::{PrintFault, Report};
+use aw_print::Ends;
 use std::alloc::{AllocError, Global};
 
 /// Nodes in their order.
 pub type Nodes = Items<Node>;
+
+/// For each workspace that nothing is kept yet of the ends of its chases.
+fn new_ends<W: Workspace>(alloc: Global, sites: &[W]) -> Result<Vec<Ends>, AllocError>
+    ensures { IfOk result (λ ends. KeepEach ⟦<W as Workspace>⟧ sites.now ends.items) }
+{
+    let mut ends = Vec::new(alloc);
+    for i in 0..sites.len() {
+        ends.push(Ends::new(alloc))?;
+    }
+    Ok(ends)
+}
 
 /// Prints the line of the node at a place.
 fn print_at<W: Workspace>(
@@ -35,17 +47,21 @@ fn print_at<W: Workspace>(
     accepted: &Accepted,
     sites: &[W],
     spot: &Spot,
+    ends: &mut Vec<Ends>,
     report: &mut Report,
 ) -> Result<(), PrintFault>
     requires placed { ArePlaced ⟦<W as Workspace>⟧ accepted.now.grammar sites.now }
     requires there { IsSome (held_at ⟦<W as Workspace>⟧ sites.now spot.now) }
-    ensures { (ss : List P.Site) → ShowEach ⟦<W as Workspace>⟧ sites.now ss → PrintsRow accepted.now.grammar (get (P.empty_site false spot.now.site) ss spot.now.site) spot.now.place report.old report.new result }
+    requires ends { KeepEach ⟦<W as Workspace>⟧ sites.now ends.old.items }
+    ensures ends { KeepEach ⟦<W as Workspace>⟧ sites.now ends.new.items }
+    ensures prints { (ss : List P.Site) → ShowEach ⟦<W as Workspace>⟧ sites.now ss → PrintsRow accepted.now.grammar (get (P.empty_site false spot.now.site) ss spot.now.site) spot.now.place report.old report.new result }
 {
     let site = &sites[spot.site];
-    site.print_row(alloc, accepted, spot.place, report)
+    let own = &mut ends[spot.site];
+    site.print_row(alloc, accepted, spot.place, own, report)
 }
 
-/// Prints the lines of all nodes.
+/// Prints the lines of all nodes. Where chases end is kept from line to line.
 fn print_all<W: Workspace>(
     alloc: Global,
     accepted: &Accepted,
@@ -58,8 +74,9 @@ fn print_all<W: Workspace>(
     requires order { AreAllInOrder ⟦<W as Workspace>⟧ sites.now spots.now }
     ensures { (v : V.World) → ShowEach ⟦<W as Workspace>⟧ sites.now v.sites → PrintsRows accepted.now.grammar v report.old report.new result }
 {
+    let mut ends = new_ends(alloc, sites)?;
     for spot in spots {
-        print_at(alloc, accepted, sites, spot, report)?;
+        print_at(alloc, accepted, sites, spot, &mut ends, report)?;
     }
     Ok(())
 }

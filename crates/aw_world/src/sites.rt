@@ -7,6 +7,8 @@ ghost use Rattle.aw_grammar.specs.GrammarOf.{grammar_of, words_of};
 ghost use Rattle.aw_held.specs.HeldView.{held_of};
 ghost use Rattle.aw_merge.specs.ReadRows.{IsRead};
 ghost use Rattle.aw_out.specs.Report.{Prints};
+ghost use Rattle.aw_print.specs.Ends.{AreEnds};
+ghost use Rattle.aw_print.proofs.EndsLemmas.{none_kept};
 ghost use Rattle.aw_react.specs.ValidNames.{takes_as};
 ghost use Rattle.aw_react.specs.Sites.{Reaction};
 ghost use Rattle.aw_site.specs.Answers.{IsReceived};
@@ -29,7 +31,7 @@ use aw_grammar::Grammar;
 use aw_held::{Held, Holding};
 use aw_msg::{Message, Messages};
 use aw_out::{PrintFault, Report};
-use aw_print::artifact_row;
+use aw_print::{Ends, artifact_row};
 use aw_site::{Received, Site};
 use aw_space::Space;
 use aw_store::Facts;
@@ -70,11 +72,14 @@ fn print_held(
     g: &Grammar,
     held: &Held,
     facts: &CellFacts,
+    ends: &mut Ends,
     report: &mut Report,
 ) -> Result<(), PrintFault>
     requires named { takes_as (grammar_of g.now) (sort_of (grammar_of g.now) held.now.node) held.now.inherited ≡ true }
     requires done { done_fits (grammar_of g.now) held.now.node held.now.done ≡ true }
-    ensures { (q : Row) → IsRead (grammar_of g.now) (⟦<CellFacts as Facts>⟧.map facts.now) (held_of (grammar_of g.now) held.now) q → Prints (row_text (words_of g.now) q) report.old report.new result }
+    requires ends { AreEnds (⟦<CellFacts as Facts>⟧.map facts.now) (⟦<CellFacts as Facts>⟧.names facts.now) ends.old }
+    ensures ends { AreEnds (⟦<CellFacts as Facts>⟧.map facts.now) (⟦<CellFacts as Facts>⟧.names facts.now) ends.new }
+    ensures prints { (q : Row) → IsRead (grammar_of g.now) (⟦<CellFacts as Facts>⟧.map facts.now) (held_of (grammar_of g.now) held.now) q → Prints (row_text (words_of g.now) q) report.old report.new result }
 {
     artifact_row(
         alloc,
@@ -83,6 +88,7 @@ fn print_held(
         &held.inherited,
         &held.done,
         facts,
+        ends,
         report,
     )
 }
@@ -102,6 +108,8 @@ impl<'g> Workspace for Site<'g, CellFacts> {
     ghost its_nodes = { λ w. w.space.held.items };
 
     ghost shows = { λ w s. IsShown ⟦<CellFacts as Facts>⟧ w s };
+
+    ghost keeps = { λ w e. AreEnds (⟦<CellFacts as Facts>⟧.map w.space.facts) (⟦<CellFacts as Facts>⟧.names w.space.facts) e };
 
     fn choose_into(
         &mut self,
@@ -137,16 +145,19 @@ impl<'g> Workspace for Site<'g, CellFacts> {
         alloc: Global,
         accepted: &Accepted,
         place: usize,
+        ends: &mut Ends,
         report: &mut Report,
     ) -> Result<(), PrintFault> {
         let space = self.space();
         let held = space.nodes().at(place);
-        print_held(alloc, accepted.grammar(), held, space.facts(), report)
+        print_held(alloc, accepted.grammar(), held, space.facts(), ends, report)
     }
 
     ghost has_role = { λ w s shown. shown.holds.role };
 
     ghost in_order = { λ w. w.space.sound.ordered };
+
+    ghost keeps_none = { λ w e none. none_kept (⟦<CellFacts as Facts>⟧.map w.space.facts) (⟦<CellFacts as Facts>⟧.names w.space.facts) e none };
 
     ghost holds = { λ w s shown. ap (λ x. x.held) shown.holds.holds };
 }

@@ -15,6 +15,8 @@ ghost use Rattle.aw_held.specs.declared.held.Held.{Held as HeldValue};
 ghost use Rattle.aw_held.specs.InOrder.{IsInOrder};
 ghost use Rattle.aw_held.specs.HeldView.{all_of};
 ghost use Rattle.aw_react.specs.Worklists.{site_worklist};
+ghost use Rattle.aw_print.specs.Ends.{KeepsNone};
+ghost use Rattle.aw_print.specs.declared.ends.Ends.{Ends as EndsValue};
 ghost use Rattle.aw_world.specs.PrintedRows.{PrintsRow};
 ghost use Rattle.aw_world.specs.Reactions.{choice_at, message_at, all_messages};
 ghost use Rattle.aw_world.specs.SiteAnswers.{sent_by, sent_back, is_new};
@@ -24,6 +26,7 @@ use aw_choice::{Answer, Choice, Worklist};
 use aw_held::Holding;
 use aw_msg::{Message, Messages};
 use aw_out::{PrintFault, Report};
+use aw_print::Ends;
 use std::alloc::{AllocError, Global};
 
 /// A workspace of one role.
@@ -39,6 +42,9 @@ pub trait Workspace: Drop {
 
     /// It can be seen as this site.
     ghost shows: { Self → P.Site → Type 0 };
+
+    /// What is kept of the ends of chases is so over its equations.
+    ghost keeps: { Self → EndsValue → Type 0 };
 
     /// Answers a choice, and appends what it sends to a list; how many messages those are. An error changes nothing.
     fn choose_into(
@@ -87,23 +93,29 @@ pub trait Workspace: Drop {
         ensures { result.now.items ≡ its_nodes self.now };
 
     /// Prints the artifact line of the node at a place, from the equations that it has. Where the text would pass the report's limit, or
-    /// memory is missing, the report has got the front of the line.
+    /// memory is missing, the report has got the front of the line. Where chases end is kept for the lines that are printed next.
     fn print_row(
         &self,
         alloc: Global,
         accepted: &Accepted,
         place: usize,
+        ends: &mut Ends,
         report: &mut Report,
     ) -> Result<(), PrintFault>
         requires grammar { same_grammar (its_grammar self.now) (grammar_of accepted.now.grammar) ≡ true }
         requires place { place < length (its_nodes self.now) }
-        ensures { (s : P.Site) → shows self.now s → PrintsRow accepted.now.grammar s place report.old report.new result };
+        requires ends { keeps self.now ends.old }
+        ensures ends { keeps self.now ends.new }
+        ensures prints { (s : P.Site) → shows self.now s → PrintsRow accepted.now.grammar s place report.old report.new result };
 
     /// Each site that it can be seen as has its role.
     ghost has_role: { (w : Self) (s : P.Site) → shows w s → s.role ≡ its_role w };
 
     /// Its nodes are in the order of their names.
     ghost in_order: { (w : Self) → IsInOrder (its_nodes w) };
+
+    /// Where nothing is kept of the ends of chases, that is so over any equations.
+    ghost keeps_none: { (w : Self) (e : EndsValue) → KeepsNone e → keeps w e };
 
     /// Each site that it can be seen as holds its nodes.
     ghost holds: { (w : Self) (s : P.Site) → shows w s → s.held ≡ all_of (its_grammar w) (its_nodes w) };

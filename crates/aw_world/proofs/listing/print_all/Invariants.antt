@@ -7,11 +7,14 @@ use Rattle.aw_out.specs.declared.error.PrintFault.{PrintFault}
 use Rattle.aw_out.specs.Report.{Bounded, Prints}
 use Rattle.aw_react.specs.Worlds.{World}
 use Rattle.aw_merge.specs.ReadRows.{AreRead}
-use Rattle.aw_world.specs.Seen.{ShowEach}
+use Rattle.aw_world.specs.Seen.{ShowEach, KeepEach}
 use Rattle.aw_world.proofs.listing.print_all.Given as goal
 
--- whatever prints what is left has printed the whole
+-- whatever prints what is left has printed the whole; what is kept goes with each workspace
 abbrev pub invariant-loop-spot : goal.invariant-loop-spot
 invariant-loop-spot g l =
-    (v : World) → ShowEach g.W.Workspace l.sites v.sites → (rows : Config) → AreRead (grammar_of l.accepted.grammar) v rows → (new : Bounded) (result : Result Unit PrintFault) →
-    Prints (artifact_text (words_of l.accepted.grammar) (drop l.spot-index rows)) l.report new result → Prints (artifact_text (words_of l.accepted.grammar) rows) l.fn.report new result
+    record {
+      ends : KeepEach g.W.Workspace l.sites l.ends.items;
+      prints : (v : World) → ShowEach g.W.Workspace l.sites v.sites → (rows : Config) → AreRead (grammar_of l.accepted.grammar) v rows → (new : Bounded) (result : Result Unit PrintFault) →
+          Prints (artifact_text (words_of l.accepted.grammar) (drop l.spot-index rows)) l.report new result → Prints (artifact_text (words_of l.accepted.grammar) rows) l.fn.report new result;
+    }

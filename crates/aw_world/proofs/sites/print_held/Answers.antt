@@ -5,8 +5,8 @@ use Rattle.aw_out.specs.Report.{Prints}
 use Rattle.aw_world.proofs.HeldRows.{same_line, inherited_unfold, results_unfold}
 use Rattle.aw_world.proofs.sites.print_held.Goals as goal
 
-pub returns : goal.returns
-returns c = λ q read.
+pub returns-clause-prints : goal.returns-clause-prints
+returns-clause-prints c = λ q read.
     let g = grammar_of c.args.g.now in
     let k = (cells.ghosts).map c.args.facts.now in
     let h = c.args.held.now in

@@ -4,6 +4,7 @@ use Rattle.aw_grammar.specs.GrammarOf.{grammar_of, words_of}
 use Rattle.aw_held.specs.HeldView.{held_of}
 use Rattle.aw_merge.specs.ReadRows.{IsRead}
 use Rattle.aw_out.specs.Report.{Prints}
+use Rattle.aw_print.specs.Ends.{AreEnds}
 use Rattle.aw_react.specs.ValidNames.{takes_as}
 use Rattle.aw_space.specs.Valid.{done_fits}
 use Rattle.aw_space.proofs.Standing.{takes_here}
@@ -29,8 +30,18 @@ print_held-requires-clause-done c =
     let same = grammars_are_one _ _ c.requires.grammar ∙ sym (ap grammar_of c.grammar.ensures.value) in
     subst (λ g. done_fits g h.node h.done ≡ true) same (done_here (grammar_of space.accepted.now.grammar) space.held.items c.args.place h space.valid.nodes here)
 
-pub returns : goal.returns
-returns c = λ s shown p q at read.
+pub print_held-requires-clause-ends : goal.print_held-requires-clause-ends
+print_held-requires-clause-ends c =
+    let same = c.facts.ensures ∙ ap (λ x. x.facts) c.space-space.ensures in
+    subst (λ x. AreEnds ((cells.ghosts).map x) ((cells.ghosts).names x) c.args.ends.now) (sym same) c.requires.ends
+
+pub returns-clause-ends : goal.returns-clause-ends
+returns-clause-ends c =
+    let same = c.facts.ensures ∙ ap (λ x. x.facts) c.space-space.ensures in
+    subst (λ x. AreEnds ((cells.ghosts).map x) ((cells.ghosts).names x) c.print_held.new.ends) same c.print_held.ensures.ends
+
+pub returns-clause-prints : goal.returns-clause-prints
+returns-clause-prints c = λ s shown p q at read.
     let space = c.args.self.now.space in
     let h = c.at-held.result.now in
     let d = c.args.accepted.now.grammar in
@@ -43,4 +54,4 @@ returns c = λ s shown p q at read.
     let at_store = subst (λ m. IsRead (grammar_of d) m p q) equations read in
     let at_node = subst (λ x. IsRead (grammar_of d) k x q) node at_store in
     let at_grammar = subst (λ x. IsRead (grammar_of x) k (held_of (grammar_of c.grammar.result.now) h) q) (sym value) at_node in
-    subst (λ x. Prints (row_text (words_of x) q) c.args.report.now c.print_held.new.report c.print_held.result) value (c.print_held.ensures q at_grammar)
+    subst (λ x. Prints (row_text (words_of x) q) c.args.report.now c.print_held.new.report c.print_held.result) value (c.print_held.ensures.prints q at_grammar)
