@@ -1,5 +1,5 @@
 -- Which sorts a role offers to others, which sorts it uses, and the rules that keep to that.
-use Rattle.std.specs.Prelude.{◌≡◌, ℕ, suc, Bool, true, false, ◌&&◌, List, [], ◌∷◌, Option, None, Some, Result, Ok, Err, nat_eq, if◌then◌else◌}
+use Rattle.std.specs.Prelude.{◌≡◌, ℕ, suc, Bool, ◌&&◌, List, [], ◌∷◌, Option, None, Some, Result, Ok, Err, nat_eq, if◌then◌else◌}
 use Rattle.std.specs.List.{list_any}
 use Rattle.aw_term.specs.Rules.{Child, Rule, Sort, Grammar}
 pub use Rattle.aw_term.specs.Rules.{role_or_0, role_of}
@@ -15,6 +15,10 @@ is_offered sort offers = list_any (λ o. nat_eq o sort) offers
 -- the role uses the sort
 abbrev pub is_used : ℕ → ℕ → List Using → Bool
 is_used role sort uses = list_any (λ (u : Using). nat_eq u.role role && nat_eq u.sort sort) uses
+
+-- the same role uses the same sort
+abbrev pub same_use : Using → Using → Bool
+same_use u v = nat_eq u.role v.role && nat_eq u.sort v.sort
 
 -- What is wrong with a child of a sort in a rule of a role: nothing where the sort is of the same role. Else the role has to use it, and it has to be offered.
 abbrev pub kind_between : List ℕ → List Using → (role child_role sort : ℕ) → Option FaceKind

@@ -5,7 +5,7 @@ ghost use Rattle.aw_grammar.specs.GrammarView.{sorts_of, child_of, rule_of};
 ghost use Rattle.aw_grammar.specs.GrammarOf.{grammar_of};
 ghost use Rattle.aw_face.specs.Faces as face;
 
-use crate::faces::{FaceFault, FaceKind, Faces, Using};
+use crate::faces::{FaceFault, FaceKind, Faces};
 use aw_grammar::{Child, Grammar, Rule, Sort};
 
 /// Whether a sort is offered.
@@ -15,21 +15,13 @@ pub fn is_offered(sort: u16, offers: &[u16]) -> bool
     offers.iter().any(|offered| *offered == sort)
 }
 
-/// Whether a role uses a sort.
-pub fn is_used(role: u16, sort: u16, uses: &[Using]) -> bool
-    ensures { result ≡ face.is_used role sort uses.now }
-{
-    uses.iter()
-        .any(|using| using.role == role && using.sort == sort)
-}
-
 /// What is wrong with a child of a sort in a rule of a role.
 fn kind_between(f: &Faces, role: u16, child_role: u16, sort: u16) -> Option<FaceKind>
     ensures { result ≡ face.kind_between f.now.offers f.now.uses role child_role sort }
 {
     if child_role == role {
         None
-    } else if !is_used(role, sort, f.uses.as_slice()) {
+    } else if !f.uses.has(role, sort) {
         Some(FaceKind::NotUsed)
     } else if !is_offered(sort, f.offers.as_slice()) {
         Some(FaceKind::NotOffered)

@@ -1,22 +1,19 @@
 //! What roles offer and use.
+use crate::uses::Uses;
 use aw_grammar::Numbers;
-use aw_list::Items;
 
 /// A role uses a sort, which needs a use where it is of another role. Both are positions from 0.
-#[derive(Clone, Copy, Debug, PartialEq, Eq)]
+#[derive(Clone, Copy, Debug, PartialEq, Eq, Hash)]
 pub struct Using {
     pub role: u16,
     pub sort: u16,
 }
 
-/// Which role uses which sort, in the order of the specification.
-pub type Usings = Items<Using>;
-
 /// The sorts that are offered, and which role uses which sort.
 #[derive(Debug, PartialEq, Eq, Drop)]
 pub struct Faces {
     pub offers: Numbers,
-    pub uses: Usings,
+    pub uses: Uses,
 }
 
 /// Why a child of another role may not stand in a rule.

@@ -3,6 +3,8 @@
 
 pub mod check;
 pub mod faces;
+pub mod uses;
 
-pub use check::{check_faces, is_offered, is_used, rule_fault};
-pub use faces::{FaceFault, FaceKind, Faces, Using, Usings};
+pub use check::{check_faces, is_offered, rule_fault};
+pub use faces::{FaceFault, FaceKind, Faces, Using};
+pub use uses::Uses;

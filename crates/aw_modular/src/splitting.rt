@@ -18,7 +18,7 @@ fn copy_faces(alloc: Global, f: &Faces) -> Result<Faces, AllocError>
 {
     Ok(Faces {
         offers: Items::from_vec(f.offers.as_slice().to_vec(alloc)?),
-        uses: Items::from_vec(f.uses.as_slice().to_vec(alloc)?),
+        uses: f.uses.clone()?,
     })
 }
 

@@ -22,7 +22,7 @@ ghost use Rattle.aw_spec.specs.Declares.{IsDeclared};
 use crate::fault::SpecKind;
 use crate::line::SpecLine;
 use aw_base::{AddFault, DeclKind, Declared, Grammar, RawCon, RawRule, RawSort, Rule};
-use aw_face::{FaceKind, Faces, Using, is_offered, is_used, rule_fault};
+use aw_face::{FaceKind, Faces, Using, is_offered, rule_fault};
 use aw_form::Unread;
 use aw_lex::LexFault;
 use aw_list::Text;
@@ -236,7 +236,7 @@ impl Draft {
         let Some(sort) = self.grammar.sort_named(sort.as_slice()) else {
             return Err(LineFault::Bad(SpecKind::Unknown));
         };
-        if is_used(role, sort, self.faces.uses.as_slice()) {
+        if self.faces.uses.has(role, sort) {
             return Err(LineFault::Bad(SpecKind::Double));
         }
         self.faces.uses.push(Using { role, sort })?;

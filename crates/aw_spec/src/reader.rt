@@ -6,7 +6,7 @@ use crate::fault::SpecKind;
 use crate::line::SpecLine;
 use crate::spelled::spelled_line;
 use aw_base::{Declared, Grammar, Names, Numbers};
-use aw_face::{Faces, Usings};
+use aw_face::{Faces, Uses};
 use aw_lex::is_passed_over;
 use aw_typed::{Carries, Shapes, Types};
 use std::alloc::Global;
@@ -32,7 +32,7 @@ impl Reader {
     {
         let faces = Faces {
             offers: Numbers::new(alloc),
-            uses: Usings::new(alloc),
+            uses: Uses::new(alloc),
         };
         let types = Types {
             typed: false,
