@@ -1,3 +1,4 @@
+pub mod Depending
 pub mod KeptFaces
 pub mod KeptLines
 pub mod LastRule

@@ -4,6 +4,7 @@ pub mod KindNames
 pub mod Laws
 pub mod LineAnswers
 pub mod Lines
+pub mod Named
 pub mod Pieces
 pub mod ReadLine
 pub mod ReaderAnswers

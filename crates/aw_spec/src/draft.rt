@@ -19,9 +19,10 @@ ghost use Rattle.aw_spec.specs.LineAnswers.{Adds, Says, spec_so_far};
 ghost use Rattle.aw_spec.specs.declared.draft.AfterLine.TheVariants.{Next};
 ghost use Rattle.aw_spec.specs.Declares.{IsDeclared};
 
+use crate::dependences::Dependences;
 use crate::fault::SpecKind;
 use crate::line::SpecLine;
-use aw_base::{AddFault, DeclKind, Declared, Grammar, RawCon, RawRule, RawSort, Rule};
+use aw_base::{AddFault, DeclKind, Grammar, RawCon, RawRule, RawSort, Rule};
 use aw_face::{FaceKind, Faces, Using, is_offered, rule_fault};
 use aw_form::Unread;
 use aw_lex::LexFault;
@@ -131,7 +132,7 @@ pub struct Draft {
     pub grammar: Grammar,
     pub faces: Faces,
     pub types: Types,
-    pub depends: Declared,
+    pub depends: Dependences,
     pub free: bool,
 }
 

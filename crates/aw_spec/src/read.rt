@@ -46,7 +46,7 @@ fn text_of(draft: Draft, loads: bool, lines: u64, rest: usize) -> SpecText
         rest,
         loads,
         types,
-        depends,
+        depends: depends.into_declared(),
         free,
     }
 }

@@ -1,11 +1,12 @@
 //! Reading a specification line by line.
 ghost use Rattle.std.specs.Prelude.{◌≡◌};
 
+use crate::dependences::Dependences;
 use crate::draft::{AfterLine, Draft, LineFault};
 use crate::fault::SpecKind;
 use crate::line::SpecLine;
 use crate::spelled::spelled_line;
-use aw_base::{Declared, Grammar, Names, Numbers};
+use aw_base::{Grammar, Names, Numbers};
 use aw_face::{Faces, Uses};
 use aw_lex::is_passed_over;
 use aw_typed::{Carries, Shapes, Types};
@@ -45,7 +46,7 @@ impl Reader {
                 grammar: Grammar::new(alloc),
                 faces,
                 types,
-                depends: Declared::new(alloc),
+                depends: Dependences::new(alloc),
                 free: false,
             },
             stage: 0,

@@ -1,11 +1,11 @@
 //! What lines of types add to what the lines so far say.
-ghost use Rattle.std.specs.Prelude.{◌≡◌, ◌≤◌, ◌∷◌, ◌++◌, [], length, IfOk, IfErr};
+ghost use Rattle.std.specs.Prelude.{◌≡◌, ◌≤◌, ◌∷◌, ◌++◌, [], false, Some, length, IfOk, IfErr};
 ghost use Rattle.std.specs.Option.{option_copied};
 ghost use Rattle.aw_index.specs.Places.{first_told};
 ghost use Rattle.aw_spec.specs.Lines as lines;
 ghost use Rattle.aw_spec.specs.LineAnswers.{Adds, spec_so_far};
 ghost use Rattle.aw_spec.specs.Reading as reading;
-ghost use Rattle.aw_spec.specs.TypeLines.{item_at};
+ghost use Rattle.aw_spec.specs.TypeLines.{item_at, is_dependence};
 
 use crate::draft::{Draft, LineFault};
 use crate::fault::SpecKind;
@@ -130,6 +130,7 @@ impl Draft {
     /// The dependence of the sort at a place, or what is wrong with it.
     fn dependence(&self, at: Option<u16>, i: u64, j: u64) -> Result<Triple, SpecKind>
         ensures ok { IfOk result (λ x. reading.depending (spec_so_far self.now) at i j ≡ reading.On (record (spec_so_far self.now) { depends = self.now.depends ++ x ∷ [] })) }
+        ensures fresh { IfOk result (λ x. is_dependence self.now.depends (Some x.sort) x.i x.j ≡ false) }
         ensures err { IfErr result (λ kind. reading.depending (spec_so_far self.now) at i j ≡ reading.Wrong kind) }
     {
         if is_dependence(&self.depends, at, i, j) {

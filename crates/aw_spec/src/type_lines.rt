@@ -5,7 +5,8 @@ ghost use Rattle.aw_index.specs.Places.{is_same, place_of, stands};
 ghost use Rattle.aw_spec.specs.TypeLines as lines;
 ghost use Rattle.aw_spec.specs.TypePlaces.{place_from};
 
-use aw_base::{Con, Declared, Names, Numbers, Sort, Triple};
+use crate::dependences::Dependences;
+use aw_base::{Con, Names, Numbers, Sort};
 use aw_list::{Items, Text};
 use aw_typed::{Carry, Shape, Types};
 use std::alloc::AllocError;
@@ -176,26 +177,12 @@ pub(crate) fn positions(sort: Option<&Sort>, i: u64, j: u64) -> Option<(u8, u8)>
     Some((position(sort.takes, i)?, position(sort.gives, j)?))
 }
 
-/// Whether a dependence is that of result `j` of the sort on its inherited value `i`.
-fn is_of(d: &Triple, sort: u16, i: u64, j: u64) -> bool
-    ensures { result ≡ (nat_eq d.now.sort sort && (nat_eq d.now.i i && nat_eq d.now.j j)) }
-{
-    d.sort == sort && (u64::from(d.i) == i && u64::from(d.j) == j)
-}
-
-/// Whether one of these is that of result `j` of the sort on its inherited value `i`.
-fn is_among(declared: &[Triple], sort: u16, i: u64, j: u64) -> bool
-    ensures { result ≡ lines.is_dependence declared.now (Some sort) i j }
-{
-    declared.iter().any(|d| is_of(d, sort, i, j))
-}
-
 /// Whether it is declared of the sort at a place that result `j` may depend on inherited value `i`.
-pub(crate) fn is_dependence(declared: &Declared, at: Option<u16>, i: u64, j: u64) -> bool
+pub(crate) fn is_dependence(declared: &Dependences, at: Option<u16>, i: u64, j: u64) -> bool
     ensures { result ≡ lines.is_dependence declared.now at i j }
 {
     match at {
-        Some(sort) => is_among(declared.as_slice(), sort, i, j),
+        Some(sort) => declared.has(sort, i, j),
         None => false,
     }
 }
