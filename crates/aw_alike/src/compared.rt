@@ -11,9 +11,9 @@ use crate::fault::TableFault;
 use crate::run::Run;
 use crate::tally::Tally;
 use aw_accept::{Accepted, accept};
-use aw_base::choice_ok;
+use aw_base::{Grammar, choice_ok};
 use aw_list::Text;
-use aw_spec::read_spec;
+use aw_spec::{SpecText, read_spec};
 use aw_text::cut_at;
 use bstr::ByteSlice;
 use std::alloc::{AllocError, Global};
@@ -51,6 +51,56 @@ fn take_turn(
     Ok(())
 }
 
+/// Draws the choices of a run, and makes them.
+fn take_turns(
+    alloc: Global,
+    draws: &mut Draws,
+    accepted: &Accepted,
+    run: &mut Run<'_>,
+    asked: &Asked,
+    tally: &mut Tally,
+) -> Result<(), AllocError>
+    requires same { run.old.plain.grammar.now ≡ accepted.now.grammar }
+    requires fit { Each (MayCome (grammar_of accepted.now.grammar)) run.old.events.items }
+    ensures fit { OnOk result (Each (MayCome (grammar_of accepted.now.grammar)) run.new.events.items) }
+{
+    for _ in 0..asked.choices {
+        take_turn(alloc, draws, accepted, run, asked.cases, tally)?;
+    }
+    Ok(())
+}
+
+/// Compares what is told of a run over trees with what is told of it over equations.
+fn compare_told(
+    alloc: Global,
+    accepted: &Accepted,
+    run: &Run<'_>,
+    tally: &mut Tally,
+) -> Result<(), AllocError>
+    requires { Each (MayCome (grammar_of accepted.now.grammar)) run.now.events.items }
+{
+    let trees = run.told_of_trees(alloc, accepted.grammar())?;
+    let equations = run.told_of_equations(alloc, accepted)?;
+    tally.count_run(&trees, &equations);
+    Ok(())
+}
+
+/// Draws a run from where nothing was chosen, and compares what both tell of it.
+fn compare_drawn(
+    alloc: Global,
+    draws: &mut Draws,
+    accepted: &Accepted,
+    run: &mut Run<'_>,
+    asked: &Asked,
+    tally: &mut Tally,
+) -> Result<(), AllocError>
+    requires same { run.old.plain.grammar.now ≡ accepted.now.grammar }
+    requires fit { Each (MayCome (grammar_of accepted.now.grammar)) run.old.events.items }
+{
+    take_turns(alloc, draws, accepted, run, asked, tally)?;
+    compare_told(alloc, accepted, run, tally)
+}
+
 /// Draws a run, and compares what both tell of it.
 fn compare_run(
     alloc: Global,
@@ -60,13 +110,7 @@ fn compare_run(
     tally: &mut Tally,
 ) -> Result<(), AllocError> {
     let mut run = Run::new(alloc, accepted);
-    for _ in 0..asked.choices {
-        take_turn(alloc, draws, accepted, &mut run, asked.cases, tally)?;
-    }
-    let trees = run.told_of_trees(alloc, accepted.grammar())?;
-    let equations = run.told_of_equations(alloc, accepted)?;
-    tally.count_run(&trees, &equations);
-    Ok(())
+    compare_drawn(alloc, draws, accepted, &mut run, asked, tally)
 }
 
 /// Draws the runs of an entry.
@@ -79,12 +123,18 @@ fn compare_runs(alloc: Global, accepted: &Accepted, asked: &Asked) -> Result<Tal
     Ok(tally)
 }
 
+/// The grammar of a specification, whose other parts are let go.
+fn into_grammar(spec: SpecText) -> Grammar {
+    let SpecText { grammar, .. } = spec;
+    grammar
+}
+
 /// The specification that a text spells.
 fn accepted_of(alloc: Global, text: &[u8]) -> Result<Accepted, TableFault> {
     let Ok(spec) = read_spec(alloc, text) else {
         return Err(TableFault::Unreadable);
     };
-    match accept(alloc, spec.grammar) {
+    match accept(alloc, into_grammar(spec)) {
         Ok(accepted) => Ok(accepted),
         Err(_) => Err(TableFault::Unreadable),
     }

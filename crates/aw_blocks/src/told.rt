@@ -1,6 +1,7 @@
 //! What is told of an entry.
-ghost use Rattle.std.specs.Prelude.{◌≤◌, IfOk, length};
+ghost use Rattle.std.specs.Prelude.{◌≡◌, ◌≤◌, IfOk, length};
 ghost use Rattle.aw_grammar.specs.GrammarOf.{grammar_of};
+ghost use Rattle.aw_replay.specs.Telling.{plain_of};
 ghost use Rattle.aw_sched.specs.Answers.{MayCome};
 ghost use Rattle.aw_term.specs.WellFormed.{Each};
 
@@ -11,10 +12,10 @@ use aw_blocked::{Pair, waiting};
 use aw_list::Text;
 use aw_out::{OUTPUT_LIMIT, Report};
 use aw_replay::tell_events;
-use aw_sched::{Events, SchedFault, read_schedule};
+use aw_sched::{Event, Events, SchedFault, read_schedule};
 use aw_spec::{SpecFault, SpecText, read_spec};
 use aw_typed::untyped;
-use aw_world::{SiteWorld, World};
+use aw_world::{SiteWorld, Workspace, World};
 use std::alloc::{AllocError, Global};
 
 /// Adds a line for each pair.
@@ -40,6 +41,22 @@ fn events_of(alloc: Global, g: &Grammar, schedule: &[u8]) -> Result<Events, Entr
     }
 }
 
+/// Adds who waits for whom in a world after these events.
+fn push_waiting<W: Workspace>(
+    alloc: Global,
+    told: &mut Text,
+    g: &Grammar,
+    world: &mut World<W>,
+    events: &[Event],
+) -> Result<(), EntryFault>
+    requires { Each (MayCome (plain_of world.old)) events.now }
+{
+    let mut report = Report::new(alloc, OUTPUT_LIMIT);
+    tell_events(world, events, &mut report)?;
+    let pairs = waiting(world)?;
+    Ok(push_pairs(told, g, pairs.as_slice())?)
+}
+
 /// Adds who waits for whom after the events of a schedule.
 fn push_world(
     alloc: Global,
@@ -51,10 +68,7 @@ fn push_world(
     let g = accepted.grammar();
     let events = events_of(alloc, g, schedule)?;
     let mut world = SiteWorld::new(alloc, accepted, loads)?;
-    let mut report = Report::new(alloc, OUTPUT_LIMIT);
-    tell_events(&mut world, events.as_slice(), &mut report)?;
-    let pairs = waiting(&world)?;
-    Ok(push_pairs(told, g, pairs.as_slice())?)
+    push_waiting(alloc, told, g, &mut world, events.as_slice())
 }
 
 /// The specification of an entry.
@@ -77,14 +91,22 @@ fn accepted_of(alloc: Global, g: Grammar) -> Result<Accepted, EntryFault> {
     }
 }
 
-/// Adds who waits for whom in the world of an entry.
-pub fn push_entry(alloc: Global, told: &mut Text, input: &[u8]) -> Result<(), EntryFault> {
+/// The grammar of a specification, where its schedule begins, and whether it has loads. Its other parts are let go.
+fn parts_of(spec: SpecText) -> (Grammar, usize, bool)
+    ensures { result.1 ≡ spec.rest }
+{
     let SpecText {
         grammar,
         rest,
         loads,
         ..
-    } = spec_of(alloc, input)?;
+    } = spec;
+    (grammar, rest, loads)
+}
+
+/// Adds who waits for whom in the world of an entry.
+pub fn push_entry(alloc: Global, told: &mut Text, input: &[u8]) -> Result<(), EntryFault> {
+    let (grammar, rest, loads) = parts_of(spec_of(alloc, input)?);
     let accepted = accepted_of(alloc, grammar)?;
     push_world(alloc, told, &accepted, loads, &input[rest..])
 }

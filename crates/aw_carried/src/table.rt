@@ -3,6 +3,7 @@ use crate::case::{Case, read_case};
 use crate::fault::TableFault;
 use crate::told::{push_answer, push_written};
 use aw_accept::{Accepted, accept};
+use aw_base::Grammar;
 use aw_courier::{Carried, CarryFault, carry};
 use aw_list::Text;
 use aw_out::Wire;
@@ -86,16 +87,27 @@ fn told_of(alloc: Global, g: &Accepted, entries: &[u8]) -> Result<Text, TableFau
     Ok(told)
 }
 
+/// The grammar of a specification, whose other parts are let go.
+fn into_grammar(spec: SpecText) -> Grammar {
+    let SpecText { grammar, .. } = spec;
+    grammar
+}
+
+/// The grammar of a specification, where it is not circular.
+fn accepted_of(alloc: Global, spec: SpecText) -> Result<Accepted, TableFault> {
+    match accept(alloc, into_grammar(spec)) {
+        Ok(accepted) => Ok(accepted),
+        Err(_) => Err(TableFault::Unreadable),
+    }
+}
+
 /// What is told of the cases behind a specification.
 pub fn table(alloc: Global, text: &[u8]) -> Result<Text, TableFault> {
     let Some((declared, entries)) = text.split_once_str(MARK) else {
         return Err(TableFault::Unreadable);
     };
-    let Ok(SpecText { grammar, .. }) = read_spec(alloc, declared) else {
-        return Err(TableFault::Unreadable);
-    };
-    match accept(alloc, grammar) {
-        Ok(accepted) => told_of(alloc, &accepted, entries),
+    match read_spec(alloc, declared) {
+        Ok(spec) => told_of(alloc, &accepted_of(alloc, spec)?, entries),
         Err(_) => Err(TableFault::Unreadable),
     }
 }

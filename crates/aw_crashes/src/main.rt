@@ -46,9 +46,9 @@ fn push_hex(alloc: Global, told: &mut Text, word: &[u8], bytes: &[u8]) -> Result
 /// Adds the status of a run, what it wrote and what it replied.
 fn push_outcome(alloc: Global, told: &mut Text, came: &Outcome) -> Result<(), AllocError> {
     told.push_bytes(b"status ")?;
-    push_number(told, u64::from(came.status.code()))?;
+    push_number(told, u64::from(came.came.status.code()))?;
     told.push_bytes(b"\n")?;
-    told.push_bytes(came.text.as_slice())?;
+    told.push_bytes(came.came.text.as_slice())?;
     push_hex(alloc, told, b"replied ", came.replies.as_slice())
 }
 

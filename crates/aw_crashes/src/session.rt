@@ -1,9 +1,9 @@
 //! A node of one session, over a wire in memory.
 use aw_disk::Disk;
 use aw_list::Text;
-use aw_once::run_over;
+use aw_once::{Outcome as Came, run_over};
 use aw_out::{Calls, MemSink, Sizes, SureSource, Texts};
-use aw_run::{Status, Word};
+use aw_run::Word;
 use aw_wires::{MemWire, Numbers};
 use std::alloc::{AllocError, Global};
 
@@ -51,11 +51,10 @@ const ROOM: usize = 4096;
 /// In how many bytes is read and written.
 const PIECE: usize = 40;
 
-/// How a run came out: its status, what it wrote, and what was replied in its session.
+/// How a run came out, and what was replied in its session.
 #[derive(Drop)]
 pub struct Outcome {
-    pub status: Status,
-    pub text: Text,
+    pub came: Came,
     pub replies: Text,
 }
 
@@ -106,6 +105,36 @@ fn replies_on(alloc: Global, wire: &MemWire) -> Result<Text, AllocError> {
     Text::from_bytes(alloc, wire.written(0))
 }
 
+/// Room for what a run writes.
+fn new_sink(alloc: Global) -> Result<MemSink, AllocError> {
+    let pieces = Sizes::from_slice(alloc, &[PIECE])?;
+    MemSink::new(alloc, pieces, Calls::from_slice(alloc, &[])?, ROOM)
+}
+
+/// Runs the words over a wire, kept on a disk.
+fn run_kept<D: Disk>(
+    alloc: Global,
+    words: &[Word],
+    wire: &mut MemWire,
+    disk: &mut D,
+) -> Result<Came, AllocError> {
+    let mut src = SureSource::new(Text::from_bytes(alloc, SPECIFICATION)?);
+    let mut out = new_sink(alloc)?;
+    run_over(alloc, words, &mut src, &mut out, wire, disk)
+}
+
+/// Runs the words over a wire, and takes what was replied on it.
+fn serve_on<D: Disk>(
+    alloc: Global,
+    words: &[Word],
+    wire: &mut MemWire,
+    disk: &mut D,
+) -> Result<Outcome, AllocError> {
+    let came = run_kept(alloc, words, wire, disk)?;
+    let replies = replies_on(alloc, wire)?;
+    Ok(Outcome { came, replies })
+}
+
 /// Serves one session of a role with these frames, kept on a disk.
 pub fn serve<D: Disk>(
     alloc: Global,
@@ -114,14 +143,6 @@ pub fn serve<D: Disk>(
     disk: &mut D,
 ) -> Result<Outcome, AllocError> {
     let words = words_for(alloc, role)?;
-    let mut src = SureSource::new(Text::from_bytes(alloc, SPECIFICATION)?);
-    let pieces = Sizes::from_slice(alloc, &[PIECE])?;
-    let out = MemSink::new(alloc, pieces, Calls::from_slice(alloc, &[])?, ROOM)?;
     let mut wire = wire_of(alloc, frames)?;
-    let came = run_over(alloc, words.as_slice(), &mut src, out, &mut wire, disk)?;
-    Ok(Outcome {
-        status: came.status,
-        text: came.text,
-        replies: replies_on(alloc, &wire)?,
-    })
+    serve_on(alloc, words.as_slice(), &mut wire, disk)
 }

@@ -12,10 +12,10 @@ use aw_base::{
 use aw_form::Unread;
 use aw_list::Text;
 use aw_name::is_same_node;
-use aw_sched::{Event, SchedFault, read_schedule};
+use aw_sched::{Event, Events, SchedFault, read_schedule};
 use aw_store::{
-    Added, Body, Chase, Equation, Equations, Facts, ListFacts, Refs, body_text, chase, intern_all,
-    push_body,
+    Added, Body, Chase, Equation, Equations, Facts, ListFacts, Refs, body_text, chase,
+    copy_equation, intern_all, push_body,
 };
 use aw_typed::untyped;
 use bstr::ByteSlice;
@@ -111,6 +111,16 @@ fn push_added(told: &mut Text, g: &Grammar, added: &Added) -> Result<(), AllocEr
     }
 }
 
+/// The events of a line of a schedule.
+fn events_of(alloc: Global, g: &Grammar, line: &[u8]) -> Result<Events, Unread> {
+    let typed = untyped(alloc, g)?;
+    match read_schedule(alloc, g, &typed, line) {
+        Ok(events) => Ok(events),
+        Err(SchedFault::NoMemory) => Err(Unread::NoMemory),
+        Err(SchedFault::Bad { .. }) => Err(Unread::Form),
+    }
+}
+
 impl<'g> Case<'g> {
     /// No equations, no nodes, and nothing told.
     pub fn new(alloc: Global, grammar: &'g Grammar) -> Case<'g> {
@@ -127,12 +137,17 @@ impl<'g> Case<'g> {
         self.told.as_slice()
     }
 
-    /// Adds an equation to the store, and tells what it answers.
-    fn add(&mut self, e: Equation) -> Result<(), AllocError> {
+    /// Tells an equation.
+    fn push_equation(&mut self, e: &Equation) -> Result<(), AllocError> {
         push_ref(&mut self.told, self.grammar, &e.left)?;
         self.told.push_bytes(b" = ")?;
         let body = body_text(self.told.allocator(), self.grammar, &e.body)?;
-        self.told.push_bytes(body.as_slice())?;
+        self.told.push_bytes(body.as_slice())
+    }
+
+    /// Adds an equation to the store, and tells what it answers.
+    fn add(&mut self, e: Equation) -> Result<(), AllocError> {
+        self.push_equation(&e)?;
         if !is_narrow(&e) {
             return self.told.push_bytes(b": too wide\n");
         }
@@ -140,27 +155,37 @@ impl<'g> Case<'g> {
         push_added(&mut self.told, self.grammar, &added)
     }
 
+    /// Adds an equation of a taken rule.
+    fn add_made(&mut self, e: &Equation) -> Result<(), AllocError> {
+        self.told.push_bytes(b"  ")?;
+        self.add(copy_equation(e)?)
+    }
+
     /// Adds the equations of a taken rule, for which memory is taken before.
-    fn add_all(&mut self, es: Equations) -> Result<(), AllocError> {
+    fn add_all(&mut self, es: &Equations) -> Result<(), AllocError> {
         if are_narrow(es.as_slice()) {
-            self.facts.reserve(&es)?;
+            self.facts.reserve(es)?;
         }
-        for e in es.into_vec() {
-            self.told.push_bytes(b"  ")?;
-            self.add(e)?;
+        for e in es.as_slice() {
+            self.add_made(e)?;
         }
+        Ok(())
+    }
+
+    /// Tells a node with its inherited references, and names these.
+    fn push_held(&mut self, node: &Node, inherited: &[Ref]) -> Result<(), AllocError> {
+        self.told.push_bytes(b"node ")?;
+        push_node(&mut self.told, self.grammar, node)?;
+        self.told.push_bytes(b" ")?;
+        push_refs(&mut self.told, self.grammar, inherited)?;
+        self.told.push_bytes(b"\n")?;
+        let _slots = intern_all(self.told.allocator(), &mut self.facts, inherited)?;
         Ok(())
     }
 
     /// Holds a node with its inherited references, and tells them.
     fn hold(&mut self, node: Node, inherited: Refs) -> Result<(), AllocError> {
-        self.told.push_bytes(b"node ")?;
-        push_node(&mut self.told, self.grammar, &node)?;
-        self.told.push_bytes(b" ")?;
-        push_refs(&mut self.told, self.grammar, inherited.as_slice())?;
-        self.told.push_bytes(b"\n")?;
-        let alloc = self.told.allocator();
-        let _slots = intern_all(alloc, &mut self.facts, inherited.as_slice())?;
+        self.push_held(&node, inherited.as_slice())?;
         self.held.push(Held {
             node,
             inherited,
@@ -169,14 +194,25 @@ impl<'g> Case<'g> {
         Ok(())
     }
 
+    /// Holds a child of a taken rule.
+    fn hold_made(&mut self, child: MadeChild) -> Result<(), AllocError> {
+        self.told.push_bytes(b"  ")?;
+        self.hold(child.node, child.inherited)
+    }
+
     /// Holds the children of a taken rule.
     fn hold_all(&mut self, children: MadeChildren) -> Result<(), AllocError> {
         for child in children.into_vec() {
-            let MadeChild { node, inherited } = child;
-            self.told.push_bytes(b"  ")?;
-            self.hold(node, inherited)?;
+            self.hold_made(child)?;
         }
         Ok(())
+    }
+
+    /// Takes in what a rule makes of the node at a place, and tells it.
+    fn take(&mut self, made: Made) -> Result<(), AllocError> {
+        self.told.push_bytes(b"taken\n")?;
+        self.add_all(&made.equations)?;
+        self.hold_all(made.children)
     }
 
     /// Takes a start, unless its node is held.
@@ -221,38 +257,35 @@ impl<'g> Case<'g> {
         )? {
             Answered::Untested => Err(Unread::Form),
             Answered::Refused(answer) => Ok(self.refuse(&answer)?),
-            Answered::Gives(
-                Made {
-                    equations,
-                    children,
-                },
-            ) => {
+            Answered::Gives(made) => {
                 self.held[at].developed = true;
-                self.told.push_bytes(b"taken\n")?;
-                self.add_all(equations)?;
-                Ok(self.hold_all(children)?)
+                Ok(self.take(made)?)
             }
         }
     }
 
-    /// Tells a line of a schedule, and answers its choice.
-    fn push_choice(&mut self, line: &[u8]) -> Result<(), Unread> {
-        let alloc = self.told.allocator();
-        let typed = untyped(alloc, self.grammar)?;
-        let events = match read_schedule(alloc, self.grammar, &typed, line) {
-            Ok(events) => events,
-            Err(SchedFault::NoMemory) => return Err(Unread::NoMemory),
-            Err(SchedFault::Bad { .. }) => return Err(Unread::Form),
-        };
-        let [Event::Choose(choice)] = events.as_slice() else {
-            return Err(Unread::Form);
-        };
-        self.told.push_bytes(line)?;
-        self.told.push_bytes(b": ")?;
+    /// Answers a choice.
+    fn choose(&mut self, choice: &Choice) -> Result<(), Unread> {
         match choice {
             Choice::Start { sort, case } => Ok(self.start(*sort, *case)?),
             Choice::Develop { node, rule, args } => self.develop(node, *rule, args),
         }
+    }
+
+    /// Tells a line of a schedule, and answers its choice, where the one event is one.
+    fn push_events(&mut self, line: &[u8], events: &[Event]) -> Result<(), Unread> {
+        let [Event::Choose(choice)] = events else {
+            return Err(Unread::Form);
+        };
+        self.told.push_bytes(line)?;
+        self.told.push_bytes(b": ")?;
+        self.choose(choice)
+    }
+
+    /// Tells a line of a schedule, and answers its choice.
+    fn push_choice(&mut self, line: &[u8]) -> Result<(), Unread> {
+        let events = events_of(self.told.allocator(), self.grammar, line)?;
+        self.push_events(line, events.as_slice())
     }
 
     /// Tells where a chase ends.
@@ -266,23 +299,34 @@ impl<'g> Case<'g> {
         self.told.push_bytes(b"\n")
     }
 
+    /// Adds the equation that stands behind the word.
+    fn answer_equation(&mut self, text: &[u8]) -> Result<(), Unread> {
+        let e = read_equation(self.told.allocator(), self.grammar, text)?;
+        self.told.push_bytes(b"equation ")?;
+        Ok(self.add(e)?)
+    }
+
+    /// Holds the node that stands behind the word.
+    fn answer_node(&mut self, text: &[u8]) -> Result<(), Unread> {
+        let (node, inherited) = read_held(self.told.allocator(), self.grammar, text)?;
+        Ok(self.hold(node, inherited)?)
+    }
+
+    /// Chases from the reference that stands behind the word.
+    fn answer_chase(&mut self, text: &[u8]) -> Result<(), Unread> {
+        let r = read_ref(self.told.allocator(), self.grammar, text)?;
+        Ok(self.push_chase(&r)?)
+    }
+
     /// Answers a line.
     fn answer(&mut self, line: &[u8]) -> Result<(), Unread> {
-        let alloc = self.told.allocator();
         let Some((verb, rest)) = line.split_once_str(b" ") else {
             return Err(Unread::Form);
         };
         match verb {
-            b"equation" => {
-                let e = read_equation(alloc, self.grammar, rest)?;
-                self.told.push_bytes(b"equation ")?;
-                Ok(self.add(e)?)
-            }
-            b"node" => {
-                let (node, inherited) = read_held(alloc, self.grammar, rest)?;
-                Ok(self.hold(node, inherited)?)
-            }
-            b"chase" => Ok(self.push_chase(&read_ref(alloc, self.grammar, rest)?)?),
+            b"equation" => self.answer_equation(rest),
+            b"node" => self.answer_node(rest),
+            b"chase" => self.answer_chase(rest),
             _ => self.push_choice(line),
         }
     }

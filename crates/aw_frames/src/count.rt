@@ -45,8 +45,21 @@ fn add_requests(
     Ok(())
 }
 
+/// Counts the requests of bytes that come in pieces of this size.
+fn add_pieces(
+    counts: &mut Counts,
+    reader: &mut FrameReader,
+    bytes: &[u8],
+    size: usize,
+) -> Result<(), AllocError> {
+    for piece in bytes.chunks(size.max(1)) {
+        reader.feed(piece)?;
+        add_requests(counts, reader, bytes.len())?;
+    }
+    Ok(())
+}
+
 fn counted(alloc: Global, bytes: &[u8], size: usize) -> Result<Counts, AllocError> {
-    let mut reader = FrameReader::new(alloc);
     let mut counts = Counts {
         pushes: 0,
         choices: 0,
@@ -54,10 +67,8 @@ fn counted(alloc: Global, bytes: &[u8], size: usize) -> Result<Counts, AllocErro
         lists: 0,
         failed: false,
     };
-    for piece in bytes.chunks(size.max(1)) {
-        reader.feed(piece)?;
-        add_requests(&mut counts, &mut reader, bytes.len())?;
-    }
+    let mut reader = FrameReader::new(alloc);
+    add_pieces(&mut counts, &mut reader, bytes, size)?;
     Ok(counts)
 }
 

@@ -9,7 +9,7 @@ use aw_choice::{Path, Place, Standing};
 use aw_list::Text;
 use aw_msg::equations::body_at;
 use aw_msg::{Answered, decode, reply_bytes};
-use aw_name::Ref;
+use aw_name::{Node, Ref};
 use aw_store::Content;
 use aw_text::number_value;
 use aw_wire::{node_at, ref_at, refs_at};
@@ -129,19 +129,24 @@ fn number_of(digits: &[u8]) -> Result<u64, TableFault> {
     number_value(digits).ok_or(TableFault::Unreadable)
 }
 
+fn node_of(alloc: Global, digits: &[u8]) -> Result<Node, TableFault> {
+    let bytes = bytes_of(alloc, digits)?;
+    let (node, _) = node_at(alloc, &bytes)?;
+    Ok(node)
+}
+
 /// `NODE RULE STATE`.
 fn item_of(alloc: Global, text: &[u8]) -> Result<Item, TableFault> {
     let (digits, rest) = first_word(text);
     let (rule, rest) = first_word(rest);
-    let bytes = bytes_of(alloc, digits)?;
-    let (node, _) = node_at(alloc, &bytes)?;
     let Ok(rule) = u16::try_from(number_of(rule)?) else {
         return Err(TableFault::Unreadable);
     };
+    let state = state_of(alloc, rest)?;
     Ok(Item {
-        node,
+        node: node_of(alloc, digits)?,
         rule,
-        state: state_of(alloc, rest)?,
+        state,
     })
 }
 
@@ -190,6 +195,26 @@ fn reply_of(alloc: Global, line: &[u8]) -> Result<Answered, TableFault>
     plain_reply(line)
 }
 
+/// Adds the bytes of a reply, in hexadecimal.
+fn push_reply(
+    alloc: Global,
+    told: &mut Text,
+    g: &Grammar,
+    reply: &Answered,
+) -> Result<(), TableFault>
+    requires { ReplyInRange reply.now }
+{
+    let bytes = reply_bytes(alloc, g, reply)?;
+    let digits = hex::encode(alloc, bytes.as_slice())?;
+    Ok(told.push_bytes(digits.as_bytes())?)
+}
+
+/// Adds the bytes of the reply that a line names.
+fn push_line(alloc: Global, told: &mut Text, g: &Grammar, line: &[u8]) -> Result<(), TableFault> {
+    let reply = reply_of(alloc, line)?;
+    push_reply(alloc, told, g, &reply)
+}
+
 /// Adds the bytes of the replies that the lines name, in hexadecimal.
 pub fn push_replies(
     alloc: Global,
@@ -198,8 +223,7 @@ pub fn push_replies(
     lines: &[u8],
 ) -> Result<(), TableFault> {
     for line in lines.lines() {
-        let bytes = reply_bytes(alloc, g, &reply_of(alloc, line)?)?;
-        told.push_bytes(hex::encode(alloc, bytes.as_slice())?.as_bytes())?;
+        push_line(alloc, told, g, line)?;
     }
     told.push_bytes(b"\n")?;
     Ok(())

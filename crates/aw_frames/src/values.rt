@@ -1,8 +1,13 @@
 //! What stands at the front of some bytes, and that it is written again as it was read.
+ghost use Rattle.aw_choice.specs.ChoiceView.{choice_of};
+ghost use Rattle.aw_msg.specs.Messages.{MessageInRange};
+ghost use Rattle.aw_wire.specs.Ranges.{ChoiceInRange};
+
 use crate::fault::TableFault;
 use crate::fields::{push_choice, push_message};
+use aw_choice::Choice;
 use aw_list::Text;
-use aw_msg::{MsgFault, decode, decode_choice, encode, encode_choice};
+use aw_msg::{Message, MsgFault, decode, decode_choice, encode, encode_choice};
 use aw_text::push_number;
 use std::alloc::{AllocError, Global};
 
@@ -33,28 +38,50 @@ fn push_fault(told: &mut Text, fault: MsgFault) -> Result<(), TableFault> {
     Ok(())
 }
 
+/// Adds a message that was read from so many of these bytes.
+fn push_read(
+    alloc: Global,
+    told: &mut Text,
+    bytes: &[u8],
+    message: &Message,
+    count: usize,
+) -> Result<(), TableFault>
+    requires { MessageInRange message.now }
+{
+    let written = encode(alloc, message)?;
+    push_taken(told, bytes, count, &written)?;
+    Ok(push_message(told, message)?)
+}
+
 /// Adds the message at the front of some bytes, or the fault.
 pub fn push_decoded(alloc: Global, told: &mut Text, bytes: &[u8]) -> Result<(), TableFault> {
     match decode(alloc, bytes) {
-        Ok((message, count)) => {
-            push_taken(told, bytes, count, &encode(alloc, &message)?)?;
-            push_message(told, &message)?;
-        }
-        Err(fault) => push_fault(told, fault)?,
-    }
-    told.push_bytes(b"\n")?;
-    Ok(())
+        Ok((message, count)) => push_read(alloc, told, bytes, &message, count),
+        Err(fault) => push_fault(told, fault),
+    }?;
+    Ok(told.push_bytes(b"\n")?)
+}
+
+/// Adds a choice that was read from so many of these bytes.
+fn push_read_choice(
+    alloc: Global,
+    told: &mut Text,
+    bytes: &[u8],
+    choice: &Choice,
+    count: usize,
+) -> Result<(), TableFault>
+    requires { ChoiceInRange (choice_of choice.now) }
+{
+    let written = encode_choice(alloc, choice)?;
+    push_taken(told, bytes, count, &written)?;
+    Ok(push_choice(told, choice)?)
 }
 
 /// Adds the choice at the front of some bytes, or the fault.
 pub fn push_decoded_choice(alloc: Global, told: &mut Text, bytes: &[u8]) -> Result<(), TableFault> {
     match decode_choice(alloc, bytes) {
-        Ok((choice, count)) => {
-            push_taken(told, bytes, count, &encode_choice(alloc, &choice)?)?;
-            push_choice(told, &choice)?;
-        }
-        Err(fault) => push_fault(told, fault)?,
-    }
-    told.push_bytes(b"\n")?;
-    Ok(())
+        Ok((choice, count)) => push_read_choice(alloc, told, bytes, &choice, count),
+        Err(fault) => push_fault(told, fault),
+    }?;
+    Ok(told.push_bytes(b"\n")?)
 }

@@ -1,5 +1,5 @@
 //! The table: a specification, and behind it the entries.
-ghost use Rattle.std.specs.Prelude.{◌≡◌};
+ghost use Rattle.std.specs.Prelude.{◌≡◌, IfOk};
 ghost use Rattle.aw_grammar.specs.GrammarOf.{grammar_of};
 ghost use Rattle.aw_typed.specs.Types.{AreFor};
 ghost use Rattle.aw_typed.specs.Typing.{types_of, IsMadeFor, NumbersInRange};
@@ -9,6 +9,7 @@ use crate::fault::TableFault;
 use crate::served::{ServedFault, serve_entry};
 use crate::told::push_served;
 use aw_accept::{Accepted, accept};
+use aw_base::Grammar;
 use aw_list::Text;
 use aw_spec::{SpecText, read_spec};
 use aw_text::cut_at;
@@ -64,6 +65,24 @@ fn told_of<R: Net + Clock>(
     Ok(told)
 }
 
+/// The grammar of a specification, whose other parts are let go.
+fn into_grammar(spec: SpecText) -> Grammar
+    ensures { result ≡ spec.grammar }
+{
+    let SpecText { grammar, .. } = spec;
+    grammar
+}
+
+/// The grammar of a specification, where it is not circular.
+fn accepted_of(alloc: Global, spec: SpecText) -> Result<Accepted, TableFault>
+    ensures { IfOk result (λ accepted. accepted.grammar ≡ spec.grammar) }
+{
+    match accept(alloc, into_grammar(spec)) {
+        Ok(accepted) => Ok(accepted),
+        Err(_) => Err(TableFault::Unreadable),
+    }
+}
+
 /// What is told of entries behind a specification whose types have no fault.
 fn told_typed<R: Net + Clock>(
     alloc: Global,
@@ -74,11 +93,8 @@ fn told_typed<R: Net + Clock>(
 ) -> Result<Text, TableFault>
     requires { IsMadeFor (grammar_of spec.grammar) typed.now }
 {
-    let SpecText { grammar, .. } = spec;
-    match accept(alloc, grammar) {
-        Ok(accepted) => told_of(alloc, rt, &accepted, typed, entries),
-        Err(_) => Err(TableFault::Unreadable),
-    }
+    let accepted = accepted_of(alloc, spec)?;
+    told_of(alloc, rt, &accepted, typed, entries)
 }
 
 /// What is told of entries behind a specification.
@@ -93,7 +109,10 @@ fn told_spec<R: Net + Clock>(
 {
     match type_check(alloc, &spec.grammar, &spec.types) {
         Ok(typed) => told_typed(alloc, rt, spec, &typed, entries),
-        Err(_) => Err(TableFault::Unreadable),
+        Err(_) => {
+            drop(spec);
+            Err(TableFault::Unreadable)
+        }
     }
 }
 

@@ -28,20 +28,30 @@ fn status_of<S: Source, K: Sink, W: Wire, D: Disk>(
     run(alloc, words, src, out, wire, disk)
 }
 
-/// Runs the words over a source, a wire and a disk, and gives what was written to a sink in memory. The sink, which held nothing
-/// before, is let go. Only want of memory is an error.
+/// How a run came out that told this status and wrote to this sink.
+fn outcome_of(alloc: Global, status: Status, out: &MemSink) -> Result<Outcome, AllocError> {
+    let text = Text::from_bytes(alloc, out.written())?;
+    Ok(Outcome { status, text })
+}
+
+/// Runs the words over a source, a wire and a disk, and gives what was written to a sink in memory, which held nothing before. Only want
+/// of memory is an error.
 pub fn run_over<S: Source, W: Wire, D: Disk>(
     alloc: Global,
     words: &[Word],
     src: &mut S,
-    sink: MemSink,
+    out: &mut MemSink,
     wire: &mut W,
     disk: &mut D,
 ) -> Result<Outcome, AllocError> {
-    let mut out = sink;
-    let status = status_of(alloc, words, src, &mut out, wire, disk);
-    let text = Text::from_bytes(alloc, out.written())?;
-    Ok(Outcome { status, text })
+    let status = status_of(alloc, words, src, out, wire, disk);
+    outcome_of(alloc, status, out)
+}
+
+/// A disk that holds nothing and takes nothing.
+fn empty_disk(alloc: Global) -> Result<MemDisk, AllocError> {
+    let fails = DiskCalls::from_slice(alloc, &[])?;
+    MemDisk::new(alloc, Text::new(alloc), fails, 0, 0)
 }
 
 /// Runs the words over a source, where the wire brings nothing and the disk is empty.
@@ -49,10 +59,9 @@ pub fn run_alone<S: Source>(
     alloc: Global,
     words: &[Word],
     src: &mut S,
-    sink: MemSink,
+    out: &mut MemSink,
 ) -> Result<Outcome, AllocError> {
+    let mut disk = empty_disk(alloc)?;
     let mut wire = SureWire::new(Texts::new(alloc));
-    let fails = DiskCalls::from_slice(alloc, &[])?;
-    let mut disk = MemDisk::new(alloc, Text::new(alloc), fails, 0, 0)?;
-    run_over(alloc, words, src, sink, &mut wire, &mut disk)
+    run_over(alloc, words, src, out, &mut wire, &mut disk)
 }

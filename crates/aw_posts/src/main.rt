@@ -58,17 +58,38 @@ fn input(alloc: Global) -> Result<Text, AllocError> {
     Ok(text)
 }
 
-/// Runs one word on an input.
-fn run_word(alloc: Global, word: &[u8], input: &[u8]) -> Result<Outcome, AllocError> {
+/// The one word of a command line.
+fn words_of(alloc: Global, word: &[u8]) -> Result<Vec<Word>, AllocError> {
     let mut words = Vec::new(alloc);
     words.push(Word::from_bytes(alloc, word)?)?;
+    Ok(words)
+}
+
+/// An input that is read in pieces.
+fn source_of(alloc: Global, input: &[u8]) -> Result<MemSource, AllocError> {
     let pieces = Sizes::from_slice(alloc, &[PIECE])?;
     let fails = Calls::from_slice(alloc, &[NEVER])?;
-    let mut src = MemSource::new(Text::from_bytes(alloc, input)?, pieces, fails);
+    Ok(MemSource::new(Text::from_bytes(alloc, input)?, pieces, fails))
+}
+
+/// Room for an output that is written in pieces.
+fn new_sink(alloc: Global) -> Result<MemSink, AllocError> {
     let pieces = Sizes::from_slice(alloc, &[PIECE])?;
     let fails = Calls::from_slice(alloc, &[NEVER])?;
-    let out = MemSink::new(alloc, pieces, fails, OUTPUT_LIMIT)?;
-    run_alone(alloc, words.as_slice(), &mut src, out)
+    MemSink::new(alloc, pieces, fails, OUTPUT_LIMIT)
+}
+
+/// Runs words on an input.
+fn run_words(alloc: Global, words: &[Word], src: &mut MemSource) -> Result<Outcome, AllocError> {
+    let mut out = new_sink(alloc)?;
+    run_alone(alloc, words, src, &mut out)
+}
+
+/// Runs one word on an input.
+fn run_word(alloc: Global, word: &[u8], input: &[u8]) -> Result<Outcome, AllocError> {
+    let words = words_of(alloc, word)?;
+    let mut src = source_of(alloc, input)?;
+    run_words(alloc, words.as_slice(), &mut src)
 }
 
 /// The text from the last line on that these bytes begin.
@@ -87,21 +108,42 @@ fn push_line(told: &mut Text, begin: &[u8], behind: &[u8]) -> Result<(), AllocEr
     told.push_bytes(b"\n")
 }
 
+/// Adds what is told of the text that a replay wrote, beside the text of the undivided run.
+fn push_both(told: &mut Text, replayed: &[u8], undivided: &[u8]) -> Result<(), AllocError> {
+    let artifacts = from_last(replayed, b"artifacts ");
+    push_line(told, b"settled ", from_last(replayed, b"settled "))?;
+    push_line(told, b"artifacts ", artifacts)?;
+    if artifacts == from_last(undivided, b"artifacts ") {
+        told.push_bytes(b"the artifacts of the undivided run\n")?;
+    }
+    Ok(())
+}
+
+/// Adds what is told of both runs.
+fn push_told(told: &mut Text, replayed: &Outcome, undivided: &Outcome) -> Result<(), AllocError> {
+    told.push_bytes(b"status ")?;
+    push_number(told, u64::from(replayed.status.code()))?;
+    told.push_bytes(b"\n")?;
+    push_both(told, replayed.text.as_slice(), undivided.text.as_slice())
+}
+
+/// Adds what is told of both runs, of which the first is done.
+fn push_compared(
+    alloc: Global,
+    told: &mut Text,
+    input: &[u8],
+    replayed: &Outcome,
+) -> Result<(), AllocError> {
+    let undivided = run_word(alloc, b"plain", input)?;
+    push_told(told, replayed, &undivided)
+}
+
 /// What is told of both runs.
 fn compared(alloc: Global) -> Result<Text, AllocError> {
     let input = input(alloc)?;
     let replayed = run_word(alloc, b"replay", input.as_slice())?;
-    let undivided = run_word(alloc, b"plain", input.as_slice())?;
-    let settled = from_last(replayed.text.as_slice(), b"settled ");
-    let artifacts = from_last(replayed.text.as_slice(), b"artifacts ");
-    let mut told = Text::from_bytes(alloc, b"status ")?;
-    push_number(&mut told, u64::from(replayed.status.code()))?;
-    told.push_bytes(b"\n")?;
-    push_line(&mut told, b"settled ", settled)?;
-    push_line(&mut told, b"artifacts ", artifacts)?;
-    if artifacts == from_last(undivided.text.as_slice(), b"artifacts ") {
-        told.push_bytes(b"the artifacts of the undivided run\n")?;
-    }
+    let mut told = Text::new(alloc);
+    push_compared(alloc, &mut told, input.as_slice(), &replayed)?;
     Ok(told)
 }
 

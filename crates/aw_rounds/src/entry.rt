@@ -1,5 +1,5 @@
 //! One entry: what is done at the offices of a specification.
-ghost use Rattle.std.specs.Prelude.{◌≡◌};
+ghost use Rattle.std.specs.Prelude.{◌≡◌, IfOk};
 ghost use Rattle.aw_grammar.specs.GrammarOf.{grammar_of};
 ghost use Rattle.aw_typed.specs.Types.{AreFor};
 ghost use Rattle.aw_typed.specs.Typing.{types_of, IsMadeFor, NumbersInRange};
@@ -10,6 +10,7 @@ use crate::session::ask;
 use crate::steps::{Step, read_step};
 use crate::told::{push_answer, push_count, push_hex};
 use aw_accept::{Accepted, accept};
+use aw_base::Grammar;
 use aw_courier::{Carried, CarryFault, carry};
 use aw_desks::DeskWire;
 use aw_list::Text;
@@ -81,6 +82,24 @@ fn push_steps(
     Ok(push_count(told, b"starved", wire.starved())?)
 }
 
+/// The grammar of a specification, whose other parts are let go.
+fn into_grammar(spec: SpecText) -> Grammar
+    ensures { result ≡ spec.grammar }
+{
+    let SpecText { grammar, .. } = spec;
+    grammar
+}
+
+/// The grammar of a specification, where it is not circular.
+fn accepted_of(alloc: Global, spec: SpecText) -> Result<Accepted, TableFault>
+    ensures { IfOk result (λ accepted. accepted.grammar ≡ spec.grammar) }
+{
+    match accept(alloc, into_grammar(spec)) {
+        Ok(accepted) => Ok(accepted),
+        Err(_) => Err(TableFault::Unreadable),
+    }
+}
+
 /// What is told of an entry whose specification has types without a fault.
 fn push_typed(
     alloc: Global,
@@ -91,11 +110,8 @@ fn push_typed(
 ) -> Result<(), TableFault>
     requires { IsMadeFor (grammar_of spec.grammar) typed.now }
 {
-    let SpecText { grammar, .. } = spec;
-    match accept(alloc, grammar) {
-        Ok(accepted) => push_steps(alloc, told, &accepted, typed, lines),
-        Err(_) => Err(TableFault::Unreadable),
-    }
+    let accepted = accepted_of(alloc, spec)?;
+    push_steps(alloc, told, &accepted, typed, lines)
 }
 
 /// What is told of an entry with a specification.
@@ -105,7 +121,10 @@ fn push_spec(alloc: Global, told: &mut Text, spec: SpecText, lines: &[u8]) -> Re
 {
     match type_check(alloc, &spec.grammar, &spec.types) {
         Ok(typed) => push_typed(alloc, told, spec, &typed, lines),
-        Err(_) => Err(TableFault::Unreadable),
+        Err(_) => {
+            drop(spec);
+            Err(TableFault::Unreadable)
+        }
     }
 }
 

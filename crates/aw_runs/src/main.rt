@@ -36,6 +36,25 @@ fn words_of(alloc: Global, line: &[u8]) -> Result<Vec<Word>, AllocError> {
     Ok(words)
 }
 
+/// An input that is read in pieces of so many bytes, where one read may fail.
+fn source_of(
+    alloc: Global,
+    input: &[u8],
+    piece: usize,
+    read_fails: usize,
+) -> Result<MemSource, AllocError> {
+    let pieces = Sizes::from_slice(alloc, &[piece.max(1)])?;
+    let fails = Calls::from_slice(alloc, &[read_fails])?;
+    Ok(MemSource::new(Text::from_bytes(alloc, input)?, pieces, fails))
+}
+
+/// Room for an output, where one write may fail.
+fn new_sink(alloc: Global, write_fails: usize) -> Result<MemSink, AllocError> {
+    let pieces = Sizes::from_slice(alloc, &[WRITTEN])?;
+    let fails = Calls::from_slice(alloc, &[write_fails])?;
+    MemSink::new(alloc, pieces, fails, LIMIT)
+}
+
 /// Runs the words on an input that is read in pieces of so many bytes, where one read and one write may fail.
 fn run_once(
     alloc: Global,
@@ -45,13 +64,9 @@ fn run_once(
     read_fails: usize,
     write_fails: usize,
 ) -> Result<Outcome, AllocError> {
-    let pieces = Sizes::from_slice(alloc, &[piece.max(1)])?;
-    let fails = Calls::from_slice(alloc, &[read_fails])?;
-    let mut src = MemSource::new(Text::from_bytes(alloc, input)?, pieces, fails);
-    let pieces = Sizes::from_slice(alloc, &[WRITTEN])?;
-    let fails = Calls::from_slice(alloc, &[write_fails])?;
-    let out = MemSink::new(alloc, pieces, fails, LIMIT)?;
-    run_alone(alloc, words, &mut src, out)
+    let mut src = source_of(alloc, input, piece, read_fails)?;
+    let mut out = new_sink(alloc, write_fails)?;
+    run_alone(alloc, words, &mut src, &mut out)
 }
 
 /// Adds the status and what was written.
@@ -74,6 +89,23 @@ fn is_same_in(
     Ok(other.status == first.status && other.text.as_slice() == first.text.as_slice())
 }
 
+/// Adds the outcome of a run, and where it is another one in pieces of 40 bytes, 7 and 1.
+fn push_pieces(
+    alloc: Global,
+    told: &mut Text,
+    words: &[Word],
+    input: &[u8],
+    first: &Outcome,
+) -> Result<(), AllocError> {
+    push_outcome(told, first)?;
+    for piece in [READ, 7, 1] {
+        if !is_same_in(alloc, words, input, piece, first)? {
+            told.push_bytes(b"otherwise in other pieces\n")?;
+        }
+    }
+    Ok(())
+}
+
 /// Adds what is told of a run, read in pieces of 4,096 bytes, 40, 7 and 1.
 fn push_run(
     alloc: Global,
@@ -82,13 +114,7 @@ fn push_run(
     input: &[u8],
 ) -> Result<(), AllocError> {
     let first = run_once(alloc, words, input, 4096, NEVER, NEVER)?;
-    push_outcome(told, &first)?;
-    for piece in [READ, 7, 1] {
-        if !is_same_in(alloc, words, input, piece, &first)? {
-            told.push_bytes(b"otherwise in other pieces\n")?;
-        }
-    }
-    Ok(())
+    push_pieces(alloc, told, words, input, &first)
 }
 
 /// How many reads fail and are told, where each fails once: nothing is written then.
@@ -143,6 +169,18 @@ fn line_feeds(alloc: Global, count: &[u8]) -> Result<Text, AllocError> {
     Ok(text)
 }
 
+/// Adds what is told of the words on so many line feeds.
+fn push_filled(
+    alloc: Global,
+    told: &mut Text,
+    words: &[Word],
+    count: &[u8],
+) -> Result<(), AllocError> {
+    let input = line_feeds(alloc, count)?;
+    let came = run_once(alloc, words, input.as_slice(), 4096, NEVER, NEVER)?;
+    push_outcome(told, &came)
+}
+
 /// Adds what is told of the words `line` on an input.
 fn push_verdict(
     alloc: Global,
@@ -158,19 +196,8 @@ fn push_verdict(
             let Some((count, words)) = behind.split_once_str(b" ") else {
                 return told.push_bytes(b"no words\n");
             };
-            let input = line_feeds(alloc, count)?;
             let words = words_of(alloc, words)?;
-            push_outcome(
-                told,
-                &run_once(
-                    alloc,
-                    words.as_slice(),
-                    input.as_slice(),
-                    4096,
-                    NEVER,
-                    NEVER,
-                )?,
-            )
+            push_filled(alloc, told, words.as_slice(), count)
         }
         _ => push_run(alloc, told, words_of(alloc, line)?.as_slice(), input),
     }

@@ -1,5 +1,5 @@
 //! The table: a specification, and behind it the cases.
-ghost use Rattle.std.specs.Prelude.{◌≡◌, ◌<◌};
+ghost use Rattle.std.specs.Prelude.{◌≡◌, ◌<◌, IfOk};
 ghost use Rattle.aw_grammar.specs.GrammarOf.{grammar_of};
 ghost use Rattle.aw_typed.specs.Types.{AreFor};
 ghost use Rattle.aw_typed.specs.Typing.{types_of, IsMadeFor, NumbersInRange};
@@ -8,6 +8,7 @@ use crate::case::{Case, read_case};
 use crate::fault::TableFault;
 use crate::told::{push_session, push_written};
 use aw_accept::{Accepted, accept};
+use aw_base::Grammar;
 use aw_list::Text;
 use aw_node::{ServeFault, serve, serve_workspace};
 use aw_out::Wire;
@@ -176,6 +177,24 @@ fn told_of(alloc: Global, g: &Accepted, t: &Typed, entries: &[u8]) -> Result<Tex
     Ok(told)
 }
 
+/// The grammar of a specification, whose other parts are let go.
+fn into_grammar(spec: SpecText) -> Grammar
+    ensures { result ≡ spec.grammar }
+{
+    let SpecText { grammar, .. } = spec;
+    grammar
+}
+
+/// The grammar of a specification, where it is not circular.
+fn accepted_of(alloc: Global, spec: SpecText) -> Result<Accepted, TableFault>
+    ensures { IfOk result (λ accepted. accepted.grammar ≡ spec.grammar) }
+{
+    match accept(alloc, into_grammar(spec)) {
+        Ok(accepted) => Ok(accepted),
+        Err(_) => Err(TableFault::Unreadable),
+    }
+}
+
 /// What is told of cases behind a specification whose types have no fault.
 fn told_typed(
     alloc: Global,
@@ -185,11 +204,8 @@ fn told_typed(
 ) -> Result<Text, TableFault>
     requires { IsMadeFor (grammar_of spec.grammar) typed.now }
 {
-    let SpecText { grammar, .. } = spec;
-    match accept(alloc, grammar) {
-        Ok(accepted) => told_of(alloc, &accepted, typed, entries),
-        Err(_) => Err(TableFault::Unreadable),
-    }
+    let accepted = accepted_of(alloc, spec)?;
+    told_of(alloc, &accepted, typed, entries)
 }
 
 /// What is told of cases behind a specification.
@@ -199,7 +215,10 @@ fn told_spec(alloc: Global, spec: SpecText, entries: &[u8]) -> Result<Text, Tabl
 {
     match type_check(alloc, &spec.grammar, &spec.types) {
         Ok(typed) => told_typed(alloc, spec, &typed, entries),
-        Err(_) => Err(TableFault::Unreadable),
+        Err(_) => {
+            drop(spec);
+            Err(TableFault::Unreadable)
+        }
     }
 }
 

@@ -33,9 +33,10 @@ fn push_count(told: &mut Text, word: &[u8], count: u64) -> Result<(), AllocError
 }
 
 impl Tally {
-    /// Counts a call and what it came to.
-    fn count(&mut self, told: &Told) {
+    /// Counts a call, what it came to, and whether the answers differed.
+    fn count(&mut self, told: &Told, other: &Told) {
         self.calls = self.calls.wrapping_add(1);
+        self.differing = self.differing.wrapping_add(u64::from(told != other));
         match told {
             Told::Added(Added::New) => self.new = self.new.wrapping_add(1),
             Told::Added(Added::Same) => self.same = self.same.wrapping_add(1),
@@ -73,15 +74,17 @@ impl Both {
         }
     }
 
+    /// Makes a call on the store over hashes, and compares what it answers with what the list did.
+    fn compare(&mut self, alloc: Global, call: &Call, by_list: &Told) -> Result<(), AllocError> {
+        let by_cells = answer(alloc, &mut self.cells, call)?;
+        self.tally.count(by_list, &by_cells);
+        Ok(())
+    }
+
     /// Makes a call on both stores, and compares what they answer.
     pub fn call(&mut self, alloc: Global, call: &Call) -> Result<(), AllocError> {
         let by_list = answer(alloc, &mut self.list, call)?;
-        let by_cells = answer(alloc, &mut self.cells, call)?;
-        self.tally.count(&by_list);
-        if by_list != by_cells {
-            self.tally.differing = self.tally.differing.wrapping_add(1);
-        }
-        Ok(())
+        self.compare(alloc, call, &by_list)
     }
 
     /// Adds what the calls came to.

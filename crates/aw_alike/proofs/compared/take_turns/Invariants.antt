@@ -2,7 +2,7 @@ use Rattle.std.proofs.Common.{◌≡◌}
 use Rattle.aw_grammar.specs.GrammarOf.{grammar_of}
 use Rattle.aw_sched.specs.Answers.{MayCome}
 use Rattle.aw_term.specs.WellFormed.{Each}
-use Rattle.aw_alike.proofs.compared.compare_run.Given as goal
+use Rattle.aw_alike.proofs.compared.take_turns.Given as goal
 
 -- the run is of the grammar, and its choices may be asked of it
 abbrev pub invariant-loop : goal.invariant-loop
