@@ -1,7 +1,6 @@
 //! Messages between workspaces, requests to a workspace and replies to them, as bytes: each has one spelling.
 #![tactic(auto)]
 
-pub mod counted;
 pub mod decoding;
 pub mod equations;
 pub mod frame;
@@ -16,7 +15,6 @@ pub mod reply_writing;
 pub mod writing;
 
 pub use aw_wire::{MsgFault, decode_choice, encode_choice};
-pub use counted::Counted;
 pub use decoding::{decode, messages_have_one_spelling};
 pub use frame::Frame;
 pub use frame_reader::{FrameReader, Next};

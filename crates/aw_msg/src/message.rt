@@ -1,8 +1,7 @@
 //! Messages between workspaces.
 ghost use Rattle.std.specs.Prelude.{◌≡◌, IfOk};
 
-use crate::counted::Counted;
-use aw_list::Items;
+use aw_list::{Counted, Items};
 use aw_name::{Node, Ref, Refs};
 use aw_store::{Equation, Equations};
 use std::alloc::{AllocError, Global};

@@ -1,5 +1,5 @@
 -- The turns of the loop that compares two lists: what the parts from a place on answer, the lists answer.
-use Rattle.std.proofs.Common.{◌≡◌, ℕ, zero, suc, ◌+◌, ◌<◌, ◌≤◌, Bool, true, false, List, [], ◌∷◌, refl, ◌∙◌, arith, length, get_or, drop, length-drop}
+use Rattle.std.proofs.Common.{◌≡◌, ℕ, zero, suc, ◌+◌, ◌<◌, true, false, List, [], ◌∷◌, refl, ◌∙◌, arith, length, get_or, drop, length-drop}
 use Rattle.std.specs.Prelude.{min}
 use Rattle.std.specs.Ordering.{nat_cmp, ordering_then, is_ne, MatchOrdering}
 use Rattle.std.specs.Cmp.Lexicographic.{slice_cmp}

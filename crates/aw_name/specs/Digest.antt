@@ -7,9 +7,13 @@ use Rattle.aw_name.specs.declared.node.Step.{Step}
 abbrev pub step_number : Step → ℕ
 step_number s = s.rule * 256 + s.child
 
--- the digest where one more step follows: an odd constant times the digest before it, and the step's number, modulo 2^64
-unfoldable pub digest_with : ℕ → Step → ℕ
-digest_with digest s = (digest * 11400714819323198485 + step_number s) % 2 ^ 64
+-- the digest where one more number follows: an odd constant times the digest before it, and the number, modulo 2^64
+unfoldable pub digest_and : ℕ → ℕ → ℕ
+digest_and digest n = (digest * 11400714819323198485 + n) % 2 ^ 64
+
+-- the digest where one more step follows
+abbrev pub digest_with : ℕ → Step → ℕ
+digest_with digest s = digest_and digest (step_number s)
 
 -- the digest of steps, from the first one on
 abbrev pub digest_of : List Step → ℕ

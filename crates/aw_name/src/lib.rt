@@ -2,6 +2,7 @@
 #![tactic(auto)]
 
 pub mod compare;
+mod hashing;
 pub mod node;
 
 pub use compare::{compare_nodes, compare_refs, copy_node, copy_ref, is_same_node, is_same_ref};

@@ -6,7 +6,7 @@ ghost use Rattle.std.specs.Cmp.Rules.{comparing};
 ghost use Rattle.std.specs.Cmp.Lexicographic.{pointwise, slice_cmp, lists_equiv, lists_total, lists_ties};
 ghost use Rattle.std.specs.Ordering.{as_partial_cmp};
 ghost use Rattle.std.proofs.Common.{rules, refl};
-ghost use Rattle.aw_name.specs.Digest.{digest_with, digest_of};
+ghost use Rattle.aw_name.specs.Digest.{digest_and, digest_with, digest_of};
 ghost use Rattle.aw_name.specs.Steps.{step_cmp, step_total, step_ties};
 ghost use Rattle.aw_name.specs.Same.{step_eq, steps_Decide};
 
@@ -115,12 +115,18 @@ fn compare_steps(a: &[Step], b: &[Step]) -> Ordering
 /// What a digest is multiplied by before a step is added.
 const DIGEST_FACTOR: u64 = 11_400_714_819_323_198_485;
 
+/// The digest where one more number follows.
+pub(crate) fn digest_and(digest: u64, number: u64) -> u64
+    ensures { result ≡ digest_and digest number }
+{
+    digest.wrapping_mul(DIGEST_FACTOR).wrapping_add(number)
+}
+
 /// The digest where one more step follows.
 fn digest_with(digest: u64, step: Step) -> u64
     ensures { result ≡ digest_with digest step }
 {
-    let number = u64::from(step.rule) * 256 + u64::from(step.child);
-    digest.wrapping_mul(DIGEST_FACTOR).wrapping_add(number)
+    digest_and(digest, u64::from(step.rule) * 256 + u64::from(step.child))
 }
 
 /// The digest of steps.
@@ -168,6 +174,13 @@ impl Trail {
         self.steps.as_slice()
     }
 
+    /// The number that is made of the steps.
+    pub(crate) fn digest(&self) -> u64
+        ensures { result ≡ digest_of self.now }
+    {
+        self.digest
+    }
+
     /// How many steps there are.
     pub fn len(&self) -> usize
         ensures value { result ≡ length self.now }
@@ -192,7 +205,7 @@ const _: () = prove!(Trail::MOST == 250);
 
 /// The name of a node: the sort of its start node, counted from 0 in the order of the specification, the number of its case,
 /// and the steps from the start node to it.
-#[derive(Debug, Clone, PartialEq, Eq, PartialOrd, Ord, Hash, Drop)]
+#[derive(Debug, Clone, PartialEq, Eq, PartialOrd, Ord, Drop)]
 pub struct Node {
     pub start: u16,
     pub case: u64,
@@ -200,7 +213,7 @@ pub struct Node {
 }
 
 /// A value that stands at a node.
-#[derive(Clone, Copy, Debug, PartialEq, Eq, PartialOrd, Ord, Hash)]
+#[derive(Clone, Copy, Debug, PartialEq, Eq, PartialOrd, Ord)]
 pub enum Slot {
     /// A result, counted from 1.
     Result(u16),
@@ -209,7 +222,7 @@ pub enum Slot {
 }
 
 /// The name of a value: the node at which it stands, and which of the node's values it is.
-#[derive(Debug, Clone, PartialEq, Eq, PartialOrd, Ord, Hash, Drop)]
+#[derive(Debug, Clone, PartialEq, Eq, PartialOrd, Ord, Drop)]
 pub struct Ref {
     pub node: Node,
     pub slot: Slot,

@@ -3,7 +3,7 @@ use Rattle.std.proofs.Common.{◌≡◌, Decides, refl, ap}
 use Rattle.std.specs.Cmp.Lexicographic.{pointwise_decides}
 use Rattle.std.proofs.lemmas.Bool.Decides.{Decides-eqb, Decides-and, Decides-like}
 use Rattle.aw_name.specs.contracts.node.RefPartialEq.TheImpl as reference
-use Rattle.aw_name.proofs.Equal.{ref_exact}
+use Rattle.aw_name.specs.SameRefs.{ref_exact}
 use Rattle.aw_store.specs.declared.equation.Body.{Body}
 use Rattle.aw_store.specs.declared.equation.Body.TheVariants.{Same, Con, Num, Text}
 use Rattle.aw_store.specs.contracts.equation.BodyPartialEq.TheImpl as bodies

@@ -3,7 +3,7 @@ use Rattle.std.proofs.Common.{◌≡◌, true, Decides, refl, ap, eq-eqb, subst}
 use Rattle.std.proofs.lemmas.Bool.{eqb-true, and_parts, and_from}
 use Rattle.std.proofs.lemmas.Bool.Decides.{same_from_decides}
 use Rattle.aw_name.specs.contracts.node.RefPartialEq.TheImpl as reference
-use Rattle.aw_name.proofs.Equal.{ref_exact}
+use Rattle.aw_name.specs.SameRefs.{ref_exact}
 use Rattle.aw_term.specs.Names.{Slot, Result, Part, Ref, slot_eq, ref_eq}
 use Rattle.aw_term.proofs.NodeTests.{node_is, node_self}
 

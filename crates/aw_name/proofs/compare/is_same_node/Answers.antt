@@ -1,5 +1,5 @@
 use Rattle.std.proofs.lemmas.Bool.Decides.{Decides-at}
-use Rattle.aw_name.proofs.Equal.{node_Decides}
+use Rattle.aw_name.specs.SameNodes.{node_Decides}
 use Rattle.aw_name.proofs.compare.is_same_node.Goals as goal
 
 pub returns : goal.returns

@@ -1,4 +1,4 @@
-use Rattle.aw_name.proofs.Equal.{ref_exact}
+use Rattle.aw_name.specs.SameRefs.{ref_exact}
 use Rattle.aw_name.proofs.compare.is_same_ref.Goals as goal
 
 pub returns : goal.returns

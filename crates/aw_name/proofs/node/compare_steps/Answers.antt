@@ -1,4 +1,4 @@
-use Rattle.std.proofs.Common.{◌≡◌, ◌+◌, ◌<◌, ◌∙◌, ℕ, sym, ap, refl, arith, drop, length}
+use Rattle.std.proofs.Common.{◌+◌, ◌∙◌, ℕ, sym, ap, arith, drop}
 use Rattle.std.specs.Ordering.{ordering_then}
 use Rattle.std.specs.Cmp.Lexicographic.{slice_cmp}
 use Rattle.aw_name.specs.declared.node.Step.{Step}

@@ -2,7 +2,7 @@ use Rattle.std.specs.Cmp.Lexicographic.{pointwise_decides}
 use Rattle.std.proofs.Common.{refl}
 use Rattle.std.proofs.lemmas.Bool.Decides.{Decides-at}
 use Rattle.aw_name.specs.contracts.node.RefPartialEq.TheImpl as reference
-use Rattle.aw_name.proofs.Equal.{ref_exact}
+use Rattle.aw_name.specs.SameRefs.{ref_exact}
 use Rattle.aw_space.proofs.calls.is_same_refs.Goals as goal
 
 pub returns : goal.returns

@@ -1,23 +1,16 @@
-use Rattle.std.proofs.Common.{◌≡◌, ℕ, ◌==◌, Bool, true, false, ◌&&◌, Decides, refl, ap, ◌∙◌, List, [], ◌∷◌, MatchOption, Contains, position, slice_get, Some}
+-- When two names of values are one.
+use Rattle.std.specs.Prelude.{◌≡◌, ℕ, ◌==◌, ◌&&◌, Bool, false}
+use Rattle.std.specs.Bool.{Decides}
+use Rattle.std.proofs.Common.{refl, ap, ◌∙◌}
+use Rattle.std.proofs.lemmas.Bool.Decides.{Decides-eqb, Decides-and, Decides-like, Decides-at}
 use Rattle.aw_name.specs.contracts.node.SlotPartialEq.TheImpl as slot
 use Rattle.aw_name.specs.contracts.node.NodePartialEq.TheImpl as node
 use Rattle.aw_name.specs.contracts.node.RefPartialEq.TheImpl as reference
-use Rattle.std.specs.Cmp.Lexicographic.{pointwise}
-use Rattle.aw_name.specs.Same.{step_eq, steps_Decide}
-use Rattle.std.proofs.lemmas.Bool.Decides.{Decides-eqb, Decides-and, Decides-like, Decides-at}
 use Rattle.aw_name.specs.declared.node.Node.{Node}
 use Rattle.aw_name.specs.declared.node.Slot.{Slot}
 use Rattle.aw_name.specs.declared.node.Slot.TheVariants.{Result, Part}
 use Rattle.aw_name.specs.declared.node.Ref.{Ref}
-
-abbrev pub node_eq : Node → Node → Bool
-node_eq a b = (a.start == b.start) && ((a.case == b.case) && pointwise step_eq a.steps b.steps)
-
-pub node_Decides : (a b : Node) → Decides (node_eq a b) (a ≡ b)
-node_Decides a b =
-    Decides-like _ (λ p. λ i. record { start = p.0 i; case = p.1.0 i; steps = p.1.1 i })
-    (λ e. (ap (λ (s : Node). s.start) e, (ap (λ (s : Node). s.case) e, ap (λ (s : Node). s.steps) e)))
-    (Decides-and _ _ (Decides-eqb a.start b.start) (Decides-and _ _ (Decides-eqb a.case b.case) (steps_Decide a.steps b.steps)))
+use Rattle.aw_name.specs.SameNodes.{node_eq, node_Decides}
 
 abbrev pub slot_eq : Slot → Slot → Bool
 slot_eq (Result i) (Result j) = i == j
@@ -55,3 +48,11 @@ ref_same a b = ap (λ t. node_eq a.node b.node && t) (slot_same a.slot b.slot)
 
 pub ref_exact : (a b : Ref) (r : Bool) → r ≡ (reference.ghosts).eq a b → Decides r (a ≡ b)
 ref_exact a b r e = Decides-at r _ (e ∙ ref_same a b) (ref_Decides a b)
+
+-- the derived test of references tells whether two are one
+pub derived_ref_Decides : (a b : Ref) → Decides ((reference.ghosts).eq a b) (a ≡ b)
+derived_ref_Decides a b = ref_exact a b _ refl
+
+-- and that of nodes
+pub derived_node_Decides : (a b : Node) → Decides ((node.ghosts).eq a b) (a ≡ b)
+derived_node_Decides a b = node_Decides a b

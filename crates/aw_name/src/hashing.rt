@@ -1,0 +1,46 @@
+//! What names write where they are hashed: a node its case, and one number made of its steps and its start; a reference the same
+//! with its slot in the number. Two writes cost less than one for each part.
+ghost use Rattle.std.specs.Prelude.{◌≡◌, ◌<◌};
+ghost use Rattle.std.specs.Hash.{same_Alike};
+ghost use Rattle.aw_name.specs.Digest.{digest_and};
+ghost use Rattle.aw_name.specs.Writes.{slot_number, node_writes, ref_writes};
+ghost use Rattle.aw_name.specs.SameRefs.{derived_node_Decides, derived_ref_Decides};
+
+use crate::node::{Node, Ref, Slot, digest_and};
+use std::hash::{Hash, Hasher};
+
+impl Hash for Node {
+    ghost hash_input = { node_writes };
+
+    ghost respects_eq = { (same_Alike node_writes derived_node_Decides).fed };
+
+    fn hash<H: Hasher>(&self, state: &mut H) {
+        self.case.hash(state);
+        digest_and(self.steps.digest(), u64::from(self.start)).hash(state);
+    }
+}
+
+impl Slot {
+    /// A number that no other slot has.
+    fn number(self) -> u64
+        ensures value { result ≡ slot_number self }
+        ensures small { result < 131072 }
+    {
+        match self {
+            Slot::Result(at) => u64::from(at) * 2,
+            Slot::Part(at) => u64::from(at) * 2 + 1,
+        }
+    }
+}
+
+impl Hash for Ref {
+    ghost hash_input = { ref_writes };
+
+    ghost respects_eq = { (same_Alike ref_writes derived_ref_Decides).fed };
+
+    fn hash<H: Hasher>(&self, state: &mut H) {
+        self.node.case.hash(state);
+        let number = u64::from(self.node.start) * 131_072 + self.slot.number();
+        digest_and(self.node.steps.digest(), number).hash(state);
+    }
+}
