@@ -1,8 +1,9 @@
 -- A text between quotes, byte by byte.
-use Rattle.std.proofs.Common.{◌≡◌, ℕ, ◌+◌, ◌<◌, refl, sym, ◌∙◌, ap, Bool, true, false, cond, List, [], ◌∷◌, ◌++◌, length, arith, Option, Some, None, option_map, option_and_then, nat_le, ◌==◌, suc, subst, inl, inr, ◌&&◌, ◌||◌, not, IfSome, IfOk, Result, Ok, Err, flat_map, append_assoc, length-append}
+use Rattle.std.proofs.Common.{◌≡◌, ℕ, ◌+◌, ◌<◌, refl, sym, ◌∙◌, ap, Bool, true, false, cond, List, [], ◌∷◌, ◌++◌, take, drop, length, arith, Option, Some, None, option_map, option_and_then, nat_le, ◌==◌, suc, subst, inl, inr, ◌&&◌, ◌||◌, not, IfSome, IfOk, Result, Ok, Err, flat_map, append_assoc, length-append}
 use Rattle.std.proofs.lemmas.Bool.{lt-leb, and_parts}
 use Rattle.std.proofs.lemmas.Bool.Decides.{nat_tests, eqb_tells}
 use Rattle.std.specs.List.{list_all}
+use Rattle.aw_text.specs.Pieces.{run_len, with_run}
 use Rattle.aw_text.specs.Spelling.{with_front, content_before_quote, text_behind_quote, whole, unquoted, quoted, spelled, escaped, stands_for_itself, is_content, is_content_byte}
 
 -- what follows the closing quote, where k bytes of the content stand before
@@ -49,6 +50,35 @@ pub whole_too_long : (front : List ℕ) (o : Option (List ℕ × List ℕ)) → 
 whole_too_long front None h = refl
 whole_too_long front (Some text) h = ap (λ t. cond t (whole (front ++ text.0, text.1)) None) (lt-leb (length front + length text.0) 1024 (omega (arith, h)))
 
+-- Several bytes that stand for themselves.
+pub end_run : (k : ℕ) (run : List ℕ) (o : Option (List ℕ × List ℕ)) → end_after k (option_map (with_run run) o) ≡ end_after (k + length run) o
+end_run k run None = refl
+end_run k run (Some text) = ap (λ n. cond (nat_le n 1024) (Some text.1) None) (omega (arith, length-append run text.0))
+
+pub whole_run : (front run : List ℕ) (o : Option (List ℕ × List ℕ)) → whole_after front (option_map (with_run run) o) ≡ whole_after (front ++ run) o
+whole_run front run None = refl
+whole_run front run (Some text) =
+    let same : length front + length (run ++ text.0) ≡ length (front ++ run) + length text.0 = omega (arith, length-append front run, length-append run text.0) in
+    λ i. cond (nat_le (same i) 1024) (whole (sym (append_assoc front run text.0) i, text.1)) None
+
+no_run : (o : Option (List ℕ × List ℕ)) → o ≡ option_map (with_run []) o
+no_run None = refl
+no_run (Some text) = refl
+
+longer_run : (b : ℕ) (run : List ℕ) (o : Option (List ℕ × List ℕ)) → option_map (with_front b) (option_map (with_run run) o) ≡ option_map (with_run (b ∷ run)) o
+longer_run b run None = refl
+longer_run b run (Some text) = refl
+
+three_parts : (u x y v : Bool) → (u && (not x && (not y && v))) ≡ true → (x ≡ false) × (y ≡ false)
+three_parts true false false true h = (refl, refl)
+three_parts false x y v h = absurd cc
+three_parts true true y v h = absurd cc
+three_parts true false true v h = absurd cc
+three_parts true false false false h = absurd cc
+
+not_special : (b : ℕ) → stands_for_itself b ≡ true → ((b == 34) ≡ false) × ((b == 92) ≡ false)
+not_special b h = three_parts (nat_le 32 b) (b == 34) (b == 92) (not (b == 127)) h
+
 -- What is printed is read again.
 pub plain_piece : (b : ℕ) (rest : List ℕ) → (b == 34) ≡ false → (b == 92) ≡ false → stands_for_itself b ≡ true
     → content_before_quote (b ∷ rest) ≡ option_map (with_front b) (content_before_quote rest)
@@ -59,6 +89,17 @@ plain_piece b (c ∷ bs) e f h =
     ap (λ t. cond t (Some ([], c ∷ bs)) (cond (b == 92) pair (cond (stands_for_itself b) itself None))) e
     ∙ ap (λ t. cond t pair (cond (stands_for_itself b) itself None)) f
     ∙ ap (λ t. cond t itself None) h
+
+run_step : (b : ℕ) (bs : List ℕ) (t : Bool) → stands_for_itself b ≡ t → content_before_quote bs ≡ option_map (with_run (take (run_len bs) bs)) (content_before_quote (drop (run_len bs) bs))
+    → let n = cond t (suc (run_len bs)) 0 in content_before_quote (b ∷ bs) ≡ option_map (with_run (take n (b ∷ bs))) (content_before_quote (drop n (b ∷ bs)))
+run_step b bs true h e =
+    let plain = not_special b h in
+    plain_piece b bs plain.0 plain.1 h ∙ ap (option_map (with_front b)) e ∙ longer_run b (take (run_len bs) bs) (content_before_quote (drop (run_len bs) bs))
+run_step b bs false h e = no_run (content_before_quote (b ∷ bs))
+
+pub run_piece : (bs : List ℕ) → content_before_quote bs ≡ option_map (with_run (take (run_len bs) bs)) (content_before_quote (drop (run_len bs) bs))
+run_piece [] = refl
+run_piece (b ∷ bs) = run_step b bs (stands_for_itself b) refl (run_piece bs)
 
 stands : (b : ℕ) → is_content_byte b ≡ true → (b == 34) ≡ false → (b == 92) ≡ false → (b == 10) ≡ false → stands_for_itself b ≡ true
 stands b h e f g = simp (e, f) (simp g at h)

@@ -1,19 +1,30 @@
 -- One piece of what stands behind an opening quote.
-use Rattle.std.specs.Prelude.{ℕ, ◌<◌, ◌+◌, length, List, [], Option, Some, None, option_map}
+use Rattle.std.specs.Prelude.{ℕ, suc, ◌<◌, ◌≤◌, ◌+◌, ◌++◌, length, List, [], ◌∷◌, Option, Some, None, option_map, if◌then◌else◌}
 use Rattle.aw_text.specs.declared.quote.Piece.{Piece}
-use Rattle.aw_text.specs.declared.quote.Piece.TheVariants.{Close, Byte, Broken}
-use Rattle.aw_text.specs.Spelling.{content_before_quote, with_front}
+use Rattle.aw_text.specs.declared.quote.Piece.TheVariants.{Close, Byte, Run, Broken}
+use Rattle.aw_text.specs.Spelling.{content_before_quote, with_front, stands_for_itself}
+
+-- how many bytes at the front stand for themselves
+abbrev pub run_len : List ℕ → ℕ
+run_len [] = 0
+run_len (b ∷ bs) = if stands_for_itself b then suc (run_len bs) else 0
+
+-- bytes in front of the first of two texts
+abbrev pub with_run : List ℕ → List ℕ × List ℕ → List ℕ × List ℕ
+with_run run pair = (run ++ pair.0, pair.1)
 
 -- the text that begins with this piece
 abbrev pub text_from : Piece → Option (List ℕ × List ℕ)
 text_from (Close rest) = Some ([], rest.now)
 text_from (Byte b rest) = option_map (with_front b) (content_before_quote rest.now)
+text_from (Run run rest) = option_map (with_run run.now) (content_before_quote rest.now)
 text_from Broken = None
 
--- what follows the piece is shorter than n bytes
+-- what follows the piece is shorter than n bytes, and with a run not longer than they are
 abbrev pub IsShorter : Piece → ℕ → Type 0
 IsShorter (Close rest) n = length rest.now < n
 IsShorter (Byte b rest) n = length rest.now < n
+IsShorter (Run run rest) n = (length rest.now < n) × (length run.now + length rest.now ≤ n)
 IsShorter Broken n = Unit {0}
 
 -- and not longer

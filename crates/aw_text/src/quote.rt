@@ -1,8 +1,8 @@
 //! Texts between quotes.
-ghost use Rattle.std.specs.Prelude.{◌≡◌, ◌++◌, ◌<◌, length, ℕ, List, Some, IsTrue, OnOk, OnErr, IfOk, IfSome, option_map, option_and_then, option_copied};
+ghost use Rattle.std.specs.Prelude.{◌≡◌, ◌++◌, ◌<◌, ◌≤◌, length, ℕ, List, Some, IsTrue, OnOk, OnErr, IfOk, IfSome, option_map, option_and_then, option_copied};
 ghost use Rattle.std.specs.Io.{StartsWith};
 ghost use Rattle.aw_text.specs.Spelling.{spelled, quoted, escaped, stands_for_itself, with_front, content_before_quote, text_behind_quote, unquoted, whole, is_content};
-ghost use Rattle.aw_text.specs.Pieces.{text_from, IsShorter, IsNoLonger};
+ghost use Rattle.aw_text.specs.Pieces.{run_len, text_from, IsShorter, IsNoLonger};
 
 use crate::name::MOST_OF_CONTENT;
 use aw_list::Text;
@@ -14,6 +14,8 @@ enum Piece<'a> {
     Close(&'a [u8]),
     /// A byte of the content, and the bytes behind its spelling.
     Byte(u8, &'a [u8]),
+    /// Bytes of the content that stand for themselves, and those behind them.
+    Run(&'a [u8], &'a [u8]),
     Broken,
 }
 
@@ -32,6 +34,21 @@ fn stands_for_itself(byte: u8) -> bool
     ensures { result ≡ stands_for_itself byte }
 {
     byte >= b' ' && byte != b'"' && byte != b'\\' && byte != 127
+}
+
+/// How many bytes at the front stand for themselves.
+fn run_len(bytes: &[u8]) -> usize
+    ensures value { result ≡ run_len bytes.now }
+    ensures within { result ≤ length bytes.now }
+{
+    let mut len = 0;
+    for byte in bytes {
+        if !stands_for_itself(*byte) {
+            return len;
+        }
+        len += 1;
+    }
+    len
 }
 
 fn escaped_piece<'a>(code: u8, rest: &'a [u8]) -> Piece<'a>
@@ -56,6 +73,19 @@ fn first_piece(bytes: &[u8]) -> Piece<'_>
     }
 }
 
+/// The first piece, and as many bytes at once as stand for themselves, where these are two at least.
+fn next_piece(bytes: &[u8]) -> Piece<'_>
+    ensures value { content_before_quote bytes.now ≡ text_from result }
+    ensures shorter { IsShorter result (length bytes.now) }
+{
+    let len = run_len(bytes);
+    if len < 2 {
+        return first_piece(bytes);
+    }
+    let (run, rest) = bytes.split_at(len);
+    Piece::Run(run, rest)
+}
+
 fn content_if_last(content: Text, behind: &[u8]) -> Option<Text>
     ensures { result ≡ whole (content, behind.now) }
 {
@@ -72,10 +102,18 @@ pub fn text_end(bytes: &[u8]) -> Option<&[u8]>
     ensures shorter { IfSome result (λ rest. length rest.now < length bytes.now) }
 {
     let mut rest = bytes;
-    for _count in 0..=MOST_OF_CONTENT {
-        match first_piece(rest) {
+    let mut len = 0;
+    while len <= MOST_OF_CONTENT {
+        match next_piece(rest) {
             Piece::Close(behind) => return Some(behind),
-            Piece::Byte(_, behind) => rest = behind,
+            Piece::Byte(_, behind) => {
+                len += 1;
+                rest = behind;
+            }
+            Piece::Run(run, behind) => {
+                len += run.len();
+                rest = behind;
+            }
             Piece::Broken => return None,
         }
     }
@@ -87,11 +125,15 @@ fn read_whole(alloc: Global, bytes: &[u8]) -> Result<Option<Text>, AllocError>
 {
     let mut content = Text::new(alloc);
     let mut rest = bytes;
-    for _count in 0..=MOST_OF_CONTENT {
-        match first_piece(rest) {
+    while content.len() <= MOST_OF_CONTENT {
+        match next_piece(rest) {
             Piece::Close(behind) => return Ok(content_if_last(content, behind)),
             Piece::Byte(byte, behind) => {
                 content.push(byte)?;
+                rest = behind;
+            }
+            Piece::Run(run, behind) => {
+                content.push_bytes(run)?;
                 rest = behind;
             }
             Piece::Broken => return Ok(None),
