@@ -11,7 +11,7 @@ use crate::fault::TableFault;
 use crate::run::Run;
 use crate::tally::Tally;
 use aw_accept::{Accepted, accept};
-use aw_base::{Grammar, choice_ok};
+use aw_base::choice_ok;
 use aw_list::Text;
 use aw_spec::{SpecText, read_spec};
 use aw_text::cut_at;
@@ -123,18 +123,12 @@ fn compare_runs(alloc: Global, accepted: &Accepted, asked: &Asked) -> Result<Tal
     Ok(tally)
 }
 
-/// The grammar of a specification, whose other parts are let go.
-fn into_grammar(spec: SpecText) -> Grammar {
-    let SpecText { grammar, .. } = spec;
-    grammar
-}
-
 /// The specification that a text spells.
 fn accepted_of(alloc: Global, text: &[u8]) -> Result<Accepted, TableFault> {
     let Ok(spec) = read_spec(alloc, text) else {
         return Err(TableFault::Unreadable);
     };
-    match accept(alloc, into_grammar(spec)) {
+    match accept(alloc, spec.into_grammar()) {
         Ok(accepted) => Ok(accepted),
         Err(_) => Err(TableFault::Unreadable),
     }

@@ -3,7 +3,6 @@ use crate::case::{Case, read_case};
 use crate::fault::TableFault;
 use crate::told::{push_answer, push_written};
 use aw_accept::{Accepted, accept};
-use aw_base::Grammar;
 use aw_courier::{Carried, CarryFault, carry};
 use aw_list::Text;
 use aw_out::Wire;
@@ -87,15 +86,9 @@ fn told_of(alloc: Global, g: &Accepted, entries: &[u8]) -> Result<Text, TableFau
     Ok(told)
 }
 
-/// The grammar of a specification, whose other parts are let go.
-fn into_grammar(spec: SpecText) -> Grammar {
-    let SpecText { grammar, .. } = spec;
-    grammar
-}
-
 /// The grammar of a specification, where it is not circular.
 fn accepted_of(alloc: Global, spec: SpecText) -> Result<Accepted, TableFault> {
-    match accept(alloc, into_grammar(spec)) {
+    match accept(alloc, spec.into_grammar()) {
         Ok(accepted) => Ok(accepted),
         Err(_) => Err(TableFault::Unreadable),
     }

@@ -9,7 +9,6 @@ use crate::fault::TableFault;
 use crate::served::{ServedFault, serve_entry};
 use crate::told::push_served;
 use aw_accept::{Accepted, accept};
-use aw_base::Grammar;
 use aw_list::Text;
 use aw_spec::{SpecText, read_spec};
 use aw_text::cut_at;
@@ -65,19 +64,11 @@ fn told_of<R: Net + Clock>(
     Ok(told)
 }
 
-/// The grammar of a specification, whose other parts are let go.
-fn into_grammar(spec: SpecText) -> Grammar
-    ensures { result ≡ spec.grammar }
-{
-    let SpecText { grammar, .. } = spec;
-    grammar
-}
-
 /// The grammar of a specification, where it is not circular.
 fn accepted_of(alloc: Global, spec: SpecText) -> Result<Accepted, TableFault>
     ensures { IfOk result (λ accepted. accepted.grammar ≡ spec.grammar) }
 {
-    match accept(alloc, into_grammar(spec)) {
+    match accept(alloc, spec.into_grammar()) {
         Ok(accepted) => Ok(accepted),
         Err(_) => Err(TableFault::Unreadable),
     }

@@ -10,7 +10,6 @@ use crate::session::ask;
 use crate::steps::{Step, read_step};
 use crate::told::{push_answer, push_count, push_hex};
 use aw_accept::{Accepted, accept};
-use aw_base::Grammar;
 use aw_courier::{Carried, CarryFault, carry};
 use aw_desks::DeskWire;
 use aw_list::Text;
@@ -82,19 +81,11 @@ fn push_steps(
     Ok(push_count(told, b"starved", wire.starved())?)
 }
 
-/// The grammar of a specification, whose other parts are let go.
-fn into_grammar(spec: SpecText) -> Grammar
-    ensures { result ≡ spec.grammar }
-{
-    let SpecText { grammar, .. } = spec;
-    grammar
-}
-
 /// The grammar of a specification, where it is not circular.
 fn accepted_of(alloc: Global, spec: SpecText) -> Result<Accepted, TableFault>
     ensures { IfOk result (λ accepted. accepted.grammar ≡ spec.grammar) }
 {
-    match accept(alloc, into_grammar(spec)) {
+    match accept(alloc, spec.into_grammar()) {
         Ok(accepted) => Ok(accepted),
         Err(_) => Err(TableFault::Unreadable),
     }

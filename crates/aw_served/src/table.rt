@@ -8,7 +8,6 @@ use crate::case::{Case, read_case};
 use crate::fault::TableFault;
 use crate::told::{push_session, push_written};
 use aw_accept::{Accepted, accept};
-use aw_base::Grammar;
 use aw_list::Text;
 use aw_node::{ServeFault, serve, serve_workspace};
 use aw_out::Wire;
@@ -177,19 +176,11 @@ fn told_of(alloc: Global, g: &Accepted, t: &Typed, entries: &[u8]) -> Result<Tex
     Ok(told)
 }
 
-/// The grammar of a specification, whose other parts are let go.
-fn into_grammar(spec: SpecText) -> Grammar
-    ensures { result ≡ spec.grammar }
-{
-    let SpecText { grammar, .. } = spec;
-    grammar
-}
-
 /// The grammar of a specification, where it is not circular.
 fn accepted_of(alloc: Global, spec: SpecText) -> Result<Accepted, TableFault>
     ensures { IfOk result (λ accepted. accepted.grammar ≡ spec.grammar) }
 {
-    match accept(alloc, into_grammar(spec)) {
+    match accept(alloc, spec.into_grammar()) {
         Ok(accepted) => Ok(accepted),
         Err(_) => Err(TableFault::Unreadable),
     }

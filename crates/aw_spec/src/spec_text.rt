@@ -1,4 +1,6 @@
 //! The specification at the front of a text.
+ghost use Rattle.std.specs.Prelude.{◌≡◌};
+
 use aw_base::{Declared, Grammar};
 use aw_face::Faces;
 use aw_typed::Types;
@@ -20,4 +22,14 @@ pub struct SpecText {
     pub depends: Declared,
     /// Whether no tasks may wait for each other: the line `free` stands.
     pub free: bool,
+}
+
+impl SpecText {
+    /// The grammar; all else is let go.
+    pub fn into_grammar(self) -> Grammar
+        ensures { result ≡ self.grammar }
+    {
+        let SpecText { grammar, .. } = self;
+        grammar
+    }
 }
