@@ -7,22 +7,13 @@ mod fault;
 mod table;
 mod told;
 
-use aw_out::{StdSink, StdSource, read_all, write_all};
+use aw_tables::{input_of, tell};
 use std::process::ExitCode;
 use table::table;
 
-/// The most bytes of a table.
-const LIMIT: usize = 16_777_216;
-
 fn main(rt: HostRuntime) -> ExitCode {
-    let Ok(input) = read_all(rt.alloc(), &mut StdSource::new(&rt), LIMIT) else {
-        return ExitCode::from(7);
-    };
-    let Ok(text) = table(rt.alloc(), input.as_slice()) else {
-        return ExitCode::from(10);
-    };
-    match write_all(&mut StdSink::new(&rt), text.as_slice()) {
-        Ok(()) => ExitCode::SUCCESS,
-        Err(_) => ExitCode::from(8),
+    match input_of(&rt) {
+        Ok(input) => tell(&rt, table(rt.alloc(), input.as_slice())),
+        Err(status) => status,
     }
 }

@@ -2,6 +2,7 @@
 use crate::fault::EntryFault;
 use crate::told::push_entry;
 use aw_list::Text;
+use aw_tables::TableFault;
 use bstr::ByteSlice;
 use std::alloc::{AllocError, Global};
 
@@ -21,7 +22,7 @@ fn push_named(alloc: Global, told: &mut Text, name: &[u8], input: &[u8]) -> Resu
 }
 
 /// What is told of all entries. What stands before the first mark is none.
-pub fn table(alloc: Global, text: &[u8]) -> Result<Text, AllocError> {
+pub fn table(alloc: Global, text: &[u8]) -> Result<Text, TableFault> {
     let mut told = Text::new(alloc);
     for entry in text.split_str(MARK) {
         if let Some((name, input)) = entry.split_once_str(b"\n") {

@@ -1,15 +1,8 @@
 //! What a courier meets.
-use crate::fault::TableFault;
-use aw_list::Text;
 use aw_out::Texts;
-use aw_text::number_value;
+use aw_tables::{TableFault, failing_of, numbers_of, sessions_of};
 use aw_wires::Numbers;
-use bstr::ByteSlice;
-use hex::FromHexError;
 use std::alloc::Global;
-
-/// What stands between two sessions.
-const NEXT: &[u8] = b"--\n";
 
 /// How many rounds are made at most, the most bytes that one call moves, the numbers of the calls that fail, and what is read in the sessions
 /// in the order in which they are dialed.
@@ -19,50 +12,6 @@ pub struct Case {
     pub piece: usize,
     pub fails: Numbers,
     pub bytes: Texts,
-}
-
-/// The bytes that are written in hexadecimal, with blanks anywhere.
-fn bytes_of(alloc: Global, text: &[u8]) -> Result<Text, TableFault> {
-    let digits: Vec<u8> = text
-        .iter()
-        .copied()
-        .filter(|byte| !byte.is_ascii_whitespace())
-        .collect(alloc)?;
-    match hex::decode(alloc, digits.as_slice()) {
-        Ok(bytes) => Ok(Text::from_vec(bytes)),
-        Err(FromHexError::OutOfMemory) => Err(TableFault::NoMemory),
-        Err(_) => Err(TableFault::Unreadable),
-    }
-}
-
-/// The numbers that are written with blanks between them.
-fn numbers_of(alloc: Global, text: &[u8]) -> Result<Vec<usize>, TableFault> {
-    let mut numbers = Vec::new(alloc);
-    for word in text.split_str(b" ") {
-        match number_value(word) {
-            Some(number) => numbers.push(number as usize)?,
-            None => return Err(TableFault::Unreadable),
-        }
-    }
-    Ok(numbers)
-}
-
-/// What is read in the sessions.
-fn sessions_of(alloc: Global, text: &[u8]) -> Result<Texts, TableFault> {
-    let mut sessions = Vec::new(alloc);
-    for session in text.split_str(NEXT) {
-        sessions.push(bytes_of(alloc, session)?)?;
-    }
-    Ok(Texts::from_vec(sessions))
-}
-
-/// The numbers of the calls that fail.
-fn failing_of(alloc: Global, numbers: &[usize]) -> Result<Numbers, TableFault> {
-    let mut failing = Numbers::new(alloc);
-    for number in numbers {
-        failing.push(*number)?;
-    }
-    Ok(failing)
 }
 
 /// The case that a line of numbers and the bytes behind it spell: how many rounds, the most bytes of a piece, and the numbers of the calls

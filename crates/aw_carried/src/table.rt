@@ -1,12 +1,12 @@
 //! The table: a specification, and behind it the cases.
 use crate::case::{Case, read_case};
-use crate::fault::TableFault;
 use crate::told::{push_answer, push_written};
 use aw_accept::{Accepted, accept};
 use aw_courier::{Carried, CarryFault, carry};
 use aw_list::Text;
 use aw_out::Wire;
 use aw_spec::{SpecText, read_spec};
+use aw_tables::TableFault;
 use aw_wires::{MemWire, Numbers};
 use bstr::ByteSlice;
 use std::alloc::Global;

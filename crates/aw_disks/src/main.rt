@@ -10,7 +10,7 @@ mod session;
 use aw_disk::{DiskCalls, MemDisk};
 use aw_journal::{AppendFault, Journal, OpenFault};
 use aw_list::Text;
-use aw_out::{StdSink, StdSource, read_all, write_all};
+use aw_tables::{TableFault, input_of, tell};
 use aw_text::{cut_at, number_value, push_number};
 use bstr::ByteSlice;
 use images::{half_new, half_open};
@@ -23,9 +23,6 @@ const CALLS: usize = 21;
 
 /// The most written bytes and calls of a disk.
 const ROOM: usize = 1000;
-
-/// The most bytes of the input.
-const MOST_INPUT: usize = 1_048_576;
 
 fn disk_of(alloc: Global, bytes: &[u8], fails: &[usize]) -> Result<MemDisk, AllocError> {
     let bytes = Text::from_bytes(alloc, bytes)?;
@@ -160,7 +157,7 @@ fn push_file(alloc: Global, told: &mut Text, line: &[u8]) -> Result<(), AllocErr
 }
 
 /// All that is told.
-fn table(alloc: Global, input: &[u8]) -> Result<Text, AllocError> {
+fn table(alloc: Global, input: &[u8]) -> Result<Text, TableFault> {
     let mut told = Text::new(alloc);
     push_sessions(alloc, &mut told)?;
     push_limits(alloc, &mut told)?;
@@ -171,14 +168,8 @@ fn table(alloc: Global, input: &[u8]) -> Result<Text, AllocError> {
 }
 
 fn main(rt: HostRuntime) -> ExitCode {
-    let Ok(input) = read_all(rt.alloc(), &mut StdSource::new(&rt), MOST_INPUT) else {
-        return ExitCode::from(7);
-    };
-    let Ok(told) = table(rt.alloc(), input.as_slice()) else {
-        return ExitCode::from(10);
-    };
-    match write_all(&mut StdSink::new(&rt), told.as_slice()) {
-        Ok(()) => ExitCode::SUCCESS,
-        Err(_) => ExitCode::from(8),
+    match input_of(&rt) {
+        Ok(input) => tell(&rt, table(rt.alloc(), input.as_slice())),
+        Err(status) => status,
     }
 }

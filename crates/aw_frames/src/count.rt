@@ -1,5 +1,5 @@
 //! How many requests of each kind a session has.
-use crate::fault::TableFault;
+use crate::fault::EntryFault;
 use aw_list::Text;
 use aw_msg::{Frame, FrameReader, Next};
 use aw_text::push_number;
@@ -79,7 +79,7 @@ fn push_count(told: &mut Text, word: &[u8], count: u64) -> Result<(), AllocError
 }
 
 /// How many requests of each kind a session has that comes in pieces of this size, and the last answer.
-pub fn push_counts(alloc: Global, bytes: &[u8], size: usize) -> Result<Text, TableFault> {
+pub fn push_counts(alloc: Global, bytes: &[u8], size: usize) -> Result<Text, EntryFault> {
     let counts = counted(alloc, bytes, size)?;
     let mut told = Text::new(alloc);
     push_count(&mut told, b"pushes ", counts.pushes)?;

@@ -1,36 +1,46 @@
-//! Why a table is not told.
+//! Why an entry is not told.
+use aw_tables::TableFault;
 use aw_wire::{MsgFault, Unread};
 use std::alloc::AllocError;
 
-/// Why a table is not told.
+/// Why an entry is not told.
 #[derive(Clone, Copy, Debug, PartialEq, Eq)]
-pub enum TableFault {
+pub enum EntryFault {
     /// An entry has none of the forms.
     Unreadable,
     /// Memory ran out.
     NoMemory,
 }
 
-impl From<AllocError> for TableFault {
-    fn from(_failed: AllocError) -> TableFault {
-        TableFault::NoMemory
+impl From<AllocError> for EntryFault {
+    fn from(_failed: AllocError) -> EntryFault {
+        EntryFault::NoMemory
     }
 }
 
-impl From<Unread> for TableFault {
-    fn from(unread: Unread) -> TableFault {
+impl From<Unread> for EntryFault {
+    fn from(unread: Unread) -> EntryFault {
         match unread {
-            Unread::NoMemory => TableFault::NoMemory,
-            Unread::Short | Unread::Bad { .. } => TableFault::Unreadable,
+            Unread::NoMemory => EntryFault::NoMemory,
+            Unread::Short | Unread::Bad { .. } => EntryFault::Unreadable,
         }
     }
 }
 
-impl From<MsgFault> for TableFault {
-    fn from(fault: MsgFault) -> TableFault {
+impl From<MsgFault> for EntryFault {
+    fn from(fault: MsgFault) -> EntryFault {
         match fault {
-            MsgFault::NoMemory => TableFault::NoMemory,
-            MsgFault::Short | MsgFault::Bad { .. } => TableFault::Unreadable,
+            MsgFault::NoMemory => EntryFault::NoMemory,
+            MsgFault::Short | MsgFault::Bad { .. } => EntryFault::Unreadable,
+        }
+    }
+}
+
+impl From<EntryFault> for TableFault {
+    fn from(fault: EntryFault) -> TableFault {
+        match fault {
+            EntryFault::Unreadable => TableFault::Unreadable,
+            EntryFault::NoMemory => TableFault::NoMemory,
         }
     }
 }

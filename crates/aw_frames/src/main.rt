@@ -12,17 +12,13 @@ mod table;
 mod values;
 
 use aw_list::Text;
-use aw_out::{StdSink, StdSource, read_all, write_all};
+use aw_tables::{TableFault, input_of, tell};
 use aw_text::number_value;
 use count::push_counts;
-use fault::TableFault;
 use std::process::ExitCode;
 use std::rt::Env;
 use std::{env, io};
 use table::table;
-
-/// The most bytes of a table or of a session.
-const LIMIT: usize = 67_108_864;
 
 /// The size of the pieces, where the words ask for a count.
 fn counted_size<R: Env + AllocGlobal>(rt: &R) -> io::Result<Option<u64>> {
@@ -42,23 +38,15 @@ fn counted_size<R: Env + AllocGlobal>(rt: &R) -> io::Result<Option<u64>> {
 /// What is told of the input.
 fn told<R: Env + AllocGlobal>(rt: &R, input: &[u8]) -> Result<Text, TableFault> {
     match counted_size(rt) {
-        Ok(Some(size)) => push_counts(rt.alloc(), input, size as usize),
-        Ok(None) => table(rt.alloc(), input),
+        Ok(Some(size)) => Ok(push_counts(rt.alloc(), input, size as usize)?),
+        Ok(None) => Ok(table(rt.alloc(), input)?),
         Err(_) => Err(TableFault::NoMemory),
     }
 }
 
 fn main(rt: HostRuntime) -> ExitCode {
-    let Ok(input) = read_all(rt.alloc(), &mut StdSource::new(&rt), LIMIT) else {
-        return ExitCode::from(7);
-    };
-    let text = match told(&rt, input.as_slice()) {
-        Ok(text) => text,
-        Err(TableFault::Unreadable) => return ExitCode::from(1),
-        Err(TableFault::NoMemory) => return ExitCode::from(10),
-    };
-    match write_all(&mut StdSink::new(&rt), text.as_slice()) {
-        Ok(()) => ExitCode::SUCCESS,
-        Err(_) => ExitCode::from(8),
+    match input_of(&rt) {
+        Ok(input) => tell(&rt, told(&rt, input.as_slice())),
+        Err(status) => status,
     }
 }

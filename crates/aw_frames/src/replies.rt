@@ -2,7 +2,7 @@
 ghost use Rattle.std.specs.Prelude.{IfOk};
 ghost use Rattle.aw_msg.specs.ReplyRanges.{ReplyInRange};
 
-use crate::fault::TableFault;
+use crate::fault::EntryFault;
 use crate::table::bytes_of;
 use aw_base::{Answer, Grammar, Item};
 use aw_choice::{Path, Place, Standing};
@@ -21,14 +21,14 @@ fn first_word(text: &[u8]) -> (&[u8], &[u8]) {
     text.split_once_str(b" ").unwrap_or((text, b""))
 }
 
-fn reference_of(alloc: Global, digits: &[u8]) -> Result<Ref, TableFault> {
+fn reference_of(alloc: Global, digits: &[u8]) -> Result<Ref, EntryFault> {
     let bytes = bytes_of(alloc, digits)?;
     let (reference, _) = ref_at(alloc, &bytes)?;
     Ok(reference)
 }
 
 /// A list of references as `(..)`, or else a body.
-fn content_of(alloc: Global, word: &[u8], digits: &[u8]) -> Result<Content, TableFault> {
+fn content_of(alloc: Global, word: &[u8], digits: &[u8]) -> Result<Content, EntryFault> {
     let bytes = bytes_of(alloc, digits)?;
     if word == b"lists".as_slice() {
         let (refs, _) = refs_at(alloc, &bytes)?;
@@ -39,7 +39,7 @@ fn content_of(alloc: Global, word: &[u8], digits: &[u8]) -> Result<Content, Tabl
 }
 
 /// `bodies KEPT CAME` or `lists KEPT CAME`.
-fn conflict_of(alloc: Global, text: &[u8]) -> Result<Answered, TableFault>
+fn conflict_of(alloc: Global, text: &[u8]) -> Result<Answered, EntryFault>
     ensures { IfOk result (λ reply. ReplyInRange reply) }
 {
     let (word, rest) = first_word(text);
@@ -51,12 +51,12 @@ fn conflict_of(alloc: Global, text: &[u8]) -> Result<Answered, TableFault>
 }
 
 /// A number from 0 to 255.
-fn byte_of(digits: &[u8]) -> Result<u8, TableFault> {
-    u8::try_from(number_of(digits)?).map_err(|_| TableFault::Unreadable)
+fn byte_of(digits: &[u8]) -> Result<u8, EntryFault> {
+    u8::try_from(number_of(digits)?).map_err(|_| EntryFault::Unreadable)
 }
 
 /// `ATTRIBUTE` or `ATTRIBUTE.PART`.
-fn place_of(text: &[u8]) -> Result<Place, TableFault> {
+fn place_of(text: &[u8]) -> Result<Place, EntryFault> {
     let (attribute, part) = text.split_once_str(b".").unwrap_or((text, b""));
     let mut path = Path::new();
     if !part.is_empty() {
@@ -69,7 +69,7 @@ fn place_of(text: &[u8]) -> Result<Place, TableFault> {
 }
 
 /// An answer that is one of the words alone.
-fn plain_answer(text: &[u8]) -> Result<Answer, TableFault> {
+fn plain_answer(text: &[u8]) -> Result<Answer, EntryFault> {
     if text == b"known".as_slice() {
         Ok(Answer::Known)
     } else if text == b"unknown".as_slice() {
@@ -85,12 +85,12 @@ fn plain_answer(text: &[u8]) -> Result<Answer, TableFault> {
     } else if text == b"taken".as_slice() {
         Ok(Answer::Taken)
     } else {
-        Err(TableFault::Unreadable)
+        Err(EntryFault::Unreadable)
     }
 }
 
 /// `waits REFERENCE`, `mismatch PLACE`, `circle REFERENCE`, or an answer that is one of the words alone.
-fn answer_of(alloc: Global, text: &[u8]) -> Result<Answer, TableFault> {
+fn answer_of(alloc: Global, text: &[u8]) -> Result<Answer, EntryFault> {
     let (word, rest) = first_word(text);
     if word == b"waits".as_slice() {
         return Ok(Answer::Waits(reference_of(alloc, rest)?));
@@ -105,7 +105,7 @@ fn answer_of(alloc: Global, text: &[u8]) -> Result<Answer, TableFault> {
 }
 
 /// `ready`, `waits REFERENCE`, `mismatch PLACE`, `circle REFERENCE` or `deep`.
-fn state_of(alloc: Global, text: &[u8]) -> Result<Standing, TableFault> {
+fn state_of(alloc: Global, text: &[u8]) -> Result<Standing, EntryFault> {
     let (word, rest) = first_word(text);
     if word == b"ready".as_slice() {
         return Ok(Standing::Ready);
@@ -122,25 +122,25 @@ fn state_of(alloc: Global, text: &[u8]) -> Result<Standing, TableFault> {
     if word == b"deep".as_slice() {
         return Ok(Standing::TooDeep);
     }
-    Err(TableFault::Unreadable)
+    Err(EntryFault::Unreadable)
 }
 
-fn number_of(digits: &[u8]) -> Result<u64, TableFault> {
-    number_value(digits).ok_or(TableFault::Unreadable)
+fn number_of(digits: &[u8]) -> Result<u64, EntryFault> {
+    number_value(digits).ok_or(EntryFault::Unreadable)
 }
 
-fn node_of(alloc: Global, digits: &[u8]) -> Result<Node, TableFault> {
+fn node_of(alloc: Global, digits: &[u8]) -> Result<Node, EntryFault> {
     let bytes = bytes_of(alloc, digits)?;
     let (node, _) = node_at(alloc, &bytes)?;
     Ok(node)
 }
 
 /// `NODE RULE STATE`.
-fn item_of(alloc: Global, text: &[u8]) -> Result<Item, TableFault> {
+fn item_of(alloc: Global, text: &[u8]) -> Result<Item, EntryFault> {
     let (digits, rest) = first_word(text);
     let (rule, rest) = first_word(rest);
     let Ok(rule) = u16::try_from(number_of(rule)?) else {
-        return Err(TableFault::Unreadable);
+        return Err(EntryFault::Unreadable);
     };
     let state = state_of(alloc, rest)?;
     Ok(Item {
@@ -151,7 +151,7 @@ fn item_of(alloc: Global, text: &[u8]) -> Result<Item, TableFault> {
 }
 
 /// A reply without fields.
-fn plain_reply(line: &[u8]) -> Result<Answered, TableFault>
+fn plain_reply(line: &[u8]) -> Result<Answered, EntryFault>
     ensures { IfOk result (λ reply. ReplyInRange reply) }
 {
     if line == b"new".as_slice() {
@@ -167,12 +167,12 @@ fn plain_reply(line: &[u8]) -> Result<Answered, TableFault>
     } else if line == b"bad frame".as_slice() {
         Ok(Answered::BadFrame)
     } else {
-        Err(TableFault::Unreadable)
+        Err(EntryFault::Unreadable)
     }
 }
 
 /// The reply that a line names.
-fn reply_of(alloc: Global, line: &[u8]) -> Result<Answered, TableFault>
+fn reply_of(alloc: Global, line: &[u8]) -> Result<Answered, EntryFault>
     ensures { IfOk result (λ reply. ReplyInRange reply) }
 {
     let (word, rest) = first_word(line);
@@ -201,7 +201,7 @@ fn push_reply(
     told: &mut Text,
     g: &Grammar,
     reply: &Answered,
-) -> Result<(), TableFault>
+) -> Result<(), EntryFault>
     requires { ReplyInRange reply.now }
 {
     let bytes = reply_bytes(alloc, g, reply)?;
@@ -210,7 +210,7 @@ fn push_reply(
 }
 
 /// Adds the bytes of the reply that a line names.
-fn push_line(alloc: Global, told: &mut Text, g: &Grammar, line: &[u8]) -> Result<(), TableFault> {
+fn push_line(alloc: Global, told: &mut Text, g: &Grammar, line: &[u8]) -> Result<(), EntryFault> {
     let reply = reply_of(alloc, line)?;
     push_reply(alloc, told, g, &reply)
 }
@@ -221,7 +221,7 @@ pub fn push_replies(
     told: &mut Text,
     g: &Grammar,
     lines: &[u8],
-) -> Result<(), TableFault> {
+) -> Result<(), EntryFault> {
     for line in lines.lines() {
         push_line(alloc, told, g, line)?;
     }

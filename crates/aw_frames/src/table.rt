@@ -1,6 +1,6 @@
 //! The table: a specification, and behind it entries, each with a mark and its name, its form, and its bytes in hexadecimal or its
 //! replies in words.
-use crate::fault::TableFault;
+use crate::fault::EntryFault;
 use crate::replies::push_replies;
 use crate::session::push_session;
 use crate::values::{push_decoded, push_decoded_choice};
@@ -16,7 +16,7 @@ use std::alloc::Global;
 const MARK: &[u8] = b"=== ";
 
 /// The bytes that are written in hexadecimal, with blanks anywhere.
-pub fn bytes_of(alloc: Global, text: &[u8]) -> Result<Vec<u8>, TableFault> {
+pub fn bytes_of(alloc: Global, text: &[u8]) -> Result<Vec<u8>, EntryFault> {
     let digits: Vec<u8> = text
         .iter()
         .copied()
@@ -24,19 +24,19 @@ pub fn bytes_of(alloc: Global, text: &[u8]) -> Result<Vec<u8>, TableFault> {
         .collect(alloc)?;
     match hex::decode(alloc, digits.as_slice()) {
         Ok(bytes) => Ok(bytes),
-        Err(FromHexError::OutOfMemory) => Err(TableFault::NoMemory),
-        Err(_) => Err(TableFault::Unreadable),
+        Err(FromHexError::OutOfMemory) => Err(EntryFault::NoMemory),
+        Err(_) => Err(EntryFault::Unreadable),
     }
 }
 
 /// The size of pieces that a word names: a number, or `whole`.
-fn size_of(word: &[u8], whole: usize) -> Result<usize, TableFault> {
+fn size_of(word: &[u8], whole: usize) -> Result<usize, EntryFault> {
     if word == b"whole".as_slice() {
         return Ok(whole);
     }
     match number_value(word) {
         Some(size) => Ok(size as usize),
-        None => Err(TableFault::Unreadable),
+        None => Err(EntryFault::Unreadable),
     }
 }
 
@@ -46,7 +46,7 @@ fn push_sessions(
     told: &mut Text,
     bytes: &[u8],
     sizes: &[u8],
-) -> Result<(), TableFault> {
+) -> Result<(), EntryFault> {
     for word in sizes.split_str(b" ") {
         told.push_bytes(b"pieces ")?;
         told.push_bytes(word)?;
@@ -63,7 +63,7 @@ fn push_told(
     g: &Grammar,
     form: &[u8],
     rest: &[u8],
-) -> Result<(), TableFault> {
+) -> Result<(), EntryFault> {
     if form == b"replies".as_slice() {
         return push_replies(alloc, told, g, rest);
     }
@@ -78,17 +78,17 @@ fn push_told(
         Some((word, sizes)) if word == b"session".as_slice() => {
             push_sessions(alloc, told, &bytes, sizes)
         }
-        _ => Err(TableFault::Unreadable),
+        _ => Err(EntryFault::Unreadable),
     }
 }
 
 /// Adds an entry's name and what is told of it.
-fn push_entry(alloc: Global, told: &mut Text, g: &Grammar, entry: &[u8]) -> Result<(), TableFault> {
+fn push_entry(alloc: Global, told: &mut Text, g: &Grammar, entry: &[u8]) -> Result<(), EntryFault> {
     let Some((name, rest)) = entry.split_once_str(b"\n") else {
-        return Err(TableFault::Unreadable);
+        return Err(EntryFault::Unreadable);
     };
     let Some((form, rest)) = rest.split_once_str(b"\n") else {
-        return Err(TableFault::Unreadable);
+        return Err(EntryFault::Unreadable);
     };
     told.push_bytes(MARK)?;
     told.push_bytes(name)?;
@@ -97,7 +97,7 @@ fn push_entry(alloc: Global, told: &mut Text, g: &Grammar, entry: &[u8]) -> Resu
 }
 
 /// What is told of entries.
-fn told_of(alloc: Global, g: &Grammar, entries: &[u8]) -> Result<Text, TableFault> {
+fn told_of(alloc: Global, g: &Grammar, entries: &[u8]) -> Result<Text, EntryFault> {
     let mut told = Text::new(alloc);
     for entry in entries.split_str(MARK) {
         push_entry(alloc, &mut told, g, entry)?;
@@ -106,12 +106,12 @@ fn told_of(alloc: Global, g: &Grammar, entries: &[u8]) -> Result<Text, TableFaul
 }
 
 /// What is told of all entries. Replies name what the specification before the first mark declares.
-pub fn table(alloc: Global, text: &[u8]) -> Result<Text, TableFault> {
+pub fn table(alloc: Global, text: &[u8]) -> Result<Text, EntryFault> {
     let Some((declared, entries)) = text.split_once_str(MARK) else {
-        return Err(TableFault::Unreadable);
+        return Err(EntryFault::Unreadable);
     };
     let Ok(spec) = read_spec(alloc, declared) else {
-        return Err(TableFault::Unreadable);
+        return Err(EntryFault::Unreadable);
     };
     let told = told_of(alloc, &spec.grammar, entries);
     drop(spec);

@@ -3,7 +3,7 @@ ghost use Rattle.aw_choice.specs.ChoiceView.{choice_of};
 ghost use Rattle.aw_msg.specs.Messages.{MessageInRange};
 ghost use Rattle.aw_wire.specs.Ranges.{ChoiceInRange};
 
-use crate::fault::TableFault;
+use crate::fault::EntryFault;
 use crate::fields::{push_choice, push_message};
 use aw_choice::Choice;
 use aw_list::Text;
@@ -26,14 +26,14 @@ fn push_taken(
     }
 }
 
-fn push_fault(told: &mut Text, fault: MsgFault) -> Result<(), TableFault> {
+fn push_fault(told: &mut Text, fault: MsgFault) -> Result<(), EntryFault> {
     match fault {
         MsgFault::Short => told.push_bytes(b"short")?,
         MsgFault::Bad { at } => {
             told.push_bytes(b"bad at ")?;
             push_number(told, at as u64)?;
         }
-        MsgFault::NoMemory => return Err(TableFault::NoMemory),
+        MsgFault::NoMemory => return Err(EntryFault::NoMemory),
     }
     Ok(())
 }
@@ -45,7 +45,7 @@ fn push_read(
     bytes: &[u8],
     message: &Message,
     count: usize,
-) -> Result<(), TableFault>
+) -> Result<(), EntryFault>
     requires { MessageInRange message.now }
 {
     let written = encode(alloc, message)?;
@@ -54,7 +54,7 @@ fn push_read(
 }
 
 /// Adds the message at the front of some bytes, or the fault.
-pub fn push_decoded(alloc: Global, told: &mut Text, bytes: &[u8]) -> Result<(), TableFault> {
+pub fn push_decoded(alloc: Global, told: &mut Text, bytes: &[u8]) -> Result<(), EntryFault> {
     match decode(alloc, bytes) {
         Ok((message, count)) => push_read(alloc, told, bytes, &message, count),
         Err(fault) => push_fault(told, fault),
@@ -69,7 +69,7 @@ fn push_read_choice(
     bytes: &[u8],
     choice: &Choice,
     count: usize,
-) -> Result<(), TableFault>
+) -> Result<(), EntryFault>
     requires { ChoiceInRange (choice_of choice.now) }
 {
     let written = encode_choice(alloc, choice)?;
@@ -78,7 +78,7 @@ fn push_read_choice(
 }
 
 /// Adds the choice at the front of some bytes, or the fault.
-pub fn push_decoded_choice(alloc: Global, told: &mut Text, bytes: &[u8]) -> Result<(), TableFault> {
+pub fn push_decoded_choice(alloc: Global, told: &mut Text, bytes: &[u8]) -> Result<(), EntryFault> {
     match decode_choice(alloc, bytes) {
         Ok((choice, count)) => push_read_choice(alloc, told, bytes, &choice, count),
         Err(fault) => push_fault(told, fault),

@@ -1,10 +1,9 @@
 //! What a node is asked.
-use crate::fault::TableFault;
 use aw_list::Text;
 use aw_out::Texts;
+use aw_tables::{TableFault, bytes_of};
 use aw_text::cut_at;
 use bstr::ByteSlice;
-use hex::FromHexError;
 use std::alloc::Global;
 
 /// The sessions of an entry.
@@ -14,15 +13,6 @@ pub enum Entry {
     Ending(Texts),
     /// One peer writes these bytes, and waits for the node to end the session.
     Staying(Text),
-}
-
-/// The bytes that are written in hexadecimal.
-fn bytes_of(alloc: Global, digits: &[u8]) -> Result<Text, TableFault> {
-    match hex::decode(alloc, digits) {
-        Ok(bytes) => Ok(Text::from_vec(bytes)),
-        Err(FromHexError::OutOfMemory) => Err(TableFault::NoMemory),
-        Err(_) => Err(TableFault::Unreadable),
-    }
 }
 
 /// The bytes of a session whose peer ends its writing side: `ends HEX`.

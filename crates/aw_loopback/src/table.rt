@@ -5,12 +5,12 @@ ghost use Rattle.aw_typed.specs.Types.{AreFor};
 ghost use Rattle.aw_typed.specs.Typing.{types_of, IsMadeFor, NumbersInRange};
 
 use crate::entry::read_entry;
-use crate::fault::TableFault;
 use crate::served::{ServedFault, serve_entry};
 use crate::told::push_served;
 use aw_accept::{Accepted, accept};
 use aw_list::Text;
 use aw_spec::{SpecText, read_spec};
+use aw_tables::TableFault;
 use aw_text::cut_at;
 use aw_typed::{Typed, type_check};
 use bstr::ByteSlice;

@@ -23,8 +23,8 @@ use aw_modular::{
     JoinFault, ModFault, Part, RoleYes, RoleYeses, are_positions, check_role, join, parting_laws,
     split,
 };
-use aw_out::{StdSink, StdSource, read_all, write_all};
 use aw_spec::{SpecText, read_spec};
+use aw_tables::{TableFault, input_of, tell};
 use aw_text::number_value;
 use aw_told::{accepted_text, push_circle};
 use bstr::ByteSlice;
@@ -36,9 +36,6 @@ const MARK: &[u8] = b"=== ";
 
 /// What stands in front of an entry's specification.
 const SPEC: &[u8] = b"spec\n";
-
-/// The most bytes of a table.
-const LIMIT: usize = 16_777_216;
 
 /// A small number.
 fn small(word: &[u8]) -> Option<u8> {
@@ -248,7 +245,7 @@ fn push_entry(alloc: Global, told: &mut Text, name: &[u8], rest: &[u8]) -> Resul
 }
 
 /// The lines of all entries. What stands before the first mark is none.
-fn table(alloc: Global, text: &[u8]) -> Result<Text, AllocError> {
+fn table(alloc: Global, text: &[u8]) -> Result<Text, TableFault> {
     let mut told = Text::new(alloc);
     for entry in text.split_str(MARK) {
         if let Some((name, rest)) = entry.split_once_str(b"\n") {
@@ -259,14 +256,8 @@ fn table(alloc: Global, text: &[u8]) -> Result<Text, AllocError> {
 }
 
 fn main(rt: HostRuntime) -> ExitCode {
-    let Ok(text) = read_all(rt.alloc(), &mut StdSource::new(&rt), LIMIT) else {
-        return ExitCode::from(7);
-    };
-    let Ok(told) = table(rt.alloc(), text.as_slice()) else {
-        return ExitCode::from(10);
-    };
-    match write_all(&mut StdSink::new(&rt), told.as_slice()) {
-        Ok(()) => ExitCode::SUCCESS,
-        Err(_) => ExitCode::from(8),
+    match input_of(&rt) {
+        Ok(input) => tell(&rt, table(rt.alloc(), input.as_slice())),
+        Err(status) => status,
     }
 }

@@ -5,8 +5,9 @@
 
 use aw_list::Text;
 use aw_once::{Outcome, run_alone};
-use aw_out::{Calls, MemSink, MemSource, OUTPUT_LIMIT, Sizes, StdSink, write_all};
+use aw_out::{Calls, MemSink, MemSource, OUTPUT_LIMIT, Sizes};
 use aw_run::Word;
+use aw_tables::{TableFault, tell};
 use aw_text::push_number;
 use bstr::ByteSlice;
 use std::alloc::{AllocError, Global};
@@ -139,7 +140,7 @@ fn push_compared(
 }
 
 /// What is told of both runs.
-fn compared(alloc: Global) -> Result<Text, AllocError> {
+fn compared(alloc: Global) -> Result<Text, TableFault> {
     let input = input(alloc)?;
     let replayed = run_word(alloc, b"replay", input.as_slice())?;
     let mut told = Text::new(alloc);
@@ -148,11 +149,5 @@ fn compared(alloc: Global) -> Result<Text, AllocError> {
 }
 
 fn main(rt: HostRuntime) -> ExitCode {
-    let Ok(told) = compared(rt.alloc()) else {
-        return ExitCode::from(10);
-    };
-    match write_all(&mut StdSink::new(&rt), told.as_slice()) {
-        Ok(()) => ExitCode::SUCCESS,
-        Err(_) => ExitCode::from(8),
-    }
+    tell(&rt, compared(rt.alloc()))
 }

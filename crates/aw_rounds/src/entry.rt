@@ -4,7 +4,6 @@ ghost use Rattle.aw_grammar.specs.GrammarOf.{grammar_of};
 ghost use Rattle.aw_typed.specs.Types.{AreFor};
 ghost use Rattle.aw_typed.specs.Typing.{types_of, IsMadeFor, NumbersInRange};
 
-use crate::fault::TableFault;
 use crate::offices::offices_of;
 use crate::session::ask;
 use crate::steps::{Step, read_step};
@@ -16,6 +15,7 @@ use aw_list::Text;
 use aw_offices::SiteWire;
 use aw_out::Wire;
 use aw_spec::{SpecText, read_spec};
+use aw_tables::TableFault;
 use aw_typed::{Typed, type_check};
 use bstr::ByteSlice;
 use std::alloc::{AllocError, Global};

@@ -1,9 +1,9 @@
 //! A session with a role.
 ghost use Rattle.std.specs.Prelude.{◌≡◌, true};
 
-use crate::fault::TableFault;
 use aw_list::Text;
 use aw_out::{Dialed, Got, Put, Wire};
+use aw_tables::TableFault;
 use std::alloc::{AllocError, Global};
 
 /// The most roles of a specification.

@@ -1,8 +1,7 @@
 //! What is done in an entry.
-use crate::fault::TableFault;
 use aw_list::Text;
+use aw_tables::{TableFault, bytes_of};
 use aw_text::{cut_at, number_value};
-use hex::FromHexError;
 use std::alloc::Global;
 
 /// The most roles of a specification.
@@ -15,15 +14,6 @@ pub enum Step {
     Ask { role: u16, bytes: Text },
     /// A courier carries for so many rounds at most.
     Carry { rounds: u64 },
-}
-
-/// The bytes that are written in hexadecimal.
-fn bytes_of(alloc: Global, digits: &[u8]) -> Result<Text, TableFault> {
-    match hex::decode(alloc, digits) {
-        Ok(bytes) => Ok(Text::from_vec(bytes)),
-        Err(FromHexError::OutOfMemory) => Err(TableFault::NoMemory),
-        Err(_) => Err(TableFault::Unreadable),
-    }
 }
 
 /// A session with a role: its number, and the bytes.

@@ -1,7 +1,7 @@
 //! The table: its entries.
 use crate::entry::push_told;
-use crate::fault::TableFault;
 use aw_list::Text;
+use aw_tables::TableFault;
 use bstr::ByteSlice;
 use std::alloc::Global;
 

@@ -6,8 +6,9 @@
 
 use aw_list::Text;
 use aw_once::{Outcome, run_alone};
-use aw_out::{Calls, MemSink, MemSource, Sizes, StdSink, StdSource, read_all, write_all};
+use aw_out::{Calls, MemSink, MemSource, Sizes};
 use aw_run::{Status, Word};
+use aw_tables::{TableFault, input_of, tell};
 use aw_text::{number_value, push_number};
 use bstr::ByteSlice;
 use std::alloc::{AllocError, Global};
@@ -16,7 +17,7 @@ use std::process::ExitCode;
 /// What stands in front of an entry's name.
 const MARK: &[u8] = b"=== ";
 
-/// The most bytes of a table, and of what a run writes in it.
+/// The most bytes that a sink takes, and more calls than any run makes.
 const LIMIT: usize = 16_777_216;
 
 /// No call has this number.
@@ -204,7 +205,7 @@ fn push_verdict(
 }
 
 /// The lines of all entries. What stands before the first mark is none.
-fn table(alloc: Global, text: &[u8]) -> Result<Text, AllocError> {
+fn table(alloc: Global, text: &[u8]) -> Result<Text, TableFault> {
     let mut told = Text::new(alloc);
     for entry in text.split_str(MARK) {
         if let Some((name, rest)) = entry.split_once_str(b"\n") {
@@ -220,14 +221,8 @@ fn table(alloc: Global, text: &[u8]) -> Result<Text, AllocError> {
 }
 
 fn main(rt: HostRuntime) -> ExitCode {
-    let Ok(text) = read_all(rt.alloc(), &mut StdSource::new(&rt), LIMIT) else {
-        return ExitCode::from(7);
-    };
-    let Ok(told) = table(rt.alloc(), text.as_slice()) else {
-        return ExitCode::from(10);
-    };
-    match write_all(&mut StdSink::new(&rt), told.as_slice()) {
-        Ok(()) => ExitCode::SUCCESS,
-        Err(_) => ExitCode::from(8),
+    match input_of(&rt) {
+        Ok(input) => tell(&rt, table(rt.alloc(), input.as_slice())),
+        Err(status) => status,
     }
 }

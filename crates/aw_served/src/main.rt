@@ -6,29 +6,16 @@
 #![tactic(auto)]
 
 mod case;
-mod fault;
 mod table;
 mod told;
 
-use aw_out::{StdSink, StdSource, read_all, write_all};
-use fault::TableFault;
+use aw_tables::{input_of, tell};
 use std::process::ExitCode;
 use table::table;
 
-/// The most bytes of a table.
-const LIMIT: usize = 67_108_864;
-
 fn main(rt: HostRuntime) -> ExitCode {
-    let Ok(input) = read_all(rt.alloc(), &mut StdSource::new(&rt), LIMIT) else {
-        return ExitCode::from(7);
-    };
-    let text = match table(rt.alloc(), input.as_slice()) {
-        Ok(text) => text,
-        Err(TableFault::Unreadable) => return ExitCode::from(1),
-        Err(TableFault::NoMemory) => return ExitCode::from(10),
-    };
-    match write_all(&mut StdSink::new(&rt), text.as_slice()) {
-        Ok(()) => ExitCode::SUCCESS,
-        Err(_) => ExitCode::from(8),
+    match input_of(&rt) {
+        Ok(input) => tell(&rt, table(rt.alloc(), input.as_slice())),
+        Err(status) => status,
     }
 }

@@ -5,7 +5,6 @@ ghost use Rattle.aw_typed.specs.Types.{AreFor};
 ghost use Rattle.aw_typed.specs.Typing.{types_of, IsMadeFor, NumbersInRange};
 
 use crate::case::{Case, read_case};
-use crate::fault::TableFault;
 use crate::told::{push_session, push_written};
 use aw_accept::{Accepted, accept};
 use aw_list::Text;
@@ -15,6 +14,7 @@ use aw_session::Log;
 use aw_site::Site;
 use aw_spec::{SpecText, read_spec};
 use aw_store::ListFacts;
+use aw_tables::TableFault;
 use aw_typed::{Typed, type_check};
 use aw_wires::{MemWire, Numbers};
 use bstr::ByteSlice;

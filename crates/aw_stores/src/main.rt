@@ -11,7 +11,7 @@ mod reading;
 
 use aw_form::Unread;
 use aw_list::Text;
-use aw_out::{StdSink, StdSource, read_all, write_all};
+use aw_tables::{TableFault, input_of, tell};
 use both::Both;
 use bstr::ByteSlice;
 use draws::Draws;
@@ -21,9 +21,6 @@ use std::process::ExitCode;
 
 /// What stands in front of an entry's name.
 const MARK: &[u8] = b"=== ";
-
-/// The most bytes of a table.
-const LIMIT: usize = 16_777_216;
 
 /// Makes so many calls that are drawn.
 fn draw_calls(alloc: Global, both: &mut Both, count: u64, seed: u64) -> Result<(), AllocError> {
@@ -70,7 +67,7 @@ fn push_entry(alloc: Global, told: &mut Text, name: &[u8], input: &[u8]) -> Resu
 }
 
 /// The lines of all entries. What stands before the first mark is none.
-fn table(alloc: Global, text: &[u8]) -> Result<Text, AllocError> {
+fn table(alloc: Global, text: &[u8]) -> Result<Text, TableFault> {
     let mut told = Text::new(alloc);
     for entry in text.split_str(MARK) {
         if let Some((name, input)) = entry.split_once_str(b"\n") {
@@ -81,14 +78,8 @@ fn table(alloc: Global, text: &[u8]) -> Result<Text, AllocError> {
 }
 
 fn main(rt: HostRuntime) -> ExitCode {
-    let Ok(text) = read_all(rt.alloc(), &mut StdSource::new(&rt), LIMIT) else {
-        return ExitCode::from(7);
-    };
-    let Ok(told) = table(rt.alloc(), text.as_slice()) else {
-        return ExitCode::from(10);
-    };
-    match write_all(&mut StdSink::new(&rt), told.as_slice()) {
-        Ok(()) => ExitCode::SUCCESS,
-        Err(_) => ExitCode::from(8),
+    match input_of(&rt) {
+        Ok(input) => tell(&rt, table(rt.alloc(), input.as_slice())),
+        Err(status) => status,
     }
 }

@@ -14,9 +14,9 @@ ghost use Rattle.aw_write.specs.Writable.{FacesFit};
 use aw_base::{Choice, Grammar, sort_of};
 use aw_list::Text;
 use aw_name::{Node, is_same_node};
-use aw_out::{StdSink, StdSource, read_all, write_all};
 use aw_sched::{Event, SchedFault, read_schedule};
 use aw_spec::{SpecFault, SpecText, read_spec};
+use aw_tables::{TableFault, input_of, tell};
 use aw_text::push_number;
 use aw_typed::{TypeFault, Typed, type_check};
 use aw_write::{read_fits, write_spec};
@@ -26,9 +26,6 @@ use std::process::ExitCode;
 
 /// What stands in front of an entry's name.
 const MARK: &[u8] = b"=== ";
-
-/// The most bytes of a table.
-const LIMIT: usize = 16_777_216;
 
 /// Adds `schedule line 3 form`.
 fn push_place(told: &mut Text, what: &[u8], line: u64, kind: &[u8]) -> Result<(), AllocError> {
@@ -188,7 +185,7 @@ fn push_entry(alloc: Global, told: &mut Text, name: &[u8], input: &[u8]) -> Resu
 }
 
 /// The lines of all entries. What stands before the first mark is none.
-fn table(alloc: Global, text: &[u8]) -> Result<Text, AllocError> {
+fn table(alloc: Global, text: &[u8]) -> Result<Text, TableFault> {
     let mut told = Text::new(alloc);
     for entry in text.split_str(MARK) {
         if let Some((name, input)) = entry.split_once_str(b"\n") {
@@ -199,14 +196,8 @@ fn table(alloc: Global, text: &[u8]) -> Result<Text, AllocError> {
 }
 
 fn main(rt: HostRuntime) -> ExitCode {
-    let Ok(text) = read_all(rt.alloc(), &mut StdSource::new(&rt), LIMIT) else {
-        return ExitCode::from(7);
-    };
-    let Ok(told) = table(rt.alloc(), text.as_slice()) else {
-        return ExitCode::from(10);
-    };
-    match write_all(&mut StdSink::new(&rt), told.as_slice()) {
-        Ok(()) => ExitCode::SUCCESS,
-        Err(_) => ExitCode::from(8),
+    match input_of(&rt) {
+        Ok(input) => tell(&rt, table(rt.alloc(), input.as_slice())),
+        Err(status) => status,
     }
 }

@@ -4,9 +4,10 @@
 
 use aw_base::{Grammar, Node, Trail};
 use aw_list::{Items, Text};
-use aw_out::{PrintFault, Report, StdSink, write_all};
+use aw_out::{PrintFault, Report};
 use aw_plain::put::make_con;
 use aw_plain::{Row, State, Tree, copy_tree, print_rows};
+use aw_tables::{TableFault, tell};
 use std::alloc::{AllocError, Global};
 use std::process::ExitCode;
 
@@ -63,7 +64,7 @@ fn deep_tree(alloc: Global) -> Result<Tree, AllocError> {
 }
 
 /// What is told.
-fn told(alloc: Global) -> Result<Text, AllocError> {
+fn told(alloc: Global) -> Result<Text, TableFault> {
     let mut text = Text::new(alloc);
     let mut rows = Vec::new(alloc);
     rows.push(open_row(alloc)?)?;
@@ -77,11 +78,5 @@ fn told(alloc: Global) -> Result<Text, AllocError> {
 }
 
 fn main(rt: HostRuntime) -> ExitCode {
-    let Ok(text) = told(rt.alloc()) else {
-        return ExitCode::from(10);
-    };
-    match write_all(&mut StdSink::new(&rt), text.as_slice()) {
-        Ok(()) => ExitCode::SUCCESS,
-        Err(_) => ExitCode::from(8),
-    }
+    tell(&rt, told(rt.alloc()))
 }

@@ -7,7 +7,7 @@ mod asked;
 
 use asked::{Asked, read_line};
 use aw_list::Text;
-use aw_out::{StdSink, StdSource, read_all, write_all};
+use aw_tables::{TableFault, input_of, tell};
 use aw_text::push_number;
 use aw_work::{Pair, Work};
 use bstr::ByteSlice;
@@ -16,9 +16,6 @@ use std::process::ExitCode;
 
 /// What stands in front of an entry's name.
 const MARK: &[u8] = b"=== ";
-
-/// The most bytes of a table.
-const LIMIT: usize = 16_777_216;
 
 /// How many pairs were taken, and the sums of their numbers.
 #[derive(Clone, Copy)]
@@ -152,7 +149,7 @@ fn push_entry(alloc: Global, told: &mut Text, name: &[u8], input: &[u8]) -> Resu
 }
 
 /// The lines of all entries. What stands before the first mark is none.
-fn table(alloc: Global, text: &[u8]) -> Result<Text, AllocError> {
+fn table(alloc: Global, text: &[u8]) -> Result<Text, TableFault> {
     let mut told = Text::new(alloc);
     for entry in text.split_str(MARK) {
         if let Some((name, input)) = entry.split_once_str(b"\n") {
@@ -163,14 +160,8 @@ fn table(alloc: Global, text: &[u8]) -> Result<Text, AllocError> {
 }
 
 fn main(rt: HostRuntime) -> ExitCode {
-    let Ok(text) = read_all(rt.alloc(), &mut StdSource::new(&rt), LIMIT) else {
-        return ExitCode::from(7);
-    };
-    let Ok(told) = table(rt.alloc(), text.as_slice()) else {
-        return ExitCode::from(10);
-    };
-    match write_all(&mut StdSink::new(&rt), told.as_slice()) {
-        Ok(()) => ExitCode::SUCCESS,
-        Err(_) => ExitCode::from(8),
+    match input_of(&rt) {
+        Ok(input) => tell(&rt, table(rt.alloc(), input.as_slice())),
+        Err(status) => status,
     }
 }

@@ -21,3 +21,13 @@ impl<T: Drop> From<AllocFailed<T>> for TableFault {
         TableFault::NoMemory
     }
 }
+
+impl TableFault {
+    /// The status of a program that tells nothing for it: 1 where the input has not its form, and 10 where memory ran out.
+    pub(crate) fn status(self) -> u8 {
+        match self {
+            TableFault::Unreadable => 1,
+            TableFault::NoMemory => 10,
+        }
+    }
+}
