@@ -1,5 +1,6 @@
 pub mod Clinic
 pub mod Fitting
+pub mod RuleTyping
 pub mod Types
 pub mod Typing
 pub mod TypeFaults
