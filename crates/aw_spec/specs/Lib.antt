@@ -1,6 +1,7 @@
 pub mod Answers
 pub mod Declares
 pub mod KindNames
+pub mod LastFault
 pub mod Laws
 pub mod LineAnswers
 pub mod Lines

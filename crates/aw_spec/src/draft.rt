@@ -1,13 +1,10 @@
 //! A specification as far as it has been read.
-ghost use Rattle.std.specs.Prelude.{◌≡◌, ◌≤◌, ◌++◌, ◌∷◌, ◌<◌, ◌-◌, [], true, ℕ, List, length, map, slice_get, IfErr, OnOk, Ok, Err, Some, option_map};
+ghost use Rattle.std.specs.Prelude.{◌≡◌, ◌≤◌, ◌++◌, ◌<◌, ◌-◌, [], true, length, slice_get, IfErr, OnOk, Ok, Err, Some, option_map};
 ghost use Rattle.std.specs.Option.{option_copied};
 ghost use Rattle.aw_text.specs.Spelling.{is_name};
-ghost use Rattle.aw_grammar.specs.Declarations.{Entry};
-ghost use Rattle.aw_grammar.specs.GrammarOf.{entry};
-ghost use Rattle.aw_grammar.specs.GrammarView.{sorts_of};
 ghost use Rattle.aw_grammar.specs.Terms.{all_have_contents, are_names, results_of, terms_of};
 ghost use Rattle.aw_grammar.specs.Written.{rule_of_raw};
-ghost use Rattle.aw_face.specs.Faces as face;
+ghost use Rattle.aw_spec.specs.LastFault.{IsLastFault};
 ghost use Rattle.aw_spec.specs.Lines as lines;
 ghost use Rattle.aw_spec.specs.Reading.{says, stage_of, decl_kind, face_kind};
 ghost use Rattle.aw_spec.specs.Stages.{sorts_stage, rules_stage};
@@ -163,7 +160,7 @@ fn last_rule(grammar: &Grammar) -> &Rule
 /// The first child at fault of the rule that was declared last.
 fn last_fault(grammar: &Grammar, faces: &Faces) -> Option<(u8, FaceKind)>
     requires { 0 < length grammar.now.rules }
-    ensures { (front : List Entry) → (e : Entry) → map (entry grammar.now.sorts) grammar.now.rules ≡ front ++ e ∷ [] → option_map (λ x. (x.0, x.1)) result ≡ face.rule_fault (sorts_of grammar.now.sorts) faces.now.offers faces.now.uses e.rule }
+    ensures { IsLastFault grammar.now faces.now (option_map (λ x. (x.0, x.1)) result) }
 {
     rule_fault(grammar.sorts.as_slice(), faces, last_rule(grammar))
 }
