@@ -8,6 +8,10 @@ use Rattle.aw_spec.specs.Reading.{Spec, Good, specification}
 use Rattle.aw_write.specs.SpecLines.{spec_lines, written}
 use Rattle.aw_write.specs.Writable.{FacesFit, IsWritable}
 
+-- the text is read as this specification, where its faces and its types fit it; no line ends it
+abbrev pub IsReadAgain : Spec → List ℕ → Type 0
+IsReadAgain s text = FacesFit s → TypesFit s → specification (lines_of text) ≡ Good s (length (spec_lines s)) false
+
 -- the text of a specification that can be written is read as that specification, on as many lines as it has; no line ends it, so that it asks for no loads
 abbrev pub WrittenIsRead : Type 0
 WrittenIsRead = (s : Spec) → IsWritable s → specification (lines_of (written s)) ≡ Good s (length (spec_lines s)) false

@@ -1,3 +1,4 @@
+pub mod ChildTexts
 pub mod Laws
 pub mod LineTexts
 pub mod SpecLines

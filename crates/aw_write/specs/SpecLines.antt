@@ -1,4 +1,5 @@
--- The lines of a specification: its roles, its constructors, its sorts, the starts by order of sorts, its offers, its uses, its types, the shapes by order of constructors, the carries by order of sorts, its dependences, the line `free` where it asks for it, and its rules, each list in its order.
+-- The lines of a specification: its roles, its constructors, its sorts, the starts by order of sorts, its offers, its uses, its types,
+-- the shapes by order of constructors, the carries by order of sorts, its dependences, the line `free` where it asks for it, and its rules, each list in its order.
 use Rattle.std.specs.Prelude.{ℕ, List, [], ◌∷◌, ◌++◌, ◌+◌, ◌-◌, map, length, take, drop, Option, None, Some, codes, if◌then◌else◌}
 use Rattle.aw_term.specs.Trees.{Head, Con, Num, Text, Leaf, Made, Trees, Nil, More}
 use Rattle.aw_term.specs.Rules.{Term, get}

@@ -10,8 +10,9 @@ ghost use Rattle.aw_grammar.specs.GrammarOf.{words_of, entry, declarations_of};
 ghost use Rattle.aw_grammar.specs.GrammarView.{sorts_of, child_of, rule_of};
 ghost use Rattle.aw_grammar.specs.Declarations.{Entry};
 ghost use Rattle.aw_spec.specs.Lines.{RuleLine};
-ghost use Rattle.aw_write.specs.LineTexts.{params_text, child_text, children_text, text_of_lines};
-ghost use Rattle.aw_write.specs.SpecLines.{named, sides_text, named_child, named_children, later_variables, named_rule, rule_lines};
+ghost use Rattle.aw_write.specs.ChildTexts.{text_with, text_of_next};
+ghost use Rattle.aw_write.specs.LineTexts.{params_text, children_text, text_of_lines};
+ghost use Rattle.aw_write.specs.SpecLines.{sides_text, named_children, later_variables, named_rule, rule_lines};
 ghost use Rattle.aw_write.specs.Writable.{NumbersFit, SmallNumbers};
 
 use crate::names::{push_names, push_params, split_names};
@@ -62,7 +63,7 @@ fn push_child(
     child: &Child,
     results: &[Text],
 ) -> Result<(), AllocError>
-    ensures text { OnOk result (text.new ≡ text.old ++ child_text (record { sort = get [] (words_of g.now).sorts child.now.sort; args = map (named (words_of g.now).cons vars.now) (map term_of child.now.args); results = results.now })) }
+    ensures text { OnOk result (text.new ≡ text.old ++ text_with g.now vars.now child.now results.now) }
     ensures numbers { OnOk result (Each NumbersFit (map term_of child.now.args)) }
 {
     text.push_bytes(sort_name(g, child.sort))?;
@@ -82,7 +83,7 @@ fn push_next<'a>(
     left: &'a [Text],
     child: &Child,
 ) -> Result<&'a [Text], AllocError>
-    ensures text { OnOk result (text.new ≡ text.old ++ (separator.now ++ child_text (named_child (words_of g.now).cons (words_of g.now).sorts vars.now left.entry.now (child_of g.now.sorts child.now)))) }
+    ensures text { OnOk result (text.new ≡ text.old ++ (separator.now ++ text_of_next g.now vars.now child.now left.entry.now)) }
     ensures left { IfOk result (λ rest. rest.now ≡ drop (child_of g.now.sorts child.now).outs left.entry.now) }
     ensures numbers { OnOk result (Each NumbersFit (map term_of child.now.args)) }
 {

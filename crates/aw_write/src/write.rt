@@ -1,11 +1,8 @@
 //! Writing a specification.
-ghost use Rattle.std.specs.Prelude.{◌≡◌, IfOk, length, false};
-ghost use Rattle.aw_lex.specs.Lines.{lines_of};
-ghost use Rattle.aw_spec.specs.Reading.{Good, specification};
-ghost use Rattle.aw_spec.specs.TypesFit.{TypesFit};
+ghost use Rattle.std.specs.Prelude.{◌≡◌, IfOk};
 ghost use Rattle.aw_spec.specs.Views.{spec_seen};
-ghost use Rattle.aw_write.specs.SpecLines.{spec_lines, written};
-ghost use Rattle.aw_write.specs.Writable.{FacesFit};
+ghost use Rattle.aw_write.specs.Laws.{IsReadAgain};
+ghost use Rattle.aw_write.specs.SpecLines.{written};
 
 use crate::lines::{push_declarations, push_faces, push_free};
 use crate::rules::push_rules;
@@ -18,7 +15,7 @@ use std::alloc::{AllocError, Global};
 /// the same specification again, where its faces and its types fit it.
 pub fn write_spec(alloc: Global, s: &SpecText) -> Result<Text, AllocError>
     ensures exact { IfOk result (λ text. text ≡ written (spec_seen s.now)) }
-    ensures again { IfOk result (λ text. FacesFit (spec_seen s.now) → TypesFit (spec_seen s.now) → specification (lines_of text) ≡ Good (spec_seen s.now) (length (spec_lines (spec_seen s.now))) false) }
+    ensures again { IfOk result (λ text. IsReadAgain (spec_seen s.now) text) }
 {
     let mut text = Text::new(alloc);
     push_declarations(&mut text, &s.grammar)?;
