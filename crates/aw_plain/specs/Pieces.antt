@@ -4,6 +4,8 @@ use Rattle.aw_term.specs.Trees.{Leaf, Made, Nil, More}
 use Rattle.aw_term.specs.Rules.{Value}
 use Rattle.aw_term.specs.Configs.{State, Pending, Done, lift}
 use Rattle.aw_term.specs.Artifacts.{Words, head_text, ref_text, value_text}
+use Rattle.aw_grammar.specs.declared.grammar.Grammar.{Grammar}
+use Rattle.aw_grammar.specs.GrammarOf.{words_of}
 use Rattle.std.specs.declared.result.Result.{Result}
 use Rattle.aw_out.specs.declared.error.PrintFault.{PrintFault}
 use Rattle.aw_out.specs.Report.{Bounded, Prints}
@@ -52,6 +54,10 @@ pending w (p ∷ ps) = pending w ps ++ piece_text w p
 -- a piece, and all pieces behind it
 abbrev pub from_piece : Words → Piece → List Piece → List ℕ
 from_piece w p ps = piece_text w p ++ pending w ps
+
+-- a text, a piece behind it, and all pieces behind that one
+abbrev pub with_piece : Grammar → List ℕ → Piece → List Piece → List ℕ
+with_piece g text p ps = text ++ from_piece (words_of g) p ps
 
 -- how much is to be done for one piece: more than for all pieces that come in its place
 abbrev pub piece_work : Piece → ℕ

@@ -7,7 +7,7 @@ ghost use Rattle.aw_plain.specs.TreeView.{value_of, values_of};
 ghost use Rattle.aw_plain.specs.RowView.{plain_row, plain_state, config_of};
 ghost use Rattle.aw_plain.specs.Places.{places, places_of_all};
 ghost use Rattle.aw_plain.specs.Pieces.{opening as plain_opening, arguments as plain_arguments, text_of, texts_under, following};
-ghost use Rattle.aw_plain.specs.Pieces.{piece_text, piece_opening, pending, from_piece, piece_work, pieces_work, Continues};
+ghost use Rattle.aw_plain.specs.Pieces.{piece_text, piece_opening, pending, with_piece, piece_work, pieces_work, Continues};
 
 use crate::fill::lift_all;
 use crate::put::copy_part;
@@ -168,8 +168,8 @@ fn print_piece<'t>(
     text: &mut Text,
     report: &mut Report,
 ) -> Result<(), PrintFault>
-    ensures ok { OnOk result (Continues (text.old ++ from_piece (words_of grammar.now) piece.now pieces.old.items) report.old (text.new ++ pending (words_of grammar.now) pieces.new.items) report.new) }
-    ensures err { IfErr result (λ fault. Prints (text.old ++ from_piece (words_of grammar.now) piece.now pieces.old.items) report.old report.new (Err fault)) }
+    ensures ok { OnOk result (Continues (with_piece grammar.now text.old piece.now pieces.old.items) report.old (text.new ++ pending (words_of grammar.now) pieces.new.items) report.new) }
+    ensures err { IfErr result (λ fault. Prints (with_piece grammar.now text.old piece.now pieces.old.items) report.old report.new (Err fault)) }
     ensures work { OnOk result (pieces_work pieces.new.items < piece_work piece.now + pieces_work pieces.old.items) }
 {
     begin_piece(text, grammar, pieces, piece)?;
