@@ -40,6 +40,10 @@ abbrev pub values_draft : ℕ → Words → Map → List Ref → List Ref → Dr
 values_draft n w k inherited results =
     then (drafts n w k inherited) (then (Whole (codes ") <")) (then (drafts n w k results) (Whole (codes ">\n"))))
 
+-- the values of a node of a grammar, so many constructors deep, and what stands behind them
+abbrev pub node_values_draft : ℕ → made.Grammar → Map → Node → List Ref → Draft
+node_values_draft n g k node inherited = values_draft n (words_of g) k inherited (result_refs (grammar_of g) node)
+
 -- the line of a node, its values so many constructors deep
 abbrev pub row_draft : ℕ → Words → Map → Node → State → List Ref → List Ref → Draft
 row_draft n w k node state inherited results = then (Whole (opening_of_row w node state)) (values_draft n w k inherited results)
