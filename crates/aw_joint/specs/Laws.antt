@@ -47,11 +47,13 @@ FlatIsSubstitution g = (cs : List Choice) → AgreeWhereTaken (joint_run g empty
 
 -- after any choices, one more changes the unfolded values as it changes the trees
 abbrev pub StepsAgree : Grammar → Type 0
-StepsAgree g = (cs : List Choice) (w : Joint) (c : Config) → joint_run g empty_joint cs ≡ Some w → undivided g [] cs ≡ Some c → (x : Choice) → AgreeWhereTaken (joint_taken w x (joint_outcome w g x)) (taken g c x (outcome g c x))
+StepsAgree g = (cs : List Choice) (w : Joint) (c : Config) → joint_run g empty_joint cs ≡ Some w → undivided g [] cs ≡ Some c →
+    (x : Choice) → AgreeWhereTaken (joint_taken w x (joint_outcome w g x)) (taken g c x (outcome g c x))
 
 -- after any choices, the answer over references is the undivided answer
 abbrev pub AnswersAgree : Grammar → Type 0
-AnswersAgree g = (cs : List Choice) (w : Joint) (c : Config) → joint_run g empty_joint cs ≡ Some w → undivided g [] cs ≡ Some c → (x : Choice) → answer_of (joint_outcome w g x) ≡ answer_of (outcome g c x)
+AnswersAgree g = (cs : List Choice) (w : Joint) (c : Config) → joint_run g empty_joint cs ≡ Some w → undivided g [] cs ≡ Some c →
+    (x : Choice) → answer_of (joint_outcome w g x) ≡ answer_of (outcome g c x)
 
 -- the body of the one reference mentions the other
 abbrev pub Leads : Map → Ref → Ref → Type 0
