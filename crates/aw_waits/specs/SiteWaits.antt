@@ -21,7 +21,8 @@ WaitsStays k l = (ps : List Term) (rs : List Ref) (r : Ref) → find l r ≡ Non
 abbrev pub IsUntaken : List Choice → Node → Type 0
 IsUntaken cs m = (r : ℕ) (args : List Ground) → Member (Develop m r args) cs → Never
 
--- Some choices were taken, and k holds some of their equations. A rule of an open node that waits over k for a result of a node on which none of them was taken: then the one node waits for the other in the undivided configuration of these choices.
+-- Some choices were taken, and k holds some of their equations. A rule of an open node that waits over k for a result of a node
+-- on which none of them was taken: then the one node waits for the other in the undivided configuration of these choices.
 abbrev pub WaitsThereToo : Grammar → Type 0
 WaitsThereToo g = (cs : List Choice) (w : Joint) (c : Config) → joint_run g empty_joint cs ≡ Some w → undivided g [] cs ≡ Some c → (k : Map) → IsSubmap k w.equations
     → (h : Held) → Member h w.held → h.state ≡ Pending → (r : Rule) → Member r g.rules → r.sort ≡ h.sort → (m : Node) (l : ℕ) → IsUntaken cs m
