@@ -27,7 +27,8 @@ pub record AreKept (g : Grammar) (hs : List Held) (k : Map) (names late : List R
   pub beside : length ns ≡ length hs
   pub of_node : (i n : ℕ) (h : Held) (x : Record) → slice_get ns i ≡ Some n → slice_get hs i ≡ Some h → slice_get xs n ≡ Some x → IsOf g names h x
   pub told : (i n : ℕ) (h : Held) (x : Record) → slice_get ns i ≡ Some n → slice_get hs i ≡ Some h → slice_get xs n ≡ Some x → AreTold g k names late h x.marks.items
-  pub ends : (i n j : ℕ) (h : Held) (x : Record) (m : Mark) → slice_get ns i ≡ Some n → slice_get hs i ≡ Some h → slice_get xs n ≡ Some x → slice_get x.marks.items j ≡ Some m → WaitsAtEnd g k names h m
+  pub ends : (i n j : ℕ) (h : Held) (x : Record) (m : Mark) → slice_get ns i ≡ Some n → slice_get hs i ≡ Some h → slice_get xs n ≡ Some x →
+      slice_get x.marks.items j ≡ Some m → WaitsAtEnd g k names h m
 
 -- what is kept is fit
 abbrev pub IsFitKept : Grammar → List Ref → Kept → Type 0
@@ -40,6 +41,10 @@ IsKeptBut g hs k names late kept = AreKept g hs k names late kept.numbers.items 
 -- each rule stands at each open node as is kept
 abbrev pub IsKept : Grammar → List Held → Map → List Ref → Kept → Type 0
 IsKept g hs k names kept = IsKeptBut g hs k names [] kept
+
+-- what is kept over the one map, but for the late references, is kept over the other, but for the later ones
+abbrev pub StaysKept : Grammar → List Held → Map → Map → List Ref → List Ref → List Ref → Kept → Type 0
+StaysKept g hs k l names late later kept = IsKeptBut g hs k names late kept → IsKeptBut g hs l names later kept
 
 -- there is room for so many more nodes, which can have numbers, and for so many more rules to wait
 pub record HasRoom (kept : Kept) (nodes waits : ℕ) : Type 0 where

@@ -11,14 +11,14 @@ ghost use Rattle.aw_react.specs.Worklists.{site_worklist};
 ghost use Rattle.aw_work.specs.Triples.{waiting_at};
 ghost use Rattle.aw_kept.specs.declared.kept.Kept.{Kept};
 ghost use Rattle.aw_kept.specs.Items.{waiting_on};
-ghost use Rattle.aw_kept.specs.KeptStates.{AreLate, IsKept, IsKeptBut};
+ghost use Rattle.aw_kept.specs.KeptStates.{AreLate, IsKept, IsKeptBut, StaysKept};
 
 /// What is kept stays so where references are named (`named`), and where equations come, but for the rules that wait for
 /// their left sides (`grown`). And as many pairs wait for the slot of a reference as items of the worklist wait for the
 /// reference (`waiting`).
 pub fn kept_laws()
     ensures named { (g : Grammar) (hs : List Held) (k : Map) (names more late : List Ref) (kept : Kept) → Grows names more → IsKeptBut g hs k names late kept → IsKeptBut g hs k more late kept }
-    ensures grown { (g : Grammar) (hs : List Held) (k l : Map) (names late later : List Ref) (kept : Kept) → IsSubmap k l → AreLate k l late later → IsKeptBut g hs k names late kept → IsKeptBut g hs l names later kept }
+    ensures grown { (g : Grammar) (hs : List Held) (k l : Map) (names late later : List Ref) (kept : Kept) → IsSubmap k l → AreLate k l late later → StaysKept g hs k l names late later kept }
     ensures waiting { (g : Grammar) (hs : List Held) (k : Map) (names : List Ref) (kept : Kept) (slot : ℕ) (r : Ref) → IsNamedOnce names → slice_get names slot ≡ Some r → IsKept g hs k names kept →
         waiting_at slot kept.work.waiting ≡ waiting_on r (site_worklist g k (all_of g hs)) }
 {}
