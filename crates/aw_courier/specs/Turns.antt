@@ -57,7 +57,8 @@ abbrev pub ending : Courier → List Heard → List Frame
 ending now ys = []
 
 -- The first requests of a turn got their replies. `talks` tells what went over the wire, and `rest` which requests are still to come.
-pub record IsUnderway {W' : Type 0} (g : Grammar) (talks : W' → W' → List ℕ → List ℕ → Bool → Type 0) (c : Courier) (r : ℕ) (u v : W') (m : Mailed) (rest : Courier → List Heard → List Frame) (moved : Bool) : Type 0 where
+pub record IsUnderway {W' : Type 0} (g : Grammar) (talks : W' → W' → List ℕ → List ℕ → Bool → Type 0) (c : Courier) (r : ℕ) (u v : W') (m : Mailed)
+    (rest : Courier → List Heard → List Frame) (moved : Bool) : Type 0 where
   pub asked : List Frame
   pub heard : List Heard
   pub replies : List (List ℕ)
