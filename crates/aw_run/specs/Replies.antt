@@ -133,7 +133,8 @@ NetFailed (Some (Carries rounds)) openings_before openings_after faults_before f
 -- what a courier hears is no reply.
 abbrev pub IsDoneOrStopped : Option Command → Status → Type 0
 IsDoneOrStopped command status =
-    (status ≡ Done) ⊎ (status ≡ NoMemory) ⊎ (status ≡ ReadFault) ⊎ (status ≡ WriteFault) ⊎ ((status ≡ NetFault) × (uses_wire command ≡ true)) ⊎ (IsJournalStop status × (uses_disk command ≡ true)) ⊎ ((status ≡ BadReply) × (carries command ≡ true))
+    (status ≡ Done) ⊎ (status ≡ NoMemory) ⊎ (status ≡ ReadFault) ⊎ (status ≡ WriteFault)
+    ⊎ ((status ≡ NetFault) × (uses_wire command ≡ true)) ⊎ (IsJournalStop status × (uses_disk command ≡ true)) ⊎ ((status ≡ BadReply) × (carries command ≡ true))
 
 -- where the source tells what is left, that input has P, and otherwise some input has
 abbrev pub ForInput : Option (List ℕ) → (List ℕ → Type 0) → Type 0
