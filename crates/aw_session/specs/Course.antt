@@ -27,7 +27,8 @@ pub record IsGoing {S W : Type 0} (answers : S → Frame → List ℕ → S → 
   pub talked : talks u v read (joined replies) false
 
 -- the session has ended, and this is its log
-pub record IsDone {S W : Type 0} (answers : S → Frame → List ℕ → S → Type 0) (talks : W → W → List ℕ → List ℕ → Bool → Type 0) (content : W → Option Content) (s t : S) (u v : W) (log : SessionLog) : Type 0 where
+pub record IsDone {S W : Type 0} (answers : S → Frame → List ℕ → S → Type 0) (talks : W → W → List ℕ → List ℕ → Bool → Type 0)
+    (content : W → Option Content) (s t : S) (u v : W) (log : SessionLog) : Type 0 where
   pub read : List ℕ
   pub written : List ℕ
   pub failed : Bool
@@ -36,7 +37,8 @@ pub record IsDone {S W : Type 0} (answers : S → Frame → List ℕ → S → T
   pub left : LeavesNone log.how (content v)
 
 -- the session has stopped, since a frame got no reply
-pub record IsHalted {S W F : Type 0} (answers : S → Frame → List ℕ → S → Type 0) (breaks : S → Frame → F → S → Type 0) (talks : W → W → List ℕ → List ℕ → Bool → Type 0) (s t : S) (u v : W) (fault : F) : Type 0 where
+pub record IsHalted {S W F : Type 0} (answers : S → Frame → List ℕ → S → Type 0) (breaks : S → Frame → F → S → Type 0) (talks : W → W → List ℕ → List ℕ → Bool → Type 0)
+    (s t : S) (u v : W) (fault : F) : Type 0 where
   pub read : List ℕ
   pub written : List ℕ
   pub talked : talks u v read written false

@@ -30,7 +30,8 @@ abbrev pub Follow : List Session → Content → Content → Type 0
 Follow sessions old new = new.passed ≡ old.passed ++ sessions
 
 -- These sessions were served, none was dialed, and the count of faults rose exactly where one of them broke off.
-pub record IsServing {S W : Type 0} (answers : S → Frame → List ℕ → S → Type 0) (content : W → Option Content) (faults failed_openings : W → ℕ) (role : ℕ) (s t : S) (u v : W) (log : List SessionLog) : Type 0 where
+pub record IsServing {S W : Type 0} (answers : S → Frame → List ℕ → S → Type 0) (content : W → Option Content) (faults failed_openings : W → ℕ)
+    (role : ℕ) (s t : S) (u v : W) (log : List SessionLog) : Type 0 where
   pub sessions : List Session
   pub served : AreServed answers role s sessions log t
   pub told : Both (Follow sessions) (content u) (content v)
@@ -56,7 +57,8 @@ LastStops {S} {F} answers breaks role m t fault None = t ≡ m
 LastStops {S} {F} answers breaks role m t fault (Some x) = (x.role ≡ role) × (x.dialed ≡ false) × (x.failed ≡ false) × IsStopped answers breaks m t x.read x.written fault
 
 -- Sessions were served, and in the last one a frame got no reply, or there was no memory for one more session.
-pub record IsCutOff {S W F : Type 0} (answers : S → Frame → List ℕ → S → Type 0) (breaks : S → Frame → F → S → Type 0) (content : W → Option Content) (role : ℕ) (s t : S) (u v : W) (fault : F) : Type 0 where
+pub record IsCutOff {S W F : Type 0} (answers : S → Frame → List ℕ → S → Type 0) (breaks : S → Frame → F → S → Type 0) (content : W → Option Content)
+    (role : ℕ) (s t : S) (u v : W) (fault : F) : Type 0 where
   pub log : List SessionLog
   pub sessions : List Session
   pub last : Option Session
@@ -71,7 +73,8 @@ StopsServing {S} {W} {F} answers breaks content failed_openings role s t u v Net
 StopsServing {S} {W} {F} answers breaks content failed_openings role s t u v (Node fault) = IsCutOff answers breaks content role s t u v fault
 
 -- the next session was served, and this is its log
-pub record IsNext {S W : Type 0} (answers : S → Frame → List ℕ → S → Type 0) (content : W → Option Content) (faults failed_openings : W → ℕ) (role : ℕ) (s t : S) (u v : W) (entry : SessionLog) : Type 0 where
+pub record IsNext {S W : Type 0} (answers : S → Frame → List ℕ → S → Type 0) (content : W → Option Content) (faults failed_openings : W → ℕ)
+    (role : ℕ) (s t : S) (u v : W) (entry : SessionLog) : Type 0 where
   pub session : Session
   pub role_is : session.role ≡ role
   pub came : session.dialed ≡ false

@@ -62,7 +62,8 @@ pub record IsStoppedStretch {S : Type 0} (answers : S → Frame → List ℕ →
   pub stops : StopsSo talks to replies why
 
 -- the frames that were answered before one got no reply
-pub record IsHaltedStretch {S F : Type 0} (answers : S → Frame → List ℕ → S → Type 0) (breaks : S → Frame → F → S → Type 0) (talks : List ℕ → Bool → Type 0) (s t : S) (from : List ℕ) (fault : F) : Type 0 where
+pub record IsHaltedStretch {S F : Type 0} (answers : S → Frame → List ℕ → S → Type 0) (breaks : S → Frame → F → S → Type 0) (talks : List ℕ → Bool → Type 0)
+    (s t : S) (from : List ℕ) (fault : F) : Type 0 where
   pub frames : List Frame
   pub replies : List (List ℕ)
   pub between : S

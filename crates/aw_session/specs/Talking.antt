@@ -2,6 +2,7 @@
 use Rattle.std.specs.Prelude.{◌≡◌, ℕ, ◌<◌, ◌≤◌, List, length, take, [], ◌++◌, Bool, true, false, ◌||◌, Option}
 use Rattle.aw_out.specs.Causes.{Rose}
 use Rattle.aw_out.specs.Wires.{Session, Content, Both, with_last}
+use Rattle.aw_out.specs.declared.edge.Wire as wires
 
 -- the session after these bytes were read and written in it, and perhaps a call failed
 abbrev pub grown : List ℕ → List ℕ → Bool → Session → Session
@@ -23,6 +24,10 @@ pub record Talks {W : Type 0} (content : W → Option Content) (is_open : W → 
   pub told : Both (Grows read written failed) (content old) (content new)
   pub counts : Counts failed (faults old) (faults new)
   pub openings : failed_openings new ≡ failed_openings old
+
+-- the same, where the wire is seen by what its trait says of it
+abbrev pub TalksOver : {W : Type 0} → wires.Ghosts W → W → W → List ℕ → List ℕ → Bool → Type 0
+TalksOver f old new = Talks f.content f.is_open f.faults f.failed_openings old new
 
 -- of some bytes a front part was written, but not all, and then a write failed
 pub record TalksInPart {W : Type 0} (content : W → Option Content) (is_open : W → Bool) (faults failed_openings : W → ℕ) (old new : W) (bytes : List ℕ) : Type 0 where

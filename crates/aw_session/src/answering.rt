@@ -2,7 +2,7 @@
 ghost use Rattle.std.specs.Prelude.{◌≡◌, ◌+◌, ◌-◌, ◌<◌, ◌≤◌, ◌^◌, [], true, false, length, IfOk, IfErr, OnOk};
 ghost use Rattle.aw_session.specs.Broken.{StopsAt};
 ghost use Rattle.aw_session.specs.Steps.{Goes, IsStoppedStretch, IsHaltedStretch};
-ghost use Rattle.aw_session.specs.Talking.{Talks};
+ghost use Rattle.aw_session.specs.Talking.{TalksOver};
 
 use crate::handles::Handles;
 use crate::writing::write_all;
@@ -40,8 +40,8 @@ fn answer_next<W: Wire, H: Handles>(
     requires sound { reader.old.failed ≡ false }
     requires open { W.is_open wire.old ≡ true }
     ensures ready { OnOk result (H.ready node.new) }
-    ensures ok { IfOk result (λ went. Goes H.answers (Talks W.content W.is_open W.faults W.failed_openings wire.old wire.new []) node.old node.new reader.old reader.new went) }
-    ensures err { IfErr result (λ fault. StopsAt H.breaks reader.old.bytes node.old fault node.new × Talks W.content W.is_open W.faults W.failed_openings wire.old wire.new [] [] false) }
+    ensures ok { IfOk result (λ went. Goes H.answers (TalksOver ⟦<W as Wire>⟧ wire.old wire.new []) node.old node.new reader.old reader.new went) }
+    ensures err { IfErr result (λ fault. StopsAt H.breaks reader.old.bytes node.old fault node.new × TalksOver ⟦<W as Wire>⟧ wire.old wire.new [] [] false) }
 {
     match reader.next()? {
         Next::Need => Ok(Went::Waits),
@@ -69,9 +69,9 @@ pub(crate) fn answer_frames<W: Wire, H: Handles>(
     requires room { count.old + length reader.old.bytes < 2 ^ 64 }
     ensures ready { OnOk result (H.ready node.new) }
     ensures counted { OnOk result (count.old ≤ count.new) }
-    ensures ok { IfOk result (λ why. IsStoppedStretch H.answers (Talks W.content W.is_open W.faults W.failed_openings wire.old wire.new []) node.old node.new reader.old.bytes reader.new.bytes (count.new - count.old) why) }
+    ensures ok { IfOk result (λ why. IsStoppedStretch H.answers (TalksOver ⟦<W as Wire>⟧ wire.old wire.new []) node.old node.new reader.old.bytes reader.new.bytes (count.new - count.old) why) }
     ensures sound { IfOk result (λ why. why ≡ Stop.Waits → reader.new.failed ≡ false) }
-    ensures err { IfErr result (λ fault. IsHaltedStretch H.answers H.breaks (Talks W.content W.is_open W.faults W.failed_openings wire.old wire.new []) node.old node.new reader.old.bytes fault) }
+    ensures err { IfErr result (λ fault. IsHaltedStretch H.answers H.breaks (TalksOver ⟦<W as Wire>⟧ wire.old wire.new []) node.old node.new reader.old.bytes fault) }
 {
     loop {
         match answer_next(reader, node, wire)? {
