@@ -1,5 +1,5 @@
 -- The row that a holding is seen as.
-use Rattle.std.specs.Prelude.{ℕ, ◌-◌, ◌^◌, ◌≤◌, min, vec_len, vec_capacity, length}
+use Rattle.std.specs.Prelude.{ℕ, ◌-◌, ◌^◌, min, vec_len, vec_capacity}
 use Rattle.aw_held.specs.Row.{Row}
 use Rattle.aw_held.specs.Picked.{picked, AreKnown, AreApart}
 use Rattle.aw_held.specs.declared.holding.Holding.TheInside.{Inside}

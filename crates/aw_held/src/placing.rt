@@ -9,6 +9,27 @@ use crate::holding::Holding;
 use aw_name::Node;
 use aw_term::order::{is_before, is_node};
 
+/// Between which places a node goes: all held nodes in front of the first place are before it, and none from the second on. It is
+/// sought from the end, in steps that double, since nodes mostly come in their order.
+fn bounds_of(held: &Holding, node: &Node) -> (usize, usize)
+    requires { IsInOrder held.now.items }
+    ensures within { (result.0 ≤ result.1) × (result.1 ≤ length held.now.items) }
+    ensures front { AllWithin (λ h. node_lt h.node node.now ≡ true) held.now.items 0 result.0 }
+    ensures rest { AllWithin (λ h. node_lt h.node node.now ≡ false) held.now.items result.1 (length held.now.items) }
+{
+    let mut high = held.len();
+    let mut step = 1usize;
+    while high > 0 {
+        let at = high.saturating_sub(step);
+        if is_before(&held.at(at).node, node) {
+            return (at + 1, high);
+        }
+        high = at;
+        step = step.saturating_mul(2);
+    }
+    (0, 0)
+}
+
 /// How many held nodes are before a node.
 fn count_before(held: &Holding, node: &Node) -> usize
     requires { IsInOrder held.now.items }
@@ -16,8 +37,7 @@ fn count_before(held: &Holding, node: &Node) -> usize
     ensures front { AllWithin (λ h. node_lt h.node node.now ≡ true) held.now.items 0 result }
     ensures rest { AllWithin (λ h. node_lt h.node node.now ≡ false) held.now.items result (length held.now.items) }
 {
-    let mut low = 0;
-    let mut high = held.len();
+    let (mut low, mut high) = bounds_of(held, node);
     while low < high {
         let middle = low + (high - low) / 2;
         if is_before(&held.at(middle).node, node) {

@@ -1,4 +1,4 @@
-use Rattle.std.proofs.Common.{get_or, Some, ◌≡◌, ◌<◌, ◌∙◌, length, sym, arith}
+use Rattle.std.proofs.Common.{get_or, Some, ◌≡◌, ◌∙◌, sym, arith}
 use Rattle.std.specs.Prelude.{slice_get}
 use Rattle.std.proofs.lemmas.Option.{slice_get-get_or, get_or_from_slice_get}
 use Rattle.aw_held.specs.Picked.{picked}

@@ -1,6 +1,6 @@
-use Rattle.std.proofs.Common.{◌≡◌, ◌++◌, ◌∷◌, [], length, sym, subst, arith}
+use Rattle.std.proofs.Common.{◌≡◌, length, sym, subst, arith}
 use Rattle.std.specs.Prelude.{insert}
-use Rattle.aw_held.specs.Picked.{picked, AreKnown, AreApart}
+use Rattle.aw_held.specs.Picked.{AreKnown, AreApart}
 use Rattle.aw_held.proofs.PickedLemmas.{put_items, put_known, put_apart}
 use Rattle.aw_held.proofs.holding.put_number.Goals as goal
 

@@ -1,5 +1,4 @@
 use Rattle.std.proofs.Common.{◌≡◌, ◌∙◌, subst, sym, refl}
-use Rattle.std.specs.Prelude.{insert}
 use Rattle.aw_held.specs.InOrder.{IsInOrder, insert_in}
 use Rattle.aw_held.proofs.InOrderLemmas.{up_of, far, ordered_inserted, inserted_before}
 use Rattle.aw_held.proofs.placing.put_between.Goals as goal
