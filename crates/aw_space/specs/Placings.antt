@@ -63,4 +63,5 @@ Compares kept came (Conflict k c) = (k ≡ kept) × (c ≡ came) × (kept ≢ ca
 abbrev pub Puts : List Ref → List program.Held → Node → List Ref → Placed → List program.Held → Type 0
 Puts names old n rs New new = Lacks n old × (new ≡ insert_in (called_open n rs) old) × (all_named names rs ≡ true)
 Puts names old n rs Same new = ((i : ℕ) × (h : program.Held) × (place_in n old ≡ Some i) × (slice_get old i ≡ Some h) × (h.inherited ≡ rs)) × (new ≡ old)
-Puts names old n rs (Conflict kept came) new = ((i : ℕ) × (h : program.Held) × (place_in n old ≡ Some i) × (slice_get old i ≡ Some h) × (kept ≡ h.inherited)) × (came ≡ rs) × (kept ≢ came) × (new ≡ old)
+Puts names old n rs (Conflict kept came) new =
+    ((i : ℕ) × (h : program.Held) × (place_in n old ≡ Some i) × (slice_get old i ≡ Some h) × (kept ≡ h.inherited)) × (came ≡ rs) × (kept ≢ came) × (new ≡ old)

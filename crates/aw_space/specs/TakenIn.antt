@@ -9,10 +9,11 @@ use Rattle.aw_held.specs.Row.{Row}
 use Rattle.aw_kept.specs.declared.kept.Kept.{Kept}
 use Rattle.aw_kept.specs.KeptStates.{HasRoom}
 use Rattle.aw_space.specs.Costs.{rules_of}
-use Rattle.aw_space.specs.Missing.{with_node}
+use Rattle.aw_space.specs.Missing.{missing_node, with_node}
 use Rattle.aw_space.specs.Openings.{IsOpenable, IsReady, tests_of}
 use Rattle.aw_space.specs.Waking.{turns_cost}
 use Rattle.aw_space.specs.declared.opening.Opening.{Opening}
+use Rattle.aw_space.specs.declared.placing.Placing.{Placing}
 
 -- the node, if there is one, is open with as many references as its sort takes
 abbrev pub IsOpenableIf : Grammar → Option Held → Type 0
@@ -37,3 +38,7 @@ rules_if g (Some h) = rules_of g (sort_or (sort_of g h.node))
 -- the guards of a node, if there is one, and those that wait for each of these equations in turn
 abbrev pub taken_cost : Grammar → Option Held → List Held → Map → List Equation → ℕ
 taken_cost g new hs k es = rules_if g new + turns_cost g (all_of g (with_node new hs)) k es
+
+-- the same of a call, if there is one, whose node may be held
+abbrev pub call_taken_cost : Grammar → Option Placing → List Held → Map → List Equation → ℕ
+call_taken_cost g call hs k es = taken_cost g (missing_node call hs) hs k es

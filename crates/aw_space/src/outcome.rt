@@ -9,10 +9,9 @@ ghost use Rattle.aw_joint.specs.Joint.{outcome_in};
 ghost use Rattle.aw_space.specs.Sound.{IsSound};
 ghost use Rattle.aw_react.specs.Worlds.{node_of};
 ghost use Rattle.aw_kept.specs.KeptStates.{IsKept};
-ghost use Rattle.aw_space.specs.Costs.{choice_cost};
 ghost use Rattle.aw_space.specs.Outcomes.{IsMade, IsOutcome};
 ghost use Rattle.aw_space.specs.Spaces.{is_home, space_after};
-ghost use Rattle.aw_space.specs.SpaceView.{space_of};
+ghost use Rattle.aw_space.specs.SpaceView.{choice_cost_in, space_of};
 ghost use Rattle.aw_space.specs.Valid.{IsValid};
 
 use crate::starting::{root, take_start};
@@ -130,7 +129,7 @@ pub fn carry_out<F: Facts, L: Ledger>(
     ensures err_choices { OnErr result (choices.new.items ≡ choices.old.items) }
     ensures err_map { OnErr result (F.map facts.new ≡ F.map facts.old) }
     ensures stands { IsKept (grammar_of grammar.now) held.new.items (F.map facts.new) (F.names facts.new) kept.new }
-    ensures steps { steps.new + 1 ≤ steps.old + choice_cost (grammar_of grammar.now) role (space_of (grammar_of grammar.now) held.old.items choices.old.items (F.map facts.old)) (choice_of choice.now) }
+    ensures steps { steps.new + 1 ≤ steps.old + choice_cost_in (grammar_of grammar.now) role held.old.items choices.old.items (F.map facts.old) (choice_of choice.now) }
 {
     match choice {
         Choice::Start { sort, case } => {

@@ -44,12 +44,12 @@ pub struct Space<'g, F: Facts> {
 }
 
 impl<'g, F: Facts> Space<'g, F> {
-    ghost use Rattle.aw_space.specs.Spaces.{is_home, outcome, space_after, call_of, taken_in, clash_with, worklist};
-    ghost use Rattle.aw_space.specs.Costs.{rules_of, waiting_on, choice_cost, taking_cost};
+    ghost use Rattle.aw_space.specs.Spaces.{is_home, outcome, space_after, call_of, clash_with, worklist};
+    ghost use Rattle.aw_space.specs.Costs.{rules_of, waiting_on};
     ghost use Rattle.aw_space.specs.Keeping.{KeepsFacts, KeepsNodes, KeepsNodesBut};
     ghost use Rattle.aw_space.specs.Outcomes.{IsMade, IsOutcome};
     ghost use Rattle.aw_space.specs.Placings.{MayBeCalled, MayBeCalledIf, MayBeLearnt, Places, called_by};
-    ghost use Rattle.aw_space.specs.Seen.{grammar_in, space_seen, IsUnchanged};
+    ghost use Rattle.aw_space.specs.Seen.{grammar_in, space_seen, IsUnchanged, TakesIn, choice_cost_at, taking_cost_at};
 
     /// A space of a role that holds nothing, over a store without equations.
     pub fn new(alloc: Global, g: &'g Accepted, role: u16, facts: F) -> Space<'g, F>
@@ -146,7 +146,7 @@ impl<'g, F: Facts> Space<'g, F> {
         ensures err { OnErr result (IsUnchanged ⟦<F as Facts>⟧ self.old self.new) }
         ensures facts { KeepsFacts (F.map self.old.facts) (F.map self.new.facts) }
         ensures nodes { KeepsNodesBut (node_of (choice_of choice.now)) (space_seen ⟦<F as Facts>⟧ self.old).held (space_seen ⟦<F as Facts>⟧ self.new).held }
-        ensures steps { steps.new ≤ steps.old + choice_cost (grammar_of g.now.grammar) self.old.role (space_seen ⟦<F as Facts>⟧ self.old) (choice_of choice.now) }
+        ensures steps { steps.new ≤ steps.old + choice_cost_at ⟦<F as Facts>⟧ (grammar_of g.now.grammar) self.old (choice_of choice.now) }
         ensures untested { IfOk result (λ o. (answer_of o.answer ≡ Taken → ⊥) → steps.new ≡ steps.old) }
     {
         let outcome = self.foresee(g, choice, steps)?;
@@ -173,7 +173,7 @@ impl<'g, F: Facts> Space<'g, F> {
         ensures err { OnErr result (IsUnchanged ⟦<F as Facts>⟧ self.old self.new) }
         ensures facts { KeepsFacts (F.map self.old.facts) (F.map self.new.facts) }
         ensures nodes { KeepsNodesBut (node_of (choice_of choice.now)) (space_seen ⟦<F as Facts>⟧ self.old).held (space_seen ⟦<F as Facts>⟧ self.new).held }
-        ensures steps { answer_of foreseen.now.answer ≡ Taken → steps.new + 1 ≤ steps.old + choice_cost (grammar_of g.now.grammar) self.old.role (space_seen ⟦<F as Facts>⟧ self.old) (choice_of choice.now) }
+        ensures steps { answer_of foreseen.now.answer ≡ Taken → steps.new + 1 ≤ steps.old + choice_cost_at ⟦<F as Facts>⟧ (grammar_of g.now.grammar) self.old (choice_of choice.now) }
         ensures untested { (answer_of foreseen.now.answer ≡ Taken → ⊥) → steps.new ≡ steps.old }
     {
         if !foreseen.is_taken() {
@@ -200,7 +200,7 @@ impl<'g, F: Facts> Space<'g, F> {
         ensures role { self.new.role ≡ self.old.role }
         ensures space { OnOk result (space_seen ⟦<F as Facts>⟧ self.new ≡ space_after (grammar_of g.now.grammar) self.old.role (space_seen ⟦<F as Facts>⟧ self.old) (choice_of choice.now)) }
         ensures err { OnErr result (IsUnchanged ⟦<F as Facts>⟧ self.old self.new) }
-        ensures steps { steps.new + 1 ≤ steps.old + choice_cost (grammar_of g.now.grammar) self.old.role (space_seen ⟦<F as Facts>⟧ self.old) (choice_of choice.now) }
+        ensures steps { steps.new + 1 ≤ steps.old + choice_cost_at ⟦<F as Facts>⟧ (grammar_of g.now.grammar) self.old (choice_of choice.now) }
     {
         carry_out(
             g.grammar(),
@@ -284,11 +284,11 @@ impl<'g, F: Facts> Space<'g, F> {
         requires free { clash_with (called_by (grammar_of g.now.grammar) (option_copied call)) (list_map equation_of es.now) (space_seen ⟦<F as Facts>⟧ self.old) ≡ None }
         ensures grammar { self.new.accepted.now.grammar ≡ self.old.accepted.now.grammar }
         ensures role { self.new.role ≡ self.old.role }
-        ensures space { OnOk result (space_seen ⟦<F as Facts>⟧ self.new ≡ taken_in (called_by (grammar_of g.now.grammar) (option_copied call.entry)) (list_map equation_of es.now) (space_seen ⟦<F as Facts>⟧ self.old)) }
+        ensures space { OnOk result (TakesIn ⟦<F as Facts>⟧ (grammar_of g.now.grammar) (option_copied call.entry) (list_map equation_of es.now) self.old self.new) }
         ensures err { OnErr result (IsUnchanged ⟦<F as Facts>⟧ self.old self.new) }
         ensures facts { KeepsFacts (F.map self.old.facts) (F.map self.new.facts) }
         ensures nodes { KeepsNodes (space_seen ⟦<F as Facts>⟧ self.old).held (space_seen ⟦<F as Facts>⟧ self.new).held }
-        ensures steps { steps.new ≤ steps.old + taking_cost (grammar_of g.now.grammar) (called_by (grammar_of g.now.grammar) (option_copied call.entry)) (list_map equation_of es.now) (space_seen ⟦<F as Facts>⟧ self.old) }
+        ensures steps { steps.new ≤ steps.old + taking_cost_at ⟦<F as Facts>⟧ (grammar_of g.now.grammar) (option_copied call.entry) (list_map equation_of es.now) self.old }
     {
         take_in(
             g.grammar(),

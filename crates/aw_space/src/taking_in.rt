@@ -10,7 +10,7 @@ ghost use Rattle.aw_react.specs.Receiving.{add_all, first_clash};
 ghost use Rattle.aw_kept.specs.KeptStates.{IsKept};
 ghost use Rattle.aw_space.specs.Missing.{missing_node, with_node, inherited_by, LacksIf};
 ghost use Rattle.aw_space.specs.Openings.{held_in};
-ghost use Rattle.aw_space.specs.TakenIn.{IsOpenableIf, IsReadyIf, tests_if, taken_cost};
+ghost use Rattle.aw_space.specs.TakenIn.{IsOpenableIf, IsReadyIf, tests_if, call_taken_cost};
 
 use crate::calls::called;
 use crate::learning::learn_in_turn;
@@ -111,7 +111,7 @@ pub fn take_in<F: Facts, L: Ledger>(
     ensures err_held { OnErr result (held.new.items ≡ held.old.items) }
     ensures err_map { OnErr result (F.map facts.new ≡ F.map facts.old) }
     ensures stands { IsKept (grammar_of grammar.now) held.new.items (F.map facts.new) (F.names facts.new) kept.new }
-    ensures steps { steps.new ≤ steps.old + taken_cost (grammar_of grammar.now) (missing_node (option_copied call.entry) held.old.items) held.old.items (F.map facts.old) (list_map equation_of es.now) }
+    ensures steps { steps.new ≤ steps.old + call_taken_cost (grammar_of grammar.now) (option_copied call.entry) held.old.items (F.map facts.old) (list_map equation_of es.now) }
 {
     let new = missing(held, call)?;
     let more = copy_equations(held.allocator(), es.as_slice())?;

@@ -17,9 +17,9 @@ ghost use Rattle.aw_apply.specs.Guard.{guard_all};
 ghost use Rattle.aw_apply.specs.Telling.{weighed_of, HasRoom};
 ghost use Rattle.aw_react.specs.ValidNames.{takes_as};
 ghost use Rattle.aw_space.specs.Sound.{IsSound};
-ghost use Rattle.aw_kept.specs.Items.{RuleStands, StandsAt};
+ghost use Rattle.aw_kept.specs.Items.{StandsAt};
 ghost use Rattle.aw_kept.specs.KeptStates.{IsKept};
-ghost use Rattle.aw_space.specs.Weighing.{Weighs, HasRoomFor, IsRefused};
+ghost use Rattle.aw_space.specs.Weighing.{Weighs, HasRoomFor, IsRefused, StandsSo};
 
 use aw_apply::{Steps, Weighed, test_rule, weigh_guard};
 use aw_base::sort_at;
@@ -61,10 +61,10 @@ fn weigh_standing<F: Facts, L: Ledger>(
     requires shallow { all_nesting (join (map pattern_of rule.now.patterns)) ≤ 32 }
     requires room { length (all_leaves (join (map pattern_of rule.now.patterns))) ≤ 64 }
     ensures room { IfOk result (λ w. HasRoom (length rule.now.children) held.now.node w) }
-    ensures value { IfOk result (λ w. (sorts : List SortValue) → RuleStands (F.map facts.now) held.now.node held.now.inherited (rule_of sorts rule.now) stands →
+    ensures value { IfOk result (λ w. (sorts : List SortValue) → StandsSo (F.map facts.now) held.now sorts rule.now stands →
         weighed_of (rule_of sorts rule.now) w ≡ after_guard held.now.node (rule_of sorts rule.now) (guard_all (F.map facts.now) 1 (map pattern_of rule.now.patterns) held.now.inherited)) }
     ensures steps { steps.new ≤ steps.old + 1 }
-    ensures untested { IfOk result (λ w. (sorts : List SortValue) → RuleStands (F.map facts.now) held.now.node held.now.inherited (rule_of sorts rule.now) stands → IsRefused w → steps.new ≡ steps.old) }
+    ensures untested { IfOk result (λ w. (sorts : List SortValue) → StandsSo (F.map facts.now) held.now sorts rule.now stands → IsRefused w → steps.new ≡ steps.old) }
 {
     match refused_by(stands) {
         Some(answer) => Ok(Weighed::Refused(answer)),
@@ -93,10 +93,10 @@ fn weigh_rule<F: Facts, L: Ledger>(
     requires room { length (all_leaves (join (map pattern_of rule.now.patterns))) ≤ 64 }
     ensures room { IfOk result (λ w. HasRoom (length rule.now.children) held.now.node w) }
     ensures value { IfOk result (λ w. (sorts : List SortValue) (h : P.Held) → h.sort ≡ sort → h.inherited ≡ held.now.inherited →
-        (rule.now.sort ≡ sort → RuleStands (F.map facts.now) held.now.node held.now.inherited (rule_of sorts rule.now) stands) →
+        (rule.now.sort ≡ sort → StandsSo (F.map facts.now) held.now sorts rule.now stands) →
         weighed_of (rule_of sorts rule.now) w ≡ by_rule (Some (rule_of sorts rule.now)) (F.map facts.now) held.now.node (map ground_of args.now) h) }
     ensures steps { steps.new ≤ steps.old + 1 }
-    ensures untested { IfOk result (λ w. (sorts : List SortValue) → (rule.now.sort ≡ sort → RuleStands (F.map facts.now) held.now.node held.now.inherited (rule_of sorts rule.now) stands) →
+    ensures untested { IfOk result (λ w. (sorts : List SortValue) → (rule.now.sort ≡ sort → StandsSo (F.map facts.now) held.now sorts rule.now stands) →
         IsRefused w → steps.new ≡ steps.old) }
 {
     if rule.sort != sort {
