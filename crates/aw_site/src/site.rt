@@ -37,14 +37,14 @@ pub struct Site<'g, F: Facts> {
 impl<'g, F: Facts> Site<'g, F> {
     ghost use Rattle.aw_react.specs.Choosing.{answer_to, choose as plain_choose};
     ghost use Rattle.aw_react.specs.Reacting.{receive as plain_receive};
-    ghost use Rattle.aw_react.specs.SiteEvents.{after_choice, after_message};
+    ghost use Rattle.aw_react.specs.SiteEvents.{after_message};
     ghost use Rattle.aw_choice.specs.ChoiceView.{item_of};
     ghost use Rattle.aw_react.specs.Sites.{empty_site};
     ghost use Rattle.aw_react.specs.Worklists.{site_worklist};
     ghost use Rattle.aw_msg.specs.Messages.{MessageInRange};
     ghost use Rattle.aw_term.specs.WellFormed.{Each};
     ghost use Rattle.aw_site.specs.Answers.{sent_by, sent_for, IsReceived};
-    ghost use Rattle.aw_site.specs.Seen.{grammar_in, role_in, map_in, nodes_in, IsShown};
+    ghost use Rattle.aw_site.specs.Seen.{grammar_in, role_in, map_in, nodes_in, IsShown, ShowsChoice};
 
     /// A site of a role that holds nothing, over a store without equations. Its messages carry loads, or none does.
     pub fn new(alloc: Global, g: &'g Accepted, role: u16, facts: F, loads: bool) -> Site<'g, F>
@@ -113,7 +113,7 @@ impl<'g, F: Facts> Site<'g, F> {
         ensures role { role_in ⟦<F as Facts>⟧ self.new ≡ role_in ⟦<F as Facts>⟧ self.old }
         ensures answer { IfOk result (λ r. (s : P.Site) → IsShown ⟦<F as Facts>⟧ self.old s → answer_of r.0 ≡ answer_to (plain_choose (grammar_of g.now.grammar) s (choice_of choice.now))) }
         ensures count { IfOk result (λ r. (s : P.Site) → IsShown ⟦<F as Facts>⟧ self.old s → r.1 ≡ length (sent_by (plain_choose (grammar_of g.now.grammar) s (choice_of choice.now)))) }
-        ensures site { OnOk result ((s : P.Site) → IsShown ⟦<F as Facts>⟧ self.old s → IsShown ⟦<F as Facts>⟧ self.new (after_choice s (plain_choose (grammar_of g.now.grammar) s (choice_of choice.now)))) }
+        ensures site { OnOk result (ShowsChoice ⟦<F as Facts>⟧ (grammar_of g.now.grammar) (choice_of choice.now) self.old self.new) }
         ensures copy { OnOk result ((s : P.Site) → IsShown ⟦<F as Facts>⟧ self.old s → list_map (message_of (grammar_of g.now.grammar)) copy.new
             ≡ list_map (message_of (grammar_of g.now.grammar)) copy.old ++ sent_by (plain_choose (grammar_of g.now.grammar) s (choice_of choice.now))) }
         ensures err { OnErr result ((s : P.Site) → IsShown ⟦<F as Facts>⟧ self.old s → IsShown ⟦<F as Facts>⟧ self.new s) }
@@ -145,7 +145,7 @@ impl<'g, F: Facts> Site<'g, F> {
         ensures role { role_in ⟦<F as Facts>⟧ self.new ≡ role_in ⟦<F as Facts>⟧ self.old }
         ensures answer { IfOk result (λ r. (s : P.Site) → IsShown ⟦<F as Facts>⟧ self.old s → answer_of r.0 ≡ answer_to (plain_choose (grammar_of g.now.grammar) s (choice_of choice.now))) }
         ensures count { IfOk result (λ r. (s : P.Site) → IsShown ⟦<F as Facts>⟧ self.old s → r.1 ≡ length (sent_by (plain_choose (grammar_of g.now.grammar) s (choice_of choice.now)))) }
-        ensures site { OnOk result ((s : P.Site) → IsShown ⟦<F as Facts>⟧ self.old s → IsShown ⟦<F as Facts>⟧ self.new (after_choice s (plain_choose (grammar_of g.now.grammar) s (choice_of choice.now)))) }
+        ensures site { OnOk result (ShowsChoice ⟦<F as Facts>⟧ (grammar_of g.now.grammar) (choice_of choice.now) self.old self.new) }
         ensures err { OnErr result ((s : P.Site) → IsShown ⟦<F as Facts>⟧ self.old s → IsShown ⟦<F as Facts>⟧ self.new s) }
         ensures facts { KeepsFacts (map_in ⟦<F as Facts>⟧ self.old) (map_in ⟦<F as Facts>⟧ self.new) }
         ensures nodes { KeepsNodesBut (node_of (choice_of choice.now)) (nodes_in ⟦<F as Facts>⟧ self.old) (nodes_in ⟦<F as Facts>⟧ self.new) }

@@ -9,8 +9,8 @@ ghost use Rattle.aw_react.specs.Worlds.{node_of};
 ghost use Rattle.aw_space.specs.Keeping.{KeepsFacts, KeepsNodes, KeepsNodesBut};
 ghost use Rattle.aw_space.specs.Outcomes.{IsOutcome};
 ghost use Rattle.aw_space.specs.Placings.{MayBeCalledIf, MayBeLearnt, called_by};
-ghost use Rattle.aw_space.specs.Seen.{space_seen, IsUnchanged};
-ghost use Rattle.aw_space.specs.Spaces.{is_home, outcome, space_after, taken_in, clash_with, worklist};
+ghost use Rattle.aw_space.specs.Seen.{space_seen, IsUnchanged, TakesIn};
+ghost use Rattle.aw_space.specs.Spaces.{is_home, outcome, space_after, clash_with, worklist};
 
 use aw_accept::Accepted;
 use aw_apply::Steps;
@@ -115,7 +115,7 @@ fn take_in_ledger<'g, F: Facts, L: Ledger>(
     requires free { clash_with (called_by (grammar_of g.now.grammar) (option_copied call)) (list_map equation_of es.now) (space_seen ⟦<F as Facts>⟧ space.old) ≡ None }
     ensures grammar { space.new.accepted.now.grammar ≡ space.old.accepted.now.grammar }
     ensures role { space.new.role ≡ space.old.role }
-    ensures space { OnOk result (space_seen ⟦<F as Facts>⟧ space.new ≡ taken_in (called_by (grammar_of g.now.grammar) (option_copied call.entry)) (list_map equation_of es.now) (space_seen ⟦<F as Facts>⟧ space.old)) }
+    ensures space { OnOk result (TakesIn ⟦<F as Facts>⟧ (grammar_of g.now.grammar) (option_copied call.entry) (list_map equation_of es.now) space.old space.new) }
     ensures err { OnErr result (IsUnchanged ⟦<F as Facts>⟧ space.old space.new) }
     ensures facts { KeepsFacts (F.map space.old.facts) (F.map space.new.facts) }
     ensures nodes { KeepsNodes (space_seen ⟦<F as Facts>⟧ space.old).held (space_seen ⟦<F as Facts>⟧ space.new).held }
@@ -138,7 +138,7 @@ pub fn take_in<'g, F: Facts>(
     requires free { clash_with (called_by (grammar_of g.now.grammar) (option_copied call)) (list_map equation_of es.now) (space_seen ⟦<F as Facts>⟧ space.old) ≡ None }
     ensures grammar { space.new.accepted.now.grammar ≡ space.old.accepted.now.grammar }
     ensures role { space.new.role ≡ space.old.role }
-    ensures space { OnOk result (space_seen ⟦<F as Facts>⟧ space.new ≡ taken_in (called_by (grammar_of g.now.grammar) (option_copied call.entry)) (list_map equation_of es.now) (space_seen ⟦<F as Facts>⟧ space.old)) }
+    ensures space { OnOk result (TakesIn ⟦<F as Facts>⟧ (grammar_of g.now.grammar) (option_copied call.entry) (list_map equation_of es.now) space.old space.new) }
     ensures err { OnErr result (IsUnchanged ⟦<F as Facts>⟧ space.old space.new) }
     ensures facts { KeepsFacts (F.map space.old.facts) (F.map space.new.facts) }
     ensures nodes { KeepsNodes (space_seen ⟦<F as Facts>⟧ space.old).held (space_seen ⟦<F as Facts>⟧ space.new).held }
