@@ -2,7 +2,7 @@
 ghost use Rattle.std.specs.Prelude.{◌≡◌, ℕ, ◌↔◌, List};
 ghost use Rattle.aw_base.specs.declared.declared.Triple.{Triple};
 ghost use Rattle.aw_term.specs.Rules as P;
-ghost use Rattle.aw_modular.specs.Roles.{IsClosedFor, IsIncludedIn, HasOwnRules, Declares, Mixed, RoleRelation, DeclaredElsewhere, Part, IsJoined, AllSayYes, LiesWithin};
+ghost use Rattle.aw_modular.specs.Roles.{IsClosedFor, LiesWithinFound, HasOwnRules, Declares, Mixed, RoleRelation, DeclaredElsewhere, Part, IsJoined, AllSayYes, LiesWithin};
 ghost use Rattle.aw_grammar.specs.declared.grammar.Grammar.{Grammar};
 ghost use Rattle.aw_modular.specs.declared.yes.RoleYes.{RoleYes};
 ghost use Rattle.aw_modular.specs.Wholes.{ArePartsOf, HaveRoles, WouldFit};
@@ -20,7 +20,7 @@ pub fn joining_laws()
 /// `only`).
 pub fn role_laws()
     ensures closed { (g : P.Grammar) (role : ℕ) (declared : List Triple) → IsClosedFor g role (Declares declared) (RoleRelation g role (Declares declared)) }
-    ensures least { (g : P.Grammar) (role : ℕ) (declared found : List Triple) → IsClosedFor g role (Declares declared) (Declares found) → IsIncludedIn (RoleRelation g role (Declares declared)) (Declares found) }
+    ensures least { (g : P.Grammar) (role : ℕ) (declared found : List Triple) → IsClosedFor g role (Declares declared) (Declares found) → LiesWithinFound g role declared found }
     ensures follows { (g : P.Grammar) (role : ℕ) (declared : List Triple) → HasOwnRules role g → (s i j : ℕ) →
         Mixed g role (RoleRelation g role (Declares declared)) (Declares declared) s i j → Follows g (DeclaredElsewhere g role (Declares declared)) s i j }
     ensures only { (g : P.Grammar) (role : ℕ) (declared : List Triple) → HasOwnRules role g → (s i j : ℕ) →
