@@ -5,7 +5,9 @@ pub mod MoveView
 pub mod SiteAnswers
 pub mod Seen
 pub mod Firsts
+pub mod Marked
 pub mod Merged
 pub mod Staying
 pub mod Opened
 pub mod Shown
+pub mod SpotRows

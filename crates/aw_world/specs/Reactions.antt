@@ -1,5 +1,5 @@
 -- What the plain definitions say of the program's choices, messages and events.
-use Rattle.std.specs.Prelude.{◌≡◌, ℕ, List, [], map, length, Some}
+use Rattle.std.specs.Prelude.{◌≡◌, ℕ, List, [], ◌++◌, map, length, Some}
 use Rattle.std.specs.declared.result.Result.{Result}
 use Rattle.aw_grammar.specs.declared.grammar.Grammar.{Grammar}
 use Rattle.aw_grammar.specs.GrammarOf.{grammar_of, words_of}
@@ -31,6 +31,10 @@ message_at d s m = receive (grammar_of d) s (message_of (grammar_of d) m)
 -- messages as plain ones
 abbrev pub all_messages : Grammar → List Message → List plain.Message
 all_messages d ms = map (message_of (grammar_of d)) ms
+
+-- these messages are added
+abbrev pub AddsMessages : Grammar → List Message → List Message → List plain.Message → Type 0
+AddsMessages d old new more = all_messages d new ≡ all_messages d old ++ more
 
 -- the lines of the rows that are read from what the sites of a world hold
 abbrev pub PrintsRows : Grammar → World → Bounded → Bounded → Result Unit PrintFault → Type 0

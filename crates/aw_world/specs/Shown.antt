@@ -1,5 +1,8 @@
 -- A world of the program, as a whole.
-use Rattle.std.specs.Prelude.{ℕ, Option}
+use Rattle.std.specs.Prelude.{◌≡◌, ℕ, List, Option}
+use Rattle.aw_term.specs.Artifacts.{Item}
+use Rattle.aw_grammar.specs.GrammarOf.{grammar_of}
+use Rattle.aw_react.specs.Worklists.{site_worklist}
 use Rattle.aw_react.specs.Worlds as P
 use Rattle.aw_world.specs.declared.workspace.Workspace.{Ghosts}
 use Rattle.aw_world.specs.declared.world.World.{World}
@@ -14,6 +17,15 @@ Shows f w v = Seen f w.accepted.now.grammar w.sites.items w.messages w.marks.del
 -- it can be seen as the plain world behind this step, and the reply is the same
 abbrev pub ShowsStep : {W : Type 0} (f : Ghosts W) → World W f → P.Stepped → Reply → Type 0
 ShowsStep f w x r = Steps f w.accepted.now.grammar w.sites.items w.messages w.marks.delivered.items w.taken.items x r
+
+-- whatever plain world it can be seen as before, it can be seen as the one behind this event after, and the reply is the same
+abbrev pub ShowsMove : {W : Type 0} (f : Ghosts W) → World W f → World W f → P.Move → Reply → Type 0
+ShowsMove f old new e r = (v : P.World) → Shows f old v → ShowsStep f new (P.step (grammar_of old.accepted.now.grammar) v e) r
+
+-- these are the items of the worklist of a role
+abbrev pub IsWorklist : {W : Type 0} (f : Ghosts W) → World W f → ℕ → List Item → Type 0
+IsWorklist f w role items =
+    (v : P.World) → Shows f w v → items ≡ site_worklist (grammar_of w.accepted.now.grammar) (P.site_at v role).equations (P.site_at v role).held
 
 -- the number of the first message that was never delivered
 abbrev pub first_open : {W : Type 0} {f : Ghosts W} → World W f → Option ℕ

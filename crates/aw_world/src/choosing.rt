@@ -1,5 +1,5 @@
 //! A choice in a world.
-ghost use Rattle.std.specs.Prelude.{◌≡◌, ◌++◌, ◌∷◌, ◌<◌, ◌≤◌, if◌then◌else◌, ℕ, List, Bool, [], true, false, ◌↔◌, IsTrue, IfOk, OnOk, OnErr, length, vec_len, vec_capacity};
+ghost use Rattle.std.specs.Prelude.{◌≡◌, ◌++◌, ◌∷◌, ◌<◌, ◌≤◌, if◌then◌else◌, ℕ, List, [], true, false, ◌↔◌, IsTrue, IfOk, OnOk, OnErr, length, vec_len, vec_capacity};
 ghost use Rattle.aw_grammar.specs.GrammarOf.{grammar_of};
 ghost use Rattle.aw_base.specs.ChoiceFits.{choice_ok};
 ghost use Rattle.aw_choice.specs.ChoiceView.{choice_of, answer_of};
@@ -8,7 +8,8 @@ ghost use Rattle.aw_react.specs.Homes.{home};
 ghost use Rattle.aw_react.specs.Sites as P;
 ghost use Rattle.aw_react.specs.Worlds as V;
 ghost use Rattle.aw_world.specs.SiteAnswers.{is_taken};
-ghost use Rattle.aw_world.specs.Seen.{ArePlaced, ShowEach, AnswersAt, Chooses, SeenStill};
+ghost use Rattle.aw_world.specs.Marked.{StaysSeenForAllDelivered};
+ghost use Rattle.aw_world.specs.Seen.{ArePlaced, ShowEach, AnswersAt, Chooses};
 
 use crate::workspace::Workspace;
 use aw_accept::Accepted;
@@ -102,7 +103,7 @@ pub fn choose<W: Workspace>(
     ensures placed { ArePlaced ⟦<W as Workspace>⟧ accepted.now.grammar sites.new.items }
     ensures grows { length messages.old ≤ length messages.new }
     ensures steps { IfOk result (λ a. Chooses ⟦<W as Workspace>⟧ accepted.now.grammar sites.old.items messages.old taken.old.items sites.new.items messages.new taken.new.items choice a) }
-    ensures err { OnErr result ((flags : List Bool) → SeenStill ⟦<W as Workspace>⟧ accepted.now.grammar sites.old.items messages.old flags taken.old.items sites.new.items messages.new flags taken.new.items) }
+    ensures err { OnErr result (StaysSeenForAllDelivered ⟦<W as Workspace>⟧ accepted.now.grammar sites.old.items messages.old taken.old.items sites.new.items messages.new taken.new.items) }
 {
     taken.reserve(1)?;
     let at = role_of(*sites.allocator(), accepted.grammar(), &choice);

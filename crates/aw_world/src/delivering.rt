@@ -3,8 +3,8 @@ ghost use Rattle.std.specs.Prelude.{◌≡◌, ◌<◌, ◌≤◌, if◌then◌e
 ghost use Rattle.aw_grammar.specs.GrammarOf.{grammar_of};
 ghost use Rattle.aw_term.specs.Rules.{get};
 ghost use Rattle.aw_react.specs.Sites as P;
-ghost use Rattle.aw_choice.specs.declared.choice.Choice.{Choice};
-ghost use Rattle.aw_world.specs.Seen.{ArePlaced, AreAddressed, ShowEach, TakesInAt, Delivers, reply_for, SeenStill};
+ghost use Rattle.aw_world.specs.Marked.{DeliversTo, StaysSeenForAllTaken};
+ghost use Rattle.aw_world.specs.Seen.{ArePlaced, AreAddressed, ShowEach, TakesInAt, reply_for};
 
 use crate::marks::Marks;
 use crate::moves::Reply;
@@ -57,8 +57,8 @@ pub fn deliver_at<W: Workspace>(
     requires at { at < length messages.old }
     ensures placed { ArePlaced ⟦<W as Workspace>⟧ accepted.now.grammar sites.new.items }
     ensures marked { length marks.new.delivered.items ≤ length messages.new }
-    ensures steps { IfOk result (λ new. Delivers ⟦<W as Workspace>⟧ accepted.now.grammar sites.old.items messages.old marks.old.delivered.items sites.new.items messages.new marks.new.delivered.items at (reply_for new)) }
-    ensures err { OnErr result ((taken : List Choice) → SeenStill ⟦<W as Workspace>⟧ accepted.now.grammar sites.old.items messages.old marks.old.delivered.items taken sites.new.items messages.new marks.new.delivered.items taken) }
+    ensures steps { IfOk result (λ new. DeliversTo ⟦<W as Workspace>⟧ accepted.now.grammar sites.old.items messages.old marks.old sites.new.items messages.new marks.new at (reply_for new)) }
+    ensures err { OnErr result (StaysSeenForAllTaken ⟦<W as Workspace>⟧ accepted.now.grammar sites.old.items messages.old marks.old sites.new.items messages.new marks.new) }
 {
     let message = copy_message(messages.at(at))?;
     marks.pad(at)?;
@@ -80,8 +80,8 @@ pub fn deliver<W: Workspace>(
     requires marked { length marks.old.delivered.items ≤ length messages.old }
     ensures placed { ArePlaced ⟦<W as Workspace>⟧ accepted.now.grammar sites.new.items }
     ensures marked { length marks.new.delivered.items ≤ length messages.new }
-    ensures steps { IfOk result (λ r. Delivers ⟦<W as Workspace>⟧ accepted.now.grammar sites.old.items messages.old marks.old.delivered.items sites.new.items messages.new marks.new.delivered.items number r) }
-    ensures err { OnErr result ((taken : List Choice) → SeenStill ⟦<W as Workspace>⟧ accepted.now.grammar sites.old.items messages.old marks.old.delivered.items taken sites.new.items messages.new marks.new.delivered.items taken) }
+    ensures steps { IfOk result (λ r. DeliversTo ⟦<W as Workspace>⟧ accepted.now.grammar sites.old.items messages.old marks.old sites.new.items messages.new marks.new number r) }
+    ensures err { OnErr result (StaysSeenForAllTaken ⟦<W as Workspace>⟧ accepted.now.grammar sites.old.items messages.old marks.old sites.new.items messages.new marks.new) }
 {
     match place(messages, number) {
         Some(at) => {

@@ -1,19 +1,17 @@
 //! What the workspaces of a world hold.
-ghost use Rattle.std.specs.Prelude.{◌≡◌, ◌++◌, ◌<◌, ℕ, List, [], false, Some, None, true, IfOk, IsSome, OnOk, length, map as list_map, slice_get};
+ghost use Rattle.std.specs.Prelude.{◌≡◌, ◌++◌, ◌<◌, ℕ, [], Some, None, true, IfOk, IsSome, OnOk, length, map as list_map, slice_get};
 ghost use Rattle.aw_choice.specs.ChoiceView.{item_of};
 ghost use Rattle.aw_grammar.specs.GrammarOf.{grammar_of};
 ghost use Rattle.aw_held.specs.HeldView.{all_of, state_of};
 ghost use Rattle.aw_held.specs.declared.held.Held.{Held as HeldValue};
-ghost use Rattle.aw_react.specs.Sites as P;
-ghost use Rattle.aw_react.specs.Worklists.{site_worklist};
 ghost use Rattle.aw_react.specs.Worlds as V;
 ghost use Rattle.aw_term.specs.SameGrammar.{same_grammar};
-ghost use Rattle.aw_term.specs.Rules.{Grammar as PlainGrammar, get};
+ghost use Rattle.aw_term.specs.Rules.{Grammar as PlainGrammar};
 ghost use Rattle.aw_world.specs.Merged.{merged, nodes_of, held_at};
 ghost use Rattle.aw_world.specs.Opened.{AreAllInOrder, AreAtHome, open_on, open_nodes, without_count};
-ghost use Rattle.aw_world.specs.PrintedRows.{PrintsRow};
 ghost use Rattle.aw_world.specs.Reactions.{PrintsRows, PrintsArtifacts, HasRows};
 ghost use Rattle.aw_world.specs.Seen.{ArePlaced, ShowEach, KeepEach};
+ghost use Rattle.aw_world.specs.SpotRows.{PrintsSpot};
 
 use crate::merging::{Spot, in_order};
 use crate::workspace::Workspace;
@@ -54,7 +52,7 @@ fn print_at<W: Workspace>(
     requires there { IsSome (held_at ⟦<W as Workspace>⟧ sites.now spot.now) }
     requires ends { KeepEach ⟦<W as Workspace>⟧ sites.now ends.old.items }
     ensures ends { KeepEach ⟦<W as Workspace>⟧ sites.now ends.new.items }
-    ensures prints { (ss : List P.Site) → ShowEach ⟦<W as Workspace>⟧ sites.now ss → PrintsRow accepted.now.grammar (get (P.empty_site false spot.now.site) ss spot.now.site) spot.now.place report.old report.new result }
+    ensures prints { PrintsSpot ⟦<W as Workspace>⟧ accepted.now.grammar sites.now spot.now report.old report.new result }
 {
     let site = &sites[spot.site];
     let own = &mut ends[spot.site];
@@ -120,7 +118,7 @@ fn open_all<W: Workspace>(
 }
 
 impl<'g, W: Workspace> World<'g, W> {
-    ghost use Rattle.aw_world.specs.Shown.{Shows, first_open};
+    ghost use Rattle.aw_world.specs.Shown.{IsWorklist, Shows, first_open};
 
     /// The workspace of a role.
     pub fn site(&self, role: u16) -> &W
@@ -136,7 +134,7 @@ impl<'g, W: Workspace> World<'g, W> {
     /// How each rule stands at each open node of a role, in order.
     pub fn list(&self, role: u16) -> Result<Worklist, AllocError>
         requires { role < (grammar_of self.now.accepted.now.grammar).roles }
-        ensures { IfOk result (λ items. (v : V.World) → Shows ⟦<W as Workspace>⟧ self.now v → list_map item_of items ≡ site_worklist (grammar_of self.now.accepted.now.grammar) (V.site_at v role).equations (V.site_at v role).held) }
+        ensures { IfOk result (λ items. IsWorklist ⟦<W as Workspace>⟧ self.now role (list_map item_of items)) }
     {
         self.site(role).list(self.accepted)
     }

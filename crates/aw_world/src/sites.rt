@@ -3,10 +3,8 @@ ghost use Rattle.std.specs.Prelude.{◌≡◌, ◌<◌, true, IfOk, map as list_
 ghost use Rattle.std.proofs.Common.{ap};
 ghost use Rattle.aw_apply.specs.Messages.{Received as Answered};
 ghost use Rattle.aw_choice.specs.ChoiceView.{item_of};
-ghost use Rattle.aw_grammar.specs.GrammarOf.{grammar_of, words_of};
+ghost use Rattle.aw_grammar.specs.GrammarOf.{grammar_of};
 ghost use Rattle.aw_held.specs.HeldView.{held_of};
-ghost use Rattle.aw_merge.specs.ReadRows.{IsRead};
-ghost use Rattle.aw_out.specs.Report.{Prints};
 ghost use Rattle.aw_print.specs.Ends.{AreEnds};
 ghost use Rattle.aw_print.proofs.EndsLemmas.{none_kept};
 ghost use Rattle.aw_react.specs.ValidNames.{takes_as};
@@ -16,9 +14,8 @@ ghost use Rattle.aw_site.specs.Seen.{IsShown};
 ghost use Rattle.aw_space.specs.Seen.{space_seen};
 ghost use Rattle.aw_space.specs.Spaces.{worklist};
 ghost use Rattle.aw_space.specs.Valid.{done_fits};
-ghost use Rattle.aw_term.specs.Artifacts.{row_text};
-ghost use Rattle.aw_term.specs.Configs.{Row};
 ghost use Rattle.aw_term.specs.Rules.{sort_of};
+ghost use Rattle.aw_world.specs.PrintedRows.{PrintsHeld};
 ghost use Rattle.aw_world.specs.SiteAnswers.{is_new};
 
 use crate::workspace::{Made, Workspace};
@@ -79,7 +76,7 @@ fn print_held(
     requires done { done_fits (grammar_of g.now) held.now.node held.now.done ≡ true }
     requires ends { AreEnds (⟦<CellFacts as Facts>⟧.map facts.now) (⟦<CellFacts as Facts>⟧.names facts.now) ends.old }
     ensures ends { AreEnds (⟦<CellFacts as Facts>⟧.map facts.now) (⟦<CellFacts as Facts>⟧.names facts.now) ends.new }
-    ensures prints { (q : Row) → IsRead (grammar_of g.now) (⟦<CellFacts as Facts>⟧.map facts.now) (held_of (grammar_of g.now) held.now) q → Prints (row_text (words_of g.now) q) report.old report.new result }
+    ensures prints { PrintsHeld g.now (⟦<CellFacts as Facts>⟧.map facts.now) (held_of (grammar_of g.now) held.now) report.old report.new result }
 {
     artifact_row(
         alloc,

@@ -1,5 +1,5 @@
 //! What a world asks of a workspace: that it reacts as the plain definitions say.
-ghost use Rattle.std.specs.Prelude.{◌≡◌, ◌++◌, ◌≤◌, ◌<◌, ℕ, List, true, IfOk, OnOk, OnErr, length, map as list_map};
+ghost use Rattle.std.specs.Prelude.{◌≡◌, ◌≤◌, ◌<◌, ℕ, List, true, IfOk, OnOk, OnErr, length, map as list_map};
 ghost use Rattle.aw_grammar.specs.GrammarOf.{grammar_of};
 ghost use Rattle.aw_term.specs.Rules.{Grammar as PlainGrammar};
 ghost use Rattle.aw_term.specs.SameGrammar.{same_grammar};
@@ -18,7 +18,7 @@ ghost use Rattle.aw_react.specs.Worklists.{site_worklist};
 ghost use Rattle.aw_print.specs.Ends.{KeepsNone};
 ghost use Rattle.aw_print.specs.declared.ends.Ends.{Ends as EndsValue};
 ghost use Rattle.aw_world.specs.PrintedRows.{PrintsRow};
-ghost use Rattle.aw_world.specs.Reactions.{choice_at, message_at, all_messages};
+ghost use Rattle.aw_world.specs.Reactions.{choice_at, message_at, AddsMessages};
 ghost use Rattle.aw_world.specs.SiteAnswers.{sent_by, sent_back, is_new};
 
 use aw_accept::Accepted;
@@ -61,7 +61,7 @@ pub trait Workspace: Drop {
         ensures answer { IfOk result (λ r. (s : P.Site) → shows self.old s → answer_of r.0 ≡ answer_to (choice_at accepted.now.grammar s choice.now)) }
         ensures count { IfOk result (λ r. (s : P.Site) → shows self.old s → r.1 ≡ length (sent_by (choice_at accepted.now.grammar s choice.now))) }
         ensures site { OnOk result ((s : P.Site) → shows self.old s → shows self.new (after_choice s (choice_at accepted.now.grammar s choice.now))) }
-        ensures sent { OnOk result ((s : P.Site) → shows self.old s → all_messages accepted.now.grammar copy.new ≡ all_messages accepted.now.grammar copy.old ++ sent_by (choice_at accepted.now.grammar s choice.now)) }
+        ensures sent { OnOk result ((s : P.Site) → shows self.old s → AddsMessages accepted.now.grammar copy.old copy.new (sent_by (choice_at accepted.now.grammar s choice.now))) }
         ensures grows { length copy.old ≤ length copy.new }
         ensures err { OnErr result ((s : P.Site) → shows self.old s → shows self.new s) }
         ensures err_sent { OnErr result (copy.new ≡ copy.old) };
@@ -78,7 +78,7 @@ pub trait Workspace: Drop {
         ensures role { its_role self.new ≡ its_role self.old }
         ensures new { IfOk result (λ new. (s : P.Site) → shows self.old s → new ≡ is_new (message_at accepted.now.grammar s message.now)) }
         ensures site { OnOk result ((s : P.Site) → shows self.old s → shows self.new (after_message s (message_at accepted.now.grammar s message.now))) }
-        ensures sent { OnOk result ((s : P.Site) → shows self.old s → all_messages accepted.now.grammar copy.new ≡ all_messages accepted.now.grammar copy.old ++ sent_back (message_at accepted.now.grammar s message.now)) }
+        ensures sent { OnOk result ((s : P.Site) → shows self.old s → AddsMessages accepted.now.grammar copy.old copy.new (sent_back (message_at accepted.now.grammar s message.now))) }
         ensures grows { length copy.old ≤ length copy.new }
         ensures err { OnErr result ((s : P.Site) → shows self.old s → shows self.new s) }
         ensures err_sent { OnErr result (copy.new ≡ copy.old) };

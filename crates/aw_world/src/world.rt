@@ -8,7 +8,8 @@ ghost use Rattle.aw_choice.specs.ChoiceView.{choice_of};
 ghost use Rattle.aw_react.specs.Bounds.{bound_of};
 ghost use Rattle.aw_world.specs.Staying.{KeepsSites, IsConfigured};
 ghost use Rattle.aw_world.specs.MoveView.{move_of};
-ghost use Rattle.aw_world.specs.Seen.{ArePlaced, AreAddressed, IsReached, Moves, SeenStill};
+ghost use Rattle.aw_world.specs.Marked.{MovesTo, StaysSeen};
+ghost use Rattle.aw_world.specs.Seen.{ArePlaced, AreAddressed, IsReached};
 
 use crate::choosing::choose;
 use crate::delivering::deliver;
@@ -50,8 +51,8 @@ fn step<W: Workspace>(
     requires may_come { MayCome (grammar_of accepted.now.grammar) (move_of event) }
     ensures placed { ArePlaced ⟦<W as Workspace>⟧ accepted.now.grammar sites.new.items }
     ensures marked { length marks.new.delivered.items ≤ length messages.new }
-    ensures steps { IfOk result (λ r. Moves ⟦<W as Workspace>⟧ accepted.now.grammar sites.old.items messages.old marks.old.delivered.items taken.old.items sites.new.items messages.new marks.new.delivered.items taken.new.items event r) }
-    ensures err { OnErr result (SeenStill ⟦<W as Workspace>⟧ accepted.now.grammar sites.old.items messages.old marks.old.delivered.items taken.old.items sites.new.items messages.new marks.new.delivered.items taken.new.items) }
+    ensures steps { IfOk result (λ r. MovesTo ⟦<W as Workspace>⟧ accepted.now sites.old.items messages.old marks.old taken.old.items sites.new.items messages.new marks.new taken.new.items event r) }
+    ensures err { OnErr result (StaysSeen ⟦<W as Workspace>⟧ accepted.now sites.old.items messages.old marks.old taken.old.items sites.new.items messages.new marks.new taken.new.items) }
 {
     match event {
         Move::Choose(choice) => {
@@ -63,7 +64,7 @@ fn step<W: Workspace>(
 }
 
 impl<'g, W: Workspace> World<'g, W> {
-    ghost use Rattle.aw_world.specs.Shown.{Shows, ShowsStep};
+    ghost use Rattle.aw_world.specs.Shown.{Shows, ShowsMove};
 
     /// All messages that were ever sent, by number.
     pub fn messages(&self) -> &[Message]
@@ -114,7 +115,7 @@ impl<'g, W: Workspace> World<'g, W> {
         requires { MayCome (grammar_of self.old.accepted.now.grammar) (move_of event) }
         ensures accepted { self.new.accepted.now ≡ self.old.accepted.now }
         ensures loads { self.new.loads ≡ self.old.loads }
-        ensures steps { IfOk result (λ r. (v : V.World) → Shows ⟦<W as Workspace>⟧ self.old v → ShowsStep ⟦<W as Workspace>⟧ self.new (V.step (grammar_of self.old.accepted.now.grammar) v (move_of event)) r) }
+        ensures steps { IfOk result (λ r. ShowsMove ⟦<W as Workspace>⟧ self.old self.new (move_of event) r) }
         ensures err { OnErr result ((v : V.World) → Shows ⟦<W as Workspace>⟧ self.old v → Shows ⟦<W as Workspace>⟧ self.new v) }
         ensures keeps { (v : V.World) → Shows ⟦<W as Workspace>⟧ self.old v → KeepsSites v (V.step (grammar_of self.old.accepted.now.grammar) v (move_of event)).world }
         ensures acyclic { ∥ IsConfigured (grammar_of self.new.accepted.now.grammar) (list_map choice_of self.new.taken.items) ∥₁ }
