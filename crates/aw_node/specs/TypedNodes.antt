@@ -13,6 +13,7 @@ use Rattle.aw_react.specs.Sites.{Site}
 use Rattle.aw_nodes.specs.Nodes as N
 use Rattle.aw_msg.specs.Frames as F
 use Rattle.aw_msg.specs.MessageView.{message_of}
+use Rattle.aw_msg.specs.declared.message.Message.{Message}
 use Rattle.aw_msg.specs.Replies.{spelled_reply}
 use Rattle.aw_msg.specs.Responses as R
 
@@ -67,6 +68,10 @@ site_after r s (f ∷ fs) = site_after r (handle r s f).site fs
 -- it replies as each site that it showed, and shows then the site behind the frame
 abbrev pub RepliesAs : Grammar → N.Frame → (Site → Type 0) → (Site → Type 0) → R.Response → Type 0
 RepliesAs g f old new response = (s : Site) → old s → (response ≡ told (N.handle g s f).response) × new (N.handle g s f).site
+
+-- the same of a message that is pushed
+abbrev pub RepliesToPush : Grammar → Message → (Site → Type 0) → (Site → Type 0) → R.Response → Type 0
+RepliesToPush g m old new response = RepliesAs g (N.Push (message_of g m)) old new response
 
 -- the same of a typed node
 abbrev pub HandlesAs : Rules → F.Frame → (Site → Type 0) → (Site → Type 0) → R.Response → Type 0

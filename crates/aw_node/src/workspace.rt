@@ -5,10 +5,9 @@ ghost use Rattle.aw_choice.specs.ChoiceView.{answer_of, choice_of};
 ghost use Rattle.aw_grammar.specs.GrammarOf.{grammar_of};
 ghost use Rattle.aw_grammar.specs.declared.grammar.Grammar.{Grammar};
 ghost use Rattle.aw_msg.specs.Messages.{MessageInRange};
-ghost use Rattle.aw_msg.specs.MessageView.{message_of};
 ghost use Rattle.aw_msg.specs.ReplyRanges.{ReplyInRange};
 ghost use Rattle.aw_msg.specs.ResponseView.{response_of};
-ghost use Rattle.aw_node.specs.TypedNodes.{RepliesAs};
+ghost use Rattle.aw_node.specs.TypedNodes.{RepliesAs, RepliesToPush};
 ghost use Rattle.aw_nodes.specs.Nodes as N;
 ghost use Rattle.aw_react.specs.Choosing.{answer_to, choose};
 ghost use Rattle.aw_react.specs.Homes.{home};
@@ -49,7 +48,7 @@ pub trait Workspace {
         requires range { MessageInRange m.now }
         ensures grammar { grammar self.new ≡ grammar self.old }
         ensures range { IfOk result ReplyInRange }
-        ensures answer { IfOk result (λ a. RepliesAs (grammar_of g.now.grammar) (N.Push (message_of (grammar_of g.now.grammar) m.now)) (shows self.old) (shows self.new) (response_of (grammar_of g.now.grammar) a)) }
+        ensures answer { IfOk result (λ a. RepliesToPush (grammar_of g.now.grammar) m.now (shows self.old) (shows self.new) (response_of (grammar_of g.now.grammar) a)) }
         ensures err { (s : Site) → shows self.old s → OnErr result (shows self.new s) };
 
     /// The message at a place of the outbox, from 0, or how many there are.
