@@ -2,7 +2,11 @@
 use Rattle.std.specs.Prelude.{◌≡◌, ◌⊎◌, ℕ, ◌<◌, ◌≤◌, List, [], ◌∷◌, ◌++◌, IsTrue, Option, None, Some}
 use Rattle.aw_out.specs.Causes.{Rose}
 use Rattle.aw_react.specs.Sites.{Site}
+use Rattle.aw_accept.specs.declared.accepted.Accepted.{Accepted}
+use Rattle.aw_typed.specs.declared.data.Typed.{Typed}
 use Rattle.aw_msg.specs.Frames.{Frame}
+use Rattle.aw_msg.specs.FrameView.{frame_of}
+use Rattle.aw_msg.specs.declared.frame.Frame as program
 use Rattle.aw_disk.specs.Disk.{LeavesOnly}
 use Rattle.aw_disk.specs.declared.edge.Disk.{Ghosts}
 use Rattle.aw_journal.specs.Events.{Event}
@@ -11,7 +15,7 @@ use Rattle.aw_journal.specs.Format.{events_of}
 use Rattle.aw_journal.specs.Journal.{Kept, IsBeforeOrAfter, end_after}
 use Rattle.aw_journal.specs.declared.journal.AppendFault.{AppendFault}
 use Rattle.aw_journal.specs.declared.journal.AppendFault.TheVariants.{DiskFault, Full, NoMemory}
-use Rattle.aw_node.specs.TypedNodes.{Rules, AnswersAs}
+use Rattle.aw_node.specs.TypedNodes.{Rules, rules_of, AnswersAs}
 use Rattle.aw_durable.specs.KeptEvents.{kept_of}
 
 -- An event was written, in part or whole. A crash at any moment leaves the events from before it, with the new one or without.
@@ -52,6 +56,10 @@ Fails {D} d event j old new fault = Tries d event (events_seen j.events) old new
 -- a frame was answered as each site answers that was shown, and what it was is appended
 abbrev pub AnswersAndKeeps : {D : Type 0} → Ghosts D → Rules → Frame → (Site → Type 0) → (Site → Type 0) → Kept → Kept → D → D → List ℕ → Type 0
 AnswersAndKeeps {D} d r f shows after j k old new bytes = AnswersAs r f shows after bytes × ((s : Site) → shows s → Appends d (kept_of r s f) j k old new)
+
+-- the same of a frame of the program, by its grammar and types
+abbrev pub AnswersAndKeepsBy : {D : Type 0} → Ghosts D → Accepted → Typed → program.Frame → (Site → Type 0) → (Site → Type 0) → Kept → Kept → D → D → List ℕ → Type 0
+AnswersAndKeepsBy d a t f shows after j k old new bytes = AnswersAndKeeps d (rules_of a.grammar t) (frame_of f) shows after j k old new bytes
 
 -- a frame got no reply at each site that was shown
 abbrev pub FailsAsSeen : {D : Type 0} → Ghosts D → Rules → Frame → (Site → Type 0) → Kept → D → D → AppendFault → Type 0

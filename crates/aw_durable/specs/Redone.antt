@@ -2,10 +2,15 @@
 use Rattle.std.specs.Prelude.{◌≡◌, ℕ, true, false, List}
 use Rattle.aw_react.specs.Sites.{Site}
 use Rattle.aw_journal.specs.Events.{Event}
-use Rattle.aw_node.specs.TypedNodes.{Rules}
-use Rattle.aw_durable.specs.KeptEvents.{is_kept, after_event, site_by, AreKept, IsFirstBad}
+use Rattle.aw_node.specs.TypedNodes.{Rules, HandlesAs}
+use Rattle.aw_msg.specs.Responses.{Response}
+use Rattle.aw_durable.specs.KeptEvents.{frame_for, is_kept, after_event, site_by, AreKept, IsFirstBad}
 use Rattle.aw_durable.specs.declared.fault.KeptFault.{KeptFault}
 use Rattle.aw_durable.specs.declared.fault.KeptFault.TheVariants.{NetFault, DiskFault, BadHead, BadEvent, Full, NoMemory}
+
+-- the frame that stands for the event is answered as each site answers that was shown
+abbrev pub HandlesEvent : Rules → Event → (Site → Type 0) → (Site → Type 0) → Response → Type 0
+HandlesEvent r e old new response = HandlesAs r (frame_for e) old new response
 
 -- the event is one, and the site behind it is shown
 abbrev pub Redoes : Rules → Site → Event → (Site → Type 0) → Type 0

@@ -1,6 +1,6 @@
 //! Appending the event that a frame was.
 ghost use Rattle.std.specs.Prelude.{◌≡◌, ⊤, IsTrue, IfOk, IfErr, OnOk, MatchOption, option_map};
-ghost use Rattle.aw_durable.specs.Appending.{Appends, Fails, AnswersAndKeeps, FailsAsSeen};
+ghost use Rattle.aw_durable.specs.Appending.{Appends, Fails, AnswersAndKeepsBy, FailsAsSeen};
 ghost use Rattle.aw_durable.specs.KeptEvents as kept;
 ghost use Rattle.aw_journal.specs.Events.{EventInRange};
 ghost use Rattle.aw_journal.specs.EventView.{event_of};
@@ -85,7 +85,7 @@ pub(crate) fn answer<P: Workspace, D: Disk>(
     ensures grammar { P.grammar site.new ≡ P.grammar site.old }
     ensures usable { OnOk result (IsTrue journal.new.usable) }
     ensures settled { OnOk result (IsTrue (D.tells disk.new) → IsSettled D.seen D.may_leave disk.new journal.new) }
-    ensures ok { IfOk result (AnswersAndKeeps ⟦<D as Disk>⟧ (rules_of accepted.now.grammar typed.now) (frame_of frame.now) (P.shows site.old) (P.shows site.new) journal.old journal.new disk.old disk.new) }
+    ensures ok { IfOk result (AnswersAndKeepsBy ⟦<D as Disk>⟧ accepted.now typed.now frame.now (P.shows site.old) (P.shows site.new) journal.old journal.new disk.old disk.new) }
     ensures err { IfErr result (FailsAsSeen ⟦<D as Disk>⟧ (rules_of accepted.now.grammar typed.now) (frame_of frame.now) (P.shows site.old) journal.old disk.old disk.new) }
 {
     let answered = handle(accepted, typed, site, frame)?;

@@ -79,7 +79,8 @@ impl<P: Workspace, D: Disk> Handles for KeptNode<'_, '_, P, D> {
     ghost ready = { λ n. (P.grammar n.site.now ≡ n.accepted.now.grammar) × IsMadeFor (grammar_of n.accepted.now.grammar) n.typed.now
         × IsTrue n.journal.now.usable × (IsTrue (D.tells n.disk.now) → IsSettled D.seen D.may_leave n.disk.now n.journal.now) × (n.reason ≡ NoMemory) };
 
-    ghost answers = { λ n f x m. AnswersAndKeeps ⟦<D as Disk>⟧ (rules_of n.accepted.now.grammar n.typed.now) f (P.shows n.site.now) (P.shows m.site.now) n.journal.now m.journal.now n.disk.now m.disk.now x
+    ghost answers = { λ n f x m.
+        AnswersAndKeeps ⟦<D as Disk>⟧ (rules_of n.accepted.now.grammar n.typed.now) f (P.shows n.site.now) (P.shows m.site.now) n.journal.now m.journal.now n.disk.now m.disk.now x
         × (m.accepted.now ≡ n.accepted.now) × (m.typed.now ≡ n.typed.now) × (m.disk.ghost_name ≡ n.disk.ghost_name) × (m.reason ≡ n.reason) };
 
     ghost breaks = { λ n f e m. FailsAsSeen ⟦<D as Disk>⟧ (rules_of n.accepted.now.grammar n.typed.now) f (P.shows n.site.now) n.journal.now n.disk.now m.disk.now m.reason

@@ -1,14 +1,14 @@
 //! Doing the events of a journal again.
 ghost use Rattle.std.specs.Prelude.{◌≡◌, IfOk, IfErr, OnOk};
 ghost use Rattle.aw_durable.specs.KeptEvents as kept;
-ghost use Rattle.aw_durable.specs.Redone.{Redoes, RedoesAll, StopsAt, StopsRedoing};
+ghost use Rattle.aw_durable.specs.Redone.{HandlesEvent, Redoes, RedoesAll, StopsAt, StopsRedoing};
 ghost use Rattle.aw_grammar.specs.GrammarOf.{grammar_of};
 ghost use Rattle.aw_journal.specs.Events.{AllEvents, EventInRange};
 ghost use Rattle.aw_journal.specs.EventView.{event_of, events_seen};
 ghost use Rattle.aw_msg.specs.Frames.{FrameInRange};
 ghost use Rattle.aw_msg.specs.FrameView.{frame_of};
 ghost use Rattle.aw_msg.specs.ResponseView.{response_of};
-ghost use Rattle.aw_node.specs.TypedNodes.{rules_of, HandlesAs};
+ghost use Rattle.aw_node.specs.TypedNodes.{rules_of};
 ghost use Rattle.aw_react.specs.Sites.{Site};
 ghost use Rattle.aw_typed.specs.Typing.{IsMadeFor};
 
@@ -45,7 +45,7 @@ fn ask<P: Workspace>(
     requires types { IsMadeFor (grammar_of g.now.grammar) t.now }
     requires range { EventInRange (event_of event.now) }
     ensures grammar { P.grammar site.new ≡ P.grammar site.old }
-    ensures answer { IfOk result (λ a. HandlesAs (rules_of g.now.grammar t.now) (kept.frame_for (event_of event.now)) (P.shows site.old) (P.shows site.new) (response_of (grammar_of g.now.grammar) a)) }
+    ensures answer { IfOk result (λ a. HandlesEvent (rules_of g.now.grammar t.now) (event_of event.now) (P.shows site.old) (P.shows site.new) (response_of (grammar_of g.now.grammar) a)) }
 {
     let frame = frame_for(event)?;
     handle(g, t, site, &frame)
