@@ -1,10 +1,9 @@
 //! The undivided run of the choices among events.
 ghost use Rattle.std.specs.Prelude.{◌≡◌, ◌<◌, length, map, Err, IfOk};
-ghost use Rattle.aw_grammar.specs.GrammarOf.{grammar_of, words_of};
+ghost use Rattle.aw_grammar.specs.GrammarOf.{grammar_of};
 ghost use Rattle.aw_sched.specs.Answers.{event_seen, MayCome};
-ghost use Rattle.aw_term.specs.Runs.{plain_text};
 ghost use Rattle.aw_term.specs.WellFormed.{Each};
-ghost use Rattle.aw_undivided.specs.ChoicesIn.{choices_in};
+ghost use Rattle.aw_undivided.specs.ChoicesIn.{undivided_text};
 
 use crate::choosing::choices_among;
 use crate::laws::undivided_laws;
@@ -23,9 +22,9 @@ pub fn run_undivided(
     events: &[Event],
 ) -> Result<Report, PrintFault>
     requires { Each (MayCome (grammar_of accepted.now.grammar)) events.now }
-    ensures output { IfOk result (λ report. report.text ≡ plain_text (words_of accepted.now.grammar) (grammar_of accepted.now.grammar) (choices_in (map event_seen events.now))) }
+    ensures output { IfOk result (λ report. report.text ≡ undivided_text accepted.now.grammar (map event_seen events.now)) }
     ensures limit { IfOk result (λ report. report.limit ≡ OUTPUT_LIMIT) }
-    ensures too_large { result ≡ Err PrintFault.TooLarge → OUTPUT_LIMIT < length (plain_text (words_of accepted.now.grammar) (grammar_of accepted.now.grammar) (choices_in (map event_seen events.now))) }
+    ensures too_large { result ≡ Err PrintFault.TooLarge → OUTPUT_LIMIT < length (undivided_text accepted.now.grammar (map event_seen events.now)) }
 {
     let one = unite_accepted(alloc, accepted)?;
     let choices = choices_among(alloc, events)?;
