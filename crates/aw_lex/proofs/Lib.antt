@@ -2,3 +2,4 @@ pub mod Fronts
 pub mod LineCuts
 pub mod Slices
 pub mod TokenSteps
+pub mod Words
