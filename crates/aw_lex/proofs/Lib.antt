@@ -2,4 +2,3 @@ pub mod Fronts
 pub mod LineCuts
 pub mod Slices
 pub mod TokenSteps
-pub mod Words

@@ -1,7 +1,7 @@
 -- The tokens of a line, with their places in it.
 use Rattle.std.specs.Prelude.{◌≡◌, ◌<◌, ◌≤◌, ℕ, zero, suc, ◌+◌, ◌-◌, Bool, true, ◌||◌, ◌==◌, List, [], ◌∷◌, length, take, codes, slice_range, Option, Some, None, is_some, option_map, Result, Ok, Err, if◌then◌else◌}
 use Rattle.std.specs.List.{list_any}
-use Rattle.aw_text.specs.Spelling.{is_letter, is_digit, is_name, is_name_byte, number_of, node_name, unquoted, text_behind_quote}
+use Rattle.aw_text.specs.Spelling.{is_letter, is_digit, is_name, number_of, node_name, unquoted, text_behind_quote}
 use Rattle.aw_lex.specs.declared.token.Token.{Token}
 use Rattle.aw_lex.specs.declared.token.TokenKind.{TokenKind}
 use Rattle.aw_lex.specs.declared.token.TokenKind.TheVariants.{Name, Number, Node, Text, Mark}
@@ -26,11 +26,6 @@ is_word_byte b = ((((is_letter b || is_digit b) || b == 95) || b == 35) || b == 
 abbrev pub word_len : List ℕ → ℕ
 word_len [] = 0
 word_len (b ∷ bs) = if is_word_byte b then suc (word_len bs) else 0
-
--- how many bytes at the front may stand in a name
-abbrev pub name_len : List ℕ → ℕ
-name_len [] = 0
-name_len (b ∷ bs) = if is_name_byte b then suc (name_len bs) else 0
 
 -- A word has to be one name, one number or one node name.
 abbrev pub kind_of_word : List ℕ → Option TokenKind

@@ -1,14 +1,10 @@
 //! What stands at the front of the rest of a line.
-ghost use Rattle.std.specs.Prelude.{◌≡◌, ◌≤◌, true, length, option_map, take};
-ghost use Rattle.aw_lex.specs.Tokens.{is_blank, is_mark, is_word_byte, word_len, name_len, kind_of_word, front_of_word, front_of_text, front_of, Fits};
-ghost use Rattle.aw_text.specs.Spelling.{is_name_byte, text_behind_quote};
-ghost use Rattle.std.specs.List.{list_all};
+ghost use Rattle.std.specs.Prelude.{◌≡◌, ◌≤◌, length, option_map, take};
+ghost use Rattle.aw_lex.specs.Tokens.{is_blank, is_mark, is_word_byte, word_len, kind_of_word, front_of_word, front_of_text, front_of, Fits};
+ghost use Rattle.aw_text.specs.Spelling.{text_behind_quote};
 
 use crate::token::TokenKind;
 use aw_text::{is_node_name, name_ok, number_value, text_end};
-
-/// The most bytes of a name.
-const MOST_OF_NAME: usize = 64;
 
 /// What stands at the front of bytes.
 #[derive(Clone, Copy, Debug)]
@@ -57,27 +53,6 @@ fn word_len(bytes: &[u8]) -> usize
     len
 }
 
-fn is_name_byte(byte: u8) -> bool
-    ensures { result ≡ is_name_byte byte }
-{
-    matches!(byte, b'a'..=b'z' | b'0'..=b'9' | b'_')
-}
-
-/// How many bytes at the front may stand in a name.
-fn name_len(bytes: &[u8]) -> usize
-    ensures value { result ≡ name_len bytes.now }
-    ensures within { result ≤ length bytes.now }
-{
-    let mut len = 0;
-    for byte in bytes {
-        if !is_name_byte(*byte) {
-            return len;
-        }
-        len += 1;
-    }
-    len
-}
-
 fn kind_of_word(word: &[u8]) -> Option<TokenKind>
     ensures { result ≡ kind_of_word word.now }
 {
@@ -92,37 +67,15 @@ fn kind_of_word(word: &[u8]) -> Option<TokenKind>
     }
 }
 
-/// The kind of a word in which there are bytes of a name alone; it is not walked again where it is a name.
-fn kind_of_plain(word: &[u8]) -> Option<TokenKind>
-    requires { list_all is_name_byte word.now ≡ true }
-    ensures { result ≡ kind_of_word word.now }
-{
-    match word {
-        [b'a'..=b'z', ..] if word.len() <= MOST_OF_NAME => Some(TokenKind::Name),
-        _ => kind_of_word(word),
-    }
-}
-
-fn front_of_word(kind: Option<TokenKind>, len: usize) -> Front
-    ensures { result ≡ front_of_word len kind }
-{
-    match kind {
-        Some(kind) => Front::Token(kind, len),
-        None => Front::Bad,
-    }
-}
-
 fn word_front(bytes: &[u8]) -> Front
     ensures { result ≡ front_of_word (word_len bytes.now) (kind_of_word (take (word_len bytes.now) bytes.now)) }
 {
-    let plain = name_len(bytes);
-    let (name, rest) = bytes.split_at(plain);
-    let more = word_len(rest);
-    if more == 0 {
-        return front_of_word(kind_of_plain(name), plain);
+    let len = word_len(bytes);
+    let (word, _) = bytes.split_at(len);
+    match kind_of_word(word) {
+        Some(kind) => Front::Token(kind, len),
+        None => Front::Bad,
     }
-    let (word, _) = bytes.split_at(plain + more);
-    front_of_word(kind_of_word(word), plain + more)
 }
 
 fn text_front(bytes: &[u8]) -> Front
