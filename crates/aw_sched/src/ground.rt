@@ -56,7 +56,7 @@ fn ground(alloc: Global, g: &Grammar, term: &RawTerm) -> Result<Ground, LineFaul
 pub(crate) fn grounds(alloc: Global, g: &Grammar, terms: &[RawTerm]) -> Result<Grounds, LineFault>
     ensures { Finds (λ found. map ground_of found) (known_grounds (words_of g.now).cons (map written_of terms.now)) result }
 {
-    let mut found = Grounds::new(alloc);
+    let mut found = Grounds::from_vec(Vec::with_capacity(alloc, terms.len())?);
     for term in terms {
         found.push(ground(alloc, g, term)?)?;
     }
