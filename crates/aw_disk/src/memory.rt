@@ -4,8 +4,8 @@ ghost use Rattle.aw_out.specs.Causes.{Rose};
 ghost use Rattle.aw_out.specs.Edge.{FitsBuffer};
 ghost use Rattle.aw_disk.specs.Disk.{written, Torn, Cut, Follows, Only, ReadsAt};
 ghost use Rattle.aw_disk.specs.Record.{now, MayLeave, LeftSince, bytes_of, noted};
-ghost use Rattle.aw_disk.specs.Memory.{IsRefused, RefusesCall, Refuses, Idles};
-ghost use Rattle.aw_disk.specs.Record.Op.{Looked};
+ghost use Rattle.aw_disk.specs.Memory.{IsRefused, RefusesCall, Refuses, Idles, IsNoted};
+ghost use Rattle.aw_disk.specs.Record.Op.{Looked, Wrote, Shortened, Synced};
 ghost use Rattle.aw_disk.specs.RecordLaws.{reads, counts, no_other, TimePasses};
 
 use crate::edge::{Did, Disk, Size};
@@ -83,6 +83,7 @@ fn refuse(past: &mut Record, fails: &DiskCalls, fits: bool, faults: &mut u64) ->
     ensures answer { IsTrue result ↔ IsRefused past.old fails.now fits }
     ensures refused { IsTrue result → Rose faults.old faults.new × Idles past.old past.new }
     ensures not { result ≡ false → (faults.new ≡ faults.old) × (past.new ≡ past.old) × (length past.old.ops < past.old.most) × (fits ≡ true) }
+    ensures noted { IsTrue result → IsNoted Looked past.old past.new }
     ensures never_falls { faults.old ≤ faults.new }
     ensures seen { now past.new.start past.new.ops ≡ now past.old.start past.old.ops }
     ensures crash { (c : List ℕ) → MayLeave past.new.start past.new.ops c → MayLeave past.old.start past.old.ops c }
@@ -143,6 +144,9 @@ impl Disk for MemDisk {
         ensures kept { result ≢ Size.Failed → self.new.faults ≡ self.old.faults }
         // It fails exactly where it was told to, or has no room.
         ensures exactly { (result ≡ Size.Failed) ↔ RefusesCall self.old }
+        ensures noted { IsNoted Looked self.old.past self.new.past }
+        // Which calls fail stays so.
+        ensures named { self.new.fails ≡ self.old.fails }
     {
         if refuse(&mut self.past, &self.fails, true, &mut self.faults) {
             return Size::Failed;
@@ -163,6 +167,8 @@ impl Disk for MemDisk {
         ensures cause { result ≡ Got.Failed → Rose self.old.faults self.new.faults }
         ensures kept { result ≢ Got.Failed → self.new.faults ≡ self.old.faults }
         ensures exactly { (result ≡ Got.Failed) ↔ RefusesCall self.old }
+        ensures noted { IsNoted Looked self.old.past self.new.past }
+        ensures named { self.new.fails ≡ self.old.fails }
     {
         if refuse(&mut self.past, &self.fails, true, &mut self.faults) {
             return Got::Failed;
@@ -188,6 +194,9 @@ impl Disk for MemDisk {
         ensures cause { result ≡ Did.Failed → Rose self.old.faults self.new.faults }
         ensures kept { result ≢ Did.Failed → self.new.faults ≡ self.old.faults }
         ensures exactly { (result ≡ Did.Failed) ↔ Refuses self.old (length b.now) }
+        ensures noted { result ≡ Did.Done → self.new.past ≡ noted (Wrote at b.now) self.old.past }
+        ensures refused { result ≡ Did.Failed → IsNoted Looked self.old.past self.new.past }
+        ensures named { self.new.fails ≡ self.old.fails }
     {
         let fits = self.past.has_room(b.len());
         if refuse(&mut self.past, &self.fails, fits, &mut self.faults) {
@@ -208,6 +217,9 @@ impl Disk for MemDisk {
         ensures cause { result ≡ Did.Failed → Rose self.old.faults self.new.faults }
         ensures kept { result ≢ Did.Failed → self.new.faults ≡ self.old.faults }
         ensures exactly { (result ≡ Did.Failed) ↔ RefusesCall self.old }
+        ensures noted { result ≡ Did.Done → self.new.past ≡ noted (Shortened len) self.old.past }
+        ensures refused { result ≡ Did.Failed → IsNoted Looked self.old.past self.new.past }
+        ensures named { self.new.fails ≡ self.old.fails }
     {
         if refuse(&mut self.past, &self.fails, true, &mut self.faults) {
             return Did::Failed;
@@ -226,6 +238,9 @@ impl Disk for MemDisk {
         ensures cause { result ≡ Did.Failed → Rose self.old.faults self.new.faults }
         ensures kept { result ≢ Did.Failed → self.new.faults ≡ self.old.faults }
         ensures exactly { (result ≡ Did.Failed) ↔ RefusesCall self.old }
+        ensures noted { result ≡ Did.Done → self.new.past ≡ noted Synced self.old.past }
+        ensures refused { result ≡ Did.Failed → IsNoted Looked self.old.past self.new.past }
+        ensures named { self.new.fails ≡ self.old.fails }
     {
         if refuse(&mut self.past, &self.fails, true, &mut self.faults) {
             return Did::Failed;
