@@ -1,5 +1,5 @@
 //! The events of a node, each on the disk before it is acknowledged.
-ghost use Rattle.std.specs.Prelude.{◌≡◌, ◌≤◌, ◌<◌, ◌+◌, ◌++◌, ◌∷◌, ◌^◌, ◌↔◌, ◌⊎◌, [], ℕ, List, Bool, IsTrue, true, false, length, IfOk, OnOk, OnErr, IsErrOf, MatchOption};
+ghost use Rattle.std.specs.Prelude.{◌≡◌, ◌≢◌, ◌≤◌, ◌<◌, ◌+◌, ◌++◌, ◌∷◌, ◌^◌, ◌↔◌, ◌⊎◌, [], ℕ, List, Bool, IsTrue, true, false, length, IfOk, OnOk, OnErr, IsErrOf, MatchOption};
 ghost use Rattle.aw_out.specs.Causes.{Rose};
 ghost use Rattle.aw_disk.specs.Disk.{Only, LeavesOnly};
 ghost use Rattle.aw_journal.specs.declared.journal.AppendFault.TheVariants.{NoMemory};
@@ -107,6 +107,7 @@ impl Journal {
         ensures tells { D.tells disk.new ≡ D.tells disk.old }
         ensures never_falls { D.faults disk.old ≤ D.faults disk.new }
         ensures fault { IsErrOf result OpenFault.DiskFault → Rose (D.faults disk.old) (D.faults disk.new) }
+        ensures kept { (IsErrOf result OpenFault.DiskFault → ⊥) → D.faults disk.new ≡ D.faults disk.old }
     {
         match settle(disk) {
             Did::Done => {}
@@ -145,6 +146,7 @@ impl Journal {
         ensures untouched { IsErrOf result AppendFault.Full → (disk.new ≡ disk.old) × (self.new ≡ self.old) }
         ensures untouched_too { IsErrOf result AppendFault.NoMemory → (disk.new ≡ disk.old) × (self.new ≡ self.old) }
         ensures never_falls { D.faults disk.old ≤ D.faults disk.new }
+        ensures kept { (IsErrOf result AppendFault.DiskFault → ⊥) → D.faults disk.new ≡ D.faults disk.old }
     {
         let count = payload_len(&event);
         let next = match next_gate(self.gate, count, self.limit) {
@@ -187,6 +189,7 @@ fn put_record<D: Disk>(disk: &mut D, gate: u64, b: &[u8]) -> Did
     ensures tells { D.tells disk.new ≡ D.tells disk.old }
     ensures never_falls { D.faults disk.old ≤ D.faults disk.new }
     ensures cause { result ≡ Did.Failed → Rose (D.faults disk.old) (D.faults disk.new) }
+    ensures kept { result ≢ Did.Failed → D.faults disk.new ≡ D.faults disk.old }
 {
     match write_synced(disk, gate + 1, b) {
         Did::Done => write_synced(disk, gate, &[1]),
@@ -256,6 +259,7 @@ fn close_first<D: Disk>(disk: &mut D, bytes: &[u8]) -> Did
     ensures tells { D.tells disk.new ≡ D.tells disk.old }
     ensures never_falls { D.faults disk.old ≤ D.faults disk.new }
     ensures cause { result ≡ Did.Failed → Rose (D.faults disk.old) (D.faults disk.new) }
+    ensures kept { result ≢ Did.Failed → D.faults disk.new ≡ D.faults disk.old }
 {
     if must_close(bytes) {
         write_synced(disk, 0, &[0])
@@ -292,6 +296,7 @@ fn start<D: Disk>(
     ensures tells { D.tells disk.new ≡ D.tells disk.old }
     ensures never_falls { D.faults disk.old ≤ D.faults disk.new }
     ensures fault { IsErrOf result OpenFault.DiskFault → Rose (D.faults disk.old) (D.faults disk.new) }
+    ensures kept { (IsErrOf result OpenFault.DiskFault → ⊥) → D.faults disk.new ≡ D.faults disk.old }
 {
     if !has_place(text.len(), limit) {
         return Err(OpenFault::Full);
@@ -336,6 +341,7 @@ fn resume<D: Disk>(
     ensures tells { D.tells disk.new ≡ D.tells disk.old }
     ensures never_falls { D.faults disk.old ≤ D.faults disk.new }
     ensures fault { IsErrOf result OpenFault.DiskFault → Rose (D.faults disk.old) (D.faults disk.new) }
+    ensures kept { (IsErrOf result OpenFault.DiskFault → ⊥) → D.faults disk.new ≡ D.faults disk.old }
 {
     let head = open_head(alloc, role, text)?;
     if !goes_on(bytes, &head) {

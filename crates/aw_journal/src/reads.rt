@@ -1,5 +1,5 @@
 //! Reads a whole file.
-ghost use Rattle.std.specs.Prelude.{◌≡◌, ◌≤◌, ◌<◌, ℕ, IsTrue, IfOk, IsErrOf};
+ghost use Rattle.std.specs.Prelude.{◌≡◌, ◌≢◌, ◌≤◌, ◌<◌, ℕ, IsTrue, IfOk, IsErrOf};
 ghost use Rattle.aw_out.specs.Causes.{Rose};
 ghost use Rattle.aw_disk.specs.Disk.{Only};
 ghost use Rattle.aw_journal.specs.Journal.{Quiet};
@@ -31,6 +31,7 @@ pub(crate) fn settle<D: Disk>(disk: &mut D) -> Did
     ensures quiet { Quiet D.tells D.seen D.may_leave D.moment D.left_since disk.old disk.new }
     ensures never_falls { D.faults disk.old ≤ D.faults disk.new }
     ensures cause { result ≡ Did.Failed → Rose (D.faults disk.old) (D.faults disk.new) }
+    ensures kept { result ≢ Did.Failed → D.faults disk.new ≡ D.faults disk.old }
 {
     disk.sync()
 }
@@ -41,6 +42,7 @@ pub(crate) fn read_file<D: Disk>(alloc: Global, disk: &mut D) -> Result<Vec<u8>,
     ensures quiet { Quiet D.tells D.seen D.may_leave D.moment D.left_since disk.old disk.new }
     ensures never_falls { D.faults disk.old ≤ D.faults disk.new }
     ensures cause { IsErrOf result OpenFault.DiskFault → Rose (D.faults disk.old) (D.faults disk.new) }
+    ensures kept { (IsErrOf result OpenFault.DiskFault → ⊥) → D.faults disk.new ≡ D.faults disk.old }
     ensures not_full { IsErrOf result OpenFault.Full → ⊥ }
     ensures not_bad { IsErrOf result OpenFault.BadHead → ⊥ }
 {
