@@ -1,16 +1,15 @@
 -- One request, bit by bit.
-use Rattle.std.proofs.Common.{◌≡◌, ℕ, ◌+◌, ◌-◌, ◌<◌, ◌≤◌, Bool, true, false, List, [], ◌∷◌, ◌++◌, length, take, drop, Option, Some, None, Result, Ok, Err, refl, sym, ap, subst, ◌∙◌, arith, append-nil, append_assoc}
+use Rattle.std.proofs.Common.{◌≡◌, ℕ, Bool, true, false, List, [], ◌++◌, take, drop, Option, Some, None, Result, Ok, Err, refl, sym, ap, subst, ◌∙◌, append-nil}
 use Rattle.std.specs.Prelude.{IfOk, IfErr}
 use Rattle.std.proofs.lemmas.List.{take-append-drop}
 use Rattle.aw_out.specs.Wires.{Content, Both}
 use Rattle.aw_out.specs.Wires.{ReadsInSession}
-use Rattle.aw_out.specs.declared.edge.Got.TheVariants.{Read, End, Failed}
+use Rattle.aw_out.specs.declared.edge.Got.TheVariants.{End}
 use Rattle.aw_term.specs.Rules.{Grammar}
 use Rattle.aw_wire.specs.Reading.{Short}
 use Rattle.aw_session.specs.Talking.{Talks, TalksInPart}
-use Rattle.aw_nodes.specs.Couriers.{IsPrefix}
-use Rattle.aw_courier.specs.Asking.{NothingLeft, IsNoReply, Wrong, Ended, is_net, WhyBroken, IsBrokenOff, IsUnread, IsAsked, ReadsMore, ReadsNoMore}
-use Rattle.aw_courier.specs.Replies.{reply, IsNone, IsSized}
+use Rattle.aw_courier.specs.Asking.{NothingLeft, Wrong, Ended, is_net, WhyBroken, IsBrokenOff, IsUnread, IsAsked, ReadsNoMore}
+use Rattle.aw_courier.specs.Replies.{reply, IsNone}
 use Rattle.aw_courier.specs.declared.broken.Broken.{Broken}
 use Rattle.aw_courier.specs.declared.broken.Broken.TheVariants as broken
 use Rattle.aw_courier.specs.declared.replies.Request.{Request}

@@ -1,12 +1,11 @@
 -- What a pull brought, by all bytes of the reply.
-use Rattle.std.proofs.Common.{◌≡◌, ◌≢◌, ℕ, suc, ◌+◌, ◌<◌, ◌≤◌, ◌^◌, Bool, true, false, cond, List, [], ◌∷◌, ◌++◌, length, drop, Option, Some, None, Result, Ok, Err, refl, sym, ap, subst, ◌∙◌, arith, append-nil, inl, inr}
-use Rattle.std.specs.Prelude.{nat_lt, slice_index, ◌==◌, ◌||◌}
+use Rattle.std.proofs.Common.{◌≡◌, ◌≢◌, ℕ, ◌<◌, ◌≤◌, Bool, true, false, cond, List, [], ◌∷◌, ◌++◌, length, drop, Some, None, Result, Ok, Err, refl, sym, ap, subst, ◌∙◌, arith, append-nil}
+use Rattle.std.specs.Prelude.{slice_index, ◌==◌, ◌||◌}
 use Rattle.std.specs.Int.{w32, w64, from_be_bytes, to_be_bytes}
 use Rattle.std.proofs.lemmas.Bool.{lt-ltb, le-ltb, eqb-true}
 use Rattle.aw_term.specs.Rules.{Grammar}
-use Rattle.aw_term.specs.Trees.{Never}
 use Rattle.aw_wire.specs.Bytes.{AreBytes}
-use Rattle.aw_wire.specs.Reading.{Fault, Short, Bad, number}
+use Rattle.aw_wire.specs.Reading.{Fault}
 use Rattle.aw_wire.proofs.Laws.{AreBytes-rest, number32}
 use Rattle.aw_msg.specs.Frames.{whole, all_of}
 use Rattle.aw_msg.specs.Messages as M
@@ -16,14 +15,14 @@ use Rattle.aw_msg.specs.Spelling as S
 use Rattle.aw_msg.specs.declared.message.MsgKind.TheVariants as kinds
 use Rattle.aw_msg.specs.declared.message.Message.{Message}
 use Rattle.aw_msg.proofs.MessageLaws.{message_law}
-use Rattle.aw_nodes.specs.Couriers.{Heard, Gave, Had, behind}
+use Rattle.aw_nodes.specs.Couriers.{Gave, Had, behind}
 use Rattle.aw_nodes.specs.Nodes.{Push as PushFrame}
 use Rattle.aw_courier.specs.Frames.{spelled_frame}
 use Rattle.aw_courier.specs.Replies.{gave, heard_in, known, reply, IsNone, IsSized, Brings, IsAddressed, NamesRole}
 use Rattle.aw_courier.specs.declared.replies.Brought.{Brought}
 use Rattle.aw_courier.specs.declared.replies.Brought.TheVariants as brought
 use Rattle.aw_courier.specs.declared.replies.Request.TheVariants.{Pull}
-use Rattle.aw_courier.proofs.ReplyLemmas.{IsWhole, whole-of}
+use Rattle.aw_courier.proofs.ReplyLemmas.{whole-of}
 
 -- a message is spelled without the sorts of called nodes
 pub same-spelling : (g : Grammar) (k : Message) → S.spelled_message (message_of g k) ≡ M.spelled_message k

@@ -1,15 +1,15 @@
 -- What Quiet means over an honest wire.
-use Rattle.std.proofs.Common.{◌≡◌, ℕ, zero, suc, ◌+◌, ◌-◌, ◌<◌, ◌≤◌, ◌^◌, Bool, true, false, cond, List, [], ◌∷◌, ◌++◌, map, length, take, drop, Option, Some, None, Result, Ok, Err, refl, sym, ap, subst, ◌∙◌, arith, append_assoc, append-nil, length-append}
-use Rattle.std.specs.Prelude.{nat_le, nat_lt, ◌==◌, ◌||◌, ◌&&◌, IfOk}
+use Rattle.std.proofs.Common.{◌≡◌, ℕ, ◌+◌, ◌-◌, ◌<◌, ◌≤◌, ◌^◌, Bool, true, false, cond, List, [], ◌∷◌, ◌++◌, map, length, take, drop, Option, Some, None, Result, Ok, Err, refl, sym, ap, subst, ◌∙◌, arith, append_assoc, append-nil, length-append}
+use Rattle.std.specs.Prelude.{nat_lt, IfOk}
 use Rattle.std.specs.Int.{w32, w64, from_be_bytes, to_be_bytes}
 use Rattle.std.proofs.lemmas.Bool.{ltb-false}
-use Rattle.std.proofs.lemmas.List.{length-drop, drop-append-le}
+use Rattle.std.proofs.lemmas.List.{length-drop}
 use Rattle.aw_term.specs.Artifacts.{Words}
 use Rattle.aw_term.specs.Rules.{Grammar}
 use Rattle.aw_term.specs.Trees.{Never}
 use Rattle.aw_term.specs.WellFormed.{Each}
 use Rattle.aw_iograph.proofs.Members.{never}
-use Rattle.aw_wire.specs.Reading.{Fault, Short, Bad, ◌>>=◌, number}
+use Rattle.aw_wire.specs.Reading.{Fault, Short, ◌>>=◌, number}
 use Rattle.aw_wire.proofs.Laws.{ok_is, number32, number64}
 use Rattle.aw_react.specs.Sites.{Site}
 use Rattle.aw_react.specs.Worlds as world
@@ -19,9 +19,8 @@ use Rattle.aw_msg.specs.Frames as F
 use Rattle.aw_msg.specs.Frames.{whole}
 use Rattle.aw_msg.specs.Messages as M
 use Rattle.aw_msg.specs.Messages.{message}
-use Rattle.aw_msg.specs.MessageView.{message_of, plain_message}
-use Rattle.aw_msg.specs.Replies.{reply_kind, reply_payload, spelled_reply}
-use Rattle.aw_msg.specs.Responses as R
+use Rattle.aw_msg.specs.MessageView.{message_of}
+use Rattle.aw_msg.specs.Replies.{reply_kind, reply_payload}
 use Rattle.aw_msg.specs.Spelling as S
 use Rattle.aw_msg.specs.declared.message.Message.{Message}
 use Rattle.aw_msg.proofs.Lengths.{payload_short}

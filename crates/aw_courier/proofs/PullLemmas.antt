@@ -1,5 +1,5 @@
 -- One pull.
-use Rattle.std.proofs.Common.{◌≡◌, ℕ, suc, ◌+◌, ◌<◌, ◌≤◌, Bool, true, false, List, [], ◌∷◌, ◌++◌, length, Option, Some, None, refl, sym, ap, subst, ◌∙◌, arith, append-nil}
+use Rattle.std.proofs.Common.{◌≡◌, ℕ, suc, ◌≤◌, Bool, false, List, [], ◌∷◌, length, Option, Some, None, refl, sym, ap, subst, ◌∙◌, arith, append-nil}
 use Rattle.aw_out.specs.Wires.{Content}
 use Rattle.aw_term.specs.Rules.{Grammar}
 use Rattle.aw_nodes.specs.Nodes.{Pull}
@@ -7,12 +7,10 @@ use Rattle.aw_nodes.specs.Couriers.{behind}
 use Rattle.aw_courier.specs.Asking.{Wrong, IsAsked, IsBrokenOff}
 use Rattle.aw_courier.specs.Frames.{spelled_frame}
 use Rattle.aw_courier.specs.Pulls.{IsPulled}
-use Rattle.aw_courier.specs.Replies.{reply, IsNone, Brings}
+use Rattle.aw_courier.specs.Replies.{Brings}
 use Rattle.aw_courier.specs.declared.broken.Broken.TheVariants as broken
-use Rattle.aw_courier.specs.declared.replies.Brought.{Brought}
 use Rattle.aw_courier.specs.declared.replies.Brought.TheVariants as brought
 use Rattle.aw_courier.specs.declared.replies.Request.TheVariants as request
-use Rattle.aw_courier.specs.declared.turns.Letter.{Letter}
 use Rattle.aw_courier.proofs.ReplyLemmas.{size-within}
 
 length-behind : (xs : List ℕ) → length (1 ∷ behind xs) ≤ suc (length xs)

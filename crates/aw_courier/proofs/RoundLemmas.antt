@@ -9,11 +9,10 @@ use Rattle.aw_out.specs.declared.edge.Dialed.TheVariants.{Opened, Failed}
 use Rattle.aw_term.specs.Rules.{Grammar, upto}
 use Rattle.aw_term.specs.WellFormed.{Each}
 use Rattle.aw_term.proofs.Eaches.{each_append, each_push}
-use Rattle.aw_session.specs.Frames.{joined}
 use Rattle.aw_session.specs.Sessions.{Follow}
 use Rattle.aw_session.specs.Talking.{Counts, Talks}
 use Rattle.aw_session.proofs.Servings.{follow-none, follow-then}
-use Rattle.aw_nodes.specs.Couriers.{Session, Courier, new_courier, requests, after_session, after_all, flat, AreReplies, AreTurns, IsRound, moves, round_moves, IsQuietCall, IsSpentCall}
+use Rattle.aw_nodes.specs.Couriers.{Session, Courier, new_courier, requests, after_session, after_all, flat, AreTurns, IsRound, moves, round_moves}
 use Rattle.aw_courier.specs.Asking.{is_net}
 use Rattle.aw_courier.specs.Carrying.{sessions_of, AreMade, IsRoundMade, fault_at, IsRoundBroken, IsQuiet, IsSpent, AreBefore, IsBrokenOff}
 use Rattle.aw_courier.specs.Frames.{size}

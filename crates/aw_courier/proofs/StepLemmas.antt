@@ -1,17 +1,17 @@
 -- One step of a turn, by what the courier keeps.
-use Rattle.std.proofs.Common.{◌≡◌, ℕ, zero, suc, ◌+◌, ◌-◌, ◌<◌, ◌≤◌, Bool, true, false, cond, ◌||◌, List, [], ◌∷◌, ◌++◌, length, Option, Some, None, refl, sym, ap, subst, ◌∙◌, arith, append-nil}
-use Rattle.std.specs.Prelude.{nat_le, nat_lt, ◌==◌, ◌&&◌, slice_index, slice_index_or, slice_set, Ok}
+use Rattle.std.proofs.Common.{◌≡◌, ℕ, ◌+◌, ◌-◌, ◌<◌, ◌≤◌, Bool, true, false, ◌||◌, List, [], ◌∷◌, ◌++◌, length, Option, Some, None, refl, sym, ap, subst, ◌∙◌, arith, append-nil}
+use Rattle.std.specs.Prelude.{nat_le, ◌==◌, ◌&&◌, slice_index, slice_set, Ok}
 use Rattle.std.proofs.lemmas.Bool.{eqb-true, leb-true}
 use Rattle.std.proofs.lemmas.List.{set-get_or}
 use Rattle.aw_out.specs.Wires.{Content}
 use Rattle.aw_term.specs.Rules.{Grammar, get}
 use Rattle.aw_apply.specs.Messages.{Message}
-use Rattle.aw_nodes.specs.Nodes.{Frame, Push, Pull}
-use Rattle.aw_nodes.specs.Couriers.{Heard, Pushed, Gave, Had, Courier, for_role, turn_messages, note, pushes}
-use Rattle.aw_courier.specs.Asking.{is_net, IsAsked, IsBrokenOff}
+use Rattle.aw_nodes.specs.Nodes.{Push, Pull}
+use Rattle.aw_nodes.specs.Couriers.{Pushed, Gave, Had, Courier, for_role, turn_messages, note, pushes}
+use Rattle.aw_courier.specs.Asking.{IsAsked, IsBrokenOff}
 use Rattle.aw_courier.specs.Frames.{size, spelled_frame}
 use Rattle.aw_courier.specs.Mails.{Mailed, Shows, pushed_frames, place_at, queue_at, with_queue}
-use Rattle.aw_courier.specs.Pulls.{IsHeardIn, IsLetterOf, IsPulled}
+use Rattle.aw_courier.specs.Pulls.{IsPulled}
 use Rattle.aw_courier.specs.Replies.{heard_in, known, reply, IsSized}
 use Rattle.aw_courier.specs.Turns.{IsUnderway, BreaksOff, pushing, pulling, ending}
 use Rattle.aw_courier.specs.declared.broken.Broken.{Broken}
@@ -19,7 +19,7 @@ use Rattle.aw_courier.specs.declared.broken.Broken.TheVariants as broken
 use Rattle.aw_courier.specs.declared.replies.Request.TheVariants as request
 use Rattle.aw_courier.specs.declared.turns.Letter.{Letter}
 use Rattle.aw_courier.proofs.Lists.{frames-first, frames-none, get-is}
-use Rattle.aw_courier.proofs.ReplyLemmas.{IsWhole, whole-of}
+use Rattle.aw_courier.proofs.ReplyLemmas.{whole-of}
 use Rattle.aw_courier.proofs.TurnLemmas.{TalksThen, one-more, said-again, stops, next-push, first-push, too-long, all-pushed, no-room, none-left, shows-push, next-pull, last-pull, first-pull, shows-pull}
 
 or-true : (b : Bool) → true ≡ (b || true)

@@ -1,23 +1,21 @@
 -- A turn, one request after the other.
-use Rattle.std.proofs.Common.{◌≡◌, ℕ, zero, suc, ◌+◌, ◌-◌, ◌<◌, ◌≤◌, Bool, true, false, cond, ◌||◌, ◌⊎◌, List, [], ◌∷◌, ◌++◌, map, length, Option, refl, sym, ap, subst, ◌∙◌, arith, inl, inr, append_assoc, append-nil}
-use Rattle.std.specs.Prelude.{nat_eq, nat_lt, nat_le, slice_index, slice_index_or, slice_set, Ok, Err, ◌&&◌}
-use Rattle.std.proofs.lemmas.Bool.{le-leb, lt-leb, lt-ltb, le-ltb, eqb-true, eq-eqb}
-use Rattle.aw_out.specs.Wires as W
+use Rattle.std.proofs.Common.{◌≡◌, ℕ, suc, ◌+◌, ◌-◌, ◌<◌, ◌≤◌, Bool, true, false, cond, ◌||◌, ◌⊎◌, List, [], ◌∷◌, ◌++◌, length, Option, refl, sym, ap, subst, ◌∙◌, arith, inl, inr, append_assoc, append-nil}
+use Rattle.std.specs.Prelude.{nat_eq, nat_lt, nat_le, slice_index, slice_index_or, slice_set, Ok, ◌&&◌}
+use Rattle.std.proofs.lemmas.Bool.{le-leb, lt-leb, lt-ltb, eqb-true, eq-eqb}
 use Rattle.aw_out.specs.Wires.{Content}
 use Rattle.aw_term.specs.Rules.{Grammar, get}
 use Rattle.aw_term.specs.Trees.{Never}
 use Rattle.aw_apply.specs.Messages.{Message}
-use Rattle.aw_wire.specs.Reading.{Short}
-use Rattle.aw_merge.proofs.Places.{get-set, get-set_other, length-set, same_or_not}
+use Rattle.aw_merge.proofs.Places.{get-set, length-set, same_or_not}
 use Rattle.aw_session.specs.Frames.{joined}
 use Rattle.aw_nodes.specs.Nodes.{Frame, Push, Pull}
-use Rattle.aw_nodes.specs.Couriers.{Heard, Gave, Had, Courier, for_role, turn_room, turn_messages, asks, after_reply, behind, pulls, pushes, requests, note, noted, without, IsReplyTo, AreReplies, move, moves, IsPrefix}
+use Rattle.aw_nodes.specs.Couriers.{Heard, Gave, Had, Courier, for_role, turn_room, turn_messages, asks, after_reply, behind, pulls, pushes, requests, note, without, IsReplyTo, move, moves}
 use Rattle.aw_nodes.proofs.ListParts.{filter-append}
 use Rattle.aw_courier.specs.Asking.{is_net, WhyBroken, IsBrokenOff}
 use Rattle.aw_courier.specs.Frames.{size, spelled_frame, spelled_frames}
 use Rattle.aw_courier.specs.Mails.{Mailed, Shows, pushed_frames, place_at, queue_at, with_queue}
 use Rattle.aw_courier.specs.Replies.{reply, request_of}
-use Rattle.aw_courier.specs.Turns.{AreHeard, IsUnderway, IsCut, WhyStopped, BreaksOff, pushing, pulling, ending}
+use Rattle.aw_courier.specs.Turns.{IsUnderway, WhyStopped, BreaksOff, pushing, pulling}
 use Rattle.aw_courier.specs.declared.broken.Broken.{Broken}
 use Rattle.aw_courier.specs.declared.broken.Broken.TheVariants as broken
 use Rattle.aw_courier.proofs.Lists.{get-is, index-set, index-set_other, joined-one, spelled-append, spelled-one, heard-one, replies-one, noted-one, moves-one, lt-sum, rest-waits, others-wait}

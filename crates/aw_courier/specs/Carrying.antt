@@ -1,12 +1,12 @@
 -- What a courier does over a wire, and when it answers what.
-use Rattle.std.specs.Prelude.{◌≡◌, ℕ, ◌+◌, ◌<◌, ◌≤◌, nat_lt, List, [], ◌∷◌, ◌++◌, map, length, Bool, Option, option_to_list}
+use Rattle.std.specs.Prelude.{◌≡◌, ℕ, ◌<◌, ◌≤◌, nat_lt, List, ◌++◌, map, length, Bool, Option, option_to_list}
 use Rattle.aw_out.specs.Wires as W
 use Rattle.aw_out.specs.Wires.{Content, Both}
 use Rattle.aw_term.specs.Rules.{Grammar, upto}
 use Rattle.aw_term.specs.WellFormed.{Each}
 use Rattle.aw_session.specs.Sessions.{Follow}
 use Rattle.aw_session.specs.Talking.{Counts}
-use Rattle.aw_nodes.specs.Couriers.{Session, Courier, new_courier, after_all, flat, AreTurns, IsRound, round_moves, IsQuietCall, IsSpentCall}
+use Rattle.aw_nodes.specs.Couriers.{Session, Courier, new_courier, after_all, flat, AreTurns, round_moves, IsQuietCall, IsSpentCall}
 use Rattle.aw_courier.specs.Asking.{is_net}
 use Rattle.aw_courier.specs.Frames.{size}
 use Rattle.aw_courier.specs.Mails.{Mailed, Shows}

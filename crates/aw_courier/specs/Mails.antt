@@ -1,5 +1,5 @@
 -- What a courier keeps: of each role the requests that wait for it, and the first place not yet pulled.
-use Rattle.std.specs.Prelude.{◌≡◌, ℕ, ◌+◌, ◌<◌, ◌≤◌, List, [], ◌∷◌, ◌++◌, length, map, slice_index, slice_index_or, slice_set}
+use Rattle.std.specs.Prelude.{◌≡◌, ℕ, ◌<◌, ◌≤◌, List, [], ◌∷◌, length, map, slice_index, slice_index_or, slice_set}
 use Rattle.aw_term.specs.Rules.{Grammar}
 use Rattle.aw_apply.specs.Messages.{Message}
 use Rattle.aw_nodes.specs.Couriers.{Courier, for_role}

@@ -4,7 +4,7 @@ use Rattle.aw_term.specs.Rules.{Grammar}
 use Rattle.aw_apply.specs.Messages.{Message}
 use Rattle.aw_nodes.specs.Couriers.{Heard, Gave, Had, turn_room}
 use Rattle.aw_nodes.specs.Nodes.{Push, Pull}
-use Rattle.aw_courier.specs.Frames.{size, spelled_frame}
+use Rattle.aw_courier.specs.Frames.{spelled_frame}
 use Rattle.aw_courier.specs.Replies.{reply}
 use Rattle.aw_courier.specs.declared.replies.Request.TheVariants as request
 use Rattle.aw_courier.specs.declared.turns.Letter.{Letter}

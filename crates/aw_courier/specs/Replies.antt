@@ -1,6 +1,6 @@
 -- What is heard in the bytes of a reply. The kind is judged when its byte is there, the length when its four bytes are there, and the
 -- payload when it is whole.
-use Rattle.std.specs.Prelude.{◌≡◌, ℕ, suc, ◌+◌, ◌<◌, ◌≤◌, ◌==◌, Bool, ◌&&◌, ◌||◌, nat_le, nat_lt, List, [], ◌∷◌, length, take, drop, Option, None, Some, Result, Ok, Err, if◌then◌else◌}
+use Rattle.std.specs.Prelude.{◌≡◌, ℕ, ◌+◌, ◌<◌, ◌≤◌, ◌==◌, Bool, ◌&&◌, ◌||◌, nat_le, nat_lt, List, [], ◌∷◌, length, take, drop, Option, None, Some, Result, Ok, Err, if◌then◌else◌}
 use Rattle.std.specs.Int.{w32, w64, from_be_bytes}
 use Rattle.aw_term.specs.Rules.{Grammar}
 use Rattle.aw_wire.specs.Reading.{Fault, Short, Bad, Reader, ◌>>=◌, byte, number, such_that}

@@ -1,5 +1,5 @@
 -- A turn of a courier at one role.
-use Rattle.std.specs.Prelude.{◌≡◌, ℕ, ◌<◌, nat_lt, List, [], ◌∷◌, ◌++◌, map, length, Bool, true, false, Option, None, Some, option_to_list, Ok, Err}
+use Rattle.std.specs.Prelude.{◌≡◌, ℕ, ◌<◌, nat_lt, List, [], ◌∷◌, ◌++◌, Bool, true, false, Option, None, Some, option_to_list, Ok, Err}
 use Rattle.aw_out.specs.Wires as W
 use Rattle.aw_out.specs.Wires.{Content, Both}
 use Rattle.aw_term.specs.Rules.{Grammar, get}
@@ -9,7 +9,7 @@ use Rattle.aw_session.specs.Frames.{joined}
 use Rattle.aw_session.specs.Sessions.{Follow}
 use Rattle.aw_session.specs.Talking.{Counts}
 use Rattle.aw_nodes.specs.Nodes.{Frame}
-use Rattle.aw_nodes.specs.Couriers.{Heard, Session, Courier, for_role, turn_messages, pulls, pushes, requests, noted, after_session, AreReplies, moves, IsPrefix}
+use Rattle.aw_nodes.specs.Couriers.{Heard, Session, Courier, for_role, pulls, pushes, requests, noted, after_session, AreReplies, moves, IsPrefix}
 use Rattle.aw_courier.specs.Asking.{is_net, IsNoReply}
 use Rattle.aw_courier.specs.Frames.{size, spelled_frames}
 use Rattle.aw_courier.specs.Mails.{Mailed, Shows}

@@ -1,4 +1,3 @@
-use Rattle.std.proofs.Common.{◌≡◌}
 use Rattle.aw_session.proofs.Refusals.{err-passed}
 use Rattle.aw_session.proofs.TalkLemmas.{talks-then}
 use Rattle.aw_courier.proofs.AskLemmas.{not-written, not-answered, answered, ok-map, err-map}

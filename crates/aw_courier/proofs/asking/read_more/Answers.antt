@@ -1,4 +1,4 @@
-use Rattle.std.proofs.Common.{◌++◌, take, refl, ap, ◌∙◌, arith, ◌≡◌, length}
+use Rattle.std.proofs.Common.{◌++◌, take, refl, ap, ◌∙◌, arith}
 use Rattle.std.proofs.lemmas.List.{length-take}
 use Rattle.std.proofs.lemmas.Result.{err_from_is_err_and}
 use Rattle.aw_session.proofs.TalkLemmas.{talks-read, talks-end, talks-not_read}

@@ -1,4 +1,4 @@
-use Rattle.std.proofs.Common.{◌≡◌, ◌≤◌, ◌<◌, ◌+◌, ◌-◌, refl, sym, ap, ◌∙◌, arith, length, Some, []}
+use Rattle.std.proofs.Common.{◌≡◌, ◌<◌, ◌+◌, ◌-◌, sym, ap, ◌∙◌, arith, length}
 use Rattle.std.proofs.lemmas.List.{length-append}
 use Rattle.aw_session.proofs.Refusals.{err-passed}
 use Rattle.aw_session.proofs.TalkLemmas.{talks-none, talks-then}

@@ -1,5 +1,3 @@
-use Rattle.std.proofs.Common.{Result, Ok, Err}
-use Rattle.std.specs.Prelude.{IfOk}
 use Rattle.std.proofs.Math.Logic.{∥∥₁_elim, ∥∥₁_map}
 use mathlib.Core.Logic.{∥∥₁_prop}
 use Rattle.aw_grammar.specs.GrammarOf.{grammar_of, words_of}

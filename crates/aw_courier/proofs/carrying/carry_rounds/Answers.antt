@@ -1,4 +1,4 @@
-use Rattle.std.proofs.Common.{◌≡◌, refl, sym, ap, subst, ◌∙◌, arith, length}
+use Rattle.std.proofs.Common.{refl, sym, ap, ◌∙◌, arith, length}
 use Rattle.aw_grammar.specs.declared.grammar.Grammar as declared
 use Rattle.aw_grammar.specs.GrammarOf.{grammar_of}
 use Rattle.aw_session.proofs.Refusals.{err-passed}

@@ -1,4 +1,4 @@
-use Rattle.std.proofs.Common.{◌≡◌, refl, arith}
+use Rattle.std.proofs.Common.{arith}
 use Rattle.aw_nodes.specs.Couriers.{after_all}
 use Rattle.aw_courier.specs.Carrying.{sessions_of}
 use Rattle.aw_courier.proofs.MailLemmas.{still-roles, size-then}

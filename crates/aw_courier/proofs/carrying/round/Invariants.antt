@@ -1,4 +1,4 @@
-use Rattle.std.proofs.Common.{◌≡◌, ℕ}
+use Rattle.std.proofs.Common.{◌≡◌}
 use Rattle.aw_term.specs.Rules.{Grammar}
 use Rattle.aw_nodes.specs.Couriers.{Courier}
 use Rattle.aw_courier.specs.Carrying.{IsRoundMade}

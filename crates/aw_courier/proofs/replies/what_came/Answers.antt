@@ -1,4 +1,4 @@
-use Rattle.std.proofs.Common.{◌≡◌, arith, ap, sym, ◌∙◌}
+use Rattle.std.proofs.Common.{arith, ap, sym, ◌∙◌}
 use Rattle.aw_msg.specs.Messages.{message}
 use Rattle.aw_courier.proofs.BroughtLemmas.{brings-nothing, brings-addressed, brings-unknown, gave-unread}
 use Rattle.aw_courier.proofs.replies.what_came.Goals as goal

@@ -1,4 +1,4 @@
-use Rattle.std.proofs.Common.{◌≡◌, sym, subst}
+use Rattle.std.proofs.Common.{subst}
 use Rattle.aw_session.proofs.Refusals.{err-passed}
 use Rattle.aw_courier.specs.Replies.{Brings}
 use Rattle.aw_courier.proofs.PullLemmas.{pulled-letter, pulled-nothing, pulled-unknown, pulled-unseen}

@@ -1,8 +1,8 @@
-use Rattle.std.proofs.Common.{◌≡◌, sym, subst, ◌∙◌, arith, Some, None}
+use Rattle.std.proofs.Common.{sym, subst, ◌∙◌, arith}
 use Rattle.aw_session.proofs.Refusals.{err-passed}
 use Rattle.aw_session.proofs.TalkLemmas.{talks-then}
 use Rattle.aw_session.specs.Talking.{Talks}
-use Rattle.aw_courier.specs.Mails.{place_at, queue_at}
+use Rattle.aw_courier.specs.Mails.{place_at}
 use Rattle.aw_courier.specs.Pulls.{IsPulled}
 use Rattle.aw_courier.proofs.MailLemmas.{role-few, same-put, still-holds, size-then}
 use Rattle.aw_courier.proofs.StepLemmas.{pulled-one, pulled-none, pull-stops, pull-forgets, pull-over, pull-spent}

@@ -1,4 +1,3 @@
-use Rattle.std.proofs.Common.{◌≡◌, sym, subst}
 use Rattle.aw_session.proofs.Refusals.{err-passed}
 use Rattle.aw_session.proofs.TalkLemmas.{talks-none, talks-then}
 use Rattle.aw_session.specs.Talking.{Talks}

@@ -1,4 +1,4 @@
-use Rattle.std.proofs.Common.{◌≡◌, ℕ, true, length}
+use Rattle.std.proofs.Common.{◌≡◌, true, length}
 use Rattle.aw_term.specs.Rules.{Grammar}
 use Rattle.aw_session.specs.Talking.{Talks}
 use Rattle.aw_nodes.specs.Couriers.{Courier}

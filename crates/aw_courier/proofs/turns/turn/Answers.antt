@@ -1,8 +1,7 @@
-use Rattle.std.proofs.Common.{◌≡◌, refl, arith}
 use Rattle.aw_session.proofs.Refusals.{err-passed}
 use Rattle.aw_courier.proofs.AskLemmas.{ok-map, err-map}
-use Rattle.aw_courier.proofs.MailLemmas.{role-few, still-holds}
-use Rattle.aw_courier.proofs.RoundLemmas.{turn-made, turn-stopped, turn-undialed}
+use Rattle.aw_courier.proofs.MailLemmas.{still-holds}
+use Rattle.aw_courier.proofs.RoundLemmas.{turn-made, turn-stopped}
 use Rattle.aw_courier.proofs.turns.turn.Goals as goal
 
 pub push_all-requires-clause-role : goal.push_all-requires-clause-role
