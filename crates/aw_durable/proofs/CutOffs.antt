@@ -1,6 +1,6 @@
 -- Sessions that were cut off, as a simpler workspace sees them, with what holds of the workspace then.
 use Rattle.std.proofs.Common.{◌≡◌, ℕ, List, Bool, Option, None, Some, Result, Ok, Err, refl, sym, subst}
-use Rattle.std.specs.Result.{IfOk, IfErr}
+use Rattle.std.specs.Result.{IfOk, IfErr, IsErrOf}
 use Rattle.aw_out.specs.Wires.{Session, Content}
 use Rattle.aw_msg.specs.Frames.{Frame}
 use Rattle.aw_session.specs.Broken.{Anyhow, StopsAt, Reading, Replying, IsStopped}
@@ -50,6 +50,11 @@ err-map (Err e) p f = f e p
 pub in-either : {A E T : Type 0} {P : A → Type 0} {Q : E → Type 0} (r : Result A E) → IfOk r P → IfErr r Q → ((x : A) → P x → T) → ((e : E) → Q e → T) → T
 in-either (Ok x) p q f h = f x p
 in-either (Err e) p q f h = h e q
+
+-- what follows from an error that is this one
+pub err-of : {A E T : Type 0} {P : E → Type 0} (r : Result A E) (x : E) → IfErr r P → IsErrOf r x → ((e : E) → P e → e ≡ x → T) → T
+err-of (Ok y) x p is f = absurd (cc is)
+err-of (Err e) x p is f = f e p (cc is)
 
 -- an error that is handed on
 pub err-passed : {A E : Type 0} (Q : E → Type 0) (r : Result A E) (e : E) → r ≡ Err e → Q e → IfErr r Q

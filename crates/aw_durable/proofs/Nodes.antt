@@ -1,12 +1,12 @@
 -- What a kept node does is what the site does that keeps its events.
-use Rattle.std.proofs.Common.{◌≡◌, ℕ, ◌≤◌, List, IsTrue, refl, sym, ap, ◌∙◌, subst}
+use Rattle.std.proofs.Common.{◌≡◌, ◌≢◌, ℕ, ◌≤◌, List, IsTrue, refl, sym, ap, ◌∙◌, subst}
 use Rattle.aw_out.specs.declared.edge.Wire as wires
 use Rattle.aw_react.specs.Sites.{Site}
 use Rattle.aw_msg.specs.Frames.{Frame}
 use Rattle.aw_disk.specs.declared.edge.Disk as disks
 use Rattle.aw_journal.specs.Journal.{Kept}
 use Rattle.aw_journal.specs.declared.journal.AppendFault.{AppendFault}
-use Rattle.aw_journal.specs.declared.journal.AppendFault.TheVariants.{NoMemory}
+use Rattle.aw_journal.specs.declared.journal.AppendFault.TheVariants.{DiskFault, NoMemory}
 use Rattle.aw_session.specs.Sessions.{IsServing, IsUnopened, IsCutOff, StopsServing}
 use Rattle.aw_session.specs.declared.log.SessionLog.{SessionLog}
 use Rattle.aw_session.specs.declared.serving.Stopped.{Stopped}
@@ -35,9 +35,9 @@ module _
     (name : N → T)
     (A : N → Frame → List ℕ → N → Type 0)
     (step : (n m : N) (f : Frame) (x : List ℕ) → A n f x m →
-    AnswersAndKeeps d (rules n) f (shows n) (shows m) (journal n) (journal m) (disk n) (disk m) x × (rules m ≡ rules n) × (name m ≡ name n) × (reason m ≡ reason n))
+    AnswersAndKeeps d (rules n) f (shows n) (shows m) (journal n) (journal m) (disk n) (disk m) x × (rules m ≡ rules n) × (name m ≡ name n) × (reason m ≡ reason n) × (d.faults (disk m) ≡ d.faults (disk n)))
     (B : N → Frame → Unanswered → N → Type 0)
-    (stop : (n m : N) (f : Frame) (e : Unanswered) → B n f e m → FailsAsSeen d (rules n) f (shows n) (journal n) (disk n) (disk m) (reason m) × (name m ≡ name n))
+    (stop : (n m : N) (f : Frame) (e : Unanswered) → B n f e m → FailsAsSeen d (rules n) f (shows n) (journal n) (disk n) (disk m) (reason m) × (name m ≡ name n) × (reason m ≢ DiskFault → d.faults (disk m) ≡ d.faults (disk n)))
   where
     -- ---- a node keeps its name
 
@@ -57,6 +57,29 @@ module _
     named-stopped role n m u v stopped.NetFault h = (all-served-as N (Unit {0}) A Anything (Named (name n)) (name-sim (name n)) role n m tt h.sessions h.log h.served refl).2
     named-stopped role n m u v (stopped.Node e) h =
         (cut-off-with N (Unit {0}) A Anything (Named (name n)) (name-sim (name n)) B (Named (name n)) (λ a b s f fault p r. (stop a b f fault p).1 ∙ r) (λ a s r. r) W w.content role n m tt u v e h refl).2
+
+    -- ---- its disk counts no fault that it does not tell
+
+    abbrev HasCounted : ℕ → N → Unit {0} → Type 0
+    HasCounted x n s = d.faults (disk n) ≡ x
+
+    abbrev TellsFaults : ℕ → N → Unit {0} → Type 0
+    TellsFaults x n s = reason n ≢ DiskFault → d.faults (disk n) ≡ x
+
+    count-sim : (x : ℕ) (n m : N) (s : Unit {0}) (f : Frame) (y : List ℕ) → A n f y m → HasCounted x n s → (t : Unit {0}) × Anything s f y t × HasCounted x m t
+    count-sim x n m s f y a r = (tt, tt, (step n m f y a).4 ∙ r)
+
+    pub counted-served : (role : ℕ) (n m : N) (u v : W) (log : List SessionLog) → IsServing A w.content w.faults w.failed_openings role n m u v log → d.faults (disk m) ≡ d.faults (disk n)
+    counted-served role n m u v log h = (all-served-as N (Unit {0}) A Anything (HasCounted (d.faults (disk n))) (count-sim (d.faults (disk n))) role n m tt h.sessions log h.served refl).2
+
+    pub counted-unopened : (role : ℕ) (n m : N) (u v : W) (why : Stopped Unanswered) → StopsServing A B w.content w.failed_openings role n m u v why → why ≡ stopped.NetFault → d.faults (disk m) ≡ d.faults (disk n)
+    counted-unopened role n m u v stopped.NetFault h is = (all-served-as N (Unit {0}) A Anything (HasCounted (d.faults (disk n))) (count-sim (d.faults (disk n))) role n m tt h.sessions h.log h.served refl).2
+    counted-unopened role n m u v (stopped.Node e) h is = absurd (cc is)
+
+    pub counted-stopped : (role : ℕ) (n m : N) (u v : W) (why : Stopped Unanswered) → StopsServing A B w.content w.failed_openings role n m u v why → reason m ≢ DiskFault → d.faults (disk m) ≡ d.faults (disk n)
+    counted-stopped role n m u v stopped.NetFault h other = counted-unopened role n m u v stopped.NetFault h refl
+    counted-stopped role n m u v (stopped.Node e) h other =
+        (cut-off-with N (Unit {0}) A Anything (HasCounted (d.faults (disk n))) (count-sim (d.faults (disk n))) B (TellsFaults (d.faults (disk n))) (λ a b s f fault p r told. (stop a b f fault p).2 told ∙ r) (λ a s r told. r) W w.content role n m tt u v e h refl).2 other
 
     -- ---- it stands by its site
 

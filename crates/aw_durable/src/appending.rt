@@ -1,5 +1,5 @@
 //! Appending the event that a frame was.
-ghost use Rattle.std.specs.Prelude.{◌≡◌, ⊤, IsTrue, IfOk, IfErr, OnOk, MatchOption, option_map};
+ghost use Rattle.std.specs.Prelude.{◌≡◌, ⊤, IsTrue, IfOk, IfErr, OnOk, IsErrOf, MatchOption, option_map};
 ghost use Rattle.aw_durable.specs.Appending.{Appends, Fails, AnswersAndKeepsBy, FailsAsSeen};
 ghost use Rattle.aw_durable.specs.KeptEvents as kept;
 ghost use Rattle.aw_journal.specs.Events.{EventInRange};
@@ -60,6 +60,7 @@ pub(crate) fn keep<D: Disk>(
     ensures settled { OnOk result (IsTrue (D.tells disk.new) → IsSettled D.seen D.may_leave disk.new journal.new) }
     ensures ok { (g : Grammar) → OnOk result (Appends ⟦<D as Disk>⟧ (kept.event_by (frame_of frame.now) (response_of g answered.now)) journal.old journal.new disk.old disk.new) }
     ensures err { (g : Grammar) → IfErr result (Fails ⟦<D as Disk>⟧ (kept.event_by (frame_of frame.now) (response_of g answered.now)) journal.old disk.old disk.new) }
+    ensures kept { (IsErrOf result AppendFault.DiskFault → ⊥) → D.faults disk.new ≡ D.faults disk.old }
 {
     match news(frame, answered)? {
         Some(event) => journal.append(disk, event),
@@ -87,6 +88,7 @@ pub(crate) fn answer<P: Workspace, D: Disk>(
     ensures settled { OnOk result (IsTrue (D.tells disk.new) → IsSettled D.seen D.may_leave disk.new journal.new) }
     ensures ok { IfOk result (AnswersAndKeepsBy ⟦<D as Disk>⟧ accepted.now typed.now frame.now (P.shows site.old) (P.shows site.new) journal.old journal.new disk.old disk.new) }
     ensures err { IfErr result (FailsAsSeen ⟦<D as Disk>⟧ (rules_of accepted.now.grammar typed.now) (frame_of frame.now) (P.shows site.old) journal.old disk.old disk.new) }
+    ensures kept { (IsErrOf result AppendFault.DiskFault → ⊥) → D.faults disk.new ≡ D.faults disk.old }
 {
     let answered = handle(accepted, typed, site, frame)?;
     keep(journal, disk, frame, &answered)?;

@@ -68,10 +68,10 @@ impl<'g, 'd, P, D> KeptNode<'g, 'd, P, D> {
 }
 
 impl<P: Workspace, D: Disk> Handles for KeptNode<'_, '_, P, D> {
-    ghost use Rattle.std.specs.Prelude.{IsTrue};
+    ghost use Rattle.std.specs.Prelude.{◌≢◌, IsTrue};
     ghost use Rattle.aw_durable.specs.Appending.{AnswersAndKeeps, FailsAsSeen};
     ghost use Rattle.aw_journal.specs.Journal.{IsSettled};
-    ghost use Rattle.aw_journal.specs.declared.journal.AppendFault.TheVariants.{NoMemory};
+    ghost use Rattle.aw_journal.specs.declared.journal.AppendFault.TheVariants.{DiskFault, NoMemory};
     ghost use Rattle.aw_node.specs.TypedNodes.{rules_of};
 
     type Fault = Unanswered;
@@ -81,10 +81,11 @@ impl<P: Workspace, D: Disk> Handles for KeptNode<'_, '_, P, D> {
 
     ghost answers = { λ n f x m.
         AnswersAndKeeps ⟦<D as Disk>⟧ (rules_of n.accepted.now.grammar n.typed.now) f (P.shows n.site.now) (P.shows m.site.now) n.journal.now m.journal.now n.disk.now m.disk.now x
-        × (m.accepted.now ≡ n.accepted.now) × (m.typed.now ≡ n.typed.now) × (m.disk.ghost_name ≡ n.disk.ghost_name) × (m.reason ≡ n.reason) };
+        × (m.accepted.now ≡ n.accepted.now) × (m.typed.now ≡ n.typed.now) × (m.disk.ghost_name ≡ n.disk.ghost_name) × (m.reason ≡ n.reason)
+        × (D.faults m.disk.now ≡ D.faults n.disk.now) };
 
     ghost breaks = { λ n f e m. FailsAsSeen ⟦<D as Disk>⟧ (rules_of n.accepted.now.grammar n.typed.now) f (P.shows n.site.now) n.journal.now n.disk.now m.disk.now m.reason
-        × (m.disk.ghost_name ≡ n.disk.ghost_name) };
+        × (m.disk.ghost_name ≡ n.disk.ghost_name) × (m.reason ≢ DiskFault → D.faults m.disk.now ≡ D.faults n.disk.now) };
 
     fn reply_to(&mut self, frame: &Frame) -> Result<Text, Unanswered> {
         match answer(

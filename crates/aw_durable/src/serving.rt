@@ -1,5 +1,5 @@
 //! Serving a workspace that survives crashes.
-ghost use Rattle.std.specs.Prelude.{◌≡◌, ◌⊎◌, ◌<◌, ◌≤◌, IsTrue, length, IfOk, IfErr, OnOk};
+ghost use Rattle.std.specs.Prelude.{◌≡◌, ◌≢◌, ◌⊎◌, ◌<◌, ◌≤◌, IsTrue, length, IfOk, IfErr, OnOk, IsErrOf};
 ghost use Rattle.aw_durable.specs.Exits.{Origin, Stands};
 ghost use Rattle.aw_durable.specs.KeptSites.{KeptSite};
 ghost use Rattle.aw_durable.specs.Serving.{IsKeptServing, StopsKept, GoesOn, StopsNode};
@@ -48,6 +48,9 @@ fn serve_node<W: Wire, D: Disk, P: Workspace>(
     ensures stopped { (o : Origin D) (k : KeptSite) → o.role ≡ role → o.rules ≡ rules_of node.old.accepted.now.grammar node.old.typed.now →
         Stands ⟦<D as Disk>⟧ o (P.shows node.old.site.now) node.old.journal.now node.old.disk.now k →
         IfErr result (StopsNode ⟦<W as Wire>⟧ ⟦<D as Disk>⟧ o k wire.old wire.new (P.shows node.new.site.now) node.new.journal.now node.new.disk.now node.new.reason) }
+    ensures kept { OnOk result (D.faults node.new.disk.now ≡ D.faults node.old.disk.now) }
+    ensures kept_unopened { IsErrOf result Stopped.NetFault → D.faults node.new.disk.now ≡ D.faults node.old.disk.now }
+    ensures kept_stopped { node.new.reason ≢ AppendFault.DiskFault → D.faults node.new.disk.now ≡ D.faults node.old.disk.now }
 {
     serve_sessions(alloc, node, role, sessions, wire)
 }
@@ -77,6 +80,8 @@ pub fn serve_kept_workspace<W: Wire, D: Disk, P: Workspace + Drop>(
     ensures most { IfOk result (λ log. length log ≤ sessions) }
     ensures all { IfOk result (λ log. (length log ≡ sessions) ⊎ NoneComes (W.content wire.new)) }
     ensures stopped { (s : Site) → P.shows site s → IfErr result (StopsKept ⟦<W as Wire>⟧ ⟦<D as Disk>⟧ (rules_of g.now.grammar t.now) role text.now s wire.old wire.new disk.old disk.new) }
+    // A call of the disk that failed is told; after any other answer none has failed.
+    ensures kept { (IsErrOf result KeptFault.DiskFault → ⊥) → D.faults disk.new ≡ D.faults disk.old }
 {
     let mut journal = Journal::reopen(alloc, disk, role, text, JOURNAL_LIMIT)?;
     let mut site = site;

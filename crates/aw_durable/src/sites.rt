@@ -1,5 +1,5 @@
 //! Serving the site of a role that survives crashes.
-ghost use Rattle.std.specs.Prelude.{◌≡◌, ◌⊎◌, ◌<◌, ◌≤◌, true, length, IfOk, IfErr};
+ghost use Rattle.std.specs.Prelude.{◌≡◌, ◌⊎◌, ◌<◌, ◌≤◌, true, length, IfOk, IfErr, IsErrOf};
 ghost use Rattle.aw_durable.specs.Serving.{IsKeptServing, StopsKept};
 ghost use Rattle.aw_grammar.specs.GrammarOf.{grammar_of};
 ghost use Rattle.aw_node.specs.TypedNodes.{rules_of};
@@ -40,6 +40,8 @@ pub fn serve_kept<W: Wire, D: Disk>(
     ensures most { IfOk result (λ log. length log ≤ sessions) }
     ensures all { IfOk result (λ log. (length log ≡ sessions) ⊎ NoneComes (W.content wire.new)) }
     ensures stopped { IfErr result (StopsKept ⟦<W as Wire>⟧ ⟦<D as Disk>⟧ (rules_of g.now.grammar t.now) role text.now (empty_site true role) wire.old wire.new disk.old disk.new) }
+    // A call of the disk that failed is told; after any other answer none has failed.
+    ensures kept { (IsErrOf result KeptFault.DiskFault → ⊥) → D.faults disk.new ≡ D.faults disk.old }
 {
     let site = Site::new(alloc, g, role, CellFacts::new(alloc), true);
     serve_kept_workspace(

@@ -1,7 +1,8 @@
-use Rattle.std.proofs.Common.{◌≡◌, rules, refl, sym, ap, ◌∙◌, subst}
+use Rattle.std.proofs.Common.{◌≡◌, rules, refl, sym, ap, ◌∙◌, subst, Err}
 use Rattle.aw_journal.specs.EventView.{events_seen}
 use Rattle.aw_node.specs.TypedNodes.{rules_of}
 use Rattle.aw_node.proofs.NodeLemmas.{rules-same}
+use Rattle.aw_durable.specs.Faults.{of_append}
 use Rattle.aw_durable.specs.KeptSites.{reopened}
 use Rattle.aw_durable.specs.Serving.{begun_at, IsKeptServing, IsKeptUnopened, StopsKept}
 use Rattle.aw_durable.proofs.CutOffs.{err-passed}
@@ -72,3 +73,21 @@ returns-clause-stopped g c s shown =
     (kept-stopped g.W.Wire g.D.Disk r c.args.role c.args.text.now s old g.met.D.Disk.reads_an_outcome g.met.D.Disk.counts_now _ _ _ events _ shows _ _ _ _ _ c.in-Err-Node.field-0-is c.from.ensures
     (record { are_read = h.ok; own_head = h.good_head; head_fits = h.not_full }) redone
     (c.in-Err-Node.ensures.stopped (begun_at r s c.args.role c.args.text.now events old) (reopened r s events) refl (sym (rules-same _ _ _ _ n.accepted n.typed)) stands))
+
+pub returns-in-Ok-clause-kept : goal.returns-in-Ok-clause-kept
+returns-in-Ok-clause-kept g c other =
+    let n = c.new-node.ensures in
+    let same : c.serve_node.new.node.disk.now ≡ c.in-Ok.disk-1-own.given.0 = sym (c.in-Ok.disk-1-own.given.1 (sym (c.serve_node.ensures.same_disk ∙ n.same_disk))) in
+    ap g.D.Disk.faults (sym same) ∙ (c.in-Ok.ensures.kept ∙ (ap g.D.Disk.faults n.disk ∙ c.in_ok-journal.ensures.kept (λ is. cc is)))
+
+pub returns-in-Err-NetFault-clause-kept : goal.returns-in-Err-NetFault-clause-kept
+returns-in-Err-NetFault-clause-kept g c other =
+    let n = c.new-node.ensures in
+    let same : c.serve_node.new.node.disk.now ≡ c.disk-in-Err-NetFault-1.given.0 = sym (c.disk-in-Err-NetFault-1.given.1 (sym (c.serve_node.ensures.same_disk ∙ n.same_disk))) in
+    ap g.D.Disk.faults (sym same) ∙ (c.in-Err-NetFault.ensures.kept_unopened (ap Err c.in-Err-NetFault.field-0-is) ∙ (ap g.D.Disk.faults n.disk ∙ c.in_ok-journal.ensures.kept (λ is. cc is)))
+
+pub returns-clause-kept : goal.returns-clause-kept
+returns-clause-kept g c other =
+    let n = c.new-node.ensures in
+    let same : c.serve_node.new.node.disk.now ≡ c.disk-in-Err-Node-1.given.0 = sym (c.disk-in-Err-Node-1.given.1 (sym (c.serve_node.ensures.same_disk ∙ n.same_disk))) in
+    ap g.D.Disk.faults (sym same) ∙ (c.serve_node.ensures.kept_stopped (λ is. other (ap Err (c.from.ensures ∙ ap of_append is))) ∙ (ap g.D.Disk.faults n.disk ∙ c.in_ok-journal.ensures.kept (λ is. cc is)))
