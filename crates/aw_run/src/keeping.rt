@@ -42,6 +42,7 @@ fn keep_role<W: Wire, D: Disk>(
         StopsRole s role sessions (around ⟦<W as Wire>⟧ ⟦<D as Disk>⟧ wire.old wire.new disk.old disk.new) (status_of_stop stop)) }
     ensures net_cause { result ≡ Err Stop.NetFault → Rose (W.failed_openings wire.old) (W.failed_openings wire.new) }
     ensures disk_cause { result ≡ Err Stop.DiskFault → Rose (D.faults disk.old) (D.faults disk.new) }
+    ensures disk_kept { result ≢ Err Stop.DiskFault → D.faults disk.new ≡ D.faults disk.old }
     ensures no_read_fault { result ≢ Err Stop.ReadFault }
 {
     match serve_kept(alloc, accepted, typed, role, sessions, text, wire, disk) {
@@ -72,6 +73,7 @@ fn keep_named<W: Wire, D: Disk>(
         StopsNamed name.now sessions (around ⟦<W as Wire>⟧ ⟦<D as Disk>⟧ wire.old wire.new disk.old disk.new) s (status_of_stop stop)) }
     ensures net_cause { result ≡ Err Stop.NetFault → Rose (W.failed_openings wire.old) (W.failed_openings wire.new) }
     ensures disk_cause { result ≡ Err Stop.DiskFault → Rose (D.faults disk.old) (D.faults disk.new) }
+    ensures disk_kept { result ≢ Err Stop.DiskFault → D.faults disk.new ≡ D.faults disk.old }
     ensures no_read_fault { result ≢ Err Stop.ReadFault }
 {
     match accepted.grammar().role_named(name) {
@@ -97,6 +99,7 @@ fn keep_input<W: Wire, D: Disk>(
         StopsKeeping name.now sessions (around ⟦<W as Wire>⟧ ⟦<D as Disk>⟧ wire.old wire.new disk.old disk.new) input.now (status_of_stop stop)) }
     ensures net_cause { result ≡ Err Stop.NetFault → Rose (W.failed_openings wire.old) (W.failed_openings wire.new) }
     ensures disk_cause { result ≡ Err Stop.DiskFault → Rose (D.faults disk.old) (D.faults disk.new) }
+    ensures disk_kept { result ≢ Err Stop.DiskFault → D.faults disk.new ≡ D.faults disk.old }
     ensures no_read_fault { result ≢ Err Stop.ReadFault }
 {
     match front_of_input(alloc, input, true)? {
@@ -143,6 +146,7 @@ pub fn keep_source<S: Source, W: Wire, D: Disk>(
     ensures stop_end { IfErr result (λ stop. IsPastReading (status_of_stop stop) → IsUsedUp (S.left src.new)) }
     ensures net_cause { result ≡ Err Stop.NetFault → Rose (W.failed_openings wire.old) (W.failed_openings wire.new) }
     ensures disk_cause { result ≡ Err Stop.DiskFault → Rose (D.faults disk.old) (D.faults disk.new) }
+    ensures disk_kept { result ≢ Err Stop.DiskFault → D.faults disk.new ≡ D.faults disk.old }
     ensures never_falls { S.faults src.old ≤ S.faults src.new }
 {
     match read_all(alloc, src, INPUT_LIMIT) {

@@ -47,6 +47,7 @@ fn prepare<S: Source, W: Wire, D: Disk>(
     ensures net_command { result ≡ Err Stop.NetFault → uses_wire (command_of words.now) ≡ true }
     ensures no_disk { uses_disk (command_of words.now) ≡ false → disk.new ≡ disk.old }
     ensures disk_cause { result ≡ Err Stop.DiskFault → Rose (D.faults disk.old) (D.faults disk.new) }
+    ensures disk_kept { result ≢ Err Stop.DiskFault → D.faults disk.new ≡ D.faults disk.old }
     ensures disk_command { IfErr result (λ stop. IsJournalStop (status_of_stop stop) → uses_disk (command_of words.now) ≡ true) }
     ensures refused { IfOk result (λ reply. IsRefusal reply.status → (wire.new ≡ wire.old) × (disk.new ≡ disk.old)) }
     ensures unread { result ≡ Err Stop.ReadFault → (wire.new ≡ wire.old) × (disk.new ≡ disk.old) }
@@ -184,9 +185,10 @@ pub fn run<S: Source, K: Sink, W: Wire, D: Disk>(
     ensures disk_command { IsJournalStop result → uses_disk (command_of words.now) ≡ true }
     ensures refused { IsRefusal result → (wire.new ≡ wire.old) × (disk.new ≡ disk.old) }
 
-    // Each read that fails is told, and so is each write; after any other answer none has failed.
+    // Each read that fails is told, and so is each write and each call of the disk; after any other answer none has failed.
     ensures source_kept { result ≢ Status.ReadFault → S.faults src.new ≡ S.faults src.old }
     ensures sink_kept { result ≢ Status.WriteFault → K.faults out.new ≡ K.faults out.old }
+    ensures disk_kept { result ≢ Status.DiskFault → D.faults disk.new ≡ D.faults disk.old }
     ensures source_count { S.faults src.old ≤ S.faults src.new }
     ensures sink_count { K.faults out.old ≤ K.faults out.new }
 {
