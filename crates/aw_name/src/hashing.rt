@@ -20,6 +20,9 @@ impl Hash for Node {
     }
 }
 
+/// How many numbers slots have: those of results and those of parts.
+const SLOTS: u64 = 131_072;
+
 impl Slot {
     /// A number that no other slot has.
     fn number(self) -> u64
@@ -40,7 +43,7 @@ impl Hash for Ref {
 
     fn hash<H: Hasher>(&self, state: &mut H) {
         self.node.case.hash(state);
-        let number = u64::from(self.node.start) * 131_072 + self.slot.number();
+        let number = u64::from(self.node.start) * SLOTS + self.slot.number();
         digest_and(self.node.steps.digest(), number).hash(state);
     }
 }
