@@ -17,4 +17,4 @@ pub use guard::{Guard, guard_uncounted, test_guard};
 pub use make::made;
 pub use making::{Made, MadeChild, MadeChildren};
 pub use steps::Steps;
-pub use telling::{Tested, Weighed, slots_of, standing_of, tell_guard, test_rule, weigh_guard};
+pub use telling::{Tested, Weighed, slots_of, tell_guard, test_rule, weigh_guard};

@@ -1,11 +1,9 @@
-//! What a guard says by references: of a rule at a node, to a choice of it, and in a worklist.
+//! What a guard says by references: of a rule at a node, and to a choice of it.
 ghost use Rattle.std.specs.Prelude.{◌≡◌, ◌≤◌, ◌+◌, ◌<◌, List, true, All, IfOk, Some, length, map, slice_get};
 ghost use Rattle.aw_term.specs.Trees.{join};
 ghost use Rattle.aw_term.specs.Choices.{after_guard};
-ghost use Rattle.aw_term.specs.Runs.{refusal_of as plain_refusal};
 ghost use Rattle.aw_term.specs.Views.{pattern_of};
 ghost use Rattle.aw_term.specs.WellFormed.{all_leaves, all_nesting};
-ghost use Rattle.aw_choice.specs.ChoiceView.{refusal_of};
 ghost use Rattle.aw_grammar.specs.declared.rule.Sort.{Sort as SortValue};
 ghost use Rattle.aw_grammar.specs.GrammarView.{rule_of};
 ghost use Rattle.aw_store.specs.NamedRefs.{is_named, all_named, AreNamed};
@@ -17,7 +15,7 @@ ghost use Rattle.aw_apply.specs.Telling.{IsLive, matched_of, weighed_of, HasRoom
 use crate::binding::Binding;
 use crate::guard::{Guard, test_guard};
 use crate::steps::Steps;
-use aw_base::{Answer, Place, Rule, Standing};
+use aw_base::{Answer, Place, Rule};
 use aw_name::{Node, Ref, Trail};
 use aw_store::{Facts, Refs, ref_at, refs_at};
 use std::alloc::{AllocError, Global};
@@ -116,23 +114,5 @@ pub fn weigh_guard(node: &Node, rule: &Rule, tested: Tested) -> Weighed
         Tested::Waits(on) => Weighed::Refused(Answer::Waits(on)),
         Tested::Differs(place) => Weighed::Refused(Answer::Differs(place)),
         Tested::Circle(at) => Weighed::Refused(Answer::Circle(at)),
-    }
-}
-
-/// How a rule of the node's sort stands there, where its guard gives this.
-pub fn standing_of(node: &Node, rule: &Rule, tested: Tested) -> Standing
-    ensures { (sorts : List SortValue) → refusal_of result ≡ plain_refusal (after_guard node.now (rule_of sorts rule.now) (matched_of tested)) }
-{
-    match tested {
-        Tested::Yes(_) => {
-            if node.steps.len() == Trail::MOST && !rule.children.is_empty() {
-                Standing::TooDeep
-            } else {
-                Standing::Ready
-            }
-        }
-        Tested::Waits(on) => Standing::Waits(on),
-        Tested::Differs(place) => Standing::Differs(place),
-        Tested::Circle(at) => Standing::Circle(at),
     }
 }

@@ -29,6 +29,6 @@ pub use lines::{push_artifacts_line, push_choice, push_choice_line, push_item_li
 pub use names::{child_node, home_of, ref_ok, sort_of};
 pub use read_node::{NameFault, parse_node};
 pub use texts::{
-    answer_text, con_name, item_text, node_text, path_steps, push_answer, push_item, push_node,
-    push_ref, push_refs, ref_text, role_name, rule_name, sort_name,
+    con_name, node_text, path_steps, push_answer, push_item, push_node, push_ref, push_refs,
+    role_name, rule_name, sort_name,
 };

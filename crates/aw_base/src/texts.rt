@@ -241,16 +241,7 @@ pub fn push_node(text: &mut Text, g: &Grammar, n: &Node) -> Result<(), AllocErro
     }
 }
 
-/// The name of a reference, as `visit#1:r1` or `visit#1:p2`.
-pub fn ref_text(alloc: Global, g: &Grammar, r: &Ref) -> Result<Text, AllocError>
-    ensures { IfOk result (λ text. text ≡ ref_text (words_of g.now) r.now) }
-{
-    let mut text = Text::new(alloc);
-    add_ref(&mut text, g, r)?;
-    Ok(text)
-}
-
-/// Adds the text that `ref_text` makes. An error changes nothing.
+/// Adds the name of a reference, as `visit#1:r1` or `visit#1:p2`. An error changes nothing.
 pub fn push_ref(text: &mut Text, g: &Grammar, r: &Ref) -> Result<(), AllocError>
     ensures ok { OnOk result (text.new ≡ text.old ++ ref_text (words_of g.now) r.now) }
     ensures err { OnErr result (text.new ≡ text.old) }
@@ -280,16 +271,7 @@ pub fn push_refs(text: &mut Text, g: &Grammar, refs: &[Ref]) -> Result<(), Alloc
     }
 }
 
-/// The text of an answer, as `waits visit#1:r1`.
-pub fn answer_text(alloc: Global, g: &Grammar, a: &Answer) -> Result<Text, AllocError>
-    ensures { IfOk result (λ text. text ≡ answer_text (words_of g.now) (answer_of a.now)) }
-{
-    let mut text = Text::new(alloc);
-    add_answer(&mut text, g, a)?;
-    Ok(text)
-}
-
-/// Adds the text that `answer_text` makes. An error changes nothing.
+/// Adds the text of an answer, as `waits visit#1:r1`. An error changes nothing.
 pub fn push_answer(text: &mut Text, g: &Grammar, a: &Answer) -> Result<(), AllocError>
     ensures ok { OnOk result (text.new ≡ text.old ++ answer_text (words_of g.now) (answer_of a.now)) }
     ensures err { OnErr result (text.new ≡ text.old) }
@@ -304,16 +286,7 @@ pub fn push_answer(text: &mut Text, g: &Grammar, a: &Answer) -> Result<(), Alloc
     }
 }
 
-/// The line of an item, without its end, as `item visit#1 admit ready`.
-pub fn item_text(alloc: Global, g: &Grammar, i: &Item) -> Result<Text, AllocError>
-    ensures { IfOk result (λ text. text ≡ item_text (words_of g.now) (item_of i.now)) }
-{
-    let mut text = Text::new(alloc);
-    add_item(&mut text, g, i)?;
-    Ok(text)
-}
-
-/// Adds the text that `item_text` makes. An error changes nothing.
+/// Adds the line of an item, without its end, as `item visit#1 admit ready`. An error changes nothing.
 pub fn push_item(text: &mut Text, g: &Grammar, i: &Item) -> Result<(), AllocError>
     ensures ok { OnOk result (text.new ≡ text.old ++ item_text (words_of g.now) (item_of i.now)) }
     ensures err { OnErr result (text.new ≡ text.old) }

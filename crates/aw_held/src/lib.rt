@@ -5,6 +5,6 @@ pub mod held;
 mod holding;
 mod placing;
 
-pub use held::{Held, copy_held};
+pub use held::Held;
 pub use holding::Holding;
-pub use placing::{find_held, put_all, put_between};
+pub use placing::{find_held, put_between};

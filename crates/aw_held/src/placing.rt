@@ -1,8 +1,8 @@
 //! Held nodes found, and put in, in the order of their nodes.
-ghost use Rattle.std.specs.Prelude.{◌≡◌, ◌+◌, ◌<◌, ◌≤◌, true, false, length, vec_len, IfSome};
+ghost use Rattle.std.specs.Prelude.{◌≡◌, ◌+◌, ◌<◌, ◌≤◌, true, false, length, IfSome};
 ghost use Rattle.std.specs.List.{AllWithin};
 ghost use Rattle.aw_term.specs.Names.{node_lt};
-ghost use Rattle.aw_held.specs.InOrder.{IsInOrder, place_in, insert_in, insert_all_in, Lacks, LackEach};
+ghost use Rattle.aw_held.specs.InOrder.{IsInOrder, place_in, insert_in, Lacks};
 
 use crate::held::Held;
 use crate::holding::Holding;
@@ -73,17 +73,4 @@ pub fn put_between(held: &mut Holding, new: Held)
 {
     let place = count_before(held, &new.node);
     held.put_at(place, new);
-}
-
-/// Puts each of the nodes in its place. None of them is held, nor given twice, and there is room for all.
-pub fn put_all(held: &mut Holding, more: Vec<Held>)
-    requires ordered { IsInOrder held.old.items }
-    requires lacks { LackEach more.items held.old.items }
-    requires room { vec_len more ≤ held.old.room }
-    ensures items { held.new.items ≡ insert_all_in more.items held.old.items }
-    ensures ordered { IsInOrder held.new.items }
-{
-    for new in more {
-        put_between(held, new);
-    }
 }

@@ -6,5 +6,4 @@ pub mod Extensions
 pub mod PieceLemmas
 pub mod MessageExtends
 pub mod MessageWriting
-pub mod MessageViews
 pub mod ValidMessages

@@ -1,5 +1,5 @@
 -- Typed nodes one beside the other, one for each role, asked by frames in any order.
-use Rattle.std.specs.Prelude.{◌≡◌, ℕ, Bool, List, [], ◌∷◌, map, slice_set, nat_eq, if◌then◌else◌}
+use Rattle.std.specs.Prelude.{◌≡◌, ℕ, Bool, List, [], ◌∷◌, map, slice_set}
 use Rattle.aw_term.specs.Choices.{Answer}
 use Rattle.aw_term.specs.Names.{Ref}
 use Rattle.aw_term.specs.Rules.{Grammar}
@@ -70,8 +70,3 @@ abbrev pub AreOneWorld : Rules → Type 0
 AreOneWorld r = (loads : Bool) (as_ : List Asked) → AreHonest r (empty_world r.grammar loads).sites as_ →
     (es : List Move) × N.ReadAs r.grammar (empty_world r.grammar loads) (N.happenings (map (plain_asked r.grammar) as_)) es × Each (MayCome r.grammar) es
     × ((world_after r.grammar loads es).sites ≡ sites_after r (empty_world r.grammar loads).sites as_)
-
--- what was asked of one role
-abbrev pub asked_of : ℕ → List Asked → List F.Frame
-asked_of b [] = []
-asked_of b (a ∷ as_) = if nat_eq a.role b then a.frame ∷ asked_of b as_ else asked_of b as_

@@ -1,7 +1,6 @@
 pub mod ViewLemmas
 pub mod Counts
 pub mod JobLemmas
-pub mod ListLemmas
 pub mod MatchLemmas
 pub mod GuardLemmas
 pub mod FitLemmas

@@ -8,7 +8,6 @@ mod develop;
 mod fill;
 mod guard;
 mod law;
-mod list;
 mod matching;
 mod order;
 mod outcome;
@@ -22,7 +21,6 @@ mod touch;
 mod tree;
 
 pub use law::run_laws;
-pub use list::list_rows;
 pub use matching::{Matched, match_tree};
 pub use plain::Plain;
 pub use print::print_rows;

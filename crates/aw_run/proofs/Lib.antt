@@ -9,7 +9,6 @@ pub mod FrontOutputs
 pub mod ServedOutputs
 pub mod CarriedOutputs
 pub mod GoodServed
-pub mod SessionLines
 pub mod TrialOutputs
 pub mod Unreads
 pub mod Stops

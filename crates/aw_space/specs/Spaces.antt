@@ -22,10 +22,6 @@ pub record Space : Type 0 where
   pub choices : List Choice
   pub equations : Map
 
--- nothing is held yet
-abbrev pub empty_space : Space
-empty_space = record { held = []; choices = []; equations = [] }
-
 -- the node is worked on by this role
 abbrev pub is_home : Grammar → ℕ → Node → Bool
 is_home g role n = nat_eq (home g n) role

@@ -9,7 +9,6 @@ pub mod SoundLines
 pub mod SpelledLines
 pub mod Tested
 pub mod Stages
-pub mod TypeNumbers
 pub mod TypeSteps
 pub mod KeptTypes
 pub mod MadeFor

@@ -1,7 +1,5 @@
--- The open nodes of a world, and the answer of a call that counts what it prints.
-use Rattle.std.specs.Prelude.{◌≡◌, ℕ, List, [], ◌∷◌, map, Some, Ok, Err, slice_get}
-use Rattle.std.specs.declared.result.Result.{Result}
-use Rattle.aw_out.specs.declared.error.PrintFault.{PrintFault}
+-- The open nodes of a world, and where its nodes stand.
+use Rattle.std.specs.Prelude.{◌≡◌, ℕ, List, [], ◌∷◌, map, Some, slice_get}
 use Rattle.aw_term.specs.Names.{Node}
 use Rattle.aw_term.specs.Configs.{State, Pending, Done}
 use Rattle.aw_term.specs.Held.{Held}
@@ -29,8 +27,3 @@ AreAllInOrder f ws spots = map (held_at f ws) spots ≡ map Some (merged (nodes_
 -- each node stands at the workspace of its home
 abbrev pub AreAtHome : {W : Type 0} → Ghosts W → Grammar → List W → Type 0
 AreAtHome {W} f g ws = (i j : ℕ) (w : W) (h : made.Held) → slice_get ws i ≡ Some w → slice_get (f.its_nodes w) j ≡ Some h → home g h.node ≡ i
-
--- the same answer without its number
-abbrev pub without_count : Result ℕ PrintFault → Result Unit PrintFault
-without_count (Ok n) = Ok tt
-without_count (Err e) = Err e

@@ -8,7 +8,7 @@ ghost use Rattle.aw_react.specs.Worlds as V;
 ghost use Rattle.aw_term.specs.SameGrammar.{same_grammar};
 ghost use Rattle.aw_term.specs.Rules.{Grammar as PlainGrammar};
 ghost use Rattle.aw_world.specs.Merged.{merged, nodes_of, held_at};
-ghost use Rattle.aw_world.specs.Opened.{AreAllInOrder, AreAtHome, open_on, open_nodes, without_count};
+ghost use Rattle.aw_world.specs.Opened.{AreAllInOrder, AreAtHome, open_on, open_nodes};
 ghost use Rattle.aw_world.specs.Reactions.{PrintsRows, PrintsArtifacts, HasRows};
 ghost use Rattle.aw_world.specs.Seen.{ArePlaced, ShowEach, KeepEach};
 ghost use Rattle.aw_world.specs.SpotRows.{PrintsSpot};
@@ -157,7 +157,8 @@ impl<'g, W: Workspace> World<'g, W> {
         Ok(Nodes::from_vec(nodes))
     }
 
-    /// Prints the artifact line of each node that stands at one of these places, which are those of all nodes in order. Where the text
+    /// Prints the artifact line of each node that stands at one of these places, which are those of all nodes in order, each from the
+    /// equations of its own role. Once every message was delivered, the lines are the artifacts of the choices taken. Where the text
     /// would pass the report's limit, or memory is missing, the report has got the front of the text.
     pub fn print_rows(&self, spots: &[Spot], report: &mut Report) -> Result<(), PrintFault>
         requires { AreAllInOrder ⟦<W as Workspace>⟧ self.now.sites.items spots.now }
@@ -171,18 +172,5 @@ impl<'g, W: Workspace> World<'g, W> {
             spots,
             report,
         )
-    }
-
-    /// Prints the artifact line of each node that any role holds, in the order of nodes, each from the equations of its own role; how
-    /// many lines there are. Once every message was delivered, the lines are the artifacts of the choices taken. Where the text would pass
-    /// the report's limit, or memory is missing, the report has got the front of the text.
-    pub fn artifacts(&self, report: &mut Report) -> Result<u64, PrintFault>
-        ensures count { IfOk result (λ n. (v : V.World) → Shows ⟦<W as Workspace>⟧ self.now v → n ≡ length (V.gather v.sites)) }
-        ensures prints { (v : V.World) → Shows ⟦<W as Workspace>⟧ self.now v → PrintsRows self.now.accepted.now.grammar v report.old report.new (without_count result) }
-        ensures quiet { first_open self.now ≡ None → PrintsArtifacts self.now.accepted.now.grammar self.now.taken.items report.old report.new (without_count result) }
-    {
-        let spots = self.in_order()?;
-        self.print_rows(spots.as_slice(), report)?;
-        Ok(spots.len() as u64)
     }
 }
