@@ -12,7 +12,7 @@ use crate::tally::Tally;
 use aw_accept::{Accepted, accept};
 use aw_base::choice_ok;
 use aw_list::Text;
-use aw_spec::{SpecText, read_spec};
+use aw_spec::read_spec;
 use aw_tables::TableFault;
 use aw_text::cut_at;
 use bstr::ByteSlice;

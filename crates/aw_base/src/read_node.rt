@@ -1,8 +1,7 @@
 //! Reading the name of a node, as `visit#1/admit.1`.
-ghost use Rattle.std.specs.Prelude.{◌≡◌, is_some, true, ◌≤◌, ◌<◌, ◌==◌, Some, count_by, length, nat_lt, IfOk, IfSome, IsSomeAnd, option_map, option_and_then, option_copied};
+ghost use Rattle.std.specs.Prelude.{◌≡◌, is_some, true, ◌≤◌, ◌<◌, ◌==◌, Some, count_by, length, IfOk, IfSome, IsSomeAnd, option_map, option_and_then, option_copied};
 ghost use Rattle.aw_term.specs.Rules.{sort_of};
 ghost use Rattle.aw_text.specs.NodeParts.{begins};
-ghost use Rattle.aw_text.specs.Spelling.{parts_of_name};
 ghost use Rattle.aw_grammar.specs.GrammarOf.{grammar_of, words_of};
 ghost use Rattle.aw_base.specs.NodeNames.{first_misfit, node_read, with_parts};
 ghost use Rattle.aw_base.specs.NodeReading.{Reads, leads_on, start_named, steps_behind};
@@ -12,7 +11,7 @@ use crate::names::sort_of_step;
 use aw_grammar::Grammar;
 use aw_name::{Node, Step, Trail};
 use aw_text::{NodeStart, is_node_name, next_step, node_start};
-use std::alloc::{AllocError, AllocFailed, Global};
+use std::alloc::{AllocError, Global};
 
 /// Why a text names no node; the first that holds is told.
 #[derive(Clone, Copy, Debug, PartialEq, Eq)]

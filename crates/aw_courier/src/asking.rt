@@ -1,5 +1,5 @@
 //! One request over the wire, and its reply.
-ghost use Rattle.std.specs.Prelude.{◌≡◌, ℕ, ◌<◌, ◌≤◌, List, [], length, Bool, true, false, IfOk, IfErr, OnOk, OnErr};
+ghost use Rattle.std.specs.Prelude.{◌≡◌, ◌<◌, [], true, false, IfOk, IfErr, OnOk, OnErr};
 ghost use Rattle.aw_courier.specs.Asking.{IsAsked, IsBrokenOff, IsUnread, ReadsMore, ReadsNoMore};
 ghost use Rattle.aw_session.specs.Talking.{Talks, TalksInPart};
 ghost use Rattle.aw_term.specs.Rules.{Grammar as PlainGrammar};

@@ -1,5 +1,5 @@
 //! A turn at one role: what waits for it is pushed, and then its messages are pulled.
-ghost use Rattle.std.specs.Prelude.{◌≡◌, ℕ, ◌+◌, ◌<◌, List, [], ◌∷◌, length, Bool, true, IfOk, IfErr, IfSome, OnOk};
+ghost use Rattle.std.specs.Prelude.{◌≡◌, ◌<◌, [], ◌∷◌, length, true, IfOk, IfErr, IfSome, OnOk};
 ghost use Rattle.aw_courier.specs.Asking.{IsBrokenOff as IsAskBroken};
 ghost use Rattle.aw_courier.specs.Frames.{spelled_frame};
 ghost use Rattle.aw_courier.specs.Mails.{Shows, Holds, SameSize};

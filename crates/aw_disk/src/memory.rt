@@ -1,9 +1,9 @@
 //! A disk in memory, for tests: it tells its bytes, keeps a record of its calls, and fails where it is told to.
-ghost use Rattle.std.specs.Prelude.{◌≡◌, ◌≢◌, ◌≤◌, ◌<◌, ◌+◌, ◌^◌, ◌++◌, ◌∷◌, ◌↔◌, ◌⊎◌, [], ℕ, List, IsTrue, true, false, length, take, drop, IfOk, Contains};
+ghost use Rattle.std.specs.Prelude.{◌≡◌, ◌≢◌, ◌≤◌, ◌<◌, ◌+◌, ◌^◌, ◌↔◌, [], ℕ, List, IsTrue, true, false, length, take, drop, IfOk, Contains};
 ghost use Rattle.aw_out.specs.Causes.{Rose};
 ghost use Rattle.aw_out.specs.Edge.{FitsBuffer};
 ghost use Rattle.aw_disk.specs.Disk.{written, Torn, Cut, Follows, Only, ReadsAt};
-ghost use Rattle.aw_disk.specs.Record.{now, MayLeave, LeftSince, bytes_of, noted};
+ghost use Rattle.aw_disk.specs.Record.{now, MayLeave, LeftSince, noted};
 ghost use Rattle.aw_disk.specs.Memory.{IsRefused, RefusesCall, Refuses, Idles, IsNoted};
 ghost use Rattle.aw_disk.specs.Record.Op.{Looked, Wrote, Shortened, Synced};
 ghost use Rattle.aw_disk.specs.RecordLaws.{reads, counts, no_other, TimePasses};

@@ -1,5 +1,5 @@
 //! A workspace with its journal: what each frame was is on the disk before the frame gets its reply.
-ghost use Rattle.std.specs.Prelude.{◌≡◌, ⊤};
+ghost use Rattle.std.specs.Prelude.{◌≡◌};
 ghost use Rattle.aw_grammar.specs.GrammarOf.{grammar_of};
 ghost use Rattle.aw_typed.specs.Typing.{IsMadeFor};
 

@@ -1,5 +1,5 @@
 //! Readers of lists of terms and of names between marks.
-ghost use Rattle.std.specs.Prelude.{◌≡◌, Some, map};
+ghost use Rattle.std.specs.Prelude.{map};
 ghost use Rattle.aw_grammar.specs.Written.{written_of};
 ghost use Rattle.aw_form.specs.Lexemes.{lexemes};
 ghost use Rattle.aw_form.specs.Terms as list;

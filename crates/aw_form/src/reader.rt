@@ -5,7 +5,7 @@ ghost use Rattle.aw_form.specs.Lexemes.{lexeme, lexemes, said};
 ghost use Rattle.aw_form.specs.Lexemes as lex;
 ghost use Rattle.aw_text.specs.Spelling.{unquoted};
 ghost use Rattle.aw_form.specs.Terms as terms;
-ghost use Rattle.aw_form.specs.Reader.{opened_of, expected_of, reading_of, Does};
+ghost use Rattle.aw_form.specs.Reader.{expected_of, reading_of, Does};
 ghost use Rattle.aw_form.specs.Gives.{Gives};
 
 use crate::single::bytes_of;

@@ -1,6 +1,5 @@
 //! The terms that written terms stand for, and whether constructors have as many parts as they are declared with.
-ghost use Rattle.std.specs.Prelude.{◌≡◌, ◌≤◌, map, length, IfOk};
-ghost use Rattle.aw_index.specs.Places.{number_of};
+ghost use Rattle.std.specs.Prelude.{◌≡◌, map, IfOk};
 ghost use Rattle.aw_term.specs.Views.{pattern_of, term_of};
 ghost use Rattle.aw_grammar.specs.Written.{Word, written_of};
 ghost use Rattle.aw_grammar.specs.Resolved.{numbered};

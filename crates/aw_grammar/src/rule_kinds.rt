@@ -1,6 +1,6 @@
 //! What is wrong with a rule.
-ghost use Rattle.std.specs.Prelude.{◌≡◌, ◌+◌, ◌<◌, ◌≤◌, ◌++◌, ◌⊎◌, length, true, not, MatchOption, IfOk, nat_lt};
-ghost use Rattle.aw_index.specs.Places.{any_stands, all_stand, stands, first_told};
+ghost use Rattle.std.specs.Prelude.{◌≡◌, ◌+◌, ◌<◌, ◌++◌, length, true, IfOk};
+ghost use Rattle.aw_index.specs.Places.{any_stands, first_told};
 ghost use Rattle.aw_term.specs.WellFormed.{leaves_of};
 ghost use Rattle.aw_grammar.specs.Written.{rule_of_raw};
 ghost use Rattle.aw_grammar.specs.Terms.{results_of, uses_of, terms_of, depth_of_all, symbols_in_all, IsLeftOf};

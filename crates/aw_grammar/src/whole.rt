@@ -1,5 +1,5 @@
 //! Building a grammar from all declarations of a specification.
-ghost use Rattle.std.specs.Prelude.{◌≡◌, ◌++◌, [], IfOk};
+ghost use Rattle.std.specs.Prelude.{◌≡◌, [], IfOk};
 ghost use Rattle.aw_grammar.specs.Build.{BuiltOn, AllSpelled, fault_at, placed, all_placed};
 ghost use Rattle.aw_grammar.specs.GrammarOf.{declarations_of};
 

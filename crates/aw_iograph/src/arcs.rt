@@ -1,5 +1,5 @@
 //! All steps within a rule as arcs between the places of its occurrences.
-ghost use Rattle.std.specs.Prelude.{◌≡◌, ◌++◌, ◌+◌, ◌/◌, ◌%◌, ◌<◌, ◌≤◌, ℕ, map, length, IfOk, OnOk};
+ghost use Rattle.std.specs.Prelude.{◌≡◌, ◌+◌, ◌/◌, ◌%◌, ◌<◌, ◌≤◌, map, length, IfOk, OnOk};
 ghost use Rattle.aw_grammar.specs.GrammarView.{rule_of};
 ghost use Rattle.aw_iograph.specs.Occurrences.{IsPlace, place_of};
 ghost use Rattle.aw_iograph.specs.Pairs.{Has};

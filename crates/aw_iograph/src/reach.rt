@@ -1,5 +1,5 @@
 //! What is reached from a place of a graph, over one arc or more.
-ghost use Rattle.std.specs.Prelude.{◌≡◌, ◌<◌, ◌↔◌, ◌⊎◌, ℕ, length, Bool, true, false, IfOk, slice_set};
+ghost use Rattle.std.specs.Prelude.{◌≡◌, ◌<◌, ◌↔◌, ◌⊎◌, ℕ, length, true, false, IfOk, slice_set};
 ghost use Rattle.aw_iograph.specs.Graphs.{Plus, Arrow, IsWithin, AreReached, IsSpread, Passed};
 ghost use Rattle.aw_iograph.specs.Growth.{Grown, Marked};
 

@@ -1,9 +1,9 @@
 //! The least relations that are closed under the rules of a grammar.
-ghost use Rattle.std.specs.Prelude.{◌≡◌, ◌↔◌, ◌⊎◌, ◌+◌, ◌-◌, ◌*◌, ◌<◌, ◌≤◌, ℕ, false, length, slice_get, Some, IfOk, OnOk};
+ghost use Rattle.std.specs.Prelude.{◌≡◌, ◌↔◌, ◌⊎◌, ◌+◌, ◌-◌, ◌*◌, ◌<◌, ℕ, false, length, slice_get, Some, IfOk, OnOk};
 ghost use Rattle.aw_grammar.specs.GrammarView.{rule_of};
 ghost use Rattle.aw_grammar.specs.GrammarOf.{grammar_of};
 ghost use Rattle.aw_iograph.specs.Graphs.{Plus, Arrow, IsWithin};
-ghost use Rattle.aw_iograph.specs.Growth.{Grown, unset};
+ghost use Rattle.aw_iograph.specs.Growth.{Grown};
 ghost use Rattle.aw_iograph.specs.Rows.{HasBit, IsIn};
 ghost use Rattle.aw_iograph.specs.Occurrences.{inherited, given, place_of};
 ghost use Rattle.aw_iograph.specs.Dependence.{Edge, IO, Follows, Walk, IsKept, IsClosedUnder, IsHeldBy, IsLeastFrom};

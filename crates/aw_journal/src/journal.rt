@@ -1,11 +1,11 @@
 //! The events of a node, each on the disk before it is acknowledged.
-ghost use Rattle.std.specs.Prelude.{◌≡◌, ◌≢◌, ◌≤◌, ◌<◌, ◌+◌, ◌++◌, ◌∷◌, ◌^◌, ◌↔◌, ◌⊎◌, [], ℕ, List, Bool, IsTrue, true, false, length, IfOk, OnOk, OnErr, IsErrOf, MatchOption};
+ghost use Rattle.std.specs.Prelude.{◌≡◌, ◌≢◌, ◌≤◌, ◌<◌, ◌+◌, ◌++◌, ◌∷◌, ◌^◌, ◌↔◌, [], ℕ, List, IsTrue, true, false, length, IfOk, OnOk, IsErrOf, MatchOption};
 ghost use Rattle.aw_out.specs.Causes.{Rose};
-ghost use Rattle.aw_disk.specs.Disk.{Only, LeavesOnly};
+ghost use Rattle.aw_disk.specs.Disk.{LeavesOnly};
 ghost use Rattle.aw_journal.specs.declared.journal.AppendFault.TheVariants.{NoMemory};
 ghost use Rattle.aw_journal.specs.Format.{u64_bytes, u16_bytes, head, front, has_head, events_of};
 ghost use Rattle.aw_journal.specs.Journal.{IsSettled, IsBeforeOrAfter, StandsAt, IsAround, IsAll, StartsClosed, behind_gate, end_after};
-ghost use Rattle.aw_journal.specs.Events.{AllEvents, EventInRange, payload_of};
+ghost use Rattle.aw_journal.specs.Events.{AllEvents, EventInRange};
 ghost use Rattle.aw_journal.specs.EventView.{event_of, events_seen};
 ghost use Rattle.aw_journal.specs.Opens.{HasThisHead, IsForeign, IsOldOrSame, AllOldOrAllSame, BeginsClosed};
 

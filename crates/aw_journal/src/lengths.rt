@@ -6,7 +6,7 @@ ghost use Rattle.aw_choice.specs.ChoiceView.{choice_of};
 ghost use Rattle.aw_store.specs.EquationView.{body_of, equation_of};
 ghost use Rattle.aw_wire.specs.Names.{spelled_node, spelled_ref, spelled_refs};
 ghost use Rattle.aw_wire.specs.Texts.{spelled_text};
-ghost use Rattle.aw_wire.specs.Grounds.{spelled_ground, spelled_grounds};
+ghost use Rattle.aw_wire.specs.Grounds.{spelled_ground};
 ghost use Rattle.aw_wire.specs.Choices.{spelled_choice};
 ghost use Rattle.aw_msg.specs.Spelling.{spelled_body, spelled_equation, spelled_load, spelled_kind};
 ghost use Rattle.aw_msg.specs.MessageView.{plain_kind};

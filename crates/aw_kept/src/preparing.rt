@@ -1,5 +1,5 @@
 //! The record of a node that is to be held, made before anything changes.
-ghost use Rattle.std.specs.Prelude.{◌≡◌, ◌+◌, ◌++◌, ℕ, true, All, IfOk, OnOk, drop, is_some, length, map as list_map, slice_get};
+ghost use Rattle.std.specs.Prelude.{◌≡◌, ◌+◌, ◌++◌, true, All, IfOk, OnOk, drop, is_some, length, map as list_map, slice_get};
 ghost use Rattle.aw_term.specs.Rules.{sort_of as plain_sort_of};
 ghost use Rattle.aw_term.specs.WellFormed.{takes_of};
 ghost use Rattle.aw_grammar.specs.GrammarOf.{grammar_of};

@@ -1,5 +1,5 @@
 //! The tokens of a line.
-ghost use Rattle.std.specs.Prelude.{◌≡◌, length, IfOk};
+ghost use Rattle.std.specs.Prelude.{◌≡◌, IfOk};
 ghost use Rattle.aw_lex.specs.Tokens.{tokens_of, Lexed, AreSlices};
 
 use crate::front::{Front, front_of};

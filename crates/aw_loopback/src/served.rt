@@ -1,5 +1,4 @@
 //! Sessions of a node, asked and served in turn.
-ghost use Rattle.std.specs.Prelude.{◌≡◌};
 ghost use Rattle.aw_grammar.specs.GrammarOf.{grammar_of};
 ghost use Rattle.aw_typed.specs.Typing.{IsMadeFor};
 

@@ -1,7 +1,6 @@
 //! The least pair that a role finds of what it offers, and that is not declared.
-ghost use Rattle.std.specs.Prelude.{◌≡◌, ◌<◌, ◌↔◌, ◌*◌, IsTrue, true, length};
-ghost use Rattle.aw_grammar.specs.GrammarOf.{grammar_of};
-ghost use Rattle.aw_iograph.specs.Pairs.{Has, IsFor, IsNumber, mark_of};
+ghost use Rattle.std.specs.Prelude.{◌≡◌, ◌<◌, ◌↔◌, ◌*◌, IsTrue};
+ghost use Rattle.aw_iograph.specs.Pairs.{IsFor, IsNumber, mark_of};
 ghost use Rattle.aw_modular.specs.Refusals.{LeastPair};
 ghost use Rattle.aw_modular.specs.Exceeding.{IsLoose};
 

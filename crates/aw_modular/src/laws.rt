@@ -1,5 +1,5 @@
 //! What holds of a grammar whose roles were checked apart, apart from any code.
-ghost use Rattle.std.specs.Prelude.{◌≡◌, ℕ, ◌↔◌, List};
+ghost use Rattle.std.specs.Prelude.{ℕ, List};
 ghost use Rattle.aw_base.specs.declared.declared.Triple.{Triple};
 ghost use Rattle.aw_term.specs.Rules as P;
 ghost use Rattle.aw_modular.specs.Roles.{IsClosedFor, LiesWithinFound, HasOwnRules, Declares, Mixed, RoleRelation, DeclaredElsewhere, Part, IsJoined, AllSayYes, LiesWithin};

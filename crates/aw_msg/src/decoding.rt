@@ -1,5 +1,4 @@
 //! The message at the front of some bytes.
-ghost use Rattle.std.specs.Prelude.{◌≡◌};
 ghost use Rattle.aw_wire.specs.Placed.{placed, Decodes, Finds, IsFound};
 ghost use Rattle.aw_wire.specs.OneSpelling.{ReadsSpelled, SpelledIfRead, NoneBeginsAnother, CutIsShort};
 ghost use Rattle.aw_msg.specs.Messages.{message, spelled_message, MessageSized, MessageInRange};

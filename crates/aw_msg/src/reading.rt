@@ -1,5 +1,4 @@
 //! Readers of messages.
-ghost use Rattle.std.specs.Prelude.{◌≡◌};
 ghost use Rattle.aw_wire.specs.Gives.{Gives};
 ghost use Rattle.aw_wire.specs.Reading.{byte, such_that};
 ghost use Rattle.aw_msg.specs.Messages as spec;

@@ -1,8 +1,6 @@
 //! A workspace with the rules that its frames are answered by.
-ghost use Rattle.std.specs.Prelude.{◌≡◌, ℕ, List, ⊤, IfOk};
+ghost use Rattle.std.specs.Prelude.{◌≡◌, ⊤};
 ghost use Rattle.aw_grammar.specs.GrammarOf.{grammar_of};
-ghost use Rattle.aw_msg.specs.Frames.{FrameInRange};
-ghost use Rattle.aw_msg.specs.FrameView.{frame_of};
 ghost use Rattle.aw_typed.specs.Typing.{IsMadeFor};
 
 use crate::handling::handle;

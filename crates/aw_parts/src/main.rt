@@ -10,7 +10,7 @@ ghost use Rattle.aw_grammar.specs.GrammarOf.{grammar_of};
 ghost use Rattle.aw_face.specs.Faces.{face_fault};
 ghost use Rattle.aw_modular.specs.Refusals.{IsPosition};
 ghost use Rattle.aw_modular.specs.PartViews.{IsCopy};
-ghost use Rattle.aw_modular.specs.Wholes.{ArePartsOf, IsPartOf};
+ghost use Rattle.aw_modular.specs.Wholes.{ArePartsOf};
 ghost use Rattle.aw_parts.specs.Parts.{IfSomePart, IfSomeParts};
 
 use aw_accept::{Fault, Refused, accept};

@@ -1,5 +1,5 @@
 //! Terms with the values of their variables, and arguments as values.
-ghost use Rattle.std.specs.Prelude.{◌≡◌, ◌++◌, IfOk, OnOk, map};
+ghost use Rattle.std.specs.Prelude.{◌≡◌, IfOk, map};
 ghost use Rattle.aw_term.specs.Configs.{fill as plain_fill, lift as plain_lift, holes as plain_holes};
 ghost use Rattle.aw_term.specs.Views.{ground_of, term_of};
 ghost use Rattle.aw_plain.specs.TreeView.{value_of, values_of};

@@ -1,8 +1,7 @@
 //! The undivided configuration.
-ghost use Rattle.std.specs.Prelude.{◌≡◌, [], true, IfOk, OnErr, length};
+ghost use Rattle.std.specs.Prelude.{◌≡◌, [], true, IfOk, OnErr};
 ghost use Rattle.aw_term.specs.Names.{Ref};
-ghost use Rattle.aw_term.specs.Choices.{Start, Develop, answer, after};
-ghost use Rattle.aw_term.specs.Views.{ground_of};
+ghost use Rattle.aw_term.specs.Choices.{answer, after};
 ghost use Rattle.aw_base.specs.ChoiceFits.{choice_ok};
 ghost use Rattle.aw_choice.specs.ChoiceView.{answer_of, choice_of};
 ghost use Rattle.aw_grammar.specs.GrammarOf.{grammar_of};

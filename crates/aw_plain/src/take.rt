@@ -1,5 +1,5 @@
 //! Taking a choice on some rows.
-ghost use Rattle.std.specs.Prelude.{◌≡◌, ◌∷◌, [], true, IfOk, OnErr, length, map};
+ghost use Rattle.std.specs.Prelude.{◌≡◌, IfOk, OnErr, map};
 ghost use Rattle.aw_term.specs.Choices.{Start, Develop, answer, after, start_row as plain_start_row};
 ghost use Rattle.aw_term.specs.Names.{root as plain_root};
 ghost use Rattle.aw_term.specs.Views.{ground_of};

@@ -1,8 +1,7 @@
 //! The lines of events.
-ghost use Rattle.std.specs.Prelude.{◌≡◌, ◌++◌, [], codes, decimal, map, drop, OnOk};
-ghost use Rattle.aw_choice.specs.ChoiceView.{choice_of, answer_of};
-ghost use Rattle.aw_grammar.specs.GrammarOf.{grammar_of, words_of};
-ghost use Rattle.aw_msg.specs.MessageView.{message_of};
+ghost use Rattle.std.specs.Prelude.{◌≡◌, ◌++◌, codes, decimal, OnOk};
+ghost use Rattle.aw_choice.specs.ChoiceView.{choice_of};
+ghost use Rattle.aw_grammar.specs.GrammarOf.{words_of};
 ghost use Rattle.aw_react.specs.Transcripts.{answered, deliver_line};
 ghost use Rattle.aw_term.specs.Runs.{answer_line};
 ghost use Rattle.aw_world.specs.MoveView.{reply_of};

@@ -1,5 +1,4 @@
 //! The offices of all roles.
-ghost use Rattle.std.specs.Prelude.{◌≡◌};
 ghost use Rattle.aw_grammar.specs.GrammarOf.{grammar_of};
 ghost use Rattle.aw_typed.specs.Typing.{IsMadeFor};
 

@@ -1,5 +1,5 @@
 //! Who answers the frames of a session.
-ghost use Rattle.std.specs.Prelude.{◌≡◌, ℕ, List, IfOk, IfErr, OnOk};
+ghost use Rattle.std.specs.Prelude.{ℕ, List, IfOk, IfErr, OnOk};
 ghost use Rattle.aw_msg.specs.Frames.{Frame as PlainFrame, FrameInRange};
 ghost use Rattle.aw_msg.specs.FrameView.{frame_of};
 

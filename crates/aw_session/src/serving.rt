@@ -1,5 +1,5 @@
 //! Sessions one after the other.
-ghost use Rattle.std.specs.Prelude.{◌≡◌, ◌⊎◌, ◌<◌, ◌≤◌, List, [], ◌∷◌, ◌++◌, length, vec_len, vec_capacity, IfOk, IfErr, OnOk};
+ghost use Rattle.std.specs.Prelude.{◌≡◌, ◌⊎◌, ◌<◌, ◌≤◌, [], ◌∷◌, ◌++◌, length, vec_len, vec_capacity, IfOk, IfErr, OnOk};
 ghost use Rattle.aw_session.specs.Sessions.{IsServing, NoneComes, StopsServing, ServesNext, StopsNext};
 
 use crate::handles::Handles;

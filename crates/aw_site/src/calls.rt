@@ -1,5 +1,5 @@
 //! Calls of children that are of other roles.
-ghost use Rattle.std.specs.Prelude.{◌≡◌, ◌++◌, ◌∷◌, [], IfOk, OnOk, nat_eq, map as list_map, if◌then◌else◌};
+ghost use Rattle.std.specs.Prelude.{◌≡◌, ◌++◌, ◌∷◌, [], IfOk, OnOk, map as list_map};
 ghost use Rattle.aw_grammar.specs.GrammarOf.{grammar_of};
 ghost use Rattle.aw_msg.specs.MessageView.{message_of};
 ghost use Rattle.aw_react.specs.Homes.{home};

@@ -1,9 +1,8 @@
 //! A choice at a site, over the parts of the site.
-ghost use Rattle.std.specs.Prelude.{◌≡◌, ◌++◌, true, Bool, IfOk, OnOk, OnErr, length, map as list_map};
+ghost use Rattle.std.specs.Prelude.{◌≡◌, ◌++◌, true, IfOk, OnOk, OnErr, length, map as list_map};
 ghost use Rattle.aw_choice.specs.ChoiceView.{choice_of, answer_of};
 ghost use Rattle.aw_grammar.specs.GrammarOf.{grammar_of};
 ghost use Rattle.aw_base.specs.ChoiceFits.{choice_ok};
-ghost use Rattle.aw_store.specs.EquationView.{equation_of};
 ghost use Rattle.aw_msg.specs.MessageView.{message_of};
 ghost use Rattle.aw_react.specs.Choosing.{answer_to, choose as plain_choose};
 ghost use Rattle.aw_react.specs.SiteEvents.{after_choice};

@@ -1,5 +1,5 @@
 //! A message at a site, over the parts of the site.
-ghost use Rattle.std.specs.Prelude.{◌≡◌, ◌++◌, ◌<◌, [], None, true, Bool, List, IfOk, OnOk, OnErr, length, map as list_map};
+ghost use Rattle.std.specs.Prelude.{◌≡◌, ◌++◌, ◌<◌, [], None, true, IfOk, OnOk, OnErr, length, map as list_map};
 ghost use Rattle.std.specs.Option.{option_copied};
 ghost use Rattle.aw_grammar.specs.GrammarOf.{grammar_of};
 ghost use Rattle.aw_store.specs.EquationView.{equation_of};

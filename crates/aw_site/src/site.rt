@@ -1,5 +1,5 @@
 //! The workspace of one role.
-ghost use Rattle.std.specs.Prelude.{◌≡◌, ◌++◌, [], true, Bool, IfOk, OnOk, OnErr, length, map as list_map};
+ghost use Rattle.std.specs.Prelude.{◌≡◌, ◌++◌, [], true, IfOk, OnOk, OnErr, length, map as list_map};
 ghost use Rattle.aw_choice.specs.ChoiceView.{choice_of, answer_of};
 ghost use Rattle.aw_grammar.specs.GrammarOf.{grammar_of};
 ghost use Rattle.aw_base.specs.ChoiceFits.{choice_ok};
@@ -7,7 +7,6 @@ ghost use Rattle.aw_msg.specs.MessageView.{message_of};
 ghost use Rattle.aw_react.specs.Sites as P;
 ghost use Rattle.aw_react.specs.Worlds.{node_of};
 ghost use Rattle.aw_space.specs.Keeping.{KeepsFacts, KeepsNodes, KeepsNodesBut};
-ghost use Rattle.aw_space.specs.Seen.{space_seen};
 ghost use Rattle.aw_space.specs.Spaces.{is_home};
 ghost use Rattle.aw_site.specs.Sendable.{all_sendable, all_short};
 ghost use Rattle.aw_site.specs.Shown.{Shows};
@@ -44,7 +43,7 @@ impl<'g, F: Facts> Site<'g, F> {
     ghost use Rattle.aw_msg.specs.Messages.{MessageInRange};
     ghost use Rattle.aw_term.specs.WellFormed.{Each};
     ghost use Rattle.aw_site.specs.Answers.{sent_by, sent_for, IsReceived};
-    ghost use Rattle.aw_site.specs.Seen.{grammar_in, role_in, map_in, nodes_in, IsShown, ShowsChoice};
+    ghost use Rattle.aw_site.specs.Seen.{role_in, map_in, nodes_in, IsShown, ShowsChoice};
 
     /// A site of a role that holds nothing, over a store without equations. Its messages carry loads, or none does.
     pub fn new(alloc: Global, g: &'g Accepted, role: u16, facts: F, loads: bool) -> Site<'g, F>

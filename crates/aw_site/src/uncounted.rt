@@ -1,5 +1,5 @@
 //! Calls of a space where nobody counts the tests of guards.
-ghost use Rattle.std.specs.Prelude.{◌≡◌, ◌<◌, true, false, None, IfOk, OnOk, OnErr, map as list_map};
+ghost use Rattle.std.specs.Prelude.{◌≡◌, ◌<◌, true, None, IfOk, OnOk, OnErr, map as list_map};
 ghost use Rattle.std.specs.Option.{option_copied};
 ghost use Rattle.aw_choice.specs.ChoiceView.{choice_of, item_of};
 ghost use Rattle.aw_grammar.specs.GrammarOf.{grammar_of};

@@ -1,5 +1,5 @@
 //! Nodes that other roles call, put among the held ones.
-ghost use Rattle.std.specs.Prelude.{◌≡◌, ◌∷◌, ◌≤◌, ◌+◌, [], None, true, IfOk, OnOk, OnErr, IsTrue, ◌↔◌};
+ghost use Rattle.std.specs.Prelude.{◌≡◌, ◌≤◌, ◌+◌, None, true, IfOk, OnOk, OnErr, IsTrue, ◌↔◌};
 ghost use Rattle.aw_term.specs.Rules.{sort_of};
 ghost use Rattle.aw_grammar.specs.GrammarOf.{grammar_of};
 ghost use Rattle.aw_store.specs.NamedRefs.{all_named, Grows};

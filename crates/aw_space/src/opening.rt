@@ -1,5 +1,5 @@
 //! Nodes that are to be held, open: first what is kept of them is made, and later they are put among the held ones.
-ghost use Rattle.std.specs.Prelude.{◌≡◌, ◌<◌, ◌≤◌, ◌+◌, ℕ, All, None, true, IfOk, map as list_map, vec_len, vec_capacity};
+ghost use Rattle.std.specs.Prelude.{◌≡◌, ◌<◌, ◌≤◌, ◌+◌, ℕ, All, None, true, IfOk, map as list_map, vec_len};
 ghost use Rattle.aw_term.specs.Rules.{sort_of};
 ghost use Rattle.aw_grammar.specs.GrammarOf.{grammar_of};
 ghost use Rattle.aw_store.specs.NamedRefs.{Grows};

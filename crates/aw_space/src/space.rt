@@ -1,5 +1,5 @@
 //! What one role holds of a case.
-ghost use Rattle.std.specs.Prelude.{◌≡◌, ◌+◌, ◌≤◌, ◌∷◌, [], None, true, false, IfOk, OnOk, OnErr, map as list_map};
+ghost use Rattle.std.specs.Prelude.{◌≡◌, ◌+◌, ◌≤◌, [], None, true, false, IfOk, OnOk, OnErr, map as list_map};
 ghost use Rattle.std.specs.Option.{option_copied};
 ghost use Rattle.aw_choice.specs.ChoiceView.{answer_of, choice_of, item_of};
 ghost use Rattle.aw_term.specs.Choices.{Taken, answer_of as plain_answer};
@@ -7,7 +7,6 @@ ghost use Rattle.aw_grammar.specs.GrammarOf.{grammar_of};
 ghost use Rattle.aw_base.specs.ChoiceFits.{choice_ok};
 ghost use Rattle.aw_store.specs.EquationView.{equation_of};
 ghost use Rattle.aw_store.specs.StoreView.{Adds};
-ghost use Rattle.aw_held.specs.HeldView.{all_of};
 ghost use Rattle.aw_react.specs.ValidNames.{equation_ok};
 ghost use Rattle.aw_react.specs.Worlds.{node_of};
 ghost use Rattle.aw_kept.specs.KeptStates.{IsKept};
@@ -49,7 +48,7 @@ impl<'g, F: Facts> Space<'g, F> {
     ghost use Rattle.aw_space.specs.Keeping.{KeepsFacts, KeepsNodes, KeepsNodesBut};
     ghost use Rattle.aw_space.specs.Outcomes.{IsMade, IsOutcome};
     ghost use Rattle.aw_space.specs.Placings.{MayBeCalled, MayBeCalledIf, MayBeLearnt, Places, called_by};
-    ghost use Rattle.aw_space.specs.Seen.{grammar_in, space_seen, IsUnchanged, TakesIn, choice_cost_at, taking_cost_at};
+    ghost use Rattle.aw_space.specs.Seen.{space_seen, IsUnchanged, TakesIn, choice_cost_at, taking_cost_at};
 
     /// A space of a role that holds nothing, over a store without equations.
     pub fn new(alloc: Global, g: &'g Accepted, role: u16, facts: F) -> Space<'g, F>

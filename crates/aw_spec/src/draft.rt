@@ -1,6 +1,5 @@
 //! A specification as far as it has been read.
 ghost use Rattle.std.specs.Prelude.{◌≡◌, ◌≤◌, ◌++◌, ◌<◌, ◌-◌, [], true, length, slice_get, IfErr, OnOk, Ok, Err, Some, option_map};
-ghost use Rattle.std.specs.Option.{option_copied};
 ghost use Rattle.aw_text.specs.Spelling.{is_name};
 ghost use Rattle.aw_grammar.specs.Terms.{all_have_contents, are_names, results_of, terms_of};
 ghost use Rattle.aw_grammar.specs.Written.{rule_of_raw};

@@ -1,5 +1,5 @@
 //! Reading one line of a specification from its tokens.
-ghost use Rattle.std.specs.Prelude.{◌≡◌, ◌<◌, ◌∷◌, length, map, ℕ, List, IfSome, option_map, position};
+ghost use Rattle.std.specs.Prelude.{◌≡◌, ◌<◌, ◌∷◌, length, map, IfSome, option_map, position};
 ghost use Rattle.std.specs.Option.{option_copied};
 ghost use Rattle.aw_term.specs.Trees.{nats_eq};
 ghost use Rattle.aw_grammar.specs.Written.{child_of_raw};

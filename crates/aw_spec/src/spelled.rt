@@ -1,5 +1,5 @@
 //! What the bytes of a line spell.
-ghost use Rattle.std.specs.Prelude.{◌≡◌, IfOk};
+ghost use Rattle.std.specs.Prelude.{IfOk};
 ghost use Rattle.aw_lex.specs.Tokens.{tokens_of};
 ghost use Rattle.aw_spec.specs.Declares.{IsDeclared};
 ghost use Rattle.aw_spec.specs.Reading as reading;

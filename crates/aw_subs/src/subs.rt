@@ -1,5 +1,5 @@
 //! References that were asked for, and the roles that watch references: one entry for each reference that is known, found by its hash.
-ghost use Rattle.std.specs.Prelude.{◌≡◌, ℕ, ◌<◌, Bool, true, false, not, ◌||◌, ◌&&◌, nat_eq, IfOk, OnOk, OnErr, IsOk, is_some, None, All};
+ghost use Rattle.std.specs.Prelude.{◌≡◌, ℕ, ◌<◌, true, false, not, ◌||◌, ◌&&◌, nat_eq, IfOk, OnOk, OnErr, IsOk, is_some, None, All};
 ghost use Rattle.aw_name.specs.declared.node.Ref.{Ref as RefName};
 ghost use Rattle.aw_term.specs.Names.{ref_eq};
 ghost use Rattle.aw_subs.specs.Entries.{is_asked, watches, watchers, is_ready, entry_of, Writes};

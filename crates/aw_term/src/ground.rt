@@ -1,5 +1,5 @@
 //! The arguments of a choice.
-ghost use Rattle.std.specs.Prelude.{◌≡◌, ◌↔◌, IsTrue, IfOk};
+ghost use Rattle.std.specs.Prelude.{◌≡◌};
 
 use aw_list::{Items, Text};
 use std::alloc::AllocError;

@@ -1,5 +1,5 @@
 //! The written terms of a rule: patterns, and expressions for arguments and results.
-ghost use Rattle.std.specs.Prelude.{◌≡◌, ◌↔◌, IsTrue, IfOk};
+ghost use Rattle.std.specs.Prelude.{◌≡◌};
 
 use aw_list::{Items, Text};
 use std::alloc::AllocError;

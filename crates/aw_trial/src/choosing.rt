@@ -1,5 +1,5 @@
 //! A turn that makes a choice.
-ghost use Rattle.std.specs.Prelude.{◌≡◌, ◌<◌, true, ℕ, List, Some, IfOk, OnOk, map as list_map, slice_get, is_some};
+ghost use Rattle.std.specs.Prelude.{◌≡◌, ◌<◌, true, ℕ, Some, IfOk, OnOk, map as list_map, slice_get, is_some};
 ghost use Rattle.aw_base.specs.ChoiceFits.{args_ok, choice_ok};
 ghost use Rattle.aw_choice.specs.ChoiceView.{choice_of};
 ghost use Rattle.aw_kept.specs.Records.{rules_of};
@@ -7,7 +7,7 @@ ghost use Rattle.aw_term.specs.Rules.{Grammar as PlainGrammar, sort_of};
 ghost use Rattle.aw_term.specs.Views.{ground_of};
 ghost use Rattle.aw_world.specs.MoveView.{reply_of};
 ghost use Rattle.aw_trial.specs.Comes.{plain_of, Does, AddsOne, AreUpTo};
-ghost use Rattle.aw_trial.specs.Turns.{one_if, replies_taken, make_choice, argument_for, drew_argument, develop, among_rules, at_node, among_nodes, choose_some};
+ghost use Rattle.aw_trial.specs.Turns.{replies_taken, make_choice, argument_for, drew_argument, develop, among_rules, at_node, among_nodes, choose_some};
 
 use crate::drawing::draw;
 use crate::rules::{params_of, rules_of};

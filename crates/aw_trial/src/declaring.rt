@@ -1,7 +1,7 @@
 //! The declarations of the trial's specification.
 ghost use Rattle.std.specs.Prelude.{◌≡◌, [], ◌∷◌, ◌++◌, map, IfOk, OnOk};
 ghost use Rattle.aw_grammar.specs.Written.{Word, written_of, child_of_raw, rule_of_raw};
-ghost use Rattle.aw_trial.specs.Specification.{apply_2, trial_roles, trial_cons, trial_sorts, trial_starts, begin_rule, measure_rule, refer_rule, write_rule, file_rule, hold_rule, split_rule, trial_rules, AreDeclared};
+ghost use Rattle.aw_trial.specs.Specification.{apply_2, trial_roles, trial_cons, trial_sorts, begin_rule, measure_rule, refer_rule, write_rule, file_rule, hold_rule, split_rule, trial_rules, AreDeclared};
 
 use aw_grammar::{
     Names, Parts, RawChild, RawChildren, RawCon, RawCons, RawRule, RawRules, RawSort, RawSorts,

@@ -1,5 +1,5 @@
 //! What a trial tells in the end.
-ghost use Rattle.std.specs.Prelude.{◌≡◌, ◌++◌, codes, IfOk, OnOk};
+ghost use Rattle.std.specs.Prelude.{◌≡◌, ◌++◌, IfOk, OnOk};
 ghost use Rattle.aw_trial.specs.Summaries.{line, summary_text};
 
 use aw_list::Text;

@@ -1,5 +1,5 @@
 //! A whole trial.
-ghost use Rattle.std.specs.Prelude.{◌≡◌, ◌<◌, ◌≤◌, List, true, None, Err, IfOk, length, map, slice_get};
+ghost use Rattle.std.specs.Prelude.{◌≡◌, ◌<◌, ◌≤◌, List, true, None, Err, IfOk, map, slice_get};
 ghost use Rattle.aw_base.specs.NodeNames.{is_start};
 ghost use Rattle.aw_choice.specs.Events.{Event};
 ghost use Rattle.aw_choice.specs.ChoiceView.{choice_of};

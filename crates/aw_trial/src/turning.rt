@@ -3,7 +3,7 @@ ghost use Rattle.std.specs.Prelude.{◌≡◌, ◌<◌, ◌≤◌, true, OnOk, s
 ghost use Rattle.aw_base.specs.NodeNames.{is_start};
 ghost use Rattle.aw_world.specs.MoveView.{reply_of};
 ghost use Rattle.aw_trial.specs.Comes.{plain_of, Does, AddsOne, AreUpTo};
-ghost use Rattle.aw_trial.specs.Turns.{replies_again, start_case, among_messages, deliver_some, turn_on, turn, turns};
+ghost use Rattle.aw_trial.specs.Turns.{replies_again, start_case, deliver_some, turn_on, turn, turns};
 
 use crate::choosing::choose_some;
 use crate::drawing::draw;

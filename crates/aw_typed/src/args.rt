@@ -1,5 +1,5 @@
 //! Whether the arguments of a choice fit.
-ghost use Rattle.std.specs.Prelude.{◌≡◌, ◌≤◌, length, map, true, nat_eq, if◌then◌else◌};
+ghost use Rattle.std.specs.Prelude.{◌≡◌, length, map, true, nat_eq, if◌then◌else◌};
 ghost use Rattle.aw_term.specs.Rules as P;
 ghost use Rattle.aw_term.specs.Views.{ground_of};
 ghost use Rattle.aw_choice.specs.ChoiceView.{choice_of};

@@ -1,5 +1,5 @@
 //! A grammar in which nothing is typed.
-ghost use Rattle.std.specs.Prelude.{◌≡◌, false, length, replicate, None, IfOk};
+ghost use Rattle.std.specs.Prelude.{◌≡◌, false, replicate, None, IfOk};
 ghost use Rattle.aw_grammar.specs.GrammarOf.{grammar_of};
 ghost use Rattle.aw_typed.specs.Typing.{types_of, IsMadeFor, NumbersInRange};
 ghost use Rattle.aw_typed.specs.Types.{AreFor};

@@ -1,5 +1,4 @@
 //! What a wait at a workspace says of the undivided configuration, apart from any code.
-ghost use Rattle.std.specs.Prelude.{List};
 ghost use Rattle.aw_term.specs.Artifacts.{Words};
 ghost use Rattle.aw_term.specs.Rules as P;
 ghost use Rattle.aw_store.specs.Equations.{Map};

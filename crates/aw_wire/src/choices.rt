@@ -1,5 +1,4 @@
 //! Choices as bytes.
-ghost use Rattle.std.specs.Prelude.{◌≡◌, ◌++◌, ◌∷◌};
 ghost use Rattle.aw_choice.specs.ChoiceView.{choice_of};
 ghost use Rattle.aw_wire.specs.Gives.{Gives};
 ghost use Rattle.aw_wire.specs.Choices.{choice, spelled_choice};

@@ -1,5 +1,5 @@
 //! Readers of arguments. How deep they are and how many symbols they have is decided while they are read.
-ghost use Rattle.std.specs.Prelude.{◌≡◌, map, ℕ};
+ghost use Rattle.std.specs.Prelude.{map, ℕ};
 ghost use Rattle.aw_term.specs.Rules as plain;
 ghost use Rattle.aw_term.specs.Views.{ground_of};
 ghost use Rattle.aw_wire.specs.Gives.{Fails, Gives};

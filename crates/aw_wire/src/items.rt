@@ -1,5 +1,4 @@
 //! Readers of single items: a byte, and numbers with the highest byte first. Each gives what it read and the bytes behind it.
-ghost use Rattle.std.specs.Prelude.{◌≡◌};
 ghost use Rattle.std.specs.Int.{w16, w32, w64};
 ghost use Rattle.aw_wire.specs.Gives.{Gives};
 ghost use Rattle.aw_wire.specs.Reading.{byte, number, such_that};

@@ -4,7 +4,7 @@ ghost use Rattle.aw_wire.specs.Gives.{Gives};
 ghost use Rattle.aw_wire.specs.Reading.{times};
 ghost use Rattle.aw_wire.specs.Names as spec;
 
-use crate::items::{byte_at, count_at, position_at, slot_number_at, u16_at, u64_at};
+use crate::items::{count_at, position_at, slot_number_at, u16_at, u64_at};
 use crate::unread::Unread;
 use aw_name::{Node, Ref, Refs, Slot, Step, Trail};
 use std::alloc::Global;

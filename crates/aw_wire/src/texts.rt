@@ -1,5 +1,4 @@
 //! The reader of contents of texts.
-ghost use Rattle.std.specs.Prelude.{◌≡◌};
 ghost use Rattle.std.specs.Int.{w16};
 ghost use Rattle.aw_text.specs.Spelling.{is_content_byte};
 ghost use Rattle.aw_wire.specs.Gives.{Gives};

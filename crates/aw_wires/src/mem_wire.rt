@@ -1,5 +1,5 @@
 //! A wire in memory.
-ghost use Rattle.std.specs.Prelude.{◌≡◌, ◌≢◌, ◌≤◌, ◌<◌, ◌↔◌, Some, length, true, IfOk};
+ghost use Rattle.std.specs.Prelude.{◌≡◌, ◌≤◌, ◌<◌, ◌↔◌, Some, length, true, IfOk};
 ghost use Rattle.aw_out.specs.Edge.{FitsBuffer, FitsBytes, given};
 ghost use Rattle.aw_out.specs.Memory.{AreSizes};
 ghost use Rattle.aw_out.specs.Wires.{Arrives, Dials, ReadsInSession, WritesInSession};

@@ -1,9 +1,8 @@
 //! A choice in a world.
-ghost use Rattle.std.specs.Prelude.{◌≡◌, ◌++◌, ◌∷◌, ◌<◌, ◌≤◌, if◌then◌else◌, ℕ, List, [], true, false, ◌↔◌, IsTrue, IfOk, OnOk, OnErr, length, vec_len, vec_capacity};
+ghost use Rattle.std.specs.Prelude.{◌≡◌, ◌++◌, ◌∷◌, ◌<◌, ◌≤◌, if◌then◌else◌, List, [], true, IfOk, OnErr, length, vec_len, vec_capacity};
 ghost use Rattle.aw_grammar.specs.GrammarOf.{grammar_of};
 ghost use Rattle.aw_base.specs.ChoiceFits.{choice_ok};
 ghost use Rattle.aw_choice.specs.ChoiceView.{choice_of, answer_of};
-ghost use Rattle.aw_term.specs.Rules.{get};
 ghost use Rattle.aw_react.specs.Homes.{home};
 ghost use Rattle.aw_react.specs.Sites as P;
 ghost use Rattle.aw_react.specs.Worlds as V;

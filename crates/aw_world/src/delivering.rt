@@ -1,7 +1,5 @@
 //! The delivery of a message in a world.
-ghost use Rattle.std.specs.Prelude.{◌≡◌, ◌<◌, ◌≤◌, if◌then◌else◌, ℕ, List, Bool, false, Some, None, IfOk, OnOk, OnErr, length, slice_get};
-ghost use Rattle.aw_grammar.specs.GrammarOf.{grammar_of};
-ghost use Rattle.aw_term.specs.Rules.{get};
+ghost use Rattle.std.specs.Prelude.{◌≡◌, ◌<◌, ◌≤◌, ℕ, List, Some, None, IfOk, OnErr, length};
 ghost use Rattle.aw_react.specs.Sites as P;
 ghost use Rattle.aw_world.specs.Marked.{DeliversTo, StaysSeenForAllTaken};
 ghost use Rattle.aw_world.specs.Seen.{ArePlaced, AreAddressed, ShowEach, TakesInAt, reply_for};

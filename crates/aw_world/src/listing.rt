@@ -1,5 +1,5 @@
 //! What the workspaces of a world hold.
-ghost use Rattle.std.specs.Prelude.{◌≡◌, ◌++◌, ◌<◌, ℕ, [], Some, None, true, IfOk, IsSome, OnOk, length, map as list_map, slice_get};
+ghost use Rattle.std.specs.Prelude.{◌≡◌, ◌++◌, ◌<◌, [], Some, None, true, IfOk, IsSome, OnOk, length, map as list_map};
 ghost use Rattle.aw_choice.specs.ChoiceView.{item_of};
 ghost use Rattle.aw_grammar.specs.GrammarOf.{grammar_of};
 ghost use Rattle.aw_held.specs.HeldView.{all_of, state_of};

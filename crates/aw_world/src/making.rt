@@ -1,5 +1,5 @@
 //! A world in which nothing happened yet.
-ghost use Rattle.std.specs.Prelude.{◌≡◌, [], IfOk, map as list_map};
+ghost use Rattle.std.specs.Prelude.{◌≡◌, IfOk, map as list_map};
 ghost use Rattle.aw_accept.specs.Acyclic.{Pairs};
 ghost use Rattle.aw_grammar.specs.GrammarOf.{grammar_of};
 ghost use Rattle.aw_term.specs.Rules.{upto};

@@ -1,5 +1,5 @@
 //! Which messages were delivered.
-ghost use Rattle.std.specs.Prelude.{◌≡◌, ◌+◌, ◌<◌, ◌≤◌, ℕ, List, Bool, [], true, OnOk, length, drop, slice_set};
+ghost use Rattle.std.specs.Prelude.{◌≡◌, ◌+◌, ◌<◌, ◌≤◌, ℕ, List, [], true, OnOk, length, drop, slice_set};
 ghost use Rattle.aw_world.specs.Marks.{marks, leading, is_marked};
 ghost use Rattle.aw_react.specs.Worlds.{count_set};
 ghost use Rattle.aw_msg.specs.declared.message.Message.{Message};

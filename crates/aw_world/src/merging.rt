@@ -1,5 +1,5 @@
 //! The nodes of several workspaces in one order.
-ghost use Rattle.std.specs.Prelude.{◌≡◌, ◌+◌, ◌<◌, ◌≤◌, ◌∷◌, [], List, ℕ, Some, None, IfOk, IfSome, IsSome, length, map as list_map, replicate, slice_index, slice_set};
+ghost use Rattle.std.specs.Prelude.{◌≡◌, ◌+◌, ◌<◌, ◌≤◌, [], Some, None, IfOk, IfSome, IsSome, length, map as list_map, replicate, slice_index, slice_set};
 ghost use Rattle.aw_world.specs.Firsts.{next_of, IsFirstOf};
 ghost use Rattle.aw_world.specs.Merged.{merged, nodes_of, left_of, held_at, PassesOn};
 

@@ -1,9 +1,7 @@
 //! The lines of roles, constructors, sorts, starts, offers and uses, and the line `free`.
 ghost use Rattle.std.specs.Prelude.{◌≡◌, ◌++◌, ◌∷◌, [], OnOk, map, codes, decimal};
-ghost use Rattle.aw_term.specs.Rules.{get};
-ghost use Rattle.aw_grammar.specs.Declarations.{sort_names};
 ghost use Rattle.aw_grammar.specs.GrammarOf.{words_of, declarations_of};
-ghost use Rattle.aw_spec.specs.Lines.{RoleLine, StartLine, OfferLine};
+ghost use Rattle.aw_spec.specs.Lines.{RoleLine};
 ghost use Rattle.aw_spec.specs.Views.{spec_seen};
 ghost use Rattle.aw_write.specs.LineTexts.{text_of_lines};
 ghost use Rattle.aw_write.specs.SpecLines as lines;

@@ -1,5 +1,5 @@
 //! The lines of rules.
-ghost use Rattle.std.specs.Prelude.{◌≡◌, ◌++◌, ◌∷◌, ◌≤◌, ◌<◌, [], OnOk, IfSome, IfOk, codes, map, length, slice_get, take, drop};
+ghost use Rattle.std.specs.Prelude.{◌≡◌, ◌++◌, ◌∷◌, ◌≤◌, ◌<◌, [], OnOk, IfSome, IfOk, codes, map, length, slice_get, drop};
 ghost use Rattle.std.specs.Option.{option_copied};
 ghost use Rattle.aw_term.specs.Rules.{get};
 ghost use Rattle.aw_term.specs.Rules as P;
