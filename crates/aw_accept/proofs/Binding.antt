@@ -1,12 +1,12 @@
 -- Leaves of trees, lists side by side, what a match binds.
 use Rattle.std.proofs.Common.{◌≡◌, ℕ, suc, Bool, true, false, cond, List, [], ◌∷◌, ◌++◌, map, refl, subst, inl, inr}
 use Rattle.std.specs.Prelude.{◌&&◌, nat_eq}
+use Rattle.aw_list.proofs.Members.{never}
 use Rattle.aw_term.specs.Trees.{Tree, Leaf, Made, Trees, Nil, More, In, Ins, bind, binds, count, head_eq}
 use Rattle.aw_term.specs.Names.{Ref}
 use Rattle.aw_term.specs.Rules.{Term, Value}
 use Rattle.aw_term.specs.Matching.{Matched, Yes, Waits, Differs, Circle, and_then, under, match, match_parts}
 use Rattle.aw_term.specs.WellFormed.{leaves, all_leaves}
-use Rattle.aw_iograph.proofs.Members.{never}
 use Rattle.aw_accept.specs.Acyclic.{Pairs}
 
 -- a leaf of a tree with its leaves replaced

@@ -5,12 +5,13 @@ use Rattle.aw_term.specs.Trees.{Leaf, In, bind}
 use Rattle.aw_term.specs.Names.{Node, Ref, Slot, Result, Part, Step, node_eq, node_lt, below, result}
 use Rattle.aw_term.specs.Rules.{Term, Value, Child, nth, upto}
 use Rattle.aw_term.specs.Configs.{State, Pending, Row, Config, holes, nothing, fill, child_rows, insert_row, insert_rows, done_row, result_at, put, row_put, rounds}
-use Rattle.aw_iograph.specs.Graphs.{Member}
 use Rattle.aw_iograph.specs.Occurrences.{item}
-use Rattle.aw_iograph.proofs.Members.{never, member_map, member_unmap, member_upto, got_unmap}
 use Rattle.std.proofs.lemmas.Bool.{cases_lt}
 use Rattle.std.proofs.lemmas.List.{length-map, same_from_push}
+use Rattle.aw_list.specs.Members.{Member}
+use Rattle.aw_list.proofs.Members.{never, member_map, member_unmap, got_unmap}
 use Rattle.aw_term.proofs.NodeTests.{node_is}
+use Rattle.aw_term.proofs.Gets.{member_upto}
 use Rattle.aw_accept.proofs.Binding.{In-bind}
 
 pub below-child : (n : Node) (r k l : ℕ) → below n r k ≡ below n r l → k ≡ l

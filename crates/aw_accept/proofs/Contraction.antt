@@ -1,11 +1,12 @@
 -- A circle of the new configuration gives one of the old, or within the rule.
 use Rattle.std.proofs.Common.{◌≡◌, ℕ, Some, inl, inr}
 use Rattle.std.specs.Prelude.{◌⊎◌}
+use Rattle.aw_list.specs.Members.{Member}
 use Rattle.aw_term.specs.Trees.{In}
 use Rattle.aw_term.specs.Names.{Ref, result}
 use Rattle.aw_term.specs.Rules.{Value, Rule}
 use Rattle.aw_term.specs.Configs.{Pending, Row, Config}
-use Rattle.aw_iograph.specs.Graphs.{Member, Plus, step, more}
+use Rattle.aw_iograph.specs.Graphs.{Plus, step, more}
 use Rattle.aw_iograph.specs.Occurrences.{item}
 use Rattle.aw_accept.specs.Acyclic.{Needs, need}
 use Rattle.aw_accept.proofs.Spots.{Spot, Inh, Out, Move}

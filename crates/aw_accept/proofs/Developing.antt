@@ -2,6 +2,8 @@
 use Rattle.std.proofs.Common.{◌≡◌, ℕ, zero, suc, ◌+◌, ◌<◌, ◌≤◌, Bool, true, false, cond, List, [], ◌∷◌, map, length, Some, slice_get, refl, sym, ap, ◌∙◌, subst, inl, inr, arith}
 use Rattle.std.specs.Prelude.{◌⊎◌, option_and_then}
 use Rattle.std.proofs.lemmas.List.{length-map}
+use Rattle.aw_list.specs.Members.{Member}
+use Rattle.aw_list.proofs.Members.{never, member_map, member_unmap, member_got}
 use Rattle.aw_term.specs.Trees.{Never, Leaf, In, bind}
 use Rattle.aw_term.specs.Names.{Node, Ref, Slot, Result, Part, below, result}
 use Rattle.aw_term.specs.Rules.{Term, Ground, Value, Child, Rule, get, nth, upto}
@@ -9,10 +11,9 @@ use Rattle.aw_term.specs.Matching.{Yes, match_all}
 use Rattle.aw_term.specs.Configs.{Pending, Done, Row, Config, env, nothing, fill, child_rows, insert_rows, done_row, put, row_put, rounds, develop}
 use Rattle.aw_term.specs.WellFormed.{Each, Later}
 use Rattle.aw_iograph.specs.declared.occ.Occ.{Occ}
-use Rattle.aw_iograph.specs.Graphs.{Member, Plus, step, more}
+use Rattle.aw_iograph.specs.Graphs.{Plus, step, more}
 use Rattle.aw_iograph.specs.Occurrences.{inherited, item, term_at}
 use Rattle.aw_iograph.specs.Dependence.{Edge, text, call}
-use Rattle.aw_iograph.proofs.Members.{never, member_map, member_unmap, member_got}
 use Rattle.aw_accept.specs.Acyclic.{Needs, need, Stands, IsWhole, IsAcyclic}
 use Rattle.aw_accept.proofs.Spots.{Spot, Inh, Out, occ_of, Move}
 use Rattle.aw_accept.proofs.Contraction.{Vertex, H, O, Way, outer, enter, inner, leave, contract, within}

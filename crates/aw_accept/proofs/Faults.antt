@@ -1,10 +1,10 @@
 -- Circles over the relation that was found, and over the dependence relation.
 use Rattle.std.proofs.Common.{◌≡◌, ℕ, zero, suc, ◌+◌, ◌<◌, ◌≤◌, List, [], ◌∷◌, length, Option, Some, None, slice_get, refl, subst, inl, inr, arith}
 use Rattle.std.specs.Prelude.{◌↔◌}
+use Rattle.aw_list.proofs.Members.{below_or_at, member_place}
 use Rattle.aw_term.specs.Rules as P
 use Rattle.aw_iograph.specs.declared.occ.Occ.{Occ}
 use Rattle.aw_iograph.specs.Dependence.{LeastOnCircle, HasNoCircle}
-use Rattle.aw_iograph.proofs.Members.{below_or_at, member_place}
 use Rattle.aw_iograph.proofs.Relations.{plus_map}
 use Rattle.aw_accept.specs.declared.refused.Fault.{Fault}
 use Rattle.aw_accept.specs.Circular.{NoneBelow, LeastFaultOver}

@@ -1,11 +1,11 @@
 -- A well-formed grammar gives as many results as its sorts say.
 use Rattle.std.proofs.Common.{List, [], ◌∷◌, subst, sym, inl, inr}
+use Rattle.aw_list.specs.Members.{Member}
+use Rattle.aw_list.proofs.Members.{never}
 use Rattle.aw_term.specs.Rules.{Grammar}
 use Rattle.aw_term.specs.Artifacts.{Words}
 use Rattle.aw_term.specs.WellFormed.{Each, RuleFits, ChildFits, IsWellFormed, variables}
 use Rattle.aw_grammar.proofs.Fits.{each_at}
-use Rattle.aw_iograph.specs.Graphs.{Member}
-use Rattle.aw_iograph.proofs.Members.{never}
 use Rattle.aw_accept.specs.Acyclic.{IsGivenGrammar}
 
 pub each_member : {A : Type 0} (P : A → Type 0) (xs : List A) (x : A) → Each P xs → Member x xs → P x

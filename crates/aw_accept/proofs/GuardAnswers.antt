@@ -1,14 +1,14 @@
 -- A guard that waits: it waits for a hole of an inherited value. None gives a circle.
 use Rattle.std.proofs.Common.{◌≡◌, ℕ, suc, ◌≤◌, Bool, true, false, cond, List, [], ◌∷◌, length, Option, Some, None, slice_get, refl, sym, subst, inl, inr}
 use Rattle.std.specs.Prelude.{◌⊎◌, ◌&&◌, nat_eq}
+use Rattle.aw_list.specs.Members.{Member}
+use Rattle.aw_list.proofs.Members.{never, member_got}
 use Rattle.aw_term.specs.Trees.{Never, Leaf, Made, Trees, Nil, More, In, Ins, count, head_eq}
 use Rattle.aw_term.specs.Names.{Node, Ref, root}
 use Rattle.aw_term.specs.Rules.{Term, Ground, Value, Rule, Grammar}
 use Rattle.aw_term.specs.Matching.{Matched, Yes, Waits, Differs, Circle, and_then, under, match, match_parts, match_all}
 use Rattle.aw_term.specs.Configs.{State, Pending, Done, Row, Config, row_of}
 use Rattle.aw_term.specs.Choices.{Choice, Start, Develop, Answer, NotHere, Developed, NotItsRule, Arguments, WaitsFor, CircleAt, TooDeep, Taken, Outcome, Refused, Takes, deep, after_guard, at_rule, at_state, at_row, not_held, answer_of, answer}
-use Rattle.aw_iograph.specs.Graphs.{Member}
-use Rattle.aw_iograph.proofs.Members.{never, member_got}
 use Rattle.aw_accept.specs.Missing.{WaitsForMissing, TellsNoCircle}
 use Rattle.aw_accept.proofs.UndividedRuns.{row_of-found}
 

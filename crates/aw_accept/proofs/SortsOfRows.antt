@@ -2,14 +2,14 @@
 use Rattle.std.proofs.Common.{◌≡◌, ℕ, suc, ◌+◌, Bool, true, false, cond, List, [], ◌∷◌, ◌++◌, map, length, Option, Some, None, slice_get, option_map, refl, sym, ap, ◌∙◌, subst, inl, inr, eq-eqb, arith}
 use Rattle.std.specs.Prelude.{nat_eq, option_and_then}
 use Rattle.std.proofs.lemmas.Option.{same_Some, option_and_then_some}
+use Rattle.aw_list.specs.Members.{Member}
+use Rattle.aw_list.proofs.Members.{never, member_unmap}
 use Rattle.aw_term.specs.Names.{Node, Ref, Step, below}
 use Rattle.aw_term.specs.Rules.{Ground, Value, Child, Rule, Sort, Grammar, child_at, sort_of_step, sort_after, sort_of}
 use Rattle.aw_term.specs.Configs.{Done, Row, Config, env, fill, child_rows, insert_row, insert_rows, row_of, done_row, put, row_put, develop}
 use Rattle.aw_term.specs.Choices.{Choice, Start, Develop, Outcome, Refused, Starts, Takes, outcome, start_row, taken, undivided}
 use Rattle.aw_term.specs.WellFormed.{Each}
 use Rattle.aw_term.proofs.RowParts.{rounds_node}
-use Rattle.aw_iograph.specs.Graphs.{Member}
-use Rattle.aw_iograph.proofs.Members.{never, member_unmap}
 use Rattle.aw_accept.specs.Sorts.{HaveTheirSorts, IsAtStart}
 use Rattle.aw_accept.proofs.ConfigLemmas.{child_row, Member-insert_row, Member-insert_rows, Member-child_rows, Member-rounds, rounds-sort, done_row-same}
 use Rattle.aw_accept.proofs.UndividedRuns.{Decoded, decode_on}

@@ -1,5 +1,6 @@
 -- Each hole in the value of a variable comes from where the variable enters.
 use Rattle.std.proofs.Common.{◌≡◌, ℕ, zero, suc, ◌+◌, ◌<◌, ◌≤◌, Bool, true, false, List, [], ◌∷◌, ◌++◌, map, length, Option, Some, None, slice_get, replicate, refl, subst, arith}
+use Rattle.aw_list.proofs.Members.{never}
 use Rattle.aw_term.specs.Trees.{Never, Leaf, In}
 use Rattle.aw_term.specs.Names.{Ref, below, result}
 use Rattle.aw_term.specs.Rules.{Term, Ground, Value, Child, Rule, get, upto}
@@ -8,7 +9,6 @@ use Rattle.aw_term.specs.Configs.{Row, lift, holes, child_holes, env, nothing}
 use Rattle.aw_term.specs.WellFormed.{leaves}
 use Rattle.aw_iograph.specs.declared.occ.Occ.{Occ}
 use Rattle.aw_iograph.specs.Occurrences.{inherited, given, item, pattern_entries, child_entries, entries}
-use Rattle.aw_iograph.proofs.Members.{never}
 use Rattle.aw_accept.specs.Acyclic.{Pairs}
 use Rattle.aw_accept.proofs.Binding.{In-bind, Pairs-append, Pairs-map, Piece, match-parts, under-yes, and_then-yes, yes-inj}
 

@@ -6,14 +6,15 @@ use Rattle.aw_term.specs.Names.{Node, Ref, Step, node_eq, below, result, root}
 use Rattle.aw_term.specs.Rules.{Ground, Value, Rule, Grammar, upto}
 use Rattle.aw_term.specs.Matching.{Matched, Yes, Waits, Differs, Circle, match_all}
 use Rattle.aw_term.specs.Configs.{State, Pending, Done, Row, Config, env, child_rows, insert_row, row_of, done_row, row_put, rounds, develop}
-use Rattle.aw_iograph.specs.Graphs.{Member, Plus, step, more}
+use Rattle.aw_iograph.specs.Graphs.{Plus, step, more}
 use Rattle.aw_iograph.specs.Occurrences.{item}
 use Rattle.aw_iograph.specs.Dependence.{IsClosedUnder, HasNoCircle}
-use Rattle.aw_iograph.proofs.Members.{never, member_map, member_unmap, member_got}
 use Rattle.aw_accept.specs.Acyclic.{Needs, need, Stands, IsWhole, IsAcyclic, IsGivenGrammar, IsTree, HasNoHoleOf, RunsAreAcyclic, HasAcyclicRuns}
 use Rattle.std.proofs.lemmas.Bool.{eqb-true}
 use Rattle.std.proofs.lemmas.List.{length-map, same_from_push}
 use Rattle.std.proofs.lemmas.Option.{same_Some, option_and_then_some}
+use Rattle.aw_list.specs.Members.{Member}
+use Rattle.aw_list.proofs.Members.{never, member_map, member_unmap, member_got}
 use Rattle.aw_term.specs.Choices.{Choice, Start, Develop, Answer, NotItsRule, Arguments, Outcome, Refused, Starts, Takes, deep, after_guard, at_rule, at_state, at_row, not_held, outcome, start_row, taken, undivided}
 use Rattle.aw_accept.specs.Acyclic.{gives}
 use Rattle.aw_accept.proofs.Spots.{occ_of, moves}

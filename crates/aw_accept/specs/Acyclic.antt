@@ -1,11 +1,12 @@
 -- Configurations in which no value waits for itself.
 use Rattle.std.specs.Prelude.{◌≡◌, ℕ, ◌<◌, ◌≤◌, ◌⊎◌, List, [], ◌∷◌, length, Some, slice_get}
+use Rattle.aw_list.specs.Members.{Member}
 use Rattle.aw_term.specs.Trees.{Never, In}
 use Rattle.aw_term.specs.Names.{Node, Ref, below, result}
 use Rattle.aw_term.specs.Rules.{Ground, Value, Child, Rule, Grammar}
 use Rattle.aw_term.specs.Configs.{Pending, Row, Config}
 use Rattle.aw_term.specs.Choices.{Choice, Develop, gives_of, outcome, taken, undivided}
-use Rattle.aw_iograph.specs.Graphs.{Member, Plus}
+use Rattle.aw_iograph.specs.Graphs.{Plus}
 use Rattle.aw_iograph.specs.Occurrences.{item}
 use Rattle.aw_iograph.specs.Dependence.{IO, IsClosedUnder, HasNoCircle}
 

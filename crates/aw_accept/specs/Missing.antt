@@ -1,11 +1,11 @@
 -- What a choice waits for.
 use Rattle.std.specs.Prelude.{◌≡◌, ℕ, ◌<◌, ◌≤◌}
+use Rattle.aw_list.specs.Members.{Member}
 use Rattle.aw_term.specs.Trees.{Never}
 use Rattle.aw_term.specs.Names.{Ref, result}
 use Rattle.aw_term.specs.Rules.{Grammar}
 use Rattle.aw_term.specs.Configs.{Pending, Row, Config}
 use Rattle.aw_term.specs.Choices.{Choice, WaitsFor, CircleAt, answer}
-use Rattle.aw_iograph.specs.Graphs.{Member}
 use Rattle.aw_accept.specs.Acyclic.{IsTree, IsWhole, gives}
 
 -- a result of a pending row, by a number from 1 to as many as its sort gives

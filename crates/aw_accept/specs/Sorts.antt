@@ -1,10 +1,10 @@
 -- Rows that have the sorts of their nodes' names.
 use Rattle.std.specs.Prelude.{◌≡◌, true, List, [], Some, slice_get}
+use Rattle.aw_list.specs.Members.{Member}
 use Rattle.aw_term.specs.Rules.{Sort, Grammar, sort_of}
 use Rattle.aw_term.specs.Configs.{Row, Config}
 use Rattle.aw_term.specs.Choices.{Choice, Start, Develop, outcome, taken, undivided}
 use Rattle.aw_term.specs.WellFormed.{Each}
-use Rattle.aw_iograph.specs.Graphs.{Member}
 
 -- the sort of each row is that of its node's name
 abbrev pub HaveTheirSorts : Grammar → Config → Type 0

@@ -1,9 +1,9 @@
 -- One thing is told of roles that are checked apart, and one of waiting.
 use Rattle.std.proofs.Common.{◌≡◌, ℕ, suc, ◌<◌, ◌≤◌, List, [], ◌∷◌, length, refl, sym, ap, ◌∙◌, inl, inr, arith}
 use Rattle.std.specs.Prelude.{◌⊎◌}
+use Rattle.aw_list.proofs.Members.{never}
 use Rattle.aw_base.specs.declared.declared.Triple.{Triple}
 use Rattle.aw_term.specs.Rules.{Grammar}
-use Rattle.aw_iograph.proofs.Members.{never}
 use Rattle.aw_told.proofs.OneTold.{fault-none, one-fault, one-found-over}
 use Rattle.aw_wait.specs.Waiting.{WaitingRelation}
 use Rattle.aw_modular.specs.Roles.{Known}

@@ -1,5 +1,7 @@
 -- A choice was taken on a node exactly where its home holds it as developed.
 use Rattle.std.proofs.Common.{◌≡◌, ℕ, Bool, true, false, List, [], ◌∷◌, Option, Some, None, refl, sym, ap, ◌∙◌, subst, inl, inr}
+use Rattle.aw_list.specs.Members.{Member}
+use Rattle.aw_list.proofs.Members.{never}
 use Rattle.aw_term.specs.Artifacts.{Words}
 use Rattle.aw_term.specs.Choices.{undivided}
 use Rattle.aw_term.specs.Configs.{Pending, Config}
@@ -7,8 +9,6 @@ use Rattle.aw_term.specs.Held.{Held}
 use Rattle.aw_term.specs.Names.{Node}
 use Rattle.aw_term.specs.Rules.{Grammar}
 use Rattle.aw_term.specs.WellFormed.{Each}
-use Rattle.aw_iograph.specs.Graphs.{Member}
-use Rattle.aw_iograph.proofs.Members.{never}
 use Rattle.aw_accept.specs.Acyclic.{Pairs}
 use Rattle.aw_joint.specs.Joint.{Joint, empty_joint, joint_run}
 use Rattle.aw_joint.specs.Laws.{IsAccepted, Agree, AgreeWhereTaken}

@@ -1,5 +1,7 @@
 -- A node on which a choice was taken is held at its home, and developed.
 use Rattle.std.proofs.Common.{◌≡◌, ℕ, ◌<◌, arith, Bool, true, false, cond, List, [], ◌∷◌, map, length, Option, Some, None, refl, sym, ap, ◌∙◌, subst, inl, inr}
+use Rattle.aw_list.specs.Members.{Member}
+use Rattle.aw_list.proofs.Members.{never, member_map, member_split}
 use Rattle.aw_term.specs.Artifacts.{Words}
 use Rattle.aw_term.specs.Choices.{Choice, Develop, Outcome, Refused, Starts, Takes}
 use Rattle.aw_term.specs.Configs.{State, Done}
@@ -8,8 +10,6 @@ use Rattle.aw_term.specs.Names.{Node, Ref, node_eq}
 use Rattle.aw_term.specs.Rules.{Grammar, Ground, Rule}
 use Rattle.aw_term.specs.WellFormed.{Each}
 use Rattle.aw_term.proofs.NodeTests.{node_self}
-use Rattle.aw_iograph.specs.Graphs.{Member}
-use Rattle.aw_iograph.proofs.Members.{never, member_map, member_split}
 use Rattle.aw_store.specs.Equations.{Map}
 use Rattle.aw_apply.specs.Made.{made}
 use Rattle.aw_joint.specs.Joint.{Joint, empty_joint, by_held}

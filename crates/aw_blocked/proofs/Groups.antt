@@ -1,14 +1,14 @@
 -- The items of one node stand in front of those of others.
 use Rattle.std.proofs.Common.{◌≡◌, ℕ, ◌+◌, suc, Bool, true, false, cond, List, [], ◌∷◌, ◌++◌, map, take, drop, refl, sym, ap, ◌∙◌, subst, inl, inr, arith}
 use Rattle.std.specs.List.{prefix_len}
+use Rattle.aw_list.specs.Members.{Member}
+use Rattle.aw_list.proofs.Members.{never}
 use Rattle.aw_term.specs.Artifacts as plain
 use Rattle.aw_term.specs.Names.{Node, node_eq}
 use Rattle.aw_term.specs.Trees.{Never}
 use Rattle.aw_term.proofs.NodeTests.{node_is, node_self}
 use Rattle.aw_choice.specs.declared.choice.Item.{Item}
 use Rattle.aw_choice.specs.ChoiceView.{item_of}
-use Rattle.aw_iograph.specs.Graphs.{Member}
-use Rattle.aw_iograph.proofs.Members.{never}
 
 -- how many items stand in front that are of the node
 abbrev pub front : Node → List Item → ℕ

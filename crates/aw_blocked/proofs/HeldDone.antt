@@ -1,10 +1,10 @@
 -- Whether a node is held as developed.
 use Rattle.std.proofs.Common.{◌≡◌, Bool, true, false, cond, List, [], ◌∷◌, refl, sym, ap, subst, inl, inr}
+use Rattle.aw_list.specs.Members.{Member}
+use Rattle.aw_list.proofs.Members.{never}
 use Rattle.aw_term.specs.Held.{Held}
 use Rattle.aw_term.specs.Names.{Node, node_eq}
 use Rattle.aw_term.proofs.NodeTests.{node_is, node_self}
-use Rattle.aw_iograph.specs.Graphs.{Member}
-use Rattle.aw_iograph.proofs.Members.{never}
 use Rattle.aw_blocked.specs.Waiters.{is_done, holds_done}
 
 -- a held node is held as it stands, where it is held once

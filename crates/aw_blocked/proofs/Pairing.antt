@@ -2,14 +2,14 @@
 use Rattle.std.specs.Prelude.{◌⊎◌, nat_eq}
 use Rattle.std.specs.List.{cons_option}
 use Rattle.std.proofs.Common.{◌≡◌, ℕ, suc, Bool, true, false, cond, List, [], ◌∷◌, ◌++◌, Option, Some, None, refl, sym, ap, ◌∙◌, inl, inr, append_assoc}
+use Rattle.aw_list.specs.Members.{Member}
+use Rattle.aw_list.proofs.Members.{never, member_split}
 use Rattle.aw_term.specs.Artifacts.{Item}
 use Rattle.aw_term.specs.Choices.{Choice}
 use Rattle.aw_term.specs.Configs.{State, Pending, Done}
 use Rattle.aw_term.specs.Held.{Held}
 use Rattle.aw_term.specs.Names.{Node}
 use Rattle.aw_term.specs.Rules.{Rule, Grammar}
-use Rattle.aw_iograph.specs.Graphs.{Member}
-use Rattle.aw_iograph.proofs.Members.{never, member_split}
 use Rattle.aw_store.specs.Equations.{Map}
 use Rattle.aw_react.specs.Homes.{home}
 use Rattle.aw_react.specs.Worklists.{site_item, site_items, open_items, site_worklist}

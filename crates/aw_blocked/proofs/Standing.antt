@@ -1,14 +1,16 @@
 -- Each pair of a world stands in the undivided configuration of the choices taken.
 use Rattle.std.proofs.Common.{◌≡◌, ℕ, Bool, true, false, cond, List, [], ◌∷◌, Option, Some, None, refl, sym, ap, ◌∙◌, subst, inl, inr}
 use Rattle.std.proofs.lemmas.Bool.{eqb-true}
+use Rattle.aw_list.specs.Members.{Member}
+use Rattle.aw_list.proofs.Members.{never}
 use Rattle.aw_term.specs.Artifacts.{Words, Item}
 use Rattle.aw_term.specs.Choices.{Choice, TooDeep, Refused, Takes, after_guard, deep}
 use Rattle.aw_term.specs.Matching.{Matched, Yes, Waits, Differs, Circle}
 use Rattle.aw_term.specs.Names.{Node, Slot, Result, Part, Ref, result}
 use Rattle.aw_term.specs.Rules.{Grammar, Rule}
 use Rattle.aw_term.specs.Runs.{refusal_of}
-use Rattle.aw_iograph.specs.Graphs.{Member, Plus, step, more}
-use Rattle.aw_iograph.proofs.Members.{never, get_some}
+use Rattle.aw_term.proofs.Gets.{get_some}
+use Rattle.aw_iograph.specs.Graphs.{Plus, step, more}
 use Rattle.aw_accept.proofs.Fitting.{given_of}
 use Rattle.aw_apply.specs.Guard.{guard_all}
 use Rattle.aw_joint.specs.Laws.{IsAccepted}

@@ -1,12 +1,12 @@
 -- Whether one of some choices develops a node.
 use Rattle.std.specs.Prelude.{◌||◌}
 use Rattle.std.proofs.Common.{◌≡◌, ℕ, Bool, true, false, List, [], ◌∷◌, refl, ap, subst, inl, inr}
+use Rattle.aw_list.specs.Members.{Member}
+use Rattle.aw_list.proofs.Members.{never}
 use Rattle.aw_term.specs.Names.{Node}
 use Rattle.aw_term.specs.Rules.{Ground}
 use Rattle.aw_term.specs.Choices.{Choice, Start, Develop}
 use Rattle.aw_term.proofs.NodeTests.{node_is, node_self}
-use Rattle.aw_iograph.specs.Graphs.{Member}
-use Rattle.aw_iograph.proofs.Members.{never}
 use Rattle.aw_waits.specs.SiteWaits.{IsUntaken}
 use Rattle.aw_blocked.specs.Waiters.{develops, is_developed}
 

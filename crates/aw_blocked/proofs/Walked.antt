@@ -1,5 +1,7 @@
 -- One held node more of a workspace, with the items that stand in front.
 use Rattle.std.proofs.Common.{◌≡◌, ℕ, zero, suc, ◌+◌, arith, true, List, [], ◌∷◌, ◌++◌, map, take, drop, length, Some, slice_get, sym, ap, ◌∙◌, subst, append_assoc}
+use Rattle.aw_list.specs.Members.{Member}
+use Rattle.aw_list.proofs.Members.{member_unmap}
 use Rattle.aw_term.specs.Held as P
 use Rattle.aw_term.specs.Names.{node_lt}
 use Rattle.aw_term.specs.Rules.{Grammar}
@@ -12,8 +14,6 @@ use Rattle.aw_held.specs.declared.held.Held.{Held}
 use Rattle.aw_held.specs.HeldView.{held_of, all_of, state_of}
 use Rattle.aw_held.specs.InOrder.{IsInOrder}
 use Rattle.aw_held.proofs.InOrderLemmas.{Up, up_of}
-use Rattle.aw_iograph.specs.Graphs.{Member}
-use Rattle.aw_iograph.proofs.Members.{member_unmap}
 use Rattle.aw_accept.proofs.Fitting.{each_member}
 use Rattle.aw_store.specs.Equations.{Map}
 use Rattle.aw_react.specs.Worklists.{open_items, site_worklist}

@@ -15,8 +15,8 @@ use Rattle.aw_term.specs.Rules.{Grammar, upto}
 use Rattle.aw_term.specs.Trees.{Never}
 use Rattle.aw_term.specs.WellFormed.{Each}
 use Rattle.aw_term.proofs.GrammarTests.{grammars_are_one}
+use Rattle.aw_term.proofs.Gets.{get_none}
 use Rattle.aw_iograph.specs.Graphs.{Plus}
-use Rattle.aw_iograph.proofs.Members.{get_none}
 use Rattle.aw_grammar.specs.GrammarOf.{grammar_of, words_of}
 use Rattle.aw_choice.specs.ChoiceView.{choice_of}
 use Rattle.aw_held.specs.HeldView.{held_of, all_of}

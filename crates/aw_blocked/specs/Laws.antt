@@ -1,11 +1,12 @@
 -- What holds of who waits for whom in every world, over all choices and deliveries, late, repeated and out of order.
 use Rattle.std.specs.Prelude.{◌≡◌, List, [], Some}
+use Rattle.aw_list.specs.Members.{Member}
 use Rattle.aw_term.specs.Trees.{Never}
 use Rattle.aw_term.specs.Names.{Node}
 use Rattle.aw_term.specs.Rules.{Grammar}
 use Rattle.aw_term.specs.Configs.{Config}
 use Rattle.aw_term.specs.Choices.{Choice, undivided}
-use Rattle.aw_iograph.specs.Graphs.{Member, Plus}
+use Rattle.aw_iograph.specs.Graphs.{Plus}
 use Rattle.aw_merge.specs.Laws.{InEachWorld}
 use Rattle.aw_wait.specs.Waiting.{IsFreeOfWaiting, IsPending, WaitsFor}
 use Rattle.aw_blocked.specs.declared.pair.Pair.{Pair}

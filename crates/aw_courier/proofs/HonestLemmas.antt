@@ -4,11 +4,11 @@ use Rattle.std.specs.Prelude.{nat_lt, IfOk}
 use Rattle.std.specs.Int.{w32, w64, from_be_bytes, to_be_bytes}
 use Rattle.std.proofs.lemmas.Bool.{ltb-false}
 use Rattle.std.proofs.lemmas.List.{length-drop}
+use Rattle.aw_list.proofs.Members.{never}
 use Rattle.aw_term.specs.Artifacts.{Words}
 use Rattle.aw_term.specs.Rules.{Grammar}
 use Rattle.aw_term.specs.Trees.{Never}
 use Rattle.aw_term.specs.WellFormed.{Each}
-use Rattle.aw_iograph.proofs.Members.{never}
 use Rattle.aw_wire.specs.Reading.{Fault, Short, ◌>>=◌, number}
 use Rattle.aw_wire.proofs.Laws.{ok_is, number32, number64}
 use Rattle.aw_react.specs.Sites.{Site}

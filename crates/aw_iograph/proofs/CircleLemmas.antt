@@ -2,14 +2,15 @@
 use Rattle.std.proofs.Common.{◌≡◌, ℕ, ◌<◌, ◌≤◌, List, map, slice_get, Option, Some, None, slice_index, sym, ap, ◌∙◌, subst, inl, inr, arith}
 use Rattle.std.specs.Prelude.{◌⊎◌}
 use Rattle.std.proofs.lemmas.Bool.{cases_lt}
+use Rattle.aw_list.specs.Members.{Member}
+use Rattle.aw_list.proofs.Members.{got_map}
 use Rattle.aw_term.specs.Rules as P
 use Rattle.aw_iograph.specs.declared.reach.Arc.{Arc}
 use Rattle.aw_iograph.specs.declared.occ.Occ.{Occ}
-use Rattle.aw_iograph.specs.Graphs.{Member, Plus, Arrow, FirstCircle, Rises}
+use Rattle.aw_iograph.specs.Graphs.{Plus, Arrow, FirstCircle, Rises}
 use Rattle.aw_iograph.specs.Occurrences.{IsPlace, place_of}
 use Rattle.aw_iograph.specs.Dependence.{IsOnCircle, LeastOnCircle}
 use Rattle.aw_iograph.specs.Arcs.{IsGraphOf}
-use Rattle.aw_iograph.proofs.Members.{got_map}
 use Rattle.aw_iograph.proofs.Placing.{place_below, place_order}
 use Rattle.aw_iograph.proofs.RuleGraphs.{walk_arcs, arcs_walk, circle_place}
 use Rattle.aw_iograph.proofs.Reaching.{rises}

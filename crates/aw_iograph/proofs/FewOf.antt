@@ -3,6 +3,7 @@ use Rattle.std.proofs.Common.{◌≡◌, ℕ, zero, suc, ◌<◌, ◌≤◌, Lis
 use Rattle.std.proofs.Math.Logic.{∥∥₁_elim}
 use Rattle.std.proofs.lemmas.List.{length-map}
 use Rattle.std.specs.Coded.{le_prop}
+use Rattle.aw_list.proofs.Members.{got_map}
 use Rattle.aw_term.specs.Rules as P
 use Rattle.aw_term.specs.Choices.{gives_of}
 use Rattle.aw_term.specs.WellFormed.{Each, takes_of, SortFits, RuleFits, ChildFits, variables}
@@ -14,7 +15,6 @@ use Rattle.aw_grammar.specs.GrammarView.{rule_of, child_of, sort_of}
 use Rattle.aw_grammar.specs.GrammarOf.{grammar_of}
 use Rattle.aw_grammar.proofs.Fits.{each_at, each_map_at}
 use Rattle.aw_iograph.specs.Small.{IsSmall, HasFew}
-use Rattle.aw_iograph.proofs.Members.{got_map}
 
 pub takes_few : (roles : ℕ) (sorts : List P.Sort) → Each (SortFits roles) sorts → (s : ℕ) → takes_of (slice_get sorts s) ≤ 8
 takes_few roles [] fits s = omega arith

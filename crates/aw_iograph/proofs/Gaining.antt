@@ -1,13 +1,13 @@
 -- Arcs that are added for pairs of a child's sort.
 use Rattle.std.proofs.Common.{◌≡◌, ℕ, suc, ◌+◌, ◌-◌, ◌*◌, ◌/◌, ◌%◌, ◌<◌, ◌≤◌, List, [], ◌∷◌, ◌++◌, Some, slice_get, sym, ap, ◌∙◌, subst, inl, inr, arith}
 use Rattle.std.specs.Prelude.{◌⊎◌}
+use Rattle.aw_list.specs.Members.{Member}
+use Rattle.aw_list.proofs.Members.{never, member_left, member_right, member_split, below_or_at}
 use Rattle.aw_grammar.specs.declared.rule.Child.{Child}
 use Rattle.aw_iograph.specs.declared.reach.Arc.{Arc}
 use Rattle.aw_iograph.specs.declared.io.Io.{Io}
-use Rattle.aw_iograph.specs.Graphs.{Member}
 use Rattle.aw_iograph.specs.Pairs.{Has, IsNumber}
 use Rattle.aw_iograph.specs.Arcs.{call_arc, Gains, GainsAll}
-use Rattle.aw_iograph.proofs.Members.{never, member_left, member_right, member_split, below_or_at}
 
 pub gain_one : (io : Io) (s k i l : ℕ) (old new : List Arc) (a : Arc) → Has io s i l → a ≡ call_arc k i l → new ≡ old ++ a ∷ [] → Gains io s k (λ i' l'. (i' ≡ i) × (l' ≡ l)) old new
 gain_one io s k i l old new a has arc step = record {

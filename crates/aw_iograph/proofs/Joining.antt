@@ -7,10 +7,11 @@ use Rattle.std.proofs.lemmas.Nat.Bits.{bit_at_or, bit_at-lt, bit_at-zero, bit_at
 use Rattle.std.proofs.lemmas.Nat.{le_or_l, or_lt, one_shl, pow_pos}
 use Rattle.std.proofs.lemmas.Grind.{get_or_default_zero}
 use Rattle.std.proofs.lemmas.List.{get_or-set_same, get_or-set_other, length-set}
+use Rattle.aw_list.specs.Members.{Member}
+use Rattle.aw_list.proofs.Members.{member_at, member_place, each_more}
 use Rattle.aw_iograph.specs.declared.reach.Arc.{Arc}
-use Rattle.aw_iograph.specs.Graphs.{Member, Plus, step, more, Arrow}
+use Rattle.aw_iograph.specs.Graphs.{Plus, step, more, Arrow}
 use Rattle.aw_iograph.specs.Rows.{HasBit, IsIn, HaveGrown, AreLed, IsJoined, AreJoined, room}
-use Rattle.aw_iograph.proofs.Members.{member_at, member_place, each_more}
 use Rattle.aw_iograph.proofs.Reaching.{join}
 
 -- a bit of two numbers that are joined is one of the first or of the second

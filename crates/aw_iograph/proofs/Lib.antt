@@ -5,7 +5,6 @@ pub mod FewOf
 pub mod Gaining
 pub mod Joining
 pub mod Marking
-pub mod Members
 pub mod Placing
 pub mod Reaching
 pub mod Relations

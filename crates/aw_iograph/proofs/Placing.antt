@@ -3,14 +3,15 @@ use Rattle.std.proofs.Common.{◌≡◌, ℕ, zero, suc, ◌+◌, ◌*◌, ◌-�
 use Rattle.std.specs.Prelude.{◌⊎◌, if◌then◌else◌}
 use Rattle.std.proofs.lemmas.Bool.{cases_lt}
 use Rattle.std.proofs.lemmas.Option.{same_Some, slice_get_within}
+use Rattle.aw_list.specs.Members.{Member}
+use Rattle.aw_list.proofs.Members.{never, member_split, member_unmap}
 use Rattle.aw_term.specs.Trees.{Never}
 use Rattle.aw_term.specs.Rules.{Term, Child, Rule, get, upto}
 use Rattle.aw_term.specs.WellFormed.{leaves}
+use Rattle.aw_term.proofs.Gets.{member_upto, get_member}
 use Rattle.aw_iograph.specs.declared.occ.Occ.{Occ}
-use Rattle.aw_iograph.specs.Graphs.{Member}
 use Rattle.aw_iograph.specs.Occurrences.{inherited, given, pattern_entries, child_entries, entries, term_at, IsPlace, place_of, IsUpTo}
 use Rattle.aw_iograph.specs.Small.{HasFew}
-use Rattle.aw_iograph.proofs.Members.{never, member_split, member_unmap, member_upto, get_member}
 use Rattle.aw_iograph.proofs.TextFlows.{Stands, argument, outcome, stands}
 
 pattern_place : (ps : List Term) (n : ℕ) (o : Occ) → 0 < n → n + length ps ≤ 9 → Member (Some o) (pattern_entries n ps) → IsPlace o

@@ -2,11 +2,12 @@
 use Rattle.std.proofs.Common.{◌≡◌, ℕ, ◌+◌, ◌<◌, Bool, false, List, length, Some, slice_get, sym, ◌∙◌, subst, inl, inr, get_or, arith}
 use Rattle.std.specs.Prelude.{◌⊎◌, ◌||◌}
 use Rattle.std.proofs.lemmas.Bool.{or_parts}
+use Rattle.aw_list.specs.Members.{Member}
+use Rattle.aw_list.proofs.Members.{member_at, member_place, each_more}
 use Rattle.aw_iograph.specs.declared.reach.Arc.{Arc}
-use Rattle.aw_iograph.specs.Graphs.{Member, Plus, step, more, Arrow, AreReached, IsSpread, Passed}
+use Rattle.aw_iograph.specs.Graphs.{Plus, step, more, Arrow, AreReached, IsSpread, Passed}
 use Rattle.aw_iograph.specs.Growth.{Marked, Grown}
 use Rattle.aw_iograph.proofs.Marking.{grown_trans}
-use Rattle.aw_iograph.proofs.Members.{member_at, member_place, each_more}
 
 pub join : {V : Type 0} {E : V → V → Type 0} {a b c : V} → Plus E a b → Plus E b c → Plus E a c
 join (step e) w = more e w

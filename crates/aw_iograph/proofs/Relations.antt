@@ -1,11 +1,11 @@
 -- The dependence relation is closed under the rules, and the least such relation; the same of what follows from a given one.
 use Rattle.std.proofs.Common.{◌≡◌, ℕ, zero, suc, ◌+◌, refl, subst, inl, inr, arith}
 use Rattle.std.specs.Prelude.{◌⊎◌}
+use Rattle.aw_list.proofs.Members.{never}
 use Rattle.aw_term.specs.Rules.{Rule, Grammar}
 use Rattle.aw_iograph.specs.declared.occ.Occ.{Occ}
 use Rattle.aw_iograph.specs.Graphs.{Plus, step, more}
 use Rattle.aw_iograph.specs.Dependence.{Edge, text, call, Walk, io, IO, io_from, Follows, IsClosedUnder}
-use Rattle.aw_iograph.proofs.Members.{never}
 
 pub edge_map : (r : Rule) (rel rel' : ℕ → ℕ → ℕ → Type 0) → ((s i j : ℕ) → rel s i j → rel' s i j) → {o u : Occ} → Edge r rel o u → Edge r rel' o u
 edge_map r rel rel' f (text v t a b x) = text v t a b x

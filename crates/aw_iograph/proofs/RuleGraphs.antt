@@ -1,6 +1,8 @@
 -- The arcs of a rule are its steps.
 use Rattle.std.proofs.Common.{◌≡◌, ℕ, zero, suc, ◌<◌, ◌≤◌, List, map, length, Some, slice_get, refl, sym, ap, ◌∙◌, subst, inl, inr, arith}
 use Rattle.std.proofs.lemmas.Option.{slice_get_within}
+use Rattle.aw_list.specs.Members.{Member}
+use Rattle.aw_list.proofs.Members.{member_map, member_unmap, got_map, got_unmap}
 use Rattle.aw_term.specs.Rules as P
 use Rattle.aw_grammar.specs.declared.rule.Rule.{Rule}
 use Rattle.aw_grammar.specs.declared.rule.Sort.{Sort}
@@ -8,13 +10,12 @@ use Rattle.aw_grammar.specs.GrammarView.{rule_of, child_of}
 use Rattle.aw_iograph.specs.declared.reach.Arc.{Arc}
 use Rattle.aw_iograph.specs.declared.occ.Occ.{Occ}
 use Rattle.aw_iograph.specs.declared.io.Io.{Io}
-use Rattle.aw_iograph.specs.Graphs.{Member, Plus, step, more, Arrow, IsWithin}
+use Rattle.aw_iograph.specs.Graphs.{Plus, step, more, Arrow, IsWithin}
 use Rattle.aw_iograph.specs.Occurrences.{inherited, given, text_flows, IsPlace, place_of}
 use Rattle.aw_iograph.specs.Dependence.{Edge, text, call}
 use Rattle.aw_iograph.specs.Pairs.{Has}
 use Rattle.aw_iograph.specs.Small.{HasFew}
 use Rattle.aw_iograph.specs.Arcs.{arc_of, call_arc, GainsAll, IsGraphOf}
-use Rattle.aw_iograph.proofs.Members.{member_map, member_unmap, got_map, got_unmap}
 use Rattle.aw_iograph.proofs.TextFlows.{flows_all, flows_only}
 use Rattle.aw_iograph.proofs.Placing.{entry_place, term_place, place_below, place_one}
 

@@ -3,6 +3,7 @@ use Rattle.std.proofs.Common.{◌≡◌, ℕ, ◌+◌, ◌<◌, ◌≤◌, Bool,
 use Rattle.std.specs.Prelude.{◌⊎◌, ◌||◌}
 use Rattle.std.proofs.lemmas.Bool.{or_parts, cases_lt}
 use Rattle.std.proofs.lemmas.Option.{slice_get_within}
+use Rattle.aw_list.proofs.Members.{member_place, member_map, member_unmap, member_got}
 use Rattle.aw_term.specs.Rules as P
 use Rattle.aw_grammar.specs.declared.rule.Rule.{Rule}
 use Rattle.aw_grammar.specs.declared.rule.Sort.{Sort}
@@ -18,7 +19,6 @@ use Rattle.aw_iograph.specs.Dependence.{Edge, Walk, Follows, IsKept, IsClosedUnd
 use Rattle.aw_iograph.specs.Pairs.{Has, HasMark, IsNumber}
 use Rattle.aw_iograph.specs.Arcs.{IsGraphOf}
 use Rattle.aw_iograph.proofs.Marking.{grown_trans}
-use Rattle.aw_iograph.proofs.Members.{member_place, member_map, member_unmap, member_got}
 use Rattle.aw_iograph.proofs.RuleGraphs.{walk_arcs, arcs_walk, circle_place, end_place}
 use Rattle.aw_iograph.proofs.Placing.{number_place}
 use Rattle.aw_iograph.proofs.Relations.{follows_walk}

@@ -1,14 +1,14 @@
 -- The flows of a rule's text are its text edges.
 use Rattle.std.proofs.Common.{◌≡◌, ℕ, zero, suc, ◌+◌, Bool, true, false, List, [], ◌∷◌, Option, Some, None, slice_get, refl, sym, ap, ◌∙◌, subst, inl, inr, arith}
 use Rattle.std.specs.Prelude.{option_and_then}
+use Rattle.aw_list.specs.Members.{Member}
+use Rattle.aw_list.proofs.Members.{never, member_left, member_right, member_split}
 use Rattle.aw_term.specs.Trees.{Tree, Leaf, Made, Trees, Nil, More, In, Ins}
 use Rattle.aw_term.specs.Rules.{Term, Child, Rule, get}
 use Rattle.aw_term.specs.WellFormed.{leaves, all_leaves}
 use Rattle.aw_iograph.specs.declared.occ.Occ.{Occ}
 use Rattle.aw_iograph.specs.declared.occ.Flow.{Flow}
-use Rattle.aw_iograph.specs.Graphs.{Member}
 use Rattle.aw_iograph.specs.Occurrences.{inherited, given, item, entries, argument_at, result_at, term_at, flow_to, flows_to, term_flows, child_flows, text_flows}
-use Rattle.aw_iograph.proofs.Members.{never, member_left, member_right, member_split}
 
 mutual
   pub leaf_there : {A : Type 0} (x : A) (t : Tree A) → In x t → Member x (leaves t)

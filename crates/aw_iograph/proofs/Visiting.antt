@@ -3,6 +3,7 @@ use Rattle.std.proofs.Common.{◌≡◌, ◌≢◌, ℕ, ◌<◌, ◌≤◌, Boo
 use Rattle.std.specs.Prelude.{◌⊎◌}
 use Rattle.std.proofs.lemmas.Option.{same_Some, slice_get_within}
 use Rattle.std.proofs.lemmas.List.{get_or-set_same, get_or-set_other, length-set, length-replicate}
+use Rattle.aw_list.proofs.Members.{got_unmap}
 use Rattle.aw_term.specs.Rules as P
 use Rattle.aw_grammar.specs.declared.rule.Child.{Child}
 use Rattle.aw_grammar.specs.declared.rule.Rule.{Rule}
@@ -19,7 +20,6 @@ use Rattle.aw_iograph.specs.Dependence.{Edge, text, call, IsKept}
 use Rattle.aw_iograph.specs.Pairs.{Has, HasMark}
 use Rattle.aw_iograph.specs.Visiting.{IsCalm, AreVisited}
 use Rattle.aw_iograph.proofs.Joining.{zeros, same_or_not}
-use Rattle.aw_iograph.proofs.Members.{got_unmap}
 use Rattle.aw_iograph.proofs.RuleGraphs.{child_got}
 use Rattle.aw_iograph.proofs.Sweeps.{has_grown}
 

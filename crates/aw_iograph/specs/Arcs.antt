@@ -1,12 +1,12 @@
 -- Steps within a rule as arcs between the places of its occurrences.
 use Rattle.std.specs.Prelude.{◌≡◌, ℕ, suc, ◌<◌, ◌⊎◌, List, Some, slice_get}
+use Rattle.aw_list.specs.Members.{Member}
 use Rattle.aw_term.specs.Rules.{Rule}
 use Rattle.aw_grammar.specs.declared.rule.Child.{Child}
 use Rattle.aw_iograph.specs.declared.reach.Arc.{Arc}
 use Rattle.aw_iograph.specs.declared.occ.Occ.{Occ}
 use Rattle.aw_iograph.specs.declared.occ.Flow.{Flow}
 use Rattle.aw_iograph.specs.declared.io.Io.{Io}
-use Rattle.aw_iograph.specs.Graphs.{Member}
 use Rattle.aw_iograph.specs.Occurrences.{inherited, given, IsPlace, place_of}
 use Rattle.aw_iograph.specs.Dependence.{Edge}
 use Rattle.aw_iograph.specs.Pairs.{Has}

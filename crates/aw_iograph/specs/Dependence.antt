@@ -1,9 +1,10 @@
 -- The dependence relation of a grammar: which results of a sort depend on which of its inherited values.
 use Rattle.std.specs.Prelude.{◌≡◌, ℕ, zero, suc, Bool, IsTrue, Option, Some, None, ◌⊎◌}
+use Rattle.aw_list.specs.Members.{Member}
 use Rattle.aw_term.specs.Trees.{Never, In}
 use Rattle.aw_term.specs.Rules.{Term, Child, Rule, Grammar, get, child_at}
 use Rattle.aw_iograph.specs.declared.occ.Occ.{Occ}
-use Rattle.aw_iograph.specs.Graphs.{Member, Plus}
+use Rattle.aw_iograph.specs.Graphs.{Plus}
 use Rattle.aw_iograph.specs.Occurrences.{inherited, given, entries, term_at, IsUpTo}
 
 -- for each sort, pairs of an inherited value and a result, both counted from 1

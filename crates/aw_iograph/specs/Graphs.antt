@@ -1,13 +1,8 @@
 -- Graphs as lists of arcs between numbered places.
-use Rattle.std.specs.Prelude.{◌≡◌, ℕ, ◌<◌, Bool, List, [], ◌∷◌, ◌⊎◌, Option, Some, None, slice_index}
-use Rattle.aw_term.specs.Trees.{Never}
+use Rattle.std.specs.Prelude.{◌≡◌, ℕ, ◌<◌, Bool, List, ◌⊎◌, Option, Some, None, slice_index}
+use Rattle.aw_list.specs.Members.{Member}
 use Rattle.aw_iograph.specs.declared.reach.Arc.{Arc}
 use Rattle.aw_iograph.specs.Growth.{Marked}
-
--- x stands in the list
-abbrev pub Member : {A : Type 0} → A → List A → Type 0
-Member x [] = Never
-Member x (y ∷ ys) = (x ≡ y) ⊎ Member x ys
 
 -- one step or more
 pub data Plus {V : Type 0} (E : V → V → Type 0) : V → V → Type 0 where

@@ -1,8 +1,9 @@
 -- Rows of bits: at each place of a rule, which of the first eight places reach it. Those are the inherited values of the left side.
 use Rattle.std.specs.Prelude.{◌≡◌, ℕ, ◌+◌, ◌-◌, ◌<◌, Bool, true, false, List, [], ◌∷◌, ◌⊎◌, length, slice_index}
 use Rattle.std.specs.Int.{bit_at}
+use Rattle.aw_list.specs.Members.{Member}
 use Rattle.aw_iograph.specs.declared.reach.Arc.{Arc}
-use Rattle.aw_iograph.specs.Graphs.{Member, Plus, Arrow}
+use Rattle.aw_iograph.specs.Graphs.{Plus, Arrow}
 
 -- a row has the bit of place i
 abbrev pub HasBit : ℕ → ℕ → Type 0

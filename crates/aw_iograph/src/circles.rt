@@ -1,8 +1,9 @@
 //! Whether an occurrence of a rule depends on itself.
 ghost use Rattle.std.specs.Prelude.{◌≡◌, ◌↔◌, ◌<◌, ℕ, true, length, slice_get, Some, IfOk, IsTrue};
+ghost use Rattle.aw_list.specs.Members.{Member};
 ghost use Rattle.aw_term.specs.Rules as P;
 ghost use Rattle.aw_grammar.specs.GrammarOf.{grammar_of};
-ghost use Rattle.aw_iograph.specs.Graphs.{Plus, Arrow, Member, IsWithin, FirstCircle, Rises};
+ghost use Rattle.aw_iograph.specs.Graphs.{Plus, Arrow, IsWithin, FirstCircle, Rises};
 ghost use Rattle.aw_iograph.specs.Dependence.{LeastOnCircle};
 ghost use Rattle.aw_iograph.specs.Pairs.{Has};
 

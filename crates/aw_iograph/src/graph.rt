@@ -1,5 +1,6 @@
 //! The text of a rule as a graph: from where a variable enters to each occurrence whose term uses it.
 ghost use Rattle.std.specs.Prelude.{◌≡◌, ◌++◌, ◌+◌, ◌<◌, ◌≤◌, ◌↔◌, map, length, replicate, Some, None, IfOk, OnOk, slice_get};
+ghost use Rattle.aw_list.specs.Members.{Member};
 ghost use Rattle.aw_term.specs.Rules as P;
 ghost use Rattle.aw_term.specs.Rules.{upto};
 ghost use Rattle.aw_term.specs.WellFormed.{leaves};
@@ -7,7 +8,6 @@ ghost use Rattle.aw_term.specs.Views.{pattern_of, term_of};
 ghost use Rattle.aw_grammar.specs.GrammarView.{rule_of, child_of};
 ghost use Rattle.aw_grammar.specs.GrammarOf.{grammar_of};
 ghost use Rattle.aw_iograph.specs.Occurrences.{given, pattern_entries, child_entries, entries, flow_to, flows_to, term_flows, child_flows, text_flows};
-ghost use Rattle.aw_iograph.specs.Graphs.{Member};
 ghost use Rattle.aw_iograph.specs.Dependence.{IsTextEdge};
 ghost use Rattle.aw_iograph.specs.Small.{IsSmall, HasFewArgs};
 

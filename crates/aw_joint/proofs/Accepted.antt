@@ -1,6 +1,7 @@
 -- A grammar in which a node is fed by its own result is accepted: the laws speak of such.
 use Rattle.std.proofs.Common.{◌≡◌, ℕ, zero, suc, ◌<◌, Bool, true, false, [], ◌∷◌, Some, None, refl, sym, ap, ◌∙◌, subst, inl, inr, arith}
 use Rattle.std.proofs.lemmas.Option.{same_Some}
+use Rattle.aw_list.proofs.Members.{never}
 use Rattle.aw_term.specs.Trees.{Never, Con, Leaf, Made, Nil, More, In}
 use Rattle.aw_term.specs.Rules.{Term, Child, Rule, get, child_at}
 use Rattle.aw_term.specs.WellFormed.{RuleFits, IsWellFormed}
@@ -8,7 +9,6 @@ use Rattle.aw_iograph.specs.declared.occ.Occ.{Occ}
 use Rattle.aw_iograph.specs.Graphs.{Plus, step, more}
 use Rattle.aw_iograph.specs.Occurrences.{inherited, given, entries, term_at}
 use Rattle.aw_iograph.specs.Dependence.{Edge, text, call, io, IO, HasNoCircle}
-use Rattle.aw_iograph.proofs.Members.{never}
 use Rattle.aw_joint.specs.Laws.{IsAccepted}
 use Rattle.aw_joint.specs.Worked.{own_words, own_result}
 use Rattle.aw_iograph.proofs.Reaching.{rises}

@@ -1,12 +1,12 @@
 -- The laws of choices, for every list of choices.
 use Rattle.std.proofs.Common.{◌≡◌, List, [], Option, Some, None, refl, subst}
+use Rattle.aw_list.proofs.Members.{never}
 use Rattle.aw_term.specs.Names.{Ref}
 use Rattle.aw_term.specs.Rules.{Value, Grammar}
 use Rattle.aw_term.specs.Configs.{Config}
 use Rattle.aw_term.specs.Choices.{Choice, Outcome, Refused, Starts, Takes, answer_of, outcome, taken, undivided}
 use Rattle.aw_term.specs.Artifacts.{Words}
 use Rattle.aw_store.specs.Equations.{Map}
-use Rattle.aw_iograph.proofs.Members.{never}
 use Rattle.aw_joint.specs.Joint.{Joint, empty_joint, joint_outcome, joint_taken, joint_run}
 use Rattle.aw_joint.specs.Laws.{IsAccepted, FlatIsSubstitution, StepsAgree, AnswersAgree, AreAcyclic, EquationsAreAcyclic, AnyOrder}
 use Rattle.aw_joint.proofs.EquationCircles.{acyclic}

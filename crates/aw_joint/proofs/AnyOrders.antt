@@ -2,6 +2,8 @@
 use Rattle.std.proofs.Common.{◌≡◌, ℕ, Bool, true, false, cond, List, [], ◌∷◌, ◌++◌, map, Option, Some, None, refl, sym, ap, ◌∙◌, subst, inl, inr}
 use Rattle.std.specs.Prelude.{slice_get, ◌⊎◌}
 use Rattle.std.proofs.lemmas.Option.{same_Some, option_and_then_some}
+use Rattle.aw_list.specs.Members.{Member}
+use Rattle.aw_list.proofs.Members.{never, member_unmap, member_map}
 use Rattle.aw_term.specs.Names.{Node, node_eq, node_lt, Ref}
 use Rattle.aw_term.specs.Rules.{Term, Ground, Rule, Grammar}
 use Rattle.aw_term.specs.Configs.{State, Pending, Done}
@@ -11,9 +13,7 @@ use Rattle.aw_store.specs.Equations.{Body, Equation, Map, find}
 use Rattle.aw_store.specs.Refs.{ref_eq}
 use Rattle.aw_apply.specs.Made.{Making, Call, made}
 use Rattle.aw_apply.specs.Guard.{guard_all}
-use Rattle.aw_iograph.specs.Graphs.{Member}
 use Rattle.aw_joint.specs.Joint.{Held, held_of, insert_held, insert_all, mark, root_held, called_held, by_rule, by_state, by_held, Joint, empty_joint, joint_outcome, add_made, joint_taken, joint_run}
-use Rattle.aw_iograph.proofs.Members.{never, member_unmap, member_map}
 use Rattle.aw_accept.proofs.ConfigLemmas.{insert_cases, inserted_cases}
 use Rattle.aw_store.proofs.MoreEquations.{find-left_more, find-right_more, Holds, Holds-wider}
 use Rattle.aw_apply.proofs.Numbering.{made-holds}

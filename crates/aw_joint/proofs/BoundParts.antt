@@ -1,13 +1,13 @@
 -- What the patterns of a rule bind is a part of some inherited value.
 use Rattle.std.proofs.Common.{◌≡◌, ℕ, suc, List, [], ◌∷◌, refl, sym, subst, inl, inr}
+use Rattle.aw_list.specs.Members.{Member}
+use Rattle.aw_list.proofs.Members.{never, member_split}
 use Rattle.aw_term.specs.Trees.{In}
 use Rattle.aw_term.specs.Names.{Ref}
 use Rattle.aw_term.specs.Rules.{Term, Value}
 use Rattle.aw_term.specs.Matching.{Yes, under, match, match_all}
-use Rattle.aw_iograph.specs.Graphs.{Member}
 use Rattle.aw_accept.specs.Acyclic.{Pairs}
 use Rattle.aw_term.specs.WellFormed.{leaves}
-use Rattle.aw_iograph.proofs.Members.{never, member_split}
 use Rattle.aw_accept.proofs.Binding.{Piece, match-parts, under-yes, and_then-yes, yes-inj}
 
 -- what a match binds is a part of some tree

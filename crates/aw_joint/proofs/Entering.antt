@@ -2,14 +2,14 @@
 use Rattle.std.proofs.Common.{◌≡◌, ℕ, suc, ◌<◌, List, [], ◌∷◌, ◌++◌, map, length, Option, Some, None, slice_get, replicate, refl, subst, inl, inr, arith, length-append}
 use Rattle.std.specs.Prelude.{◌⊎◌}
 use Rattle.std.proofs.lemmas.List.{length-replicate, length-map}
+use Rattle.aw_list.specs.Members.{Member}
+use Rattle.aw_list.proofs.Members.{never, member_left, member_right, member_got}
 use Rattle.aw_iograph.specs.declared.occ.Occ.{Occ}
 use Rattle.aw_term.specs.Trees.{In}
 use Rattle.aw_term.specs.Rules.{Term, Child, Rule, Grammar, upto}
 use Rattle.aw_term.specs.Artifacts.{Words}
 use Rattle.aw_term.specs.WellFormed.{leaves, leaves_of, outs_of, variables, ChildFits, RuleFits, IsWellFormed}
-use Rattle.aw_iograph.specs.Graphs.{Member}
 use Rattle.aw_iograph.specs.Occurrences.{given, inherited, pattern_entries, child_entries, entries}
-use Rattle.aw_iograph.proofs.Members.{never, member_left, member_right, member_got}
 use Rattle.aw_accept.proofs.ConfigLemmas.{length-upto}
 use Rattle.aw_iograph.proofs.TextFlows.{leaf_there}
 use Rattle.aw_accept.proofs.Fitting.{each_member}

@@ -2,13 +2,14 @@
 use Rattle.std.proofs.Common.{◌≡◌, List, Option, Some, None, refl, sym, ◌∙◌, subst, inl, inr}
 use Rattle.std.specs.Prelude.{◌⊎◌}
 use Rattle.std.proofs.lemmas.Option.{same_Some}
+use Rattle.aw_list.specs.Members.{Member}
+use Rattle.aw_list.proofs.Members.{never}
 use Rattle.aw_term.specs.Trees.{Never, Tree, Trees}
 use Rattle.aw_term.specs.Names.{Ref}
 use Rattle.aw_term.specs.Configs.{Config}
 use Rattle.aw_store.specs.Equations.{Body, Map, find, mentions}
 use Rattle.aw_store.specs.Unfold.{Unfolds, UnfoldAll, missing, same, is, none, one}
-use Rattle.aw_iograph.specs.Graphs.{Member, Plus, step, more}
-use Rattle.aw_iograph.proofs.Members.{never}
+use Rattle.aw_iograph.specs.Graphs.{Plus, step, more}
 use Rattle.aw_joint.specs.Laws.{Leads, AreAcyclic}
 use Rattle.aw_joint.proofs.EquationValues.{HaveValues}
 

@@ -1,5 +1,7 @@
 -- Each reference with an equation has a value, and its leaves are results of pending rows.
 use Rattle.std.proofs.Common.{◌≡◌, ℕ, suc, ◌<◌, ◌≤◌, List, [], ◌∷◌, ◌++◌, length, Some, refl, sym, subst, inl, inr}
+use Rattle.aw_list.specs.Members.{Member}
+use Rattle.aw_list.proofs.Members.{never, member_place}
 use Rattle.aw_term.specs.Trees.{Never, Tree, Leaf, Made, Trees, Nil, More, In, Ins, bind}
 use Rattle.aw_term.specs.Names.{Node, Ref, result, part}
 use Rattle.aw_term.specs.Rules.{Term, Ground, Value, Child, Rule, get}
@@ -8,8 +10,6 @@ use Rattle.aw_term.specs.WellFormed.{Each}
 use Rattle.aw_store.specs.Equations.{Body, Equation, Map, find}
 use Rattle.aw_store.specs.Unfold.{Unfolds, UnfoldAll, same, is, none, one}
 use Rattle.aw_apply.specs.Made.{lay, lays, lay_list, lay_children, lay_result, lay_results, made}
-use Rattle.aw_iograph.specs.Graphs.{Member}
-use Rattle.aw_iograph.proofs.Members.{never, member_place}
 use Rattle.aw_accept.proofs.ConfigLemmas.{In-rounds}
 use Rattle.aw_accept.proofs.Developing.{Fate, sigma, fate_chain, fate_term, fate_new}
 use Rattle.aw_joint.proofs.LeftSides.{find-left, lefts}

@@ -1,6 +1,8 @@
 -- One choice: the values of all old references change as the rounds change the trees.
 use Rattle.std.proofs.Common.{◌≡◌, ℕ, zero, suc, ◌+◌, ◌<◌, ◌≤◌, Bool, true, false, cond, List, [], ◌∷◌, ◌++◌, map, length, Some, None, refl, sym, ap, ◌∙◌, subst, inl, inr, arith}
 use Rattle.std.specs.Prelude.{slice_get, ◌⊎◌}
+use Rattle.aw_list.specs.Members.{Member}
+use Rattle.aw_list.proofs.Members.{never, member_got}
 use Rattle.aw_term.specs.Trees.{Never, Tree, Leaf, Made, Trees, Nil, More, In, bind, binds}
 use Rattle.aw_term.specs.Names.{below, Node, node_eq, Ref, result, part}
 use Rattle.aw_term.specs.Rules.{Term, Ground, Value, Child, Rule, get, upto}
@@ -8,8 +10,6 @@ use Rattle.aw_term.specs.Configs.{holes, env, fill, nothing, lift, child_holes, 
 use Rattle.aw_store.specs.Equations.{Equation, Map, find}
 use Rattle.aw_store.specs.Unfold.{Unfolds, missing}
 use Rattle.aw_apply.specs.Made.{lay, lay_list, lay_children, lay_result, lay_results, child_refs, made}
-use Rattle.aw_iograph.specs.Graphs.{Member}
-use Rattle.aw_iograph.proofs.Members.{never, member_got}
 use Rattle.aw_accept.specs.Acyclic.{Pairs}
 use Rattle.aw_accept.proofs.Binding.{Pairs-append}
 use Rattle.aw_term.specs.WellFormed.{Each}

@@ -1,6 +1,7 @@
 -- Guards over references: they keep over more equations, and they are matches of the values.
 use Rattle.std.proofs.Common.{◌≡◌, ℕ, suc, Bool, true, false, cond, List, [], ◌∷◌, length, Some, None, refl, sym, ap, ◌∙◌, subst}
 use Rattle.std.specs.Prelude.{◌&&◌, nat_eq}
+use Rattle.aw_list.proofs.Members.{never}
 use Rattle.aw_term.specs.Trees.{Never, Head, Tree, Leaf, Made, Trees, Nil, More, count, head_eq}
 use Rattle.aw_term.specs.Names.{Ref}
 use Rattle.aw_term.specs.Rules.{Term}
@@ -11,7 +12,6 @@ use Rattle.aw_store.proofs.Ends.{At_body, At_missing, Ends, stands, lacks, follo
 use Rattle.aw_store.specs.Unfold.{Unfolds, UnfoldAll, missing, same, is, none, one}
 use Rattle.aw_store.proofs.ChaseEnds.{ends-chase, found-more, missing-more, round-more}
 use Rattle.aw_apply.specs.Guard.{guard_end, guard, guard_parts, guard_all}
-use Rattle.aw_iograph.proofs.Members.{never}
 use Rattle.aw_accept.specs.Acyclic.{Pairs}
 use Rattle.aw_accept.proofs.Binding.{Pairs-append}
 use Rattle.aw_joint.specs.Laws.{AllUnfold}

@@ -1,10 +1,10 @@
 -- The left sides of equations.
 use Rattle.std.proofs.Common.{◌≡◌, Bool, true, false, cond, List, [], ◌∷◌, map, Some, refl, inl, inr}
 use Rattle.std.specs.Prelude.{◌⊎◌}
+use Rattle.aw_list.specs.Members.{Member}
 use Rattle.aw_term.specs.Names.{Ref, ref_eq}
 use Rattle.aw_store.specs.Equations.{Body, Equation, Map, find}
 use Rattle.aw_term.proofs.RefTests.{ref_eq-true}
-use Rattle.aw_iograph.specs.Graphs.{Member}
 
 abbrev pub lefts : Map → List Ref
 lefts k = map (λ (e : Equation). e.left) k

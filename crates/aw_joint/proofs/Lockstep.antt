@@ -1,12 +1,13 @@
 -- The joint configuration and the undivided one stay in step.
 use Rattle.std.proofs.Common.{◌≡◌, ℕ, suc, List, [], ◌∷◌, ◌++◌, map, length, Option, Some, None, refl, sym, ap, ◌∙◌, subst, inl, inr, arith}
 use Rattle.std.specs.Prelude.{slice_get, option_and_then}
+use Rattle.aw_list.specs.Members.{Member}
+use Rattle.aw_list.proofs.Members.{never, member_got}
 use Rattle.aw_term.specs.Trees.{Never, Leaf, In, bind}
 use Rattle.aw_term.specs.Names.{below, Node, node_eq, Ref, result, part, root}
 use Rattle.aw_term.specs.Rules.{Term, Ground, Value, Child, Rule, Grammar, get}
 use Rattle.aw_term.specs.Configs.{env, fill, State, Pending, Done, Row, Config, child_rows, insert_row, insert_rows, done_row, row_put, rounds, develop, row_of}
 use Rattle.aw_term.specs.Choices.{Choice, Start, Develop, Outcome, Refused, Starts, Takes, outcome, start_row, gives_of, taken, undivided}
-use Rattle.aw_iograph.specs.Graphs.{Member}
 use Rattle.aw_accept.specs.Acyclic.{Pairs, IsGivenGrammar}
 use Rattle.aw_iograph.specs.Dependence.{IO, HasNoCircle}
 use Rattle.aw_iograph.proofs.Relations.{io_closed}
@@ -18,7 +19,6 @@ use Rattle.aw_apply.specs.Made.{lay, lay_list, lay_children, lay_results, Making
 use Rattle.aw_joint.specs.Joint.{Held, held_of, insert_held, insert_all, mark, root_held, called_held, Joint, empty_joint, joint_outcome, add_made, joint_taken, joint_run}
 use Rattle.aw_joint.specs.Laws.{AllUnfold, Agree, AgreeWhereTaken}
 use Rattle.aw_joint.proofs.Entering.{IsTermOf, VariablesEnter}
-use Rattle.aw_iograph.proofs.Members.{never, member_got}
 use Rattle.aw_accept.proofs.Sources.{EntersAt, env_enters}
 use Rattle.aw_accept.proofs.ConfigLemmas.{child_row, rounds-inherited-list, rounds-results-list, rounds-sort, rounds-state, item-mapped, Member-inserted, done_row-same}
 use Rattle.aw_accept.proofs.Developing.{Taking, Known, Item-at, sigma}

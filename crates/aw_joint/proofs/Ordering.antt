@@ -1,11 +1,11 @@
 -- Lists that keep the strict order of nodes.
 use Rattle.std.proofs.Common.{◌≡◌, Bool, true, false, cond, [], ◌∷◌, refl, sym, ◌∙◌, subst, inl, inr}
 use Rattle.std.specs.Prelude.{◌⊎◌}
+use Rattle.aw_list.specs.Members.{Member}
+use Rattle.aw_list.proofs.Members.{never}
 use Rattle.aw_term.specs.Trees.{Never}
 use Rattle.aw_term.specs.Names.{node_lt}
 use Rattle.aw_term.specs.Configs.{Row, Config, insert_row}
-use Rattle.aw_iograph.specs.Graphs.{Member}
-use Rattle.aw_iograph.proofs.Members.{never}
 use Rattle.aw_term.specs.WellFormed.{Each, Later}
 use Rattle.aw_accept.proofs.ConfigLemmas.{Member-insert_row}
 use Rattle.aw_joint.proofs.Lists.{each_of}

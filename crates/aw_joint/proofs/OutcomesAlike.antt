@@ -1,6 +1,7 @@
 -- What a choice leads to over references is what it leads to over trees.
 use Rattle.std.proofs.Common.{◌≡◌, ℕ, List, length, Option, Some, None, refl, sym, ap, subst}
 use Rattle.std.specs.Prelude.{slice_get, nat_eq}
+use Rattle.aw_list.proofs.Members.{never}
 use Rattle.aw_term.specs.Trees.{Never}
 use Rattle.aw_term.specs.Names.{Node, Ref}
 use Rattle.aw_term.specs.Rules.{Ground, Value, Rule, Grammar}
@@ -11,7 +12,6 @@ use Rattle.aw_store.specs.Equations.{Map}
 use Rattle.aw_apply.specs.Guard.{guard_all}
 use Rattle.aw_joint.specs.Joint.{Held, by_rule, by_state, by_held, by_root}
 use Rattle.aw_joint.specs.Laws.{AllUnfold, Agree}
-use Rattle.aw_iograph.proofs.Members.{never}
 use Rattle.aw_joint.proofs.Guarding.{Like, guard_all-match}
 use Rattle.aw_joint.proofs.SideBySide.{cond_pair, LikeOption}
 

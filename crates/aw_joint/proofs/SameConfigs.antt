@@ -2,12 +2,13 @@
 use Rattle.std.proofs.Common.{◌≡◌, ℕ, zero, suc, ◌+◌, true, List, [], ◌∷◌, map, length, Option, Some, None, refl, sym, ap, ◌∙◌, subst, inl, inr, arith}
 use Rattle.std.specs.Prelude.{slice_get}
 use Rattle.std.proofs.lemmas.Option.{same_Some, option_and_then_some}
+use Rattle.aw_list.specs.Members.{Member}
+use Rattle.aw_list.proofs.Members.{never, member_unmap}
 use Rattle.aw_term.specs.Trees.{Never}
 use Rattle.aw_term.specs.Names.{below, Node, node_lt, Ref, result, root}
 use Rattle.aw_term.specs.Rules.{Value, Child, Grammar}
 use Rattle.aw_term.specs.Configs.{State, Pending, Done, Row, Config, child_rows, insert_row, insert_rows, done_row, row_put, rounds, row_of}
 use Rattle.aw_term.specs.Choices.{Choice, Start, Develop, Outcome, Refused, Starts, Takes, start_row, outcome, taken, undivided}
-use Rattle.aw_iograph.specs.Graphs.{Member}
 use Rattle.aw_accept.specs.Acyclic.{Pairs, IsGivenGrammar, gives}
 use Rattle.aw_iograph.specs.Dependence.{IO, HasNoCircle}
 use Rattle.aw_iograph.proofs.Relations.{io_closed}
@@ -16,7 +17,6 @@ use Rattle.aw_store.specs.Unfold.{Unfolds}
 use Rattle.aw_joint.specs.Joint.{Held, Joint, empty_joint, joint_outcome, joint_taken, joint_run}
 use Rattle.aw_joint.proofs.Entering.{VariablesEnter}
 use Rattle.aw_joint.specs.Laws.{Agree, AllUnfold}
-use Rattle.aw_iograph.proofs.Members.{never, member_unmap}
 use Rattle.aw_term.specs.WellFormed.{Each, Later}
 use Rattle.aw_accept.proofs.ConfigLemmas.{below-child, Member-child_rows, Member-insert_row}
 use Rattle.aw_accept.proofs.UndividedRuns.{Good, decode_on, taking, held_none, row_of-none, empty_good, taken-good}

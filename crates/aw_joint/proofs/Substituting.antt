@@ -1,6 +1,7 @@
 -- Flat equations are substitution.
 use Rattle.std.proofs.Common.{◌≡◌, ℕ, zero, suc, List, [], Some, None, refl, sym, ap, ◌∙◌, subst, inl, inr}
 use Rattle.std.specs.Prelude.{◌⊎◌}
+use Rattle.aw_list.proofs.Members.{never}
 use Rattle.aw_term.specs.Trees.{Never, Head, Tree, Leaf, Made, Trees, Nil, More, In, Ins, bind, binds}
 use Rattle.aw_term.specs.Names.{Node, Ref, result}
 use Rattle.aw_term.specs.Rules.{Term}
@@ -9,7 +10,6 @@ use Rattle.aw_store.specs.Equations.{Body, Map, find}
 use Rattle.aw_store.specs.Unfold.{Unfolds, UnfoldAll, missing, same, is, none, one}
 use Rattle.aw_store.proofs.MoreEquations.{Holds, Holds-left, Holds-right}
 use Rattle.aw_apply.specs.Made.{lay, lays, lay_result}
-use Rattle.aw_iograph.proofs.Members.{never}
 
 -- what is laid down unfolds to the term with its leaves replaced
 module _ {L : Type 0} (k : Map) (n : Node) (f : L → Ref) (u : L → Tree Ref) where

@@ -1,5 +1,6 @@
 -- What holds of every list of choices on a grammar without circles.
 use Rattle.std.specs.Prelude.{◌≡◌, ℕ, List, [], Option, Some, None}
+use Rattle.aw_list.specs.Members.{Member}
 use Rattle.aw_term.specs.Trees.{Never}
 use Rattle.aw_term.specs.Names.{Ref, result}
 use Rattle.aw_term.specs.Rules.{Term, Value, Grammar}
@@ -8,7 +9,7 @@ use Rattle.aw_term.specs.Configs.{Row, Config}
 use Rattle.aw_term.specs.Choices.{Choice, answer_of, outcome, taken, undivided}
 use Rattle.aw_term.specs.Artifacts.{Words}
 use Rattle.aw_term.specs.WellFormed.{IsWellFormed}
-use Rattle.aw_iograph.specs.Graphs.{Member, Plus}
+use Rattle.aw_iograph.specs.Graphs.{Plus}
 use Rattle.aw_iograph.specs.Occurrences.{item}
 use Rattle.aw_iograph.specs.Dependence.{IO, HasNoCircle}
 use Rattle.aw_apply.specs.Guard.{guard_all}

@@ -2,13 +2,13 @@
 use Rattle.std.specs.Prelude.{filter, is_none, nat_eq, not, ◌&&◌, ◌||◌, ◌⊎◌}
 use Rattle.std.proofs.Common.{Bool, List, None, Option, Some, [], ap, false, inl, inr, map, refl, subst, sym, true, ℕ, ◌++◌, ◌∙◌, ◌∷◌, ◌≡◌}
 use Rattle.std.proofs.lemmas.Bool.{and_parts, eq-eqb, eqb-true, not-true}
+use Rattle.aw_list.specs.Members.{Member}
+use Rattle.aw_list.proofs.Members.{member_left, member_map, member_right, member_split, member_unmap, never}
 use Rattle.aw_term.specs.Names.{Ref, ref_eq}
 use Rattle.aw_term.specs.Rules.{Grammar}
 use Rattle.aw_term.specs.Trees.{Never}
 use Rattle.aw_term.specs.WellFormed.{Later}
 use Rattle.aw_term.proofs.RefTests.{ref_eq-self}
-use Rattle.aw_iograph.specs.Graphs.{Member}
-use Rattle.aw_iograph.proofs.Members.{member_left, member_map, member_right, member_split, member_unmap, never}
 use Rattle.aw_store.specs.Equations.{Body, find}
 use Rattle.aw_apply.specs.Messages.{Asks, Calls, Kind, Message, Tells}
 use Rattle.aw_joint.specs.Joint.{Joint}

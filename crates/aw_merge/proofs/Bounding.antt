@@ -2,14 +2,14 @@
 use Rattle.std.specs.Prelude.{filter, nat_eq, not, ◌⊎◌}
 use Rattle.std.proofs.Common.{Bool, List, None, Option, Some, [], ap, arith, cond, inl, inr, length, length-append, map, refl, subst, suc, sym, true, zero, ℕ, ◌*◌, ◌++◌, ◌+◌, ◌<◌, ◌∙◌, ◌∷◌, ◌≡◌, ◌≤◌}
 use Rattle.std.proofs.lemmas.Bool.{and_from, cases_lt}
+use Rattle.aw_list.specs.Members.{Member}
+use Rattle.aw_list.proofs.Members.{member_left, member_map, member_right, member_unmap, never}
 use Rattle.aw_term.specs.Artifacts.{Words}
 use Rattle.aw_term.specs.Names.{Node, Part, Ref, Result, Slot, below, result}
 use Rattle.aw_term.specs.Rules.{Grammar, upto}
 use Rattle.aw_term.specs.Trees.{Never}
 use Rattle.aw_term.specs.Held.{Held}
 use Rattle.aw_iograph.specs.Dependence.{HasNoCircle, IO}
-use Rattle.aw_iograph.specs.Graphs.{Member}
-use Rattle.aw_iograph.proofs.Members.{member_left, member_map, member_right, member_unmap, never}
 use Rattle.aw_accept.specs.Acyclic.{IsGivenGrammar, gives}
 use Rattle.aw_accept.proofs.ConfigLemmas.{Member-upto, length-upto}
 use Rattle.aw_accept.proofs.Fitting.{given_of}

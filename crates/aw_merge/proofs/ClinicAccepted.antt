@@ -2,6 +2,7 @@
 use Rattle.std.proofs.Common.{◌≡◌, ℕ, zero, suc, ◌<◌, Bool, true, false, [], ◌∷◌, Some, None, sym, ap, subst, inl, inr, arith, refl}
 use Rattle.std.specs.Prelude.{option_and_then, slice_get}
 use Rattle.std.proofs.lemmas.Option.{same_Some}
+use Rattle.aw_list.proofs.Members.{never}
 use Rattle.aw_term.specs.Trees.{Never, Con, Leaf, Made, Nil, More, In}
 use Rattle.aw_term.specs.Rules.{Term, Child, Rule, get}
 use Rattle.aw_term.specs.WellFormed.{RuleFits, IsWellFormed}
@@ -9,7 +10,6 @@ use Rattle.aw_iograph.specs.declared.occ.Occ.{Occ}
 use Rattle.aw_iograph.specs.Graphs.{Plus}
 use Rattle.aw_iograph.specs.Occurrences.{inherited, given, item, entries, term_at}
 use Rattle.aw_iograph.specs.Dependence.{Edge, text, call, IO, HasNoCircle}
-use Rattle.aw_iograph.proofs.Members.{never}
 use Rattle.aw_iograph.proofs.Reaching.{rises}
 use Rattle.aw_joint.specs.Laws.{IsAccepted}
 use Rattle.aw_react.specs.Worked.{clinic, clinic_words}

@@ -3,6 +3,8 @@ use Rattle.std.specs.Prelude.{is_some, nat_eq, nat_lt, not, slice_get, ◌&&◌,
 use Rattle.std.proofs.Common.{Bool, List, None, Option, Some, [], ap, arith, cond, false, inl, inr, refl, subst, sym, true, ℕ, ◌++◌, ◌<◌, ◌∙◌, ◌∷◌, ◌≡◌}
 use Rattle.std.proofs.lemmas.Bool.{and_from, and_parts, eq-eqb, eqb-true, lt-ltb}
 use Rattle.std.proofs.lemmas.Option.{same_Some}
+use Rattle.aw_list.specs.Members.{Member}
+use Rattle.aw_list.proofs.Members.{member_got, member_left, member_right, member_split, never}
 use Rattle.aw_term.specs.Names.{Node, Ref, Step, below, node_eq, ref_eq}
 use Rattle.aw_term.specs.Rules.{Grammar}
 use Rattle.aw_term.specs.Trees.{Con, Head, Never, Num, Text, head_eq, nats_eq}
@@ -11,8 +13,6 @@ use Rattle.aw_term.specs.Held.{Held, held_of, insert_held}
 use Rattle.aw_term.proofs.NodeTests.{node_self}
 use Rattle.aw_term.proofs.RefTests.{ref_eq-self}
 use Rattle.aw_base.specs.ChoiceFits.{ref_ok}
-use Rattle.aw_iograph.specs.Graphs.{Member}
-use Rattle.aw_iograph.proofs.Members.{member_got, member_left, member_right, member_split, never}
 use Rattle.aw_accept.proofs.Fitting.{each_member}
 use Rattle.aw_store.specs.Equations.{Body, Equation, Is, Map, Same, find, mentions}
 use Rattle.aw_apply.specs.Made.{Call}

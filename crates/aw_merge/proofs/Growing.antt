@@ -1,6 +1,8 @@
 -- Whatever comes, honest or forged: a site keeps its equations and its nodes, and a guard that is decided stays so.
 use Rattle.std.specs.Prelude.{not, ◌⊎◌}
 use Rattle.std.proofs.Common.{Bool, List, None, Option, Some, [], ap, cond, false, inl, inr, map, refl, subst, sym, true, ℕ, ◌∙◌, ◌∷◌, ◌≡◌}
+use Rattle.aw_list.specs.Members.{Member}
+use Rattle.aw_list.proofs.Members.{member_map, never}
 use Rattle.aw_term.specs.Choices.{Choice, Develop, Outcome, Refused, Start, Starts, Takes}
 use Rattle.aw_term.specs.Configs.{Done, State}
 use Rattle.aw_term.specs.Names.{Node, Ref, node_eq}
@@ -8,8 +10,6 @@ use Rattle.aw_term.specs.Rules.{Grammar, Term, Ground}
 use Rattle.aw_term.specs.Trees.{Never}
 use Rattle.aw_term.specs.Held.{Held, held_of, mark}
 use Rattle.aw_term.proofs.NodeTests.{node_is}
-use Rattle.aw_iograph.specs.Graphs.{Member}
-use Rattle.aw_iograph.proofs.Members.{member_map, never}
 use Rattle.aw_store.specs.Equations.{Body, find}
 use Rattle.aw_store.proofs.MoreEquations.{find-left_more}
 use Rattle.aw_apply.specs.Guard.{guard_all}

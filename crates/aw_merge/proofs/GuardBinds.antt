@@ -1,14 +1,14 @@
 -- What a guard binds: references that were mentioned, as many as variables enter in the patterns.
 use Rattle.std.specs.Prelude.{nat_eq, ◌&&◌}
 use Rattle.std.proofs.Common.{List, Some, [], ap, inl, inr, length, length-append, map, refl, subst, suc, sym, ℕ, ◌+◌, ◌∙◌, ◌∷◌, ◌≡◌}
+use Rattle.aw_list.specs.Members.{Member}
+use Rattle.aw_list.proofs.Members.{member_split, never}
 use Rattle.aw_term.specs.Matching.{Yes, under}
 use Rattle.aw_term.specs.Names.{Ref}
 use Rattle.aw_term.specs.Rules.{Term}
 use Rattle.aw_term.specs.Trees.{Head, Leaf, Made, More, Nil, Trees, count, head_eq}
 use Rattle.aw_term.specs.WellFormed.{all_leaves, leaves}
-use Rattle.aw_iograph.specs.Graphs.{Member}
 use Rattle.aw_iograph.specs.Occurrences.{inherited, pattern_entries}
-use Rattle.aw_iograph.proofs.Members.{member_split, never}
 use Rattle.aw_accept.proofs.Binding.{and_then-yes, cond-yes, under-yes, yes-inj}
 use Rattle.aw_store.specs.Chase.{Chased, Found, Missing, Round, chase}
 use Rattle.aw_store.proofs.Ends.{At_body, Ends, follows, lacks, stands}

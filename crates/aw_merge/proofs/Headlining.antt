@@ -1,6 +1,8 @@
 -- What holds of the output of events, from the laws of worlds.
 use Rattle.std.proofs.Common.{◌≡◌, ℕ, zero, suc, List, [], ◌∷◌, ◌++◌, Option, Some, None, ap, sym, ◌∙◌, refl, subst, inl, inr}
 use Rattle.std.specs.Prelude.{take, ◌⊎◌}
+use Rattle.aw_list.specs.Members.{Member}
+use Rattle.aw_list.proofs.Members.{never}
 use Rattle.aw_term.specs.Rules.{Grammar}
 use Rattle.aw_term.specs.Trees.{Never}
 use Rattle.aw_term.specs.WellFormed.{Each}
@@ -9,8 +11,6 @@ use Rattle.aw_term.specs.Artifacts.{Words}
 use Rattle.aw_term.specs.Names.{root}
 use Rattle.aw_term.proofs.Eaches.{each_append}
 use Rattle.aw_choice.specs.Events.{Event, Chooses, Delivers, Settles, Lists}
-use Rattle.aw_iograph.specs.Graphs.{Member}
-use Rattle.aw_iograph.proofs.Members.{never}
 use Rattle.aw_accept.proofs.Fitting.{given_of}
 use Rattle.aw_joint.specs.Laws.{IsAccepted}
 use Rattle.aw_joint.proofs.Entering.{variables_enter}

@@ -2,6 +2,8 @@
 use Rattle.std.specs.Prelude.{nat_eq, slice_get, ◌⊎◌}
 use Rattle.std.proofs.Common.{Bool, List, None, Option, Some, [], ap, cond, false, inl, inr, length, refl, subst, sym, true, ℕ, ◌∙◌, ◌∷◌, ◌≡◌}
 use Rattle.std.proofs.lemmas.Option.{same_Some}
+use Rattle.aw_list.specs.Members.{Member}
+use Rattle.aw_list.proofs.Members.{member_left, member_right, member_split, never}
 use Rattle.aw_term.specs.Choices.{Arguments, NotItsRule, Refused, after_guard}
 use Rattle.aw_term.specs.Configs.{Done, Pending, State}
 use Rattle.aw_term.specs.Names.{Node, Ref, node_eq}
@@ -9,8 +11,6 @@ use Rattle.aw_term.specs.Rules.{Grammar, Ground, Rule}
 use Rattle.aw_term.specs.Trees.{Never}
 use Rattle.aw_term.specs.Held.{Held, held_of}
 use Rattle.aw_term.proofs.NodeTests.{node_is, node_self}
-use Rattle.aw_iograph.specs.Graphs.{Member}
-use Rattle.aw_iograph.proofs.Members.{member_left, member_right, member_split, never}
 use Rattle.aw_store.specs.Equations.{Map}
 use Rattle.aw_apply.specs.Guard.{guard_all}
 use Rattle.aw_joint.specs.Joint.{by_rule, by_state}

@@ -1,6 +1,8 @@
 -- Held nodes in order.
 use Rattle.std.specs.Prelude.{nat_eq, ◌⊎◌}
 use Rattle.std.proofs.Common.{Bool, List, [], ap, cond, false, inl, inr, map, refl, subst, sym, true, ℕ, ◌∙◌, ◌∷◌, ◌≡◌}
+use Rattle.aw_list.specs.Members.{Member}
+use Rattle.aw_list.proofs.Members.{never}
 use Rattle.aw_term.specs.Configs.{State}
 use Rattle.aw_term.specs.Names.{Node, node_lt}
 use Rattle.aw_term.specs.Rules.{Grammar}
@@ -8,8 +10,6 @@ use Rattle.aw_term.specs.Trees.{Never}
 use Rattle.aw_term.specs.WellFormed.{Each, Later}
 use Rattle.aw_term.specs.Held.{Held, insert_all, insert_held, mark}
 use Rattle.aw_term.proofs.NodeOrder.{node-no, node-trans, node-tri}
-use Rattle.aw_iograph.specs.Graphs.{Member}
-use Rattle.aw_iograph.proofs.Members.{never}
 use Rattle.aw_accept.proofs.Fitting.{each_member}
 use Rattle.aw_apply.specs.Made.{Call}
 use Rattle.aw_joint.specs.Joint.{called_held}

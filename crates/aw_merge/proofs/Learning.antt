@@ -2,14 +2,14 @@
 use Rattle.std.specs.Prelude.{slice_get, ◌⊎◌}
 use Rattle.std.proofs.Common.{Bool, List, None, Option, Some, [], ap, cond, false, inl, inr, length, refl, subst, sym, true, ℕ, ◌<◌, ◌∙◌, ◌∷◌, ◌≡◌}
 use Rattle.std.proofs.lemmas.Option.{same_Some, slice_get_within}
+use Rattle.aw_list.specs.Members.{Member}
+use Rattle.aw_list.proofs.Members.{member_left, member_right, member_split, never}
 use Rattle.aw_term.specs.Names.{Ref, ref_eq}
 use Rattle.aw_term.specs.Rules.{Grammar}
 use Rattle.aw_term.specs.Trees.{Never}
 use Rattle.aw_term.specs.WellFormed.{Each, Later}
 use Rattle.aw_term.specs.Held.{Held}
 use Rattle.aw_term.proofs.RefTests.{ref_eq-self, ref_eq-true}
-use Rattle.aw_iograph.specs.Graphs.{Member}
-use Rattle.aw_iograph.proofs.Members.{member_left, member_right, member_split, never}
 use Rattle.aw_accept.proofs.Fitting.{each_member}
 use Rattle.aw_store.specs.Equations.{Body, Equation, Map, find, mentions}
 use Rattle.aw_store.proofs.MoreEquations.{find-left_more, find-right_more}

@@ -2,6 +2,8 @@
 use Rattle.std.specs.Prelude.{filter, not, ◌||◌, ◌⊎◌, ◌++◌}
 use Rattle.std.proofs.Common.{Bool, List, [], ap, cond, false, inl, inr, length, map, refl, subst, sym, true, ◌∙◌, ◌∷◌, ◌≡◌}
 use Rattle.std.proofs.lemmas.List.{length-map}
+use Rattle.aw_list.specs.Members.{Member}
+use Rattle.aw_list.proofs.Members.{never}
 use Rattle.aw_apply.proofs.Numbering.{later_append}
 use Rattle.aw_term.specs.Names.{Ref, ref_eq, ref_lt}
 use Rattle.aw_term.specs.Trees.{Never}
@@ -9,8 +11,6 @@ use Rattle.aw_term.specs.WellFormed.{Each, Later}
 use Rattle.aw_term.proofs.Eaches.{each_map}
 use Rattle.aw_term.proofs.RefTests.{ref_eq-self, ref_eq-true}
 use Rattle.aw_term.proofs.RefOrder.{ref-no, ref-trans, ref-tri}
-use Rattle.aw_iograph.specs.Graphs.{Member}
-use Rattle.aw_iograph.proofs.Members.{never}
 use Rattle.aw_accept.proofs.Fitting.{each_member}
 use Rattle.aw_joint.proofs.Lists.{each_of}
 use Rattle.aw_react.specs.InOrder.{has_ref, in_order, insert_ref}

@@ -3,6 +3,8 @@ use Rattle.std.specs.Prelude.{is_some, nat_le, slice_get}
 use Rattle.std.proofs.Common.{List, None, Option, Some, [], ap, arith, inl, inr, length, map, refl, subst, suc, sym, true, ℕ, ◌+◌, ◌<◌, ◌∙◌, ◌∷◌, ◌≡◌, ◌≤◌}
 use Rattle.std.proofs.lemmas.Bool.{and_from, and_parts, eq-eqb, le-leb, leb-true}
 use Rattle.std.proofs.lemmas.Option.{same_Some}
+use Rattle.aw_list.specs.Members.{Member}
+use Rattle.aw_list.proofs.Members.{member_got, member_split, member_unmap, never}
 use Rattle.aw_term.specs.Choices.{outcome as plain_outcome, Choice, Develop, Outcome, Refused, Start, Starts, Takes}
 use Rattle.aw_term.specs.Artifacts.{Words}
 use Rattle.aw_term.specs.Configs.{Done, Row, row_of}
@@ -13,8 +15,6 @@ use Rattle.aw_term.specs.Held.{Held, insert_held, mark}
 use Rattle.aw_base.specs.ChoiceFits.{args_ok, choice_ok, ground_ok, grounds_ok, ref_ok, slot_ok}
 use Rattle.aw_base.specs.NodeNames.{is_start}
 use Rattle.aw_iograph.specs.Dependence.{HasNoCircle, IO}
-use Rattle.aw_iograph.specs.Graphs.{Member}
-use Rattle.aw_iograph.proofs.Members.{member_got, member_split, member_unmap, never}
 use Rattle.aw_accept.specs.Acyclic.{IsGivenGrammar, gives}
 use Rattle.aw_accept.proofs.Fitting.{each_member, given_of}
 use Rattle.aw_accept.proofs.UndividedRuns.{decode_on}

@@ -1,11 +1,11 @@
 -- Each delivery of a message that was not delivered comes nearer to the bound.
 use Rattle.std.proofs.Common.{◌≡◌, ℕ, suc, ◌<◌, ◌≤◌, arith, Bool, List, [], ◌∷◌, ◌++◌, length, ap, subst}
 use Rattle.std.specs.Prelude.{slice_get, Some}
+use Rattle.aw_list.proofs.Members.{member_got}
 use Rattle.aw_term.specs.Artifacts.{Words}
 use Rattle.aw_term.specs.Rules.{Grammar}
 use Rattle.aw_term.specs.WellFormed.{Each}
 use Rattle.aw_term.proofs.Eaches.{each_push}
-use Rattle.aw_iograph.proofs.Members.{member_got}
 use Rattle.aw_apply.specs.Messages.{Message}
 use Rattle.aw_joint.specs.Laws.{IsAccepted}
 use Rattle.aw_react.specs.Worlds.{World, Move, Delivers, MayCome, count_set, deliver, step, undelivered, empty_world, world_after}

@@ -1,6 +1,8 @@
 -- A choice is answered by a circle only where a guard meets one.
 use Rattle.std.specs.Prelude.{nat_eq, slice_get}
 use Rattle.std.proofs.Common.{Bool, List, None, Option, Some, ap, cond, false, length, refl, true, ℕ, ◌≡◌}
+use Rattle.aw_list.specs.Members.{Member}
+use Rattle.aw_list.proofs.Members.{never}
 use Rattle.aw_term.specs.Choices.{Answer, Arguments, Choice, CircleAt, Develop, NotItsRule, Outcome, Refused, Start, Starts, Takes, TooDeep, after_guard, deep}
 use Rattle.aw_term.specs.Configs.{Done, Pending, State}
 use Rattle.aw_term.specs.Matching.{Circle, Differs, Matched, Waits, Yes}
@@ -8,8 +10,6 @@ use Rattle.aw_term.specs.Names.{Node, Ref, root}
 use Rattle.aw_term.specs.Rules.{Grammar, Ground, Rule, Term}
 use Rattle.aw_term.specs.Trees.{Never}
 use Rattle.aw_term.specs.Held.{Held, held_of}
-use Rattle.aw_iograph.specs.Graphs.{Member}
-use Rattle.aw_iograph.proofs.Members.{never}
 use Rattle.aw_store.specs.Equations.{Map}
 use Rattle.aw_apply.specs.Guard.{guard_all}
 use Rattle.aw_joint.specs.Joint.{by_held, by_root, by_rule, by_state, joint_outcome}

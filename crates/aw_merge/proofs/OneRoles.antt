@@ -1,5 +1,6 @@
 -- One role alone: what is written of its choices is what the undivided run writes of them.
 use Rattle.std.proofs.Common.{◌≡◌, ℕ, Bool, true, List, [], ◌∷◌, ◌++◌, length, map, Some, None, ap, sym, ◌∙◌, refl, append_assoc}
+use Rattle.aw_list.proofs.Members.{never}
 use Rattle.aw_term.specs.Trees.{Never}
 use Rattle.aw_term.specs.Names.{Ref}
 use Rattle.aw_term.specs.Rules.{Grammar, Value}
@@ -10,7 +11,6 @@ use Rattle.aw_term.specs.Artifacts.{Words}
 use Rattle.aw_term.specs.Runs.{answer_line, answer_lines, after_all, artifacts}
 use Rattle.aw_term.proofs.Eaches.{each_push}
 use Rattle.aw_base.specs.ChoiceFits.{choice_ok}
-use Rattle.aw_iograph.proofs.Members.{never}
 use Rattle.aw_accept.proofs.OneMore.{undivided_more}
 use Rattle.aw_apply.specs.Messages.{Message}
 use Rattle.aw_joint.specs.Laws.{IsAccepted}

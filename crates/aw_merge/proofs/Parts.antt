@@ -1,12 +1,12 @@
 -- The invariant of a world as it is proved: over its sites, its messages, which of them were delivered, and the joint configuration of the choices taken.
 use Rattle.std.specs.Prelude.{slice_get, ◌⊎◌}
 use Rattle.std.proofs.Common.{Bool, List, Some, [], false, length, true, ℕ, ◌<◌, ◌∷◌, ◌≡◌}
+use Rattle.aw_list.specs.Members.{Member}
 use Rattle.aw_term.specs.Names.{Node, Ref, below, node_lt}
 use Rattle.aw_term.specs.Rules.{Grammar}
 use Rattle.aw_term.specs.Trees.{Never}
 use Rattle.aw_term.specs.WellFormed.{Each, Later}
 use Rattle.aw_term.specs.Held.{Held}
-use Rattle.aw_iograph.specs.Graphs.{Member}
 use Rattle.aw_store.specs.Equations.{Body, Equation, Map, find}
 use Rattle.aw_apply.specs.Made.{Call}
 use Rattle.aw_apply.specs.Messages.{Asks, Calls, Kind, Message, Tells, carried}

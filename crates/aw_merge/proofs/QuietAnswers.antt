@@ -3,6 +3,8 @@ use Rattle.std.specs.Prelude.{is_some, nat_eq, option_and_then, option_map, slic
 use Rattle.std.proofs.Common.{Bool, List, None, Option, Some, [], ap, arith, cond, false, inl, length, refl, subst, sym, true, ℕ, ◌∙◌, ◌∷◌, ◌≡◌}
 use Rattle.aw_iograph.proofs.Relations.{io_closed}
 use Rattle.std.specs.Option.{unwrap_or}
+use Rattle.aw_list.specs.Members.{Member}
+use Rattle.aw_list.proofs.Members.{never}
 use Rattle.aw_term.specs.Artifacts.{Words}
 use Rattle.aw_term.specs.Choices.{Answer, Arguments, Choice, Develop, NotItsRule, Outcome, Refused, Start, Starts, Takes, TooDeep, after_guard, answer, answer_of, deep, undivided}
 use Rattle.aw_term.specs.Configs.{Config, Done, Pending, Row, State, row_of}
@@ -12,8 +14,6 @@ use Rattle.aw_term.specs.Rules.{Grammar, Ground, Rule, Sort, Value, sort_of}
 use Rattle.aw_term.specs.Trees.{Never}
 use Rattle.aw_term.specs.Held.{Held, held_of}
 use Rattle.aw_iograph.specs.Dependence.{HasNoCircle, IO}
-use Rattle.aw_iograph.specs.Graphs.{Member}
-use Rattle.aw_iograph.proofs.Members.{never}
 use Rattle.aw_accept.specs.Acyclic.{IsGivenGrammar, Pairs}
 use Rattle.aw_accept.proofs.Fitting.{given_of}
 use Rattle.aw_accept.proofs.UndividedRuns.{empty_good, row_of-found, row_of-none, undivided-good}

@@ -2,6 +2,8 @@
 use Rattle.std.specs.Prelude.{is_some, nat_eq, slice_get, ◌&&◌, ◌⊎◌}
 use Rattle.std.proofs.Common.{Bool, List, None, Option, Some, [], ap, arith, cond, false, inl, inr, length, refl, subst, suc, sym, true, zero, ℕ, ◌<◌, ◌∙◌, ◌∷◌, ◌≡◌}
 use Rattle.std.proofs.lemmas.Option.{same_Some, slice_get_within}
+use Rattle.aw_list.specs.Members.{Member}
+use Rattle.aw_list.proofs.Members.{never}
 use Rattle.aw_term.specs.Artifacts.{Words}
 use Rattle.aw_term.specs.Choices.{undivided}
 use Rattle.aw_term.specs.Configs.{Config, Row}
@@ -12,8 +14,6 @@ use Rattle.aw_term.specs.Trees.{Head, Leaf, Made, More, Never, Nil, Tree, Trees,
 use Rattle.aw_term.specs.WellFormed.{Later}
 use Rattle.aw_term.specs.Held.{Held}
 use Rattle.aw_iograph.specs.Dependence.{HasNoCircle, IO}
-use Rattle.aw_iograph.specs.Graphs.{Member}
-use Rattle.aw_iograph.proofs.Members.{never}
 use Rattle.aw_accept.specs.Acyclic.{IsGivenGrammar, Pairs}
 use Rattle.aw_accept.proofs.Fitting.{each_member, given_of}
 use Rattle.aw_store.specs.Chase.{Found, chase}

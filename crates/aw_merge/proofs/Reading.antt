@@ -1,13 +1,13 @@
 -- What is printed from the equations of each site.
 use Rattle.std.specs.Prelude.{slice_get}
 use Rattle.std.proofs.Common.{List, Some, [], ap, arith, inl, inr, length, map, refl, subst, suc, sym, zero, ℕ, ◌+◌, ◌∙◌, ◌∷◌, ◌≡◌}
+use Rattle.aw_list.specs.Members.{Member}
+use Rattle.aw_list.proofs.Members.{never}
 use Rattle.aw_term.specs.Artifacts.{Words, artifact_text}
 use Rattle.aw_term.specs.Configs.{Config, Row}
 use Rattle.aw_term.specs.Names.{Node, Ref, result}
 use Rattle.aw_term.specs.Rules.{Grammar, Value, upto}
 use Rattle.aw_term.specs.Held.{Held}
-use Rattle.aw_iograph.specs.Graphs.{Member}
-use Rattle.aw_iograph.proofs.Members.{never}
 use Rattle.aw_accept.specs.Acyclic.{IsTree, Pairs, gives}
 use Rattle.aw_store.specs.Equations.{Map}
 use Rattle.aw_store.specs.Unfold.{Unfolds}

@@ -2,15 +2,15 @@
 use Rattle.std.specs.Prelude.{slice_get}
 use Rattle.std.proofs.Common.{List, Some, [], ap, arith, inl, inr, length, map, refl, subst, suc, sym, true, zero, ℕ, ◌+◌, ◌∙◌, ◌∷◌, ◌≡◌, ◌≤◌}
 use Rattle.std.proofs.lemmas.Option.{same_Some}
+use Rattle.aw_list.specs.Members.{Member}
+use Rattle.aw_list.proofs.Members.{member_got, member_left, member_map, member_right, member_split, member_unmap, never}
 use Rattle.aw_term.specs.Choices.{outcome as plain_outcome, Choice, Develop, Outcome, Refused, Start, Starts, Takes}
 use Rattle.aw_term.specs.Configs.{Done, row_of}
 use Rattle.aw_term.specs.Names.{Node, Ref, below, result}
 use Rattle.aw_term.specs.Rules.{Child, Grammar, Ground, Rule, Value}
 use Rattle.aw_term.specs.Held.{Held, insert_held, mark}
 use Rattle.aw_iograph.specs.Dependence.{HasNoCircle, IO}
-use Rattle.aw_iograph.specs.Graphs.{Member}
 use Rattle.aw_iograph.specs.Occurrences.{pattern_entries}
-use Rattle.aw_iograph.proofs.Members.{member_got, member_left, member_map, member_right, member_split, member_unmap, never}
 use Rattle.aw_accept.specs.Acyclic.{IsGivenGrammar, gives}
 use Rattle.aw_accept.proofs.UndividedRuns.{decode_on}
 use Rattle.aw_store.specs.Equations.{Is}

@@ -2,6 +2,8 @@
 use Rattle.std.specs.Prelude.{is_some, option_and_then, slice_get, slice_set, ◌⊎◌}
 use Rattle.std.proofs.Common.{Bool, List, None, Option, Some, [], ap, arith, false, inl, inr, length, map, refl, subst, suc, sym, true, zero, ℕ, ◌++◌, ◌+◌, ◌<◌, ◌∙◌, ◌∷◌, ◌≡◌, ◌≤◌}
 use Rattle.std.proofs.lemmas.Option.{same_Some, slice_get_within}
+use Rattle.aw_list.specs.Members.{Member}
+use Rattle.aw_list.proofs.Members.{member_got, member_unmap, never}
 use Rattle.aw_term.specs.Artifacts.{Words}
 use Rattle.aw_term.specs.Choices.{Choice, Develop, Outcome, Refused, Start, Starts, Takes}
 use Rattle.aw_term.specs.Matching.{Yes}
@@ -12,8 +14,6 @@ use Rattle.aw_term.specs.WellFormed.{Each, Later}
 use Rattle.aw_term.specs.Held.{Held, held_of}
 use Rattle.aw_base.specs.ChoiceFits.{choice_ok, ref_ok, slot_ok}
 use Rattle.aw_iograph.specs.Dependence.{HasNoCircle, IO}
-use Rattle.aw_iograph.specs.Graphs.{Member}
-use Rattle.aw_iograph.proofs.Members.{member_got, member_unmap, never}
 use Rattle.aw_accept.specs.Acyclic.{IsGivenGrammar}
 use Rattle.aw_accept.proofs.Fitting.{given_of}
 use Rattle.aw_store.specs.Equations.{Body, Equation, find}

@@ -2,13 +2,13 @@
 use Rattle.std.specs.Prelude.{nat_eq, slice_get, ◌⊎◌}
 use Rattle.std.proofs.Common.{Bool, List, Some, [], ap, arith, cond, false, inl, inr, map, refl, subst, suc, sym, true, zero, ℕ, ◌+◌, ◌<◌, ◌∙◌, ◌∷◌, ◌≡◌, ◌≤◌}
 use Rattle.std.proofs.lemmas.Bool.{cases_lt, eq-eqb, eqb-true}
+use Rattle.aw_list.specs.Members.{Member}
+use Rattle.aw_list.proofs.Members.{member_left, member_map, member_right, member_split, member_unmap, never}
 use Rattle.aw_term.specs.Names.{Node, Ref, below}
 use Rattle.aw_term.specs.Rules.{Child, Grammar}
 use Rattle.aw_term.specs.Trees.{Never}
 use Rattle.aw_term.specs.WellFormed.{Each, Later}
 use Rattle.aw_term.specs.Held.{Held}
-use Rattle.aw_iograph.specs.Graphs.{Member}
-use Rattle.aw_iograph.proofs.Members.{member_left, member_map, member_right, member_split, member_unmap, never}
 use Rattle.aw_accept.proofs.ConfigLemmas.{below-child}
 use Rattle.aw_accept.proofs.Fitting.{each_member}
 use Rattle.aw_store.specs.Equations.{Equation}

@@ -2,14 +2,14 @@
 use Rattle.std.specs.Prelude.{is_some, ◌⊎◌}
 use Rattle.std.proofs.lemmas.List.{append-nil}
 use Rattle.std.proofs.Common.{Bool, List, None, [], ap, inl, inr, refl, subst, sym, true, ℕ, ◌++◌, ◌<◌, ◌∙◌, ◌∷◌, ◌≡◌, ◌≤◌}
+use Rattle.aw_list.specs.Members.{Member}
+use Rattle.aw_list.proofs.Members.{member_got, never}
 use Rattle.aw_term.specs.Choices.{Start}
 use Rattle.aw_term.specs.Names.{Node, below, root}
 use Rattle.aw_term.specs.Rules.{Grammar, sort_of}
 use Rattle.aw_term.specs.Trees.{Never}
 use Rattle.aw_term.specs.Held.{Held, held_of, insert_held}
 use Rattle.aw_iograph.specs.Dependence.{HasNoCircle, IO}
-use Rattle.aw_iograph.specs.Graphs.{Member}
-use Rattle.aw_iograph.proofs.Members.{member_got, never}
 use Rattle.aw_accept.specs.Acyclic.{IsGivenGrammar}
 use Rattle.aw_accept.proofs.UndividedRuns.{root-below}
 use Rattle.aw_apply.specs.Made.{Call}

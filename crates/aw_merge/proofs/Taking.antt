@@ -1,6 +1,8 @@
 -- A rule that is taken at its home is taken in the joint configuration, and keeps the invariant.
 use Rattle.std.specs.Prelude.{is_some, ◌⊎◌}
 use Rattle.std.proofs.Common.{Bool, List, None, Option, Some, [], ap, arith, false, inl, inr, length, map, refl, subst, sym, true, ℕ, ◌++◌, ◌+◌, ◌<◌, ◌∙◌, ◌∷◌, ◌≡◌, cond}
+use Rattle.aw_list.specs.Members.{Member}
+use Rattle.aw_list.proofs.Members.{member_got, member_left, member_map, member_right, member_split, member_unmap, never}
 use Rattle.aw_iograph.proofs.Relations.{io_closed}
 use Rattle.aw_merge.proofs.Lists.{later_both}
 use Rattle.aw_term.specs.Choices.{outcome as plain_outcome, Develop, Outcome, Refused, Starts, Takes}
@@ -12,8 +14,6 @@ use Rattle.aw_term.specs.Trees.{Never}
 use Rattle.aw_term.specs.Held.{Held, held_of, insert_all, mark}
 use Rattle.aw_term.proofs.NodeTests.{node_self}
 use Rattle.aw_iograph.specs.Dependence.{HasNoCircle, IO}
-use Rattle.aw_iograph.specs.Graphs.{Member}
-use Rattle.aw_iograph.proofs.Members.{member_got, member_left, member_map, member_right, member_split, member_unmap, never}
 use Rattle.aw_accept.specs.Acyclic.{IsGivenGrammar}
 use Rattle.aw_accept.proofs.Fitting.{each_member}
 use Rattle.aw_accept.proofs.UndividedRuns.{decode_on, taking}

@@ -1,6 +1,7 @@
 -- What may be chosen at the nodes of a quiet world.
 use Rattle.std.proofs.Common.{ℕ, suc, cond, List, [], ◌∷◌, ◌++◌, Some, refl, ap, ◌∙◌, ◌≡◌}
 use Rattle.std.specs.Prelude.{nat_eq}
+use Rattle.aw_list.proofs.Members.{never}
 use Rattle.aw_term.specs.Names.{Ref}
 use Rattle.aw_term.specs.Rules.{Rule, Grammar, Value}
 use Rattle.aw_term.specs.Matching.{match_all}
@@ -9,7 +10,6 @@ use Rattle.aw_term.specs.Choices.{Outcome, Refused, Starts, Takes, after_guard}
 use Rattle.aw_term.specs.Artifacts.{Words}
 use Rattle.aw_term.specs.Runs.{refusal_of, item_at, rule_items, row_items, worklist}
 use Rattle.aw_term.specs.Held.{Held}
-use Rattle.aw_iograph.proofs.Members.{never}
 use Rattle.aw_accept.specs.Acyclic.{Pairs}
 use Rattle.aw_store.specs.Equations.{Map}
 use Rattle.aw_apply.specs.Guard.{guard_all}

@@ -1,12 +1,12 @@
 -- The laws of worlds, as they are stated.
 use Rattle.std.specs.Prelude.{◌⊎◌}
 use Rattle.std.proofs.Common.{◌≤◌, length, Bool, List, None, Option, Some, [], false, inl, inr, map, refl, subst, suc, sym, zero, ℕ, ◌∙◌, ◌∷◌, ◌≡◌}
+use Rattle.aw_list.proofs.Members.{member_got}
 use Rattle.aw_iograph.proofs.Relations.{io_closed}
 use Rattle.aw_term.specs.Artifacts.{Words, artifact_text}
 use Rattle.aw_term.specs.Rules.{Grammar}
 use Rattle.aw_term.specs.WellFormed.{Each}
 use Rattle.aw_iograph.specs.Dependence.{HasNoCircle, IO}
-use Rattle.aw_iograph.proofs.Members.{member_got}
 use Rattle.aw_accept.specs.Acyclic.{IsGivenGrammar}
 use Rattle.aw_accept.proofs.Fitting.{given_of}
 use Rattle.aw_accept.proofs.UndividedRuns.{empty_good, undivided-acyclic, undivided-good}

@@ -1,5 +1,6 @@
 -- What holds of the output of events.
 use Rattle.std.specs.Prelude.{◌≡◌, ℕ, suc, Bool, true, List, [], ◌++◌, map, take, Some, ◌⊎◌}
+use Rattle.aw_list.specs.Members.{Member}
 use Rattle.aw_term.specs.Trees.{Never}
 use Rattle.aw_term.specs.Names.{Node, Ref, root}
 use Rattle.aw_term.specs.Rules.{Ground, Rule, Grammar}
@@ -10,7 +11,6 @@ use Rattle.aw_term.specs.Runs.{artifacts, plain_text}
 use Rattle.aw_term.specs.WellFormed.{Each}
 use Rattle.aw_choice.specs.Events as E
 use Rattle.aw_base.specs.ChoiceFits.{choice_ok}
-use Rattle.aw_iograph.specs.Graphs.{Member}
 use Rattle.aw_iograph.specs.Dependence.{IO}
 use Rattle.aw_accept.specs.Acyclic.{IsAcyclic}
 use Rattle.aw_joint.specs.Laws.{SameChoices}

@@ -1,10 +1,10 @@
 -- What holds of a world at every moment.
 use Rattle.std.specs.Prelude.{◌≡◌, ℕ, ◌<◌, Bool, true, false, List, Some, slice_get, ◌⊎◌, length}
+use Rattle.aw_list.specs.Members.{Member}
 use Rattle.aw_term.specs.Trees.{Never}
 use Rattle.aw_term.specs.Names.{Ref}
 use Rattle.aw_term.specs.Rules.{Grammar, sort_of}
 use Rattle.aw_term.specs.Held.{Held}
-use Rattle.aw_iograph.specs.Graphs.{Member}
 use Rattle.aw_store.specs.Equations.{Body, Equation, find}
 use Rattle.aw_apply.specs.Made.{Call}
 use Rattle.aw_apply.specs.Messages.{Kind, Calls, Asks, Tells, Message, carried}

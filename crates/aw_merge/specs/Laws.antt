@@ -1,5 +1,6 @@
 -- What holds of every world of an accepted grammar, over all choices and deliveries, late, repeated and out of order.
 use Rattle.std.specs.Prelude.{◌≡◌, ℕ, ◌<◌, ◌≤◌, Bool, true, false, List, [], map, length, Some, None, ◌⊎◌, ◌∷◌, ◌++◌}
+use Rattle.aw_list.specs.Members.{Member}
 use Rattle.aw_term.specs.Trees.{Never}
 use Rattle.aw_term.specs.Names.{Node, Ref, root}
 use Rattle.aw_term.specs.Rules.{Term, Ground, Rule, Grammar}
@@ -11,7 +12,6 @@ use Rattle.aw_term.specs.Runs.{worklist}
 use Rattle.aw_term.specs.WellFormed.{Each}
 use Rattle.aw_term.specs.Held.{Held}
 use Rattle.aw_base.specs.ChoiceFits.{choice_ok}
-use Rattle.aw_iograph.specs.Graphs.{Member}
 use Rattle.aw_iograph.specs.Dependence.{IO}
 use Rattle.aw_accept.specs.Acyclic.{Pairs, IsAcyclic}
 use Rattle.aw_store.specs.Equations.{Body, Map, find}

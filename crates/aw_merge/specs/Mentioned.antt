@@ -1,10 +1,10 @@
 -- References that are mentioned, and references that choices created.
 use Rattle.std.specs.Prelude.{◌≡◌, ℕ, ◌<◌, ◌≤◌, true, List, ◌⊎◌}
+use Rattle.aw_list.specs.Members.{Member}
 use Rattle.aw_term.specs.Trees.{Never}
 use Rattle.aw_term.specs.Names.{Slot, Result, Part, Ref, result}
 use Rattle.aw_term.specs.Rules.{Grammar}
 use Rattle.aw_term.specs.Held.{Held}
-use Rattle.aw_iograph.specs.Graphs.{Member}
 use Rattle.aw_accept.specs.Acyclic.{gives}
 use Rattle.aw_store.specs.Equations.{Equation, Map, mentions}
 use Rattle.aw_joint.specs.Joint.{Joint}

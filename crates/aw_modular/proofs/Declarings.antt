@@ -5,6 +5,7 @@ use Rattle.std.specs.Coded.{le_prop}
 use Rattle.std.proofs.Math.Logic.{∥∥₁_elim}
 use Rattle.std.proofs.lemmas.List.{length-map}
 use Rattle.std.proofs.lemmas.Option.{slice_get_within}
+use Rattle.aw_list.proofs.Members.{never, below_or_at, member_got, member_place}
 use Rattle.aw_base.specs.declared.declared.Triple.{Triple}
 use Rattle.aw_term.specs.Trees.{Never}
 use Rattle.aw_term.specs.Choices.{gives_of}
@@ -15,7 +16,6 @@ use Rattle.aw_grammar.specs.GrammarOf.{grammar_of}
 use Rattle.aw_iograph.specs.declared.io.Io.{Io}
 use Rattle.aw_iograph.specs.Pairs.{Has, HasSort, IsFor, IsNumber}
 use Rattle.aw_iograph.proofs.FewOf.{takes_few, gives_few}
-use Rattle.aw_iograph.proofs.Members.{never, below_or_at, member_got, member_place}
 use Rattle.aw_modular.specs.Roles.{Declares}
 use Rattle.aw_modular.specs.Declaring.{DeclaresBefore, AddsOne, IsAny}
 use Rattle.aw_modular.specs.Refusals.{IsPosition}

@@ -2,11 +2,11 @@
 use Rattle.std.proofs.Common.{◌≡◌, ℕ, ◌+◌, ◌<◌, ◌≤◌, length, true, Option, Some, None, sym, ◌∙◌, subst, inl, inr, arith}
 use Rattle.std.specs.Prelude.{◌⊎◌}
 use Rattle.std.proofs.lemmas.Option.{slice_get_within}
+use Rattle.aw_list.proofs.Members.{never, below_or_at}
 use Rattle.aw_base.specs.declared.declared.Triple.{Triple}
 use Rattle.aw_term.specs.Trees.{Never}
 use Rattle.aw_iograph.specs.declared.io.Io.{Io}
 use Rattle.aw_iograph.specs.Pairs.{IsNumber, mark_of}
-use Rattle.aw_iograph.proofs.Members.{never, below_or_at}
 use Rattle.aw_modular.specs.declared.part.Part.{Part}
 use Rattle.aw_modular.specs.Exceeding.{IsLoose}
 use Rattle.aw_modular.specs.Refusals.{IsUpToPair, LeastPair}

@@ -1,8 +1,8 @@
 -- Some of the rules keep to the faces where all do.
 use Rattle.std.proofs.Common.{◌≡◌, ℕ, suc, Bool, true, false, cond, List, [], ◌∷◌, None, refl, ap, ◌∙◌, inl, inr}
 use Rattle.std.specs.Prelude.{filter}
+use Rattle.aw_list.specs.Members.{Member}
 use Rattle.aw_term.specs.Rules.{Rule, Sort, Grammar, some_rules}
-use Rattle.aw_iograph.specs.Graphs.{Member}
 use Rattle.aw_face.specs.declared.faces.Using.{Using}
 use Rattle.aw_face.specs.declared.faces.Faces.{Faces}
 use Rattle.aw_face.specs.Faces.{rule_fault, rules_fault, at_rule, face_fault}

@@ -4,6 +4,8 @@ use Rattle.std.specs.Prelude.{◌⊎◌, filter}
 use Rattle.std.proofs.Math.Logic.{∥∥₁_map}
 use Rattle.std.proofs.lemmas.Bool.{eqb-true}
 use Rattle.std.proofs.lemmas.List.{map-append}
+use Rattle.aw_list.specs.Members.{Member}
+use Rattle.aw_list.proofs.Members.{never, member_map}
 use Rattle.aw_text.specs.Spelling.{is_name}
 use Rattle.aw_term.specs.Rules.{role_of}
 use Rattle.aw_term.specs.WellFormed.{Each, Later, Differ, RuleFits}
@@ -17,8 +19,6 @@ use Rattle.aw_grammar.proofs.Added.{Good}
 use Rattle.aw_grammar.proofs.Counted.{rules_counted}
 use Rattle.aw_grammar.proofs.GoodRule.{other_rules}
 use Rattle.aw_grammar.proofs.Growth.{four_from, four_to}
-use Rattle.aw_iograph.specs.Graphs.{Member}
-use Rattle.aw_iograph.proofs.Members.{never, member_map}
 use Rattle.aw_accept.proofs.Fitting.{each_member}
 use Rattle.aw_grammar.specs.declared.grammar.Grammar.{Grammar}
 use Rattle.aw_accept.proofs.Pigeonholes.{pigeon}

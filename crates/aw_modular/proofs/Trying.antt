@@ -2,10 +2,10 @@
 use Rattle.std.proofs.Common.{◌≡◌, ℕ, zero, suc, Bool, true, false, List, None, refl, sym, subst, inl, inr, eq-eqb}
 use Rattle.std.specs.Prelude.{◌⊎◌, ◌&&◌, ◌||◌, not, nat_eq}
 use Rattle.std.proofs.lemmas.Bool.{eqb-true, and_parts}
+use Rattle.aw_list.specs.Members.{Member}
+use Rattle.aw_list.proofs.Members.{never}
 use Rattle.aw_term.specs.Rules.{Rule, Grammar}
-use Rattle.aw_iograph.specs.Graphs.{Member}
 use Rattle.aw_base.specs.declared.declared.Triple.{Triple}
-use Rattle.aw_iograph.proofs.Members.{never}
 use Rattle.aw_iograph.proofs.Relations.{plus_map, follows_least}
 use Rattle.aw_face.specs.Faces.{role_of, is_offered, face_fault}
 use Rattle.aw_tried.specs.Decided.{Pair, Holds, all, any, pair_eq, decides}

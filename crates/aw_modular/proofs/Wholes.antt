@@ -2,6 +2,7 @@
 use Rattle.std.proofs.Common.{◌≡◌, ℕ, suc, List, [], ◌∷◌, ◌++◌, map, Some, refl, sym, ap, ◌∙◌, subst, inl, inr, append_assoc, append-nil}
 use Rattle.std.proofs.Math.Logic.{∥∥₁_map, ∥∥₁_map₂, ∥∥₁_elim}
 use Rattle.std.proofs.lemmas.List.{map-append}
+use Rattle.aw_list.proofs.Members.{never, member_got}
 use Rattle.aw_term.specs.Trees.{Never}
 use Rattle.aw_term.specs.Rules as P
 use Rattle.aw_term.specs.WellFormed.{Each}
@@ -14,7 +15,6 @@ use Rattle.aw_grammar.specs.GrammarView.{rule_of, sorts_of}
 use Rattle.aw_grammar.specs.GrammarOf.{grammar_of}
 use Rattle.aw_grammar.specs.Variables.{VariablesFit, AllVariablesFit}
 use Rattle.aw_iograph.specs.Dependence.{IO, HasNoCircle}
-use Rattle.aw_iograph.proofs.Members.{never, member_got}
 use Rattle.aw_iograph.specs.declared.occ.Occ.{Occ}
 use Rattle.aw_accept.specs.declared.refused.Fault.{Fault}
 use Rattle.aw_accept.specs.declared.refused.Refused.{Refused}

@@ -4,6 +4,8 @@ use Rattle.std.specs.Prelude.{◌⊎◌, ◌↔◌, nat_eq, filter}
 use Rattle.std.proofs.Math.Logic.{∥∥₁_elim}
 use native.Mathlib.Nat.{ℕ_set}
 use Rattle.std.proofs.lemmas.Bool.{eqb-true, eqb-false}
+use Rattle.aw_list.specs.Members.{Member}
+use Rattle.aw_list.proofs.Members.{never, member_map}
 use Rattle.aw_base.specs.declared.declared.Triple.{Triple}
 use Rattle.aw_term.specs.Trees.{Never}
 use Rattle.aw_term.specs.Rules.{Grammar, role_of, some_rules}
@@ -11,9 +13,7 @@ use Rattle.aw_grammar.specs.declared.grammar.Grammar.{Grammar as GrammarValue}
 use Rattle.aw_grammar.specs.GrammarView.{rule_of, sorts_of, plain_grammar}
 use Rattle.aw_grammar.specs.GrammarOf.{grammar_of}
 use Rattle.aw_grammar.specs.SomeRules.{is_at, rules_at}
-use Rattle.aw_iograph.specs.Graphs.{Member}
 use Rattle.aw_iograph.specs.Dependence.{Follows, HasNoCircle}
-use Rattle.aw_iograph.proofs.Members.{never, member_map}
 use Rattle.aw_iograph.proofs.Relations.{follows_least, follows_closed, follows_held}
 use Rattle.aw_iograph.specs.declared.io.Io.{Io}
 use Rattle.aw_iograph.specs.Pairs.{Has}

@@ -1,9 +1,10 @@
 -- Roles checked apart: what the rules of one role say of its own sorts, given what is declared of the sorts of others.
 use Rattle.std.specs.Prelude.{◌≡◌, ℕ, zero, suc, true, List, [], ◌∷◌, ◌++◌, Some, None, ◌⊎◌, slice_get}
+use Rattle.aw_list.specs.Members.{Member}
 use Rattle.aw_term.specs.Trees.{Never}
 use Rattle.aw_term.specs.Rules.{Rule, Grammar}
 use Rattle.aw_term.specs.WellFormed.{Each}
-use Rattle.aw_iograph.specs.Graphs.{Member, Plus}
+use Rattle.aw_iograph.specs.Graphs.{Plus}
 use Rattle.aw_iograph.specs.Occurrences.{inherited, given}
 use Rattle.aw_iograph.specs.Dependence.{Edge, Walk, IO, HasNoCircle}
 use Rattle.aw_base.specs.declared.declared.Triple.{Triple}

@@ -1,11 +1,11 @@
 -- Typed nodes one beside the other, one for each role, asked by frames in any order.
 use Rattle.std.specs.Prelude.{◌≡◌, ℕ, Bool, List, [], ◌∷◌, map, slice_set}
+use Rattle.aw_list.specs.Members.{Member}
 use Rattle.aw_term.specs.Choices.{Answer}
 use Rattle.aw_term.specs.Names.{Ref}
 use Rattle.aw_term.specs.Rules.{Grammar}
 use Rattle.aw_term.specs.Trees.{Never}
 use Rattle.aw_term.specs.WellFormed.{Each}
-use Rattle.aw_iograph.specs.Graphs.{Member}
 use Rattle.aw_react.specs.Sites.{Site}
 use Rattle.aw_react.specs.Worlds.{empty_world, Move}
 use Rattle.aw_merge.specs.Laws.{MayCome, world_after}

@@ -4,6 +4,8 @@ use Rattle.std.proofs.lemmas.List.{append-nil}
 use Rattle.std.proofs.lemmas.Option.{slice_get_within}
 use Rattle.std.proofs.Common.{◌≡◌, ℕ, zero, suc, ◌+◌, ◌-◌, ◌<◌, ◌≤◌, Bool, true, false, cond, List, [], ◌∷◌, ◌++◌, map, length, Option, Some, None, refl, sym, ap, ◌∙◌, subst, inl, inr, arith, append_assoc}
 use Rattle.std.proofs.lemmas.Bool.{eqb-true, eq-eqb, cases_lt, le-leb}
+use Rattle.aw_list.specs.Members.{Member}
+use Rattle.aw_list.proofs.Members.{never, member_split, member_left, member_right, member_got}
 use Rattle.aw_term.specs.Choices.{Choice, Answer}
 use Rattle.aw_term.specs.Names.{Ref}
 use Rattle.aw_term.specs.Rules.{Grammar, get, upto}
@@ -11,8 +13,6 @@ use Rattle.aw_term.specs.Trees.{Never}
 use Rattle.aw_term.specs.WellFormed.{Each}
 use Rattle.aw_term.proofs.Eaches.{each_append}
 use Rattle.aw_base.specs.ChoiceFits.{choice_ok}
-use Rattle.aw_iograph.specs.Graphs.{Member}
-use Rattle.aw_iograph.proofs.Members.{never, member_split, member_left, member_right, member_got}
 use Rattle.aw_apply.specs.Messages.{Message, Received, New, Repeat, Conflict, NotMine, BadName}
 use Rattle.aw_react.specs.Choosing.{Chosen, No, Did, answer_to, choose}
 use Rattle.aw_react.specs.Homes.{home}

@@ -3,13 +3,13 @@ use Rattle.std.specs.Prelude.{slice_get, slice_set, ◌⊎◌, ◌&&◌, not, na
 use Rattle.std.proofs.Common.{◌≡◌, ℕ, zero, suc, ◌+◌, ◌<◌, ◌≤◌, Bool, true, false, cond, List, [], ◌∷◌, ◌++◌, map, length, Option, Some, None, refl, sym, ap, ◌∙◌, subst, inl, inr, arith, length-append}
 use Rattle.std.proofs.lemmas.Bool.{eqb-true, eq-eqb, cases_lt, leb-true, le-leb}
 use Rattle.std.proofs.lemmas.List.{take_all, take-append-le, append-nil, map-append}
+use Rattle.aw_list.specs.Members.{Member}
+use Rattle.aw_list.proofs.Members.{never, member_left}
 use Rattle.aw_term.specs.Choices.{Choice}
 use Rattle.aw_term.specs.Rules.{Grammar, get, upto}
 use Rattle.aw_term.specs.Trees.{Never}
 use Rattle.aw_term.specs.WellFormed.{Each}
 use Rattle.aw_term.proofs.Eaches.{each_append}
-use Rattle.aw_iograph.specs.Graphs.{Member}
-use Rattle.aw_iograph.proofs.Members.{never, member_left}
 use Rattle.aw_apply.specs.Messages.{Message, Received, New, Repeat, Conflict, NotMine, BadName}
 use Rattle.aw_react.specs.Choosing.{Chosen, No, Did, choose}
 use Rattle.aw_react.specs.Homes.{home}

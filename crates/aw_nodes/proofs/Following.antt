@@ -3,11 +3,11 @@ use Rattle.std.specs.Prelude.{slice_get, slice_set, not}
 use Rattle.std.proofs.Common.{◌≡◌, ℕ, Bool, true, false, cond, List, [], ◌∷◌, ◌++◌, map, length, Option, Some, None, refl, sym, subst, inl, inr}
 use Rattle.std.proofs.lemmas.Bool.{cases_lt}
 use Rattle.std.proofs.lemmas.List.{append-nil}
+use Rattle.aw_list.proofs.Members.{never}
 use Rattle.aw_term.specs.Choices.{Choice, Start, Develop, Outcome, Refused, Starts, Takes}
 use Rattle.aw_term.specs.Rules.{Grammar, get}
 use Rattle.aw_term.specs.Trees.{Never}
 use Rattle.aw_term.specs.Names.{Ref}
-use Rattle.aw_iograph.proofs.Members.{never}
 use Rattle.aw_apply.specs.Messages.{Message, Received, New, Repeat, Conflict, NotMine, BadName, Kind, Calls, Asks, Tells, Clash}
 use Rattle.aw_react.specs.Choosing.{Chosen, No, Did, choose, choose_on, outcome}
 use Rattle.aw_react.specs.Homes.{home}

@@ -1,7 +1,7 @@
 -- What is heard in bytes.
 use Rattle.std.proofs.Common.{◌≡◌, ℕ, List, [], ◌∷◌, ◌++◌, map, Option, Some, None, refl, sym, ap, ◌∙◌, append_assoc}
+use Rattle.aw_list.proofs.Members.{never}
 use Rattle.aw_term.specs.Trees.{Never}
-use Rattle.aw_iograph.proofs.Members.{never}
 use Rattle.aw_nodes.specs.Nodes.{Response}
 use Rattle.aw_nodes.specs.Couriers.{Heard, hear, IsSpelling, flat, IsPrefix}
 use Rattle.aw_nodes.proofs.ListParts.{cons-inj}

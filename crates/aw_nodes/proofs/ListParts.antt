@@ -1,10 +1,10 @@
 -- Lists that are written at a place, mapped, filtered, or put one behind the other.
 use Rattle.std.specs.Prelude.{slice_get, slice_set, filter}
 use Rattle.std.proofs.Common.{◌≡◌, ℕ, zero, suc, ◌<◌, ◌≤◌, Bool, true, false, cond, List, [], ◌∷◌, ◌++◌, map, length, Some, refl, ap, ◌∙◌, inl, inr, arith}
+use Rattle.aw_list.specs.Members.{Member}
+use Rattle.aw_list.proofs.Members.{never}
 use Rattle.aw_term.specs.Rules.{get}
 use Rattle.aw_term.specs.Trees.{Never}
-use Rattle.aw_iograph.specs.Graphs.{Member}
-use Rattle.aw_iograph.proofs.Members.{never}
 
 pub set-set : {A : Type 0} (xs : List A) (i : ℕ) (u v : A) → slice_set (slice_set xs i u) i v ≡ slice_set xs i v
 set-set [] i u v = refl

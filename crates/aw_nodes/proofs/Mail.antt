@@ -1,10 +1,10 @@
 -- What the laws on nodes use of a world.
 use Rattle.std.specs.Prelude.{◌≡◌, ℕ, ◌<◌, Bool, true, List, length, ◌⊎◌}
+use Rattle.aw_list.specs.Members.{Member}
 use Rattle.aw_term.specs.Choices.{Choice}
 use Rattle.aw_term.specs.Rules.{Grammar}
 use Rattle.aw_term.specs.WellFormed.{Each}
 use Rattle.aw_base.specs.ChoiceFits.{choice_ok}
-use Rattle.aw_iograph.specs.Graphs.{Member}
 use Rattle.aw_apply.specs.Messages.{Message, New, Repeat}
 use Rattle.aw_react.specs.Homes.{home}
 use Rattle.aw_react.specs.Reacting.{receive}

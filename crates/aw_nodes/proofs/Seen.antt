@@ -3,6 +3,7 @@ use Rattle.std.specs.Prelude.{slice_get, slice_set}
 use Rattle.std.proofs.lemmas.Option.{slice_get_within}
 use Rattle.std.proofs.Common.{◌≡◌, ℕ, zero, suc, ◌<◌, Bool, true, false, List, [], ◌∷◌, ◌++◌, map, length, Option, Some, None, refl, sym, ap, ◌∙◌, subst, arith, append_assoc}
 use Rattle.std.proofs.lemmas.List.{append-nil, map-append}
+use Rattle.aw_list.proofs.Members.{got_map}
 use Rattle.aw_term.specs.Choices.{Choice}
 use Rattle.aw_term.specs.Rules.{Grammar, upto}
 use Rattle.aw_term.specs.WellFormed.{Each}
@@ -24,7 +25,6 @@ use Rattle.aw_nodes.proofs.Crashed.{Own, plain_run, run-own, run-size, empty-siz
 use Rattle.aw_nodes.proofs.ListParts.{set-get, set-append, map-set, map-get, map-map, map-self, set-same}
 use Rattle.aw_nodes.proofs.Served.{read-append}
 use Rattle.aw_merge.proofs.Lists.{length-mapped}
-use Rattle.aw_iograph.proofs.Members.{got_map}
 
 -- seen as a world
 choices-append : (hs is : List SiteEvent) → choices_in (hs ++ is) ≡ choices_in hs ++ choices_in is

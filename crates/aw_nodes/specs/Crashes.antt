@@ -1,10 +1,10 @@
 -- Worlds with crashes: a site may go back to an earlier one of its events.
 use Rattle.std.specs.Prelude.{◌≡◌, ℕ, ◌<◌, Bool, true, false, not, ◌&&◌, List, [], ◌∷◌, ◌++◌, map, length, take, Option, Some, None, slice_get, slice_set, nat_eq, nat_le, if◌then◌else◌, filter}
+use Rattle.aw_list.specs.Members.{Member}
 use Rattle.aw_term.specs.Choices.{Choice}
 use Rattle.aw_term.specs.Rules.{Grammar, get, upto}
 use Rattle.aw_term.specs.WellFormed.{Each}
 use Rattle.aw_base.specs.ChoiceFits.{choice_ok}
-use Rattle.aw_iograph.specs.Graphs.{Member}
 use Rattle.aw_apply.specs.Messages.{Message, Received, New}
 use Rattle.aw_joint.specs.Joint.{Joint}
 use Rattle.aw_react.specs.Choosing.{Chosen, No, Did, choose}

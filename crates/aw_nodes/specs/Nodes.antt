@@ -1,5 +1,6 @@
 -- Nodes: sites that are asked by frames, one beside the other.
 use Rattle.std.specs.Prelude.{◌≡◌, ℕ, ◌<◌, Bool, false, not, List, [], ◌∷◌, ◌++◌, length, Option, Some, None, slice_get, slice_set, nat_eq, if◌then◌else◌, filter}
+use Rattle.aw_list.specs.Members.{Member}
 use Rattle.aw_term.specs.Artifacts.{Item}
 use Rattle.aw_term.specs.Choices.{Choice, Answer}
 use Rattle.aw_term.specs.Names.{Ref}
@@ -7,7 +8,6 @@ use Rattle.aw_term.specs.Rules.{Grammar, get}
 use Rattle.aw_term.specs.Trees.{Never}
 use Rattle.aw_term.specs.WellFormed.{Each}
 use Rattle.aw_base.specs.ChoiceFits.{choice_ok}
-use Rattle.aw_iograph.specs.Graphs.{Member}
 use Rattle.aw_apply.specs.Messages.{Message, Received, New, Repeat, Conflict, NotMine, BadName, Content}
 use Rattle.aw_react.specs.Choosing.{Chosen, No, Did, answer_to, choose}
 use Rattle.aw_react.specs.Homes.{home}

@@ -1,5 +1,7 @@
 -- What a choice does to one case leaves the rows of others as they are.
 use Rattle.std.proofs.Common.{◌≡◌, ℕ, zero, suc, ◌+◌, Bool, true, false, cond, List, [], ◌∷◌, map, length, slice_get, refl, sym, ap, ◌∙◌, subst, inl, inr}
+use Rattle.aw_list.specs.Members.{Member}
+use Rattle.aw_list.proofs.Members.{never, member_unmap}
 use Rattle.aw_term.specs.Trees.{Leaf, Made, Trees, Nil, More, In, Ins, bind, binds}
 use Rattle.aw_term.specs.Names.{Node, Ref, node_eq, below, result, root}
 use Rattle.aw_term.specs.Rules.{Term, Ground, Value, Child, Rule, Grammar, get, upto}
@@ -8,8 +10,6 @@ use Rattle.aw_term.specs.Configs.{State, Done, Row, Config, env, nothing, fill, 
 use Rattle.aw_term.specs.Choices.{Choice, Start, Develop, Outcome, Refused, Starts, Takes, gives_of, start_row, outcome, taken, or_same, after}
 use Rattle.aw_term.proofs.NodeTests.{node_is}
 use Rattle.aw_term.proofs.RowParts.{rounds_node}
-use Rattle.aw_iograph.specs.Graphs.{Member}
-use Rattle.aw_iograph.proofs.Members.{never, member_unmap}
 use Rattle.aw_accept.specs.Acyclic.{Stands}
 use Rattle.aw_accept.proofs.Binding.{In-bind}
 use Rattle.aw_accept.proofs.Sources.{Source_at, env_enters, entered}

@@ -4,6 +4,7 @@ use Rattle.std.specs.Prelude.{option_and_then, Result, Ok, Err, IfOk, OnErr}
 use Rattle.std.proofs.Math.Logic.{∥∥₁_map, ∥∥₁_map₂}
 use Rattle.std.proofs.lemmas.List.{length-map}
 use Rattle.std.proofs.lemmas.Result.{IfOk-weaker}
+use Rattle.aw_list.proofs.Members.{never}
 use Rattle.aw_term.specs.Trees.{bind}
 use Rattle.aw_term.specs.Names.{Node, Ref, node_eq, node_lt}
 use Rattle.aw_term.specs.Rules.{Ground, Value, Child, Rule, Sort, Grammar}
@@ -21,7 +22,6 @@ use Rattle.aw_grammar.specs.GrammarOf.{grammar_of}
 use Rattle.aw_grammar.proofs.Fits.{each_at}
 use Rattle.aw_iograph.specs.Dependence.{IO, HasNoCircle}
 use Rattle.aw_iograph.proofs.Relations.{io_closed}
-use Rattle.aw_iograph.proofs.Members.{never}
 use Rattle.aw_accept.proofs.OneMore.{undivided_more}
 use Rattle.aw_accept.specs.Acyclic.{IsAcyclic, IsTree}
 use Rattle.aw_accept.specs.Missing.{IsMissing}

@@ -6,12 +6,12 @@ use Rattle.std.specs.Prelude.{◌⊎◌, not}
 use Rattle.std.specs.Cmp.{IsStrictWeakOrder}
 use Rattle.std.specs.List.{AllWithin}
 use Rattle.std.specs.List.Sorted.{IsPartitionedBy}
+use Rattle.aw_list.specs.Members.{Member}
 use Rattle.aw_term.specs.Names.{Node, node_lt}
 use Rattle.aw_term.specs.Rules.{Value}
 use Rattle.aw_term.specs.Configs as Q
 use Rattle.aw_term.specs.Configs.{State, Config}
 use Rattle.aw_term.specs.WellFormed.{Each}
-use Rattle.aw_iograph.specs.Graphs.{Member}
 use Rattle.aw_plain.specs.declared.row.Row.{Row}
 use Rattle.aw_plain.specs.RowView.{plain_row, config_of}
 use Rattle.aw_plain.specs.Ordered.{IsOrdered}

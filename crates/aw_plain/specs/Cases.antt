@@ -1,9 +1,9 @@
 -- Cases, and rows whose values hold holes of their own case alone.
 use Rattle.std.specs.Prelude.{◌≡◌, ℕ, Bool, ◌&&◌, ◌||◌, nat_eq, nat_lt, take, drop}
+use Rattle.aw_list.specs.Members.{Member}
 use Rattle.aw_term.specs.Names.{Node, Ref}
 use Rattle.aw_term.specs.Configs.{Row, Config}
 use Rattle.aw_term.specs.WellFormed.{Each}
-use Rattle.aw_iograph.specs.Graphs.{Member}
 use Rattle.aw_accept.specs.Acyclic.{Stands}
 
 -- two nodes of one case

@@ -2,6 +2,7 @@
 use Rattle.std.proofs.Common.{◌≡◌, ℕ, ◌<◌, ◌≤◌, Bool, List, [], ◌∷◌, ◌++◌, map, length, Option, Some, slice_get, refl, sym, ap, ◌∙◌, subst, arith, append_assoc, IfOk}
 use Rattle.std.specs.declared.result.Result.{Result}
 use Rattle.std.proofs.lemmas.Option.{slice_get_within}
+use Rattle.aw_list.proofs.Members.{never, got_map, got_unmap}
 use Rattle.aw_term.specs.Rules as P
 use Rattle.aw_term.specs.Trees.{Never}
 use Rattle.aw_term.specs.Choices.{gives_of}
@@ -14,7 +15,6 @@ use Rattle.aw_grammar.specs.GrammarView.{sort_of, sorts_of}
 use Rattle.aw_grammar.specs.GrammarOf.{grammar_of, words_of, declarations_of}
 use Rattle.aw_grammar.specs.Declarations.{grammar_in, words_in}
 use Rattle.aw_grammar.proofs.Entries.{declared_words, declared_grammar}
-use Rattle.aw_iograph.proofs.Members.{never, got_map, got_unmap}
 use Rattle.aw_told.specs.Told.{TellsAccepted}
 use Rattle.aw_apart.specs.ApartTold.{TellsRoles}
 use Rattle.aw_modular.specs.Refusals.{IsPosition}

@@ -1,5 +1,6 @@
 -- What is promised of the events that an input spells behind a good specification, apart from what is written of them.
 use Rattle.std.specs.Prelude.{◌≡◌, ℕ, suc, Bool, true, List, [], ◌++◌, take, drop, Some, ◌⊎◌}
+use Rattle.aw_list.specs.Members.{Member}
 use Rattle.aw_lex.specs.Lines.{lines_of}
 use Rattle.aw_term.specs.Trees.{Never}
 use Rattle.aw_term.specs.Names.{Node, Ref, root}
@@ -9,7 +10,6 @@ use Rattle.aw_term.specs.Choices.{Choice, Start, Develop, Developed, Refused, St
 use Rattle.aw_term.specs.Artifacts.{Words}
 use Rattle.aw_term.specs.Runs.{after_all, artifacts}
 use Rattle.aw_grammar.specs.Declarations.{grammar_in, words_in}
-use Rattle.aw_iograph.specs.Graphs.{Member}
 use Rattle.aw_iograph.specs.Dependence.{IO}
 use Rattle.aw_accept.specs.Acyclic.{IsAcyclic}
 use Rattle.aw_typed.specs.Types.{Types}

@@ -4,6 +4,7 @@ use Rattle.std.specs.Prelude.{not, ◌&&◌, ◌||◌, option_map}
 use Rattle.std.proofs.Math.Logic.{∥∥₁_elim}
 use Rattle.std.proofs.Math.Bool.{Bool-set}
 use Rattle.std.proofs.lemmas.Bool.{and_parts, and_from}
+use Rattle.aw_list.specs.Members.{Member}
 use Rattle.aw_term.specs.Trees.{Head}
 use Rattle.aw_term.specs.Names.{Step, Node, Ref, node_eq, node_lt, below}
 use Rattle.aw_term.specs.Rules as P
@@ -20,7 +21,6 @@ use Rattle.aw_choice.specs.declared.choice.Choice.TheVariants as choice
 use Rattle.aw_grammar.specs.declared.grammar.Grammar.{Grammar}
 use Rattle.aw_grammar.specs.GrammarOf.{grammar_of, words_of}
 use Rattle.aw_base.specs.ChoiceFits.{choice_ok, args_ok, ref_ok}
-use Rattle.aw_iograph.specs.Graphs.{Member}
 use Rattle.aw_iograph.specs.Occurrences.{pattern_entries}
 use Rattle.aw_store.specs.Adding.{AreNew}
 use Rattle.aw_store.specs.Equations.{Is, Equation, Map, find}

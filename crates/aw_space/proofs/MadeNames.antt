@@ -2,15 +2,15 @@
 use Rattle.std.specs.Prelude.{nat_le, slice_get}
 use Rattle.std.proofs.Common.{List, None, Option, Some, [], ap, arith, inl, inr, length, refl, subst, suc, sym, true, ℕ, ◌+◌, ◌<◌, ◌∙◌, ◌∷◌, ◌≡◌, ◌≤◌}
 use Rattle.std.proofs.lemmas.Bool.{and_from, and_parts, eq-eqb, le-leb, leb-true}
+use Rattle.aw_list.specs.Members.{Member}
+use Rattle.aw_list.proofs.Members.{member_got, never}
 use Rattle.aw_term.specs.Artifacts.{Words}
 use Rattle.aw_term.specs.Names.{Node, Part, Ref, Result, Slot, below, result}
 use Rattle.aw_term.specs.Rules.{Child, Grammar, Ground, Rule, Sort, Term, sort_of}
 use Rattle.aw_term.specs.WellFormed.{ChildFits, IsWellFormed, RuleFits, SortFits, TermFits, child_symbols, heads_fit, symbols_of, takes_of, variables}
 use Rattle.aw_base.specs.ChoiceFits.{args_ok, ground_ok, grounds_ok, ref_ok, slot_ok}
 use Rattle.aw_base.specs.NodeNames.{is_start}
-use Rattle.aw_iograph.specs.Graphs.{Member}
 use Rattle.aw_iograph.specs.Occurrences.{pattern_entries}
-use Rattle.aw_iograph.proofs.Members.{member_got, never}
 use Rattle.aw_accept.specs.Acyclic.{IsGivenGrammar, gives}
 use Rattle.aw_accept.proofs.Fitting.{each_member, given_of}
 use Rattle.aw_store.specs.Equations.{Equation}

@@ -2,6 +2,7 @@
 use Rattle.std.proofs.Common.{◌≡◌, ℕ, zero, suc, ◌<◌, get_or, arith, Bool, true, false, cond, List, [], ◌∷◌, map, filter, length, Option, Some, None, refl, ap, sym, ◌∙◌, is_some}
 use Rattle.std.specs.Prelude.{option_map}
 use Rattle.std.proofs.lemmas.Bool.{and_parts, and_from}
+use Rattle.aw_list.proofs.Members.{never}
 use Rattle.aw_term.specs.Trees.{Never}
 use Rattle.aw_term.specs.Names.{Node, node_eq, node_lt}
 use Rattle.aw_term.specs.Rules.{Grammar, sort_of}
@@ -9,7 +10,6 @@ use Rattle.aw_term.specs.WellFormed.{Each, Later}
 use Rattle.aw_term.specs.Held as P
 use Rattle.aw_term.proofs.Eaches.{each_map}
 use Rattle.aw_term.proofs.NodeTests.{node_is}
-use Rattle.aw_iograph.proofs.Members.{never}
 use Rattle.aw_apply.specs.Made.{Call}
 use Rattle.aw_apply.specs.MadeView.{as_child}
 use Rattle.aw_apply.specs.declared.making.MadeChild.{MadeChild}

@@ -1,10 +1,10 @@
 -- What a space keeps whatever comes.
 use Rattle.std.specs.Prelude.{◌≡◌, ℕ, List, ◌⊎◌}
+use Rattle.aw_list.specs.Members.{Member}
 use Rattle.aw_term.specs.Names.{Node}
 use Rattle.aw_term.specs.Rules.{Ground}
 use Rattle.aw_term.specs.Configs.{Done}
 use Rattle.aw_term.specs.Held.{Held}
-use Rattle.aw_iograph.specs.Graphs.{Member}
 use Rattle.aw_store.specs.Equations.{Map}
 use Rattle.aw_joint.specs.Laws.{IsSubmap, YesStays, DiffersStays}
 

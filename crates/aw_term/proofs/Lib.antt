@@ -1,5 +1,6 @@
 pub mod ByNodeLemmas
 pub mod Eaches
+pub mod Gets
 pub mod GrammarTests
 pub mod HeadTests
 pub mod Joined

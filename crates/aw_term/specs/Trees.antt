@@ -1,8 +1,6 @@
 -- Trees: one type for written terms, for arguments and for values.
 use Rattle.std.specs.Prelude.{◌≡◌, ℕ, suc, Bool, true, false, ◌&&◌, List, [], ◌∷◌, nat_eq, ◌⊎◌}
-
--- no leaf is of this type
-pub data Never : Type 0 where
+pub use Rattle.aw_list.specs.Members.{Never}
 
 -- what stands at an inner place: a constructor, a number or a text
 pub data Head : Type 0 where

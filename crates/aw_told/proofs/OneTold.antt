@@ -3,13 +3,13 @@ use Rattle.std.proofs.Common.{◌≡◌, ℕ, ◌<◌, ◌≤◌, Bool, true, fa
 use Rattle.std.specs.Prelude.{◌⊎◌}
 use Rattle.std.proofs.lemmas.Bool.{cases_order}
 use Rattle.std.proofs.Math.Path.{fun_ext}
+use Rattle.aw_list.proofs.Members.{never, member_got}
 use Rattle.aw_term.specs.Trees.{Never}
 use Rattle.aw_term.specs.Rules as P
 use Rattle.aw_term.specs.Artifacts.{Words}
 use Rattle.aw_iograph.specs.declared.occ.Occ.{Occ}
 use Rattle.aw_iograph.specs.Occurrences.{IsUpTo}
 use Rattle.aw_iograph.specs.Dependence.{Relation, IO, LeastOnCircle, HasNoCircle}
-use Rattle.aw_iograph.proofs.Members.{never, member_got}
 use Rattle.aw_accept.specs.declared.refused.Fault.{Fault}
 use Rattle.aw_accept.specs.Circular.{LeastFault, LeastFaultOver}
 use Rattle.aw_told.specs.Told.{IsDependence, TellsAccepted, accepted_text}

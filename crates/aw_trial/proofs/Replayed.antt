@@ -2,6 +2,7 @@
 use Rattle.std.proofs.Common.{◌≡◌, ℕ, zero, suc, Bool, cond, true, false, List, [], ◌∷◌, ◌++◌, length, map, Some, None, refl, ap, sym, ◌∙◌, subst, inl, inr, ◌+◌, arith}
 use Rattle.std.specs.Prelude.{slice_get, Option, is_some, nat_eq, nat_le, ◌⊎◌}
 use Rattle.std.proofs.lemmas.Bool.{and_from}
+use Rattle.aw_list.proofs.Members.{never}
 use Rattle.aw_term.specs.Trees.{Never}
 use Rattle.aw_term.specs.Names.{Node}
 use Rattle.aw_term.specs.Rules.{Grammar, Rule, get, sort_of}
@@ -12,7 +13,6 @@ use Rattle.aw_term.specs.WellFormed.{Each}
 use Rattle.aw_choice.specs.Events.{Event, Chooses, Delivers, Settles}
 use Rattle.aw_base.specs.ChoiceFits.{args_ok, choice_ok}
 use Rattle.aw_base.specs.NodeNames.{is_start}
-use Rattle.aw_iograph.proofs.Members.{never}
 use Rattle.aw_joint.specs.Laws.{IsAccepted}
 use Rattle.aw_kept.specs.Records.{rules_of}
 use Rattle.aw_apply.specs.Messages.{Message, Received, Repeat, New}

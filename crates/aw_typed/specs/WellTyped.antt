@@ -1,12 +1,12 @@
 -- Well-typed configurations, and that a typed grammar leads to no other.
 use Rattle.std.specs.Prelude.{◌≡◌, ℕ, Bool, true, List, [], Option, Some, None, option_and_then}
+use Rattle.aw_list.specs.Members.{Member}
 use Rattle.aw_term.specs.Names.{Ref, Slot, Result, Part}
 use Rattle.aw_term.specs.Rules.{Grammar, sort_of}
 use Rattle.aw_term.specs.Configs.{Row, Config}
 use Rattle.aw_term.specs.Choices.{Choice, undivided}
 use Rattle.aw_term.specs.WellFormed.{Each}
 use Rattle.aw_base.specs.ChoiceFits.{choice_ok}
-use Rattle.aw_iograph.specs.Graphs.{Member}
 use Rattle.aw_iograph.specs.Occurrences.{item}
 use Rattle.aw_typed.specs.Types.{Types, takes, gives, AreFor}
 use Rattle.aw_typed.specs.Fitting.{is_type, all_fit}

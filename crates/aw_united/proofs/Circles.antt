@@ -3,10 +3,10 @@ use Rattle.std.proofs.Common.{◌≡◌, ℕ, zero, suc, refl, sym, subst}
 use Rattle.std.specs.Prelude.{◌↔◌, Some}
 use Rattle.std.proofs.Math.Logic.{∥∥₁_elim}
 use Rattle.std.proofs.Props.{props}
+use Rattle.aw_list.specs.Members.{Member}
+use Rattle.aw_list.proofs.Members.{never, member_got}
 use Rattle.aw_term.specs.Rules.{Grammar}
-use Rattle.aw_iograph.specs.Graphs.{Member}
 use Rattle.aw_iograph.specs.Dependence.{io, IO, HasNoCircle}
-use Rattle.aw_iograph.proofs.Members.{never, member_got}
 use Rattle.aw_iograph.proofs.Relations.{plus_map}
 use Rattle.aw_accept.specs.Circular.{LeastFault}
 use Rattle.aw_accept.specs.Refusals.{Tells}

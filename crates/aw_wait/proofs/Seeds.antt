@@ -2,6 +2,7 @@
 use Rattle.std.proofs.Common.{◌≡◌, ℕ, zero, suc, ◌+◌, ◌<◌, ◌≤◌, List, length, Some, slice_get, sym, ◌∙◌, subst, inl, inr, arith}
 use Rattle.std.specs.Prelude.{◌⊎◌, ◌↔◌}
 use Rattle.std.proofs.lemmas.Option.{slice_get_within}
+use Rattle.aw_list.proofs.Members.{never, below_or_at, member_got, member_place}
 use Rattle.aw_term.specs.Trees.{Never}
 use Rattle.aw_term.specs.Rules as P
 use Rattle.aw_term.specs.Rules.{Term}
@@ -9,7 +10,6 @@ use Rattle.aw_grammar.specs.declared.grammar.Grammar.{Grammar}
 use Rattle.aw_iograph.specs.declared.io.Io.{Io}
 use Rattle.aw_iograph.specs.Occurrences.{item}
 use Rattle.aw_iograph.specs.Pairs.{Has, HasSort, IsFor}
-use Rattle.aw_iograph.proofs.Members.{never, below_or_at, member_got, member_place}
 use Rattle.aw_accept.specs.Acyclic.{gives}
 use Rattle.aw_wait.specs.Waiting.{Looks, IsHeldUp}
 use Rattle.aw_wait.specs.Seeding.{Adds, AtValue, AtPattern, IsHeldUpBy, IsHeldUpBefore}

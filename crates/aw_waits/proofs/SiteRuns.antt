@@ -1,6 +1,8 @@
 -- A wait over the equations of a workspace is one of the undivided configuration.
 use Rattle.std.proofs.Common.{◌≡◌, ℕ, List, [], ◌∷◌, Option, Some, None, refl, sym, ap, ◌∙◌, subst, inl, inr}
 use Rattle.std.proofs.lemmas.Option.{same_Some}
+use Rattle.aw_list.specs.Members.{Member}
+use Rattle.aw_list.proofs.Members.{never, member_got}
 use Rattle.aw_term.specs.Trees.{Never}
 use Rattle.aw_term.specs.Names.{Node, Ref, result}
 use Rattle.aw_term.specs.Rules.{Value, Rule, Grammar}
@@ -8,9 +10,7 @@ use Rattle.aw_term.specs.Matching.{Matched, Yes, Waits, Differs, Circle, match_a
 use Rattle.aw_term.specs.Configs.{Pending, Row, Config}
 use Rattle.aw_term.specs.Choices.{Choice, undivided}
 use Rattle.aw_term.specs.Artifacts.{Words}
-use Rattle.aw_iograph.specs.Graphs.{Member}
 use Rattle.aw_iograph.specs.Dependence.{IO, HasNoCircle}
-use Rattle.aw_iograph.proofs.Members.{never, member_got}
 use Rattle.aw_accept.specs.Acyclic.{Pairs, IsGivenGrammar}
 use Rattle.aw_accept.proofs.Fitting.{given_of}
 use Rattle.aw_store.specs.Equations.{Body, Map, find}

@@ -1,12 +1,12 @@
 -- Waiting at a workspace, which knows some of the equations of the taken choices.
 use Rattle.std.specs.Prelude.{◌≡◌, ℕ, List, [], Some, None}
+use Rattle.aw_list.specs.Members.{Member}
 use Rattle.aw_term.specs.Trees.{Never}
 use Rattle.aw_term.specs.Names.{Node, Ref, result}
 use Rattle.aw_term.specs.Rules.{Term, Ground, Rule, Grammar}
 use Rattle.aw_term.specs.Matching.{Waits}
 use Rattle.aw_term.specs.Configs.{Pending, Config}
 use Rattle.aw_term.specs.Choices.{Choice, Develop, undivided}
-use Rattle.aw_iograph.specs.Graphs.{Member}
 use Rattle.aw_store.specs.Equations.{Map, find}
 use Rattle.aw_apply.specs.Guard.{guard_all}
 use Rattle.aw_joint.specs.Joint.{Held, Joint, empty_joint, joint_run}

@@ -1,9 +1,9 @@
 -- Of two workspaces the one whose next node comes first.
 use Rattle.std.proofs.Common.{◌≡◌, ℕ, ◌+◌, ◌<◌, ◌≤◌, arith, Bool, true, false, List, refl, subst, Some, None}
+use Rattle.aw_list.proofs.Members.{never}
 use borrow.Author.Count.{below_more}
 use Rattle.aw_term.specs.Names.{Node, node_lt}
 use Rattle.aw_term.proofs.NodeOrder.{node_order, node-no}
-use Rattle.aw_iograph.proofs.Members.{never}
 use Rattle.aw_held.specs.declared.held.Held.{Held}
 use Rattle.aw_world.specs.declared.workspace.Workspace.{Ghosts}
 use Rattle.aw_world.specs.Firsts.{next_of, IsFirst, IsFirstOf}

@@ -2,6 +2,7 @@
 use Rattle.std.proofs.Common.{◌≡◌, ℕ, ◌+◌, ◌<◌, ◌≤◌, arith, Bool, true, false, List, [], ◌∷◌, ◌++◌, length, map, ap, sym, ◌∙◌, refl, subst}
 use Rattle.std.specs.Prelude.{slice_set, if◌then◌else◌}
 use Rattle.std.proofs.lemmas.List.{length-map, length-append, map-append, append-nil}
+use Rattle.aw_list.proofs.Members.{never}
 use Rattle.aw_accept.specs.Acyclic.{Pairs}
 use Rattle.aw_term.specs.Trees.{Never}
 use Rattle.aw_term.specs.Names.{Ref}
@@ -15,7 +16,6 @@ use Rattle.aw_choice.specs.declared.choice.Answer.{Answer}
 use Rattle.aw_choice.specs.ChoiceView.{choice_of, answer_of}
 use Rattle.aw_react.specs.Sites.{Site, Reaction, empty_site}
 use Rattle.aw_react.specs.Choosing.{Chosen, No, Did, choose}
-use Rattle.aw_iograph.proofs.Members.{never}
 use Rattle.aw_merge.proofs.Refusing.{refusals_law}
 use Rattle.aw_apply.specs.Messages.{Received, BadName, NotMine, Conflict, Repeat, New}
 use Rattle.aw_react.specs.Worlds as V

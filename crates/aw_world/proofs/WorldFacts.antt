@@ -7,14 +7,14 @@ use mathlib.Core.Logic.{∥∥₁_prop}
 use Rattle.std.proofs.Math.Nat.{ℕ_set}
 use Rattle.std.proofs.lemmas.List.{length-map}
 use Rattle.std.proofs.lemmas.Option.{slice_get-map, same_Some}
+use Rattle.aw_list.specs.Members.{Member}
+use Rattle.aw_list.proofs.Members.{member_got}
 use Rattle.aw_term.specs.Rules.{get}
 use Rattle.aw_term.specs.Rules as R
 use Rattle.aw_term.specs.Artifacts.{Words}
 use Rattle.aw_term.specs.WellFormed.{Each}
 use Rattle.aw_term.specs.Held as P
 use Rattle.aw_term.proofs.GrammarTests.{grammars_are_one}
-use Rattle.aw_iograph.specs.Graphs.{Member}
-use Rattle.aw_iograph.proofs.Members.{member_got}
 use Rattle.aw_accept.specs.Acyclic.{Pairs}
 use Rattle.aw_accept.specs.declared.accepted.Accepted.{Accepted}
 use Rattle.aw_grammar.specs.declared.grammar.Grammar.{Grammar}

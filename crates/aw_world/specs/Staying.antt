@@ -1,10 +1,10 @@
 -- What every step of a world keeps, and what is known of the choices taken.
 use Rattle.std.specs.Prelude.{◌≡◌, ℕ, List, [], Some, ◌⊎◌}
+use Rattle.aw_list.specs.Members.{Member}
 use Rattle.aw_term.specs.Rules.{Ground, Grammar}
 use Rattle.aw_term.specs.Configs.{Config, Done}
 use Rattle.aw_term.specs.Choices.{Choice, undivided}
 use Rattle.aw_term.specs.Held.{Held}
-use Rattle.aw_iograph.specs.Graphs.{Member}
 use Rattle.aw_iograph.specs.Dependence.{IO}
 use Rattle.aw_accept.specs.Acyclic.{IsAcyclic}
 use Rattle.aw_react.specs.Worlds.{World, site_at}

@@ -1,4 +1,4 @@
-use Rattle.aw_iograph.proofs.Members.{got_here}
+use Rattle.aw_list.proofs.Members.{got_here}
 use Rattle.aw_iograph.proofs.Gaining.{gain_child}
 use Rattle.aw_iograph.proofs.arcs.add_all_calls.Goals as goal
 

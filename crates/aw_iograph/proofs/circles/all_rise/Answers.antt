@@ -1,5 +1,5 @@
 use Rattle.std.proofs.Common.{◌<◌, arith}
-use Rattle.aw_iograph.proofs.Members.{member_place}
+use Rattle.aw_list.proofs.Members.{member_place}
 use Rattle.aw_iograph.proofs.circles.all_rise.Goals as goal
 
 pub returns : goal.returns

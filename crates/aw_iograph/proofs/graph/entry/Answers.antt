@@ -1,6 +1,6 @@
 use Rattle.std.proofs.Common.{sym, ap, ◌∙◌, slice_get, Option, None}
+use Rattle.aw_term.proofs.Gets.{get_some, get_none}
 use Rattle.aw_iograph.specs.declared.occ.Occ.{Occ}
-use Rattle.aw_iograph.proofs.Members.{get_some, get_none}
 use Rattle.aw_iograph.proofs.graph.entry.Goals as goal
 
 pub returns-in-Some : goal.returns-in-Some

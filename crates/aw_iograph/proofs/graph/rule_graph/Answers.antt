@@ -1,7 +1,7 @@
 use Rattle.std.proofs.Common.{List, ap, sym, ◌∙◌, subst}
+use Rattle.aw_list.specs.Members.{Member}
 use Rattle.aw_grammar.specs.GrammarView.{rule_of}
 use Rattle.aw_iograph.specs.declared.occ.Flow.{Flow}
-use Rattle.aw_iograph.specs.Graphs.{Member}
 use Rattle.aw_iograph.specs.Occurrences.{text_flows}
 use Rattle.aw_iograph.proofs.CircleLemmas.{rule_here}
 use Rattle.aw_iograph.proofs.TextFlows.{flows_all, flows_only}

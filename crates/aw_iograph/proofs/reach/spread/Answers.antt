@@ -1,7 +1,7 @@
 use Rattle.std.proofs.Common.{◌≡◌, ◌<◌, ap, sym, ◌∙◌, subst, get_or, arith}
 use Rattle.std.specs.Prelude.{◌||◌}
+use Rattle.aw_list.proofs.Members.{member_at}
 use Rattle.aw_iograph.specs.declared.reach.Arc.{Arc}
-use Rattle.aw_iograph.proofs.Members.{member_at}
 use Rattle.aw_iograph.proofs.Reaching.{spread_step, spread_all}
 use Rattle.aw_iograph.proofs.reach.spread.Goals as goal
 use Rattle.aw_iograph.proofs.reach.spread.Goals.{then-pass_on, else-pass_on}

@@ -1,7 +1,7 @@
 use Rattle.std.proofs.Common.{◌≡◌, ◌<◌, ap, sym, ◌∙◌, subst, get_or, arith}
 use Rattle.std.specs.Prelude.{◌||◌}
+use Rattle.aw_list.proofs.Members.{member_at}
 use Rattle.aw_iograph.specs.declared.reach.Arc.{Arc}
-use Rattle.aw_iograph.proofs.Members.{member_at}
 use Rattle.aw_iograph.proofs.Joining.{join_step, join_all}
 use Rattle.aw_iograph.proofs.rows.join_rows.Goals as goal
 use Rattle.aw_iograph.proofs.rows.join_rows.Goals.{then-join_row, else-join_row}

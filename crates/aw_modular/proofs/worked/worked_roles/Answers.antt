@@ -1,10 +1,10 @@
 use Rattle.std.proofs.Common.{◌≡◌, ℕ, List, [], ◌∷◌, refl, ap, inl, inr, arith}
+use Rattle.aw_list.proofs.Members.{never}
 use Rattle.aw_term.specs.Trees.{Never}
 use Rattle.aw_iograph.specs.Graphs.{Plus, step, more}
 use Rattle.aw_iograph.specs.Occurrences.{inherited}
 use Rattle.aw_iograph.specs.Dependence.{Edge, text, call}
 use Rattle.aw_base.specs.declared.declared.Triple.{Triple}
-use Rattle.aw_iograph.proofs.Members.{never}
 use Rattle.aw_tried.specs.Decided.{Pair}
 use Rattle.aw_tried.specs.Grammars.{analyse, skip, file, clinic_of, ring}
 use Rattle.aw_modular.specs.Roles.{Declares, Mixed, RoleRelation}

@@ -1,6 +1,6 @@
 use Rattle.std.proofs.Common.{◌≡◌, ℕ, true, List, [], ◌∷◌, refl, inl, arith}
+use Rattle.aw_list.specs.Members.{Member}
 use Rattle.aw_term.specs.WellFormed.{Each}
-use Rattle.aw_iograph.specs.Graphs.{Member}
 use Rattle.aw_accept.proofs.Fitting.{each_member}
 use Rattle.aw_nodes.specs.Crashes.{Posted, is_dropped, MayGoBack}
 use Rattle.aw_nodes.specs.Worked.{before_it, calls_test, posted_by}

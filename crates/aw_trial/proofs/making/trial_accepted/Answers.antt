@@ -1,7 +1,7 @@
 use Rattle.std.proofs.Common.{Err, ap, sym, ◌∙◌, subst}
 use Rattle.std.specs.Prelude.{IfErr}
+use Rattle.aw_list.proofs.Members.{never, member_got}
 use Rattle.aw_grammar.specs.GrammarOf.{grammar_of}
-use Rattle.aw_iograph.proofs.Members.{never, member_got}
 use Rattle.aw_iograph.specs.Dependence.{IO, HasNoCircle}
 use Rattle.aw_accept.specs.Refusals.{Tells}
 use Rattle.aw_trial.proofs.Declares.{trial_no_circle}

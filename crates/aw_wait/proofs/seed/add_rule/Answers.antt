@@ -1,8 +1,8 @@
 use Rattle.std.proofs.Common.{◌+◌, refl}
+use Rattle.aw_list.proofs.Members.{got_here, got_map}
 use Rattle.aw_term.specs.Views.{pattern_of}
 use Rattle.aw_grammar.specs.GrammarView.{rule_of}
 use Rattle.aw_grammar.specs.GrammarOf.{grammar_of}
-use Rattle.aw_iograph.proofs.Members.{got_here, got_map}
 use Rattle.aw_wait.proofs.Seeds.{adds_none, rule_more, rule_none, ByFirst}
 use Rattle.aw_wait.proofs.seed.add_rule.Goals as goal
 

@@ -1,8 +1,8 @@
 use Rattle.std.proofs.Common.{◌≤◌, length, subst, sym, arith}
 use Rattle.std.proofs.lemmas.List.{length-map}
+use Rattle.aw_list.proofs.Members.{got_map}
 use Rattle.aw_grammar.specs.GrammarView.{rule_of}
 use Rattle.aw_grammar.specs.GrammarOf.{grammar_of}
-use Rattle.aw_iograph.proofs.Members.{got_map}
 use Rattle.aw_wait.specs.Seeding.{IsHeldUpBefore}
 use Rattle.aw_wait.proofs.Seeds.{adds_none, rules_more, rules_all, rules_none}
 use Rattle.aw_wait.proofs.seed.held_up.Goals as goal

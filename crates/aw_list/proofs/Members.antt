@@ -1,10 +1,8 @@
 -- Members of a list and their places.
-use Rattle.std.proofs.Common.{◌≡◌, ℕ, zero, suc, ◌+◌, ◌<◌, List, [], ◌∷◌, ◌++◌, map, length, Option, Some, None, slice_get, refl, sym, ap, ◌∙◌, subst, inl, inr, arith, get_or}
+use Rattle.std.proofs.Common.{◌≡◌, ℕ, zero, suc, ◌+◌, ◌<◌, List, [], ◌∷◌, ◌++◌, map, length, Some, slice_get, refl, sym, ap, ◌∙◌, subst, inl, inr, arith, get_or}
 use Rattle.std.specs.Prelude.{◌⊎◌}
 use Rattle.std.proofs.lemmas.Option.{get_or_from_slice_get, slice_get_read}
-use Rattle.aw_term.specs.Trees.{Never}
-use Rattle.aw_term.specs.Rules.{get, upto}
-use Rattle.aw_iograph.specs.Graphs.{Member}
+use Rattle.aw_list.specs.Members.{Member, Never}
 
 pub never : {A : Type 0} → Never → A
 never x = elim x [ ]
@@ -33,16 +31,6 @@ below_or_at (suc k) (suc i) lt = let l : k < i + 1 = omega arith in elim (below_
 -- what holds of each item before a place, and of the one there, holds of each up to it
 pub each_more : {A : Type 0} (P : A → Type 0) (xs : List A) (i : ℕ) (d : A) → ((k : ℕ) → k < i → (x : A) → slice_get xs k ≡ Some x → P x) → P (get_or xs i d) → (k : ℕ) → k < i + 1 → (x : A) → slice_get xs k ≡ Some x → P x
 each_more P xs i d before here k lt x e = elim (below_or_at k i lt) [ inl less ↦ before k less x e | inr same ↦ subst P (get_or_from_slice_get xs i x d (ap (slice_get xs) (sym same) ∙ e)) here ]
-
-pub get_some : {A : Type 0} (d : A) (xs : List A) (i : ℕ) (x : A) → slice_get xs i ≡ Some x → get d xs i ≡ x
-get_some d [] i x e = cc
-get_some d (y ∷ ys) zero x e = cc
-get_some d (y ∷ ys) (suc i) x e = get_some d ys i x e
-
-pub get_none : {A : Type 0} (d : A) (xs : List A) (i : ℕ) → slice_get xs i ≡ None → get d xs i ≡ d
-get_none d [] i e = refl
-get_none d (y ∷ ys) zero e = cc
-get_none d (y ∷ ys) (suc i) e = get_none d ys i e
 
 pub member_left : {A : Type 0} (x : A) (xs ys : List A) → Member x xs → Member x (xs ++ ys)
 member_left x [] ys m = never m
@@ -77,16 +65,6 @@ pub got_unmap : {A B : Type 0} (f : A → B) (xs : List A) (i : ℕ) (y : B) →
 got_unmap f [] i y e = absurd cc
 got_unmap f (x ∷ xs) zero y e = let same : y ≡ f x = cc in (x, refl, same)
 got_unmap f (x ∷ xs) (suc i) y e = got_unmap f xs i y e
-
-pub get_member : {A : Type 0} (xs : List (Option A)) (i : ℕ) (x : A) → get None xs i ≡ Some x → Member (Some x) xs
-get_member [] i x e = absurd cc
-get_member (y ∷ ys) zero x e = inl (sym e)
-get_member (y ∷ ys) (suc i) x e = inr (get_member ys i x e)
-
-pub member_upto : (x n m : ℕ) → Member x (upto n m) → (i : ℕ) × (i < m) × (x ≡ n + i)
-member_upto x n zero m' = never m'
-member_upto x n (suc m) (inl e) = let z : x ≡ n + 0 = omega arith in (0, omega arith, z)
-member_upto x n (suc m) (inr r) = let (i, lt, e) = member_upto x (suc n) m r in let z : x ≡ n + suc i = omega arith in (suc i, omega arith, z)
 
 pub got_here : {A : Type 0} (xs ys : List A) (i : ℕ) (x : A) → xs ≡ ys → i < length xs → x ≡ get_or xs i x → slice_get ys i ≡ Some x
 got_here xs ys i x same lt e = subst (λ (zs : List _). slice_get zs i ≡ Some x) same (slice_get_read xs (length xs) i x refl lt e)
