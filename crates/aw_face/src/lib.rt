@@ -3,7 +3,7 @@
 
 pub mod check;
 pub mod faces;
-pub mod uses;
+mod uses;
 
 pub use check::{check_faces, is_offered, rule_fault};
 pub use faces::{FaceFault, FaceKind, Faces, Using};

@@ -1,5 +1,5 @@
-//! What names write where they are hashed: a node its case, and one number made of its steps and its start; a reference the same
-//! with its slot in the number. Two writes cost less than one for each part.
+//! What names write where they are hashed: a node one number made of its steps, its start and its case; a reference the same
+//! with its slot in the number. One write costs less than one for each part.
 ghost use Rattle.std.specs.Prelude.{◌≡◌, ◌<◌};
 ghost use Rattle.std.specs.Hash.{same_Alike};
 ghost use Rattle.aw_name.specs.Digest.{digest_and};
@@ -15,8 +15,11 @@ impl Hash for Node {
     ghost respects_eq = { (same_Alike node_writes derived_node_Decides).fed };
 
     fn hash<H: Hasher>(&self, state: &mut H) {
-        self.case.hash(state);
-        digest_and(self.steps.digest(), u64::from(self.start)).hash(state);
+        digest_and(
+            digest_and(self.steps.digest(), u64::from(self.start)),
+            self.case,
+        )
+        .hash(state);
     }
 }
 
@@ -42,8 +45,11 @@ impl Hash for Ref {
     ghost respects_eq = { (same_Alike ref_writes derived_ref_Decides).fed };
 
     fn hash<H: Hasher>(&self, state: &mut H) {
-        self.node.case.hash(state);
         let number = u64::from(self.node.start) * SLOTS + self.slot.number();
-        digest_and(self.node.steps.digest(), number).hash(state);
+        digest_and(
+            digest_and(self.node.steps.digest(), number),
+            self.node.case,
+        )
+        .hash(state);
     }
 }

@@ -1,7 +1,7 @@
 //! The text of a specification. `specs/Lines.antt` says how each line is spelled, `specs/Reading.antt` what the lines of a text say.
 #![tactic(auto)]
 
-pub mod dependences;
+mod dependences;
 pub mod draft;
 pub mod fault;
 pub mod law;
