@@ -192,12 +192,26 @@ impl Items<u8> {
         })
     }
 
-    /// Adds the bytes at the end. An error changes nothing.
+    /// Adds a byte at the end. An error changes nothing.
+    fn push_byte(&mut self, byte: u8) -> Result<(), AllocError>
+        ensures ok { OnOk result (self.new ≡ self.old ++ byte ∷ []) }
+        ensures err { OnErr result (self.new ≡ self.old) }
+    {
+        match self.items.push(byte) {
+            Ok(()) => Ok(()),
+            Err(_) => Err(AllocError),
+        }
+    }
+
+    /// Adds the bytes at the end. An error changes nothing. A single byte, as marks and short numbers are, goes a shorter way.
     pub fn push_bytes(&mut self, bytes: &[u8]) -> Result<(), AllocError>
         ensures ok { OnOk result (self.new ≡ self.old ++ bytes.now) }
         ensures err { OnErr result (self.new ≡ self.old) }
     {
-        self.items.extend_from_slice(bytes)
+        match bytes {
+            [byte] => self.push_byte(*byte),
+            _ => self.items.extend_from_slice(bytes),
+        }
     }
 }
 
