@@ -1,8 +1,7 @@
 -- A space with one more called node.
 use Rattle.std.proofs.Common.{◌≡◌, ℕ, Bool, true, false, List, Option, Some, None, refl, ap, sym, ◌∙◌, subst}
-use Rattle.std.specs.Prelude.{Result, Ok, Err, IfOk, OnErr, not, ◌&&◌, ◌||◌, unwrap_or, option_map}
+use Rattle.std.specs.Prelude.{not, ◌&&◌, ◌||◌, unwrap_or, option_map}
 use Rattle.std.proofs.lemmas.Bool.{and_parts, and_from}
-use Rattle.std.proofs.lemmas.Option.{same_Some}
 use Rattle.aw_term.specs.Names.{Node, Ref}
 use Rattle.aw_term.specs.Rules.{Grammar, sort_of}
 use Rattle.aw_term.specs.Held.{insert_held}
@@ -17,15 +16,11 @@ use Rattle.aw_joint.specs.Joint.{called_held}
 use Rattle.aw_react.specs.Homes.{has_steps, parent}
 use Rattle.aw_react.specs.ValidNames.{refs_ok, takes_as}
 use Rattle.aw_react.specs.Reacting.{add_held}
-use Rattle.aw_space.specs.Keeping.{KeepsNodes}
-use Rattle.aw_space.proofs.Staying.{nodes_same, nodes_put}
 use Rattle.aw_space.specs.Missing.{missing_on, missing_node, with_node, inherited_by, LacksIf}
-use Rattle.aw_space.specs.Placings.{MayBeCalled, MayBeCalledIf, called_open, placed_call, Places, Puts}
+use Rattle.aw_space.specs.Placings.{MayBeCalled, MayBeCalledIf, called_open, placed_call}
 use Rattle.aw_space.specs.Sound.{all_inherited, IsSound}
 use Rattle.aw_space.specs.Spaces.{is_home, call_of, with_call}
 use Rattle.aw_space.specs.Valid.{IsValid}
-use Rattle.aw_space.specs.declared.placing.Placed.{Placed}
-use Rattle.aw_space.specs.declared.placing.Placed.TheVariants.{New, Same, Conflict}
 use Rattle.aw_space.specs.declared.placing.Placing.{Placing}
 use Rattle.aw_space.proofs.KeptSound.{named_inserted, own_inserted, done_inserted, all_done_kept, all_rooted_more, rooted_inserted}
 use Rattle.aw_space.proofs.KeptValid.{fit_inserted}
@@ -78,32 +73,6 @@ grown_sound g role hs ks k names names' sound grows e = subst (λ xs. IsSound g 
   named = all_named-grown names names' (all_inherited hs) grows sound.named;
 })
 
--- ---- what a call comes to
-
-pub sound_put : (g : Grammar) (role : ℕ) (hs ks : List Held) (k : Map) (names names' : List Ref) (n : Node) (rs : List Ref) (p : Placed) → Puts names' hs n rs p ks → MayBeCalled g role (call_of g n rs) → IsSound g role hs k names → IsInOrder ks →
-    Grows names names' → IsSound g role ks k names'
-sound_put g role hs ks k names names' n rs New w may sound ordered grows =
-    subst (λ xs. IsSound g role xs k names') (sym w.1) (sound_called g role hs k names names' n rs may sound (subst IsInOrder w.1 ordered) grows w.2)
-sound_put g role hs ks k names names' n rs Same w may sound ordered grows = grown_sound g role hs ks k names names' sound grows w.1
-sound_put g role hs ks k names names' n rs (Conflict kept came) w may sound ordered grows = grown_sound g role hs ks k names names' sound grows w.3
-
-pub valid_put : (g : Grammar) (role : ℕ) (hs ks : List Held) (k : Map) (names : List Ref) (n : Node) (rs : List Ref) (p : Placed) → Puts names hs n rs p ks → MayBeCalled g role (call_of g n rs) → IsValid g hs k → IsValid g ks k
-valid_put g role hs ks k names n rs New w may valid = subst (λ xs. IsValid g xs k) (sym w.1) (valid_called g role hs k n rs may valid)
-valid_put g role hs ks k names n rs Same w may valid = subst (λ xs. IsValid g xs k) (sym w.1) valid
-valid_put g role hs ks k names n rs (Conflict kept came) w may valid = subst (λ xs. IsValid g xs k) (sym w.3) valid
-
--- it is the plain one
-pub put_places : (g : Grammar) (hs ks : List Held) (names : List Ref) (n : Node) (rs : List Ref) (p : Placed) → Puts names hs n rs p ks → Places (all_of g hs) (call_of g n rs) p (all_of g ks)
-put_places g hs ks names n rs New w = (held_nowhere g n hs w.0, ap (all_of g) w.1 ∙ view_called g n rs hs)
-put_places g hs ks names n rs Same w =
-    let (i, h, place, there, same) = w.0 in
-    let at = held_here g n hs i place in
-    ((held_of g at.0, at.3, ap (λ (x : Held). x.inherited) (same_Some _ _ (sym at.1 ∙ there)) ∙ same), ap (all_of g) w.1)
-put_places g hs ks names n rs (Conflict kept came) w =
-    let (i, h, place, there, same) = w.0 in
-    let at = held_here g n hs i place in
-    ((held_of g at.0, at.3, same ∙ ap (λ (x : Held). x.inherited) (same_Some _ _ (sym (sym at.1 ∙ there)))), w.1, w.2, ap (all_of g) w.3)
-
 -- ---- the node of a call that is not held yet
 
 pub lacks_missing : (o : Option ℕ) (p : Placing) (hs : List Held) → place_in p.node hs ≡ o → LacksIf (missing_on o p) hs
@@ -140,28 +109,3 @@ valid_cases g role p hs k (Some i) may valid = valid
 pub valid_missing : (g : Grammar) (role : ℕ) (p : Option Placing) (hs : List Held) (k : Map) → MayBeCalledIf g role (option_map (placed_call g) p) → IsValid g hs k → IsValid g (with_node (missing_node p hs) hs) k
 valid_missing g role None hs k may valid = valid
 valid_missing g role (Some p) hs k may valid = valid_cases g role p hs k (place_in p.node hs) may valid
-
--- ---- whatever a call comes to
-
-pub sound_placed : {E : Type 0} (g : Grammar) (role : ℕ) (hs ks : List Held) (k : Map) (names names' : List Ref) (n : Node) (rs : List Ref) (o : Result Placed E) → IfOk o (λ p. Puts names' hs n rs p ks) → OnErr o (ks ≡ hs) →
-    MayBeCalled g role (call_of g n rs) → IsSound g role hs k names → IsInOrder ks → Grows names names' → IsSound g role ks k names'
-sound_placed g role hs ks k names names' n rs (Ok p) w e may sound ordered grows = sound_put g role hs ks k names names' n rs p w may sound ordered grows
-sound_placed g role hs ks k names names' n rs (Err x) w e may sound ordered grows = grown_sound g role hs ks k names names' sound grows e
-
-pub valid_placed : {E : Type 0} (g : Grammar) (role : ℕ) (hs ks : List Held) (k : Map) (names : List Ref) (n : Node) (rs : List Ref) (o : Result Placed E) → IfOk o (λ p. Puts names hs n rs p ks) → OnErr o (ks ≡ hs) → MayBeCalled g role (call_of g n rs) →
-    IsValid g hs k → IsValid g ks k
-valid_placed g role hs ks k names n rs (Ok p) w e may valid = valid_put g role hs ks k names n rs p w may valid
-valid_placed g role hs ks k names n rs (Err x) w e may valid = subst (λ xs. IsValid g xs k) (sym e) valid
-
-pub places_placed : {E : Type 0} (g g' : Grammar) (hs ks : List Held) (names : List Ref) (n : Node) (rs : List Ref) (o : Result Placed E) → g ≡ g' → IfOk o (λ p. Puts names hs n rs p ks) → IfOk o (λ p. Places (all_of g hs) (call_of g' n rs) p (all_of g ks))
-places_placed g g' hs ks names n rs (Ok p) same w = subst (λ x. Places (all_of g hs) (call_of x n rs) p (all_of g ks)) same (put_places g hs ks names n rs p w)
-places_placed g g' hs ks names n rs (Err x) same w = tt
-
-put_nodes : (g : Grammar) (hs ks : List Held) (names : List Ref) (n : Node) (rs : List Ref) (p : Placed) → Puts names hs n rs p ks → KeepsNodes (all_of g hs) (all_of g ks)
-put_nodes g hs ks names n rs New w = subst (KeepsNodes (all_of g hs)) (sym (put_places g hs ks names n rs New w).1) (nodes_put (called_held (call_of g n rs)) (all_of g hs))
-put_nodes g hs ks names n rs Same w = nodes_same (all_of g hs) (all_of g ks) (ap (all_of g) w.1)
-put_nodes g hs ks names n rs (Conflict kept came) w = nodes_same (all_of g hs) (all_of g ks) (ap (all_of g) w.3)
-
-pub nodes_placed : {E : Type 0} (g : Grammar) (hs ks : List Held) (names : List Ref) (n : Node) (rs : List Ref) (o : Result Placed E) → IfOk o (λ p. Puts names hs n rs p ks) → OnErr o (ks ≡ hs) → KeepsNodes (all_of g hs) (all_of g ks)
-nodes_placed g hs ks names n rs (Ok p) w e = put_nodes g hs ks names n rs p w
-nodes_placed g hs ks names n rs (Err x) w e = nodes_same (all_of g hs) (all_of g ks) (ap (all_of g) e)

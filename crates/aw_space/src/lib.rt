@@ -15,5 +15,5 @@ mod taking_in;
 mod weighing;
 
 pub use outcome::Outcome;
-pub use placing::{Placed, Placing};
+pub use placing::Placing;
 pub use space::Space;

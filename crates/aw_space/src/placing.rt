@@ -1,4 +1,4 @@
-//! Nodes that other roles call, and what becomes of them here.
+//! Nodes that other roles call.
 use aw_name::{Node, Refs};
 
 /// A called node, with the references that it inherits.
@@ -6,15 +6,4 @@ use aw_name::{Node, Refs};
 pub struct Placing {
     pub node: Node,
     pub inherited: Refs,
-}
-
-/// What a call of a node comes to.
-#[derive(Debug, PartialEq, Eq, Drop)]
-pub enum Placed {
-    /// The node was not held.
-    New,
-    /// It is held with these references.
-    Same,
-    /// It is held with others, which stay.
-    Conflict { kept: Refs, came: Refs },
 }

@@ -13,17 +13,15 @@ ghost use Rattle.aw_kept.specs.KeptStates.{IsKept};
 ghost use Rattle.aw_space.specs.Sound.{IsSound};
 ghost use Rattle.aw_space.specs.Valid.{IsValid};
 
-use crate::calls::place_call;
 use crate::learning::learn;
 use crate::outcome::{Outcome, carry_out, foresee};
-use crate::placing::{Placed, Placing};
+use crate::placing::Placing;
 use crate::taking_in::take_in;
 use aw_accept::Accepted;
 use aw_apply::{Made, Steps};
 use aw_choice::{Choice, Worklist};
 use aw_held::Holding;
 use aw_kept::Kept;
-use aw_name::{Node, Refs};
 use aw_store::{Added, Equation, Equations, Facts};
 use std::alloc::{AllocError, Global};
 use std::sync::ledger::Ledger;
@@ -43,11 +41,11 @@ pub struct Space<'g, F: Facts> {
 }
 
 impl<'g, F: Facts> Space<'g, F> {
-    ghost use Rattle.aw_space.specs.Spaces.{is_home, outcome, space_after, call_of, clash_with, worklist};
-    ghost use Rattle.aw_space.specs.Costs.{rules_of, waiting_on};
+    ghost use Rattle.aw_space.specs.Spaces.{is_home, outcome, space_after, clash_with, worklist};
+    ghost use Rattle.aw_space.specs.Costs.{waiting_on};
     ghost use Rattle.aw_space.specs.Keeping.{KeepsFacts, KeepsNodes, KeepsNodesBut};
     ghost use Rattle.aw_space.specs.Outcomes.{IsMade, IsOutcome};
-    ghost use Rattle.aw_space.specs.Placings.{MayBeCalled, MayBeCalledIf, MayBeLearnt, Places, called_by};
+    ghost use Rattle.aw_space.specs.Placings.{MayBeCalledIf, MayBeLearnt, called_by};
     ghost use Rattle.aw_space.specs.Seen.{space_seen, IsUnchanged, TakesIn, choice_cost_at, taking_cost_at};
 
     /// A space of a role that holds nothing, over a store without equations.
@@ -210,37 +208,6 @@ impl<'g, F: Facts> Space<'g, F> {
             &mut self.kept,
             choice,
             made,
-            steps,
-        )
-    }
-
-    /// Holds a child that another role called, where it is not held. A conflict and an error change neither nodes, choices
-    /// nor equations.
-    pub fn add_call<L: Ledger>(
-        &mut self,
-        g: &Accepted,
-        node: &Node,
-        inherited: &Refs,
-        steps: &mut Steps<L>,
-    ) -> Result<Placed, AllocError>
-        requires grammar { g.now.grammar ≡ self.old.accepted.now.grammar }
-        requires call { MayBeCalled (grammar_of g.now.grammar) self.old.role (call_of (grammar_of g.now.grammar) node.now inherited.now) }
-        ensures grammar { self.new.accepted.now.grammar ≡ self.old.accepted.now.grammar }
-        ensures role { self.new.role ≡ self.old.role }
-        ensures placed { IfOk result (λ p. Places (space_seen ⟦<F as Facts>⟧ self.old).held (call_of (grammar_of g.now.grammar) node.now inherited.now) p (space_seen ⟦<F as Facts>⟧ self.new).held) }
-        ensures choices { self.new.choices.items ≡ self.old.choices.items }
-        ensures map { F.map self.new.facts ≡ F.map self.old.facts }
-        ensures err { OnErr result (IsUnchanged ⟦<F as Facts>⟧ self.old self.new) }
-        ensures nodes { KeepsNodes (space_seen ⟦<F as Facts>⟧ self.old).held (space_seen ⟦<F as Facts>⟧ self.new).held }
-        ensures steps { steps.new ≤ steps.old + rules_of (grammar_of g.now.grammar) (call_of (grammar_of g.now.grammar) node.now inherited.now).sort }
-    {
-        place_call(
-            g.grammar(),
-            &mut self.held,
-            &mut self.facts,
-            &mut self.kept,
-            node,
-            inherited,
             steps,
         )
     }
