@@ -87,10 +87,6 @@ found_of_part offers declared g h f k role n found faces at is x =
 pub words_of_part : (g h : Grammar) (role : ℕ) → h.roles ≡ g.roles → h.cons ≡ g.cons → h.sorts ≡ g.sorts → h.rules ≡ rules_at g.sorts role g.rules → words_of h ≡ words_at (words_of g) (grammar_of g) role
 words_of_part g h role a b c d = (λ i. plain_words (a i) (b i) (c i) (d i)) ∙ words_same g role
 
--- before any role
-pub tells_none : (offers : List ℕ) (declared : List Triple) (w : Words) (g : P.Grammar) → TellsFirst offers declared w g 0 [] true
-tells_none offers declared w g = ([], refl, tt, refl, refl)
-
 -- after all
 pub tells_all : (offers : List ℕ) (declared : List Triple) (w : Words) (g : P.Grammar) (n : ℕ) (text next : List ℕ) (joined : Bool) → n ≡ g.roles → next ≡ text ++ joined_line joined → TellsFirst offers declared w g n text joined → TellsRoles offers declared w g next
 tells_all offers declared w g n text next joined count step (found, len, are, told, all) =

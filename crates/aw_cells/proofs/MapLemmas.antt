@@ -90,9 +90,6 @@ empty_body ns (Some c) w = by (body_from ns c) refl
     by None e = refl
     by (Some b) e = absurd (both_ways (is_written c) w (body_from-written ns c b e))
 
-pub full_body : (ns : List Ref) (o : Option Stored) (b : Body) → option_and_then (body_from ns) o ≡ Some b → is_full o ≡ true
-full_body ns o b e = let (c, f, g) = cell_of ns o b e in ap is_full f ∙ body_from-written ns c b g
-
 -- what is found for a name is the body at its slot
 pub find-slot : (ns : List Ref) (cs : List Stored) (order : List ℕ) (s : ℕ) (r : Ref) → IsNamedOnce ns → stands s order ≡ is_full (slice_get cs s) → slice_get ns s ≡ Some r → find (map_in ns cs order) r ≡ body_in ns cs s
 find-slot ns cs order s r o w e = find-stands ns cs order s r o e ∙ ap (λ t. found t (body_in ns cs s)) w ∙ by (is_full (slice_get cs s)) refl

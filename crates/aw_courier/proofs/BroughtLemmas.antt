@@ -75,10 +75,6 @@ brings-message g bytes k sized fits n read few =
       ap (λ p. 1 ∷ (to_be_bytes w32 (length p) ++ p)) spelled ∙ ap (λ c. 1 ∷ (to_be_bytes w32 c ++ w.payload)) w.counted ∙ ap (λ r. 1 ∷ r) (sym head-of.0.parts) ∙ ap (λ xs. 1 ∷ behind xs) (sym w.bytes_are),
     )
 
--- no message
-pub gave-none : (g : Grammar) (payload : List ℕ) → whole message payload ≡ None → gave g (whole message payload) ≡ None
-gave-none g payload e = ap (λ o. gave g o) e
-
 pub gave-far : (g : Grammar) (payload : List ℕ) (k : Message) (rest : List ℕ) → message payload ≡ Ok (k, rest) → (rest ≡ [] → g.roles ≤ k.to) → gave g (whole message payload) ≡ None
 gave-far g payload k [] e far = ap (λ r. gave g (all_of r)) e ∙ ap (λ b. cond b (Some (Gave (message_of g k))) None) (le-ltb k.to g.roles (far refl))
 gave-far g payload k (x ∷ xs) e far = ap (λ r. gave g (all_of r)) e ∙ go (length (x ∷ xs) == 0) refl
@@ -100,8 +96,3 @@ brings-addressed g bytes roles k rest (brought.Message found) sized fits n read 
 brings-addressed g bytes roles k rest brought.Nothing sized fits n read e h = absurd h
 brings-addressed g bytes roles k rest brought.Unknown sized fits n read e h =
     brings-unknown g bytes sized n (gave-far g (drop 5 bytes) k rest read (λ z. let far = h z in omega (arith, e, far)))
-
-pub names-addressed : (to : ℕ) (rest : List ℕ) (roles : ℕ) (b : Brought) → IsAddressed to rest roles b → NamesRole roles b
-names-addressed to rest roles (brought.Message found) h = omega (arith, h.0, h.2)
-names-addressed to rest roles brought.Nothing h = tt
-names-addressed to rest roles brought.Unknown h = tt

@@ -52,13 +52,6 @@ shows-new g qs ps n e many empty places = record {
   queues = λ r lt. empty r;
 }
 
--- one more role
-pub empty-more : (qs : List (List (List ℕ))) (q : List (List ℕ)) → q ≡ [] → ((b : ℕ) → slice_index_or qs b [] ≡ []) → (b : ℕ) → slice_index_or (qs ++ q ∷ []) b [] ≡ []
-empty-more [] q e h zero = e
-empty-more [] q e h (suc b) = refl
-empty-more (x ∷ qs) q e h zero = h 0
-empty-more (x ∷ qs) q e h (suc b) = empty-more qs q e (λ k. h (suc k)) b
-
 -- ---- how many there are
 
 pub same-size : (m m' : Mailed) (r : ℕ) (q : List (List ℕ)) → m' ≡ with_queue m r q → SameSize m m'
@@ -78,9 +71,6 @@ size-self a = (refl, refl)
 
 pub still-roles : (n : ℕ) (m m' : Mailed) → HasRoles n m → SameSize m m' → HasRoles n m'
 still-roles n m m' h s = (s.0 ∙ h.0, s.1 ∙ h.1)
-
-pub holds-role : (n r : ℕ) (m : Mailed) → HasRoles n m → r < n → Holds r m
-holds-role n r m h lt = (subst (λ k. r < k) (sym h.0) lt, subst (λ k. r < k) (sym h.1) lt)
 
 pub role-few : (g : Grammar) (r : ℕ) (m : Mailed) (c : Courier) → Holds r m → Shows g m c → r < g.roles
 role-few g r m c h s = subst (λ k. r < k) s.many h.0

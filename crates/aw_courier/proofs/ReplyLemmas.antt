@@ -184,9 +184,6 @@ whole-of request (kind ∷ rest) h = go (may_have request kind) refl h
 
 -- ---- how long it may be
 
-le-of : (n : ℕ) (b : Bool) → b ≡ true → b ≡ nat_le n 1048576 → n ≤ 1048576
-le-of n b e f = leb-true n 1048576 (sym f ∙ e)
-
 fits-few : (kind n : ℕ) → fits_length kind n ≡ true → n ≤ 1048576
 fits-few kind n e = go (kind == 3 || kind == 7) (kind == 10) e
   where

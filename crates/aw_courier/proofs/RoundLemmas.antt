@@ -22,7 +22,7 @@ use Rattle.aw_courier.specs.declared.broken.Broken.{Broken}
 use Rattle.aw_courier.specs.declared.broken.Broken.TheVariants as broken
 use Rattle.aw_courier.specs.declared.carrying.CarryFault.{CarryFault}
 use Rattle.aw_courier.proofs.Lists.{lt-sum}
-use Rattle.aw_courier.proofs.WireLemmas.{follow-dialed, follow-undialed}
+use Rattle.aw_courier.proofs.WireLemmas.{follow-dialed}
 
 -- ---- a turn from its begin
 
@@ -56,11 +56,6 @@ turn-stopped {W'} g content is_open faults failed_openings c r u u1 v fault d f 
   told = follow-dialed x r (content u) (content u1) (content v) k.role k.dialed d t.told;
   counts = subst (λ n. Counts (is_net fault) n (faults v)) f (subst (λ b. Counts b (faults u1) (faults v)) k.failed t.counts);
 }
-
--- a turn that could not be dialed
-pub turn-undialed : {W' : Type 0} (g : Grammar) (content : W' → Option Content) (faults : W' → ℕ) (c : Courier) (r : ℕ) (u v : W') → r < g.roles →
-    Both (Dials r Failed) (content u) (content v) → faults u ≤ faults v → Rose (faults u) (faults v) → IsStopped g content faults c r u v broken.Net
-turn-undialed {W'} g content faults c r u v few d n rose = record { cut = None; fits = few; told = follow-undialed r (content u) (content v) d; counts = (n, rose) }
 
 -- ---- lists of turns
 
@@ -112,14 +107,6 @@ upto-next n m e = ap (λ k. upto 0 k) (let s : m ≡ suc n = omega (arith, e) in
 
 -- ---- a round
 
--- no turn yet
-pub round-none : {W' : Type 0} (g : Grammar) (content : W' → Option Content) (faults failed_openings : W' → ℕ) (c : Courier) (u : W') (m : Mailed) → Shows g m c → IsRoundMade g content faults failed_openings c 0 u u m false
-round-none {W'} g content faults failed_openings c u m s = record {
-  turns = [];
-  made = record { ordered = tt; heard = tt; told = follow-none (content u); counts = refl; openings = refl };
-  roles = refl;
-  shows = s;
-  moved_is = refl;
 }
 
 -- one turn more

@@ -27,10 +27,3 @@ dialed-is role' role dialed r w f i d =
 pub follow-dialed : (x : Session) (role : ℕ) (a b c : Option Content) → x.role ≡ role → x.dialed ≡ true → Both (Dials role Opened) a b → Both (Grows x.read x.written x.failed) b c → Both (Follow (x ∷ [])) a c
 follow-dialed x role a b c i d g h =
     subst (λ (y : Session). Both (Follow (y ∷ [])) a c) (dialed-is x.role role x.dialed x.read x.written x.failed i d) (dialed-one role x.read x.written x.failed a b c g h)
-
--- none could be dialed
-pub follow-undialed : (role : ℕ) (a b : Option Content) → Both (Dials role Failed) a b → Both (Follow []) a b
-follow-undialed role None None h = tt
-follow-undialed role None (Some b) h = absurd h
-follow-undialed role (Some a) None h = absurd h
-follow-undialed role (Some a) (Some b) h = h.0 ∙ sym (append-nil a.passed)

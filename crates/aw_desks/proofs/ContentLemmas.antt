@@ -23,10 +23,6 @@ changed-last : (f : Session → Session) (over : List Call) (c d : Call) → d.s
 changed-last f over c d e =
     map-append session_of over (d ∷ []) ∙ ap (λ (s : Session). map session_of over ++ s ∷ []) e ∙ sym (with_last-append f (map session_of over) c.session) ∙ ap (with_last f) (sym (map-append session_of over (c ∷ [])))
 
--- one more session
-pub dials-opened : (role : ℕ) (cs : Calls) → Dials role dialed.Opened (content_of cs) (content_of (opened role cs))
-dials-opened role cs = (map-append session_of (cs.over ++ option_to_list cs.last) (new_call role ∷ []), omega arith)
-
 -- at the end nothing is left
 end-left : (left : List ℕ) (most : ℕ) → End ≡ answer_of left most → left ≡ []
 end-left [] most e = refl

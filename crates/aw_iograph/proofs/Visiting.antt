@@ -23,12 +23,6 @@ use Rattle.aw_iograph.proofs.Joining.{zeros, same_or_not}
 use Rattle.aw_iograph.proofs.RuleGraphs.{child_got}
 use Rattle.aw_iograph.proofs.Sweeps.{has_grown}
 
-pub none_visited : (g : Grammar) (io : Io) (visits : Visits) → visits.rules.items ≡ replicate (length g.rules) 0 → visits.sorts.items ≡ replicate (length g.sorts) 0 → AreVisited g io visits
-none_visited g io visits rules sorts = record {
-  rules = ap length rules ∙ length-replicate (length g.rules) 0;
-  sorts = ap length sorts ∙ length-replicate (length g.sorts) 0;
-  past = λ k. (let none = unvisited k in omega arith);
-  kept = λ k r got calm. (let none = unvisited k in let some = calm.visited in absurd (omega arith));
 }
   where
     unvisited : (k : ℕ) → slice_index visits.rules.items k ≡ 0

@@ -51,9 +51,6 @@ whole_spelled event tail good fits more =
 pub length-spelled : (event : Event) → length (record_of event) ≡ 8 + length (payload_of event)
 length-spelled event = omega (arith, length-append (u64_bytes (length (payload_of event))) (payload_of event), length-u64_bytes (length (payload_of event)))
 
-pub opened : (rest : List ℕ) → events_from 0 (1 ∷ rest) ≡ then_more (whole rest) (λ n. events_from n rest)
-opened rest = refl
-
 pub events_spelled : (event : Event) (tail : List ℕ) → IsEvent event → length (payload_of event) < 2 ^ 64 → 0 < length tail → events_from 0 (1 ∷ (record_of event ++ tail)) ≡ event ∷ events_from 0 tail
 events_spelled event tail good fits more =
     ap (λ (o : Option (Event × ℕ)). then_more o (λ n. events_from n (record_of event ++ tail))) (whole_spelled event tail good fits more)

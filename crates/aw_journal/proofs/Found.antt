@@ -19,19 +19,12 @@ pub either : {A : Type 0} (b : Bool) (x : A) → cond b x x ≡ x
 either true x = refl
 either false x = refl
 
-take_one : (n x : ℕ) (xs : List ℕ) → 1 ≤ n → take n (x ∷ xs) ≡ x ∷ take (n - 1) xs
-take_one zero x xs some = absurd (omega arith)
-take_one (suc n) x xs some = let same : n ≡ suc n - 1 = omega arith in ap (λ (k : ℕ). x ∷ take k xs) same
-
 -- behind a gate, open or not, where no whole record stands
 pub no_more : (gate : ℕ) (rest : List ℕ) → whole rest ≡ None → events_from 0 (gate ∷ rest) ≡ []
 no_more gate rest none = rw none (either (gate == 1) [])
 
 pub of_short : (n : ℕ) (behind : List ℕ) → length behind ≤ n → whole_of n behind ≡ None
 of_short n behind short = grind (arith, nat_tests)
-
-of_bad : (n : ℕ) (behind : List ℕ) → event_in (take n behind) ≡ None → whole_of n behind ≡ None
-of_bad n behind bad = rw bad (either (nat_lt n (length behind)) None)
 
 pub none_short : (rest : List ℕ) (n : ℕ) → n ≡ u64_in (take 8 rest) → length (drop 8 rest) ≤ n → whole rest ≡ None
 none_short rest n is short = whole_at rest n is ∙ of_short n (drop 8 rest) short

@@ -43,8 +43,3 @@ module _ {D : Type 0} (tells : D → Bool) (seen : D → List ℕ) (may_leave : 
       let torn : Torn place 1 (before ++ gate ∷ rest) c = subst (λ (f : List ℕ). Torn place 1 f c) was left.2 in
       let torn_there : Torn (length before) 1 (before ++ gate ∷ rest) c = subst (λ (k : ℕ). Torn k 1 (before ++ gate ∷ rest) c) stands.place_is torn in
       torn_place before rest c gate torn_there
-
--- a write at or before the end makes no file shorter
-pub as_long : (place : ℕ) (bytes old new : List ℕ) → place + 1 ≤ length old → new ≡ written (place + 1) bytes old → place ≤ length new
-as_long place bytes old new within is =
-    omega (arith, ap length is, length-append (take (place + 1) old ++ bytes) (drop (place + 1 + length bytes) old), length-append (take (place + 1) old) bytes, length-take-le (place + 1) old within)

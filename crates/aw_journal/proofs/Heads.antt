@@ -19,11 +19,6 @@ pub headless_shut : (gate : ℕ) (tail : List ℕ) → gate ≢ 1 → has_head (
 headless_shut gate [] shut = refl
 headless_shut gate (byte ∷ tail) shut = grind (arith, nat_tests)
 
-pub headless_short : (file : List ℕ) → length file ≤ 1 → has_head file ≡ false
-headless_short [] short = refl
-headless_short (gate ∷ []) short = refl
-headless_short (gate ∷ byte ∷ rest) short = absurd (omega arith)
-
 -- a head with no records
 pub front_none : (role : ℕ) (text tail : List ℕ) → front role text [] ++ tail ≡ 1 ∷ (head role text ++ tail)
 front_none role text tail = ap (λ (l : List ℕ). 1 ∷ (l ++ tail)) (append-nil (head role text))

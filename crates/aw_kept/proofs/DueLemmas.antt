@@ -162,9 +162,6 @@ pub triple_counts : (slot n rule : ℕ) (ts : List Triple) → 0 < count_by (is_
 triple_counts slot n rule ts =
     omega (arith, sum_by-cons (λ t. cond (is_triple slot n rule t) 1 0) (triple slot n rule) ts, ap {B = ℕ} (λ b. cond b 1 0) (test_self slot n rule))
 
-pub waits_counts : (slot n rule : ℕ) → waiting_at slot (triple slot n rule ∷ []) ≡ 1
-waits_counts slot n rule = ap (λ b. 0 + cond b 1 0) (eq-eqb slot slot refl)
-
 -- without the node with this number: what is due of the others
 module _ (p : Triple → Bool) (n : ℕ) where
   abbrev pub elsewhere : Triple → Bool
@@ -262,10 +259,6 @@ pub waited : (p : Triple → Bool) (slot n rule : ℕ) (s : Stands) (ts us : Lis
 waited p slot n rule s ts us e same =
     let f : Triple → ℕ = λ t. cond (p t) 1 0 in
     omega (arith, sum_by-IsPermutation f (triple slot n rule ∷ ts) us same, sum_by-cons f (triple slot n rule) ts, sum_by-cons f (triple slot n rule) [], ap (λ z. count_by p (due_of n rule z)) e)
-
--- those from which one was taken out
-pub taken_out : (p : Triple → Bool) (t : Triple) (ts us : List Triple) → IsPermutation ts (t ∷ us) → count_by p (t ∷ us) ≡ count_by p ts
-taken_out p t ts us same = sum_by-IsPermutation (λ z. cond (p z) 1 0) ts (t ∷ us) same
 
 -- one fewer waits for the slot
 pub taken_one : (slot n rule : ℕ) (ts us : List Triple) → IsPermutation ts (triple slot n rule ∷ us) → waiting_at slot ts ≡ 1 + waiting_at slot us

@@ -83,22 +83,6 @@ module _ (k : Map) (s : Ref) where
   guard-waits n (p ∷ ps) [] e = absurd cc
   guard-waits n (p ∷ ps) (r ∷ rs) e = both_wait n (guard k p r) (guard_all k (suc n) ps rs) (waits_one p r) (guard-waits (suc n) ps rs) e
 
--- what is kept by a guard is what the guard tells
-pub stands_told : (names : List Ref) (sorts : List Sort) (n : Node) (rule : Rule) (d : Bool) (w : Guard) → d ≡ nat_eq (length n.steps) 250 →
-    kept_refusal names (guard_stands (d && nat_lt 0 (length rule.children)) w) ≡ refusal_of (after_guard n (rule_of sorts rule) (guard_of names w))
-stands_told names sorts n rule d (given.Waits slot) e = refl
-stands_told names sorts n rule d (given.Differs place) e = refl
-stands_told names sorts n rule d (given.Circle slot) e = refl
-stands_told names sorts n rule d (given.Yes bound) e =
-    by (d && nat_lt 0 (length rule.children)) ∙ ap (λ b. refusal_of (cond b (Refused TooDeep) (Takes (rule_of sorts rule) (map (slice_get names) bound)))) same
-  where
-    same : (d && nat_lt 0 (length rule.children)) ≡ deep n (rule_of sorts rule)
-    same = ap (λ b. b && nat_lt 0 (length rule.children)) e ∙ ap (λ l. nat_eq (length n.steps) 250 && nat_lt 0 l) (sym (length-map rule.children (child_of sorts)))
-
-    by : (b : Bool) → kept_refusal names (cond b stands.TooDeep stands.Ready) ≡ refusal_of (cond b (Refused TooDeep) (Takes (rule_of sorts rule) (map (slice_get names) bound)))
-    by true = refl
-    by false = refl
-
 -- where it waits, no equation says what it waits for
 pub stands_lacks : (k : Map) (names : List Ref) (ps : List T.Term) (rs : List Ref) (d : Bool) (w : Guard) → guard_of names w ≡ as_named (guard_all k 1 ps rs) → LacksBody k names (guard_stands d w)
 stands_lacks k names ps rs d w e slot s = by w s e (guard_all k 1 ps rs) refl

@@ -248,7 +248,3 @@ count_same p ts us same = sum_by-IsPermutation (λ z. cond (p z) 1 0) ts us same
 
 pub one_record : (xs : List Record) (i : ℕ) (x y : Record) → slice_get xs i ≡ Some x → slice_get xs i ≡ Some y → x ≡ y
 one_record xs i x y e f = cc
-
--- what is fit has live marks at each place
-pub live_at : (g : Grammar) (names : List Ref) (at : ℕ) (kept : Kept) → IsFitKept g names kept → AreLiveAt names at kept
-live_at g names at kept f n x e u = (f.fit at n x e u).stand

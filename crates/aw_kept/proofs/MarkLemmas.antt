@@ -96,10 +96,6 @@ rule_passed s n rules rule ms here other = rw (add-one n, from_here rules n rule
 pub rule_past : (s n : ℕ) (rules : List Rule) (ms : List ℕ) → slice_get rules n ≡ None → ms ++ rules_of s (n + 1) (drop (n + 1) rules) ≡ ms ++ rules_of s n (drop n rules)
 rule_past s n rules ms past = rw (add-one n, (none_here rules n past).0, (none_here rules n past).1) refl
 
--- past the last rule there is none
-pub rules_end : (s n : ℕ) (rules : List Rule) (ms : List ℕ) → length rules ≤ n → ms ++ rules_of s n (drop n rules) ≡ ms
-rules_end s n rules ms l = ap (λ z. ms ++ rules_of s n z) (drop_of_length-le rules l) ∙ append-nil ms
-
 -- the rule that was found
 pub found_rule : (rules : List GrammarRule) (number : ℕ) (found : Option (Bor GrammarRule)) (rule : Bor GrammarRule) → option_copied found ≡ slice_get rules number → found ≡ Some rule → slice_get rules number ≡ Some rule.now
 found_rule rules number found rule e f = sym e ∙ ap option_copied f

@@ -24,10 +24,6 @@ use Rattle.aw_merge.proofs.Changes.{Change, NewSound}
 use Rattle.aw_merge.proofs.Learning.{find-member}
 use Rattle.aw_merge.proofs.Parts.{Apart, Carries, Effect, Inv, IsLight, IsTold, Kin, KindKin, Mark, Sends_own, Sound}
 
--- a load is of the sender's own equations
-IsOwn : Grammar → Site → Equation → Type 0
-IsOwn g s e = (find s.equations e.left ≡ Some e.body) × (home g e.left.node ≡ s.role)
-
 given_cases : (g : Grammar) (s : Site) (t : Bool) (r : Ref) (o : Option Body) (rs : List Ref) (q : Option Given) (d : Given) → (t ≡ true → home g r.node ≡ s.role) → find s.equations r ≡ o → (q ≡ Some d → (find s.equations d.equation.left ≡ Some d.equation.body) × (home g d.equation.left.node ≡ s.role))
     → given_on t r o rs q ≡ Some d → (find s.equations d.equation.left ≡ Some d.equation.body) × (home g d.equation.left.node ≡ s.role)
 given_cases g s true r (Some b) rs q d h f i e =

@@ -35,18 +35,11 @@ has_ref-member r [] m = never m
 has_ref-member r (s ∷ ss) (inl e) = has_here (ref_eq r s) (has_ref r ss) (subst (λ s. ref_eq r s ≡ true) e (ref_eq-self r))
 has_ref-member r (s ∷ ss) (inr m) = has_more (ref_eq r s) (has_ref r ss) (has_ref-member r ss m)
 
-pub some_of : (o : Option Body) → is_none o ≡ false → (b : Body) × (o ≡ Some b)
-some_of None e = absurd cc
-some_of (Some b) e = (b, refl)
-
 wanted_cases : (a b d : Bool) → (not a && (b && not d) ≡ true) ⊎ ((a ≡ true) ⊎ ((b ≡ false) ⊎ (d ≡ true)))
 wanted_cases true b d = inr (inl refl)
 wanted_cases false false d = inr (inr (inl refl))
 wanted_cases false true true = inr (inr (inr refl))
 wanted_cases false true false = inl refl
-
-asks_inj : {r r' : Ref} {n k : ℕ} → ◌≡◌ {A = Kind} (Asks r n) (Asks r' k) → (r ≡ r') × (n ≡ k)
-asks_inj e = (cc, cc)
 
 kin_ask : (m : Message) (r : Ref) (a : ℕ) (to : ℕ) → Kin m (record { to = to; kind = Asks r a }) → m.kind ≡ Asks r a
 kin_ask m r a to k = go m.kind k.1

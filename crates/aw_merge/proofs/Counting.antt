@@ -9,12 +9,6 @@ count_within [] = omega arith
 count_within (true ∷ ds) = let i = count_within ds in omega (arith, i)
 count_within (false ∷ ds) = let i = count_within ds in omega (arith, i)
 
--- those that are set and those that are not are all
-pub count_both : (ds : List Bool) → count_open ds + count_set ds ≡ length ds
-count_both [] = refl
-count_both (true ∷ ds) = let i = count_both ds in omega (arith, i)
-count_both (false ∷ ds) = let i = count_both ds in omega (arith, i)
-
 -- where all are set, none is the first that is not
 pub count_all : (ds : List Bool) (i : ℕ) → length ds ≤ count_set ds → first_false i ds ≡ None
 count_all [] i l = refl

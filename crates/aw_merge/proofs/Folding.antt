@@ -20,10 +20,6 @@ run-append : (g : Grammar) (s : Site) (xs ys : List SiteEvent) → site_run g s 
 run-append g s [] ys = refl
 run-append g s (x ∷ xs) ys = run-append g (site_step g s x) xs ys
 
-cases : (b : Bool) → (b ≡ true) ⊎ (b ≡ false)
-cases true = inl refl
-cases false = inr refl
-
 set-site : (w : World) (r a : ℕ) (y : Reaction) → a < length w.sites → (b : Bool) → nat_eq r a ≡ b → site_at (with_site w r y) a ≡ cond b y.site (site_at w a)
 set-site w r a y l true e = let p = eqb-true r a e in subst (λ r. get (empty_site false a) (slice_set w.sites r y.site) a ≡ y.site) (sym p) (get-set (empty_site false a) w.sites a y.site l)
 set-site w r a y l false e = get-set_other (empty_site false a) w.sites r a y.site (λ p. let z = eq-eqb r a p in absurd cc)

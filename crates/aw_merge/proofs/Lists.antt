@@ -126,9 +126,5 @@ Later-mapped R T f h (x ∷ xs) l = (each xs l.0, Later-mapped R T f h xs l.1)
 pub once : (rs : List Ref) → Later (λ a b. a ≡ b → Never) (in_order rs)
 once rs = Later-map Lower (λ a b. a ≡ b → Never) (λ a b e p. ref-no a (subst (λ b. Lower a b) (sym p) e)) (in_order rs) (sorted rs)
 
-pub not-true : (b : Bool) → not b ≡ true → b ≡ false
-not-true true e = absurd cc
-not-true false e = refl
-
 pub later_both : {A : Type 0} (R : A → A → Type 0) (xs ys : List A) → Later R xs → Later R ys → ((x y : A) → Member x xs → Member y ys → R x y) → Later R (xs ++ ys)
 later_both R xs ys a b f = later_append R xs ys a b (each_of (λ x. Each (R x) ys) xs (λ x m. each_of (R x) ys (λ y n. f x y m n)))

@@ -5,7 +5,7 @@ use Rattle.std.specs.Coded.{le_prop}
 use Rattle.std.proofs.Math.Logic.{∥∥₁_elim}
 use Rattle.std.proofs.lemmas.List.{length-map}
 use Rattle.std.proofs.lemmas.Option.{slice_get_within}
-use Rattle.aw_list.proofs.Members.{never, below_or_at, member_got, member_place}
+use Rattle.aw_list.proofs.Members.{below_or_at, member_got, member_place}
 use Rattle.aw_base.specs.declared.declared.Triple.{Triple}
 use Rattle.aw_term.specs.Trees.{Never}
 use Rattle.aw_term.specs.Choices.{gives_of}
@@ -75,11 +75,6 @@ adds_pair Q t old new q there kept only s i j = (
   (λ x. elim x [ inl was ↦ kept s i j was | inr now ↦ subst (λ (u : Triple). Has new u.sort u.i u.j) now.1 there ]),
 )
 
--- none was added
-pub adds_nothing : (Q : ℕ → Type 0) (t : Triple) (io : Io) → (Q t.sort → Never) → AddsOne io io Q t
-adds_nothing Q t io without s i j = (
-  (λ has. inl has),
-  (λ x. elim x [ inl was ↦ was | inr now ↦ never (without (subst Q (sym (ap (λ (u : Triple). u.sort) now.1)) now.0)) ]),
 )
 
 -- the item at a place within a list

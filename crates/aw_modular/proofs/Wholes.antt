@@ -122,9 +122,6 @@ not_circular g fault free found = let (r, got, least) = found.0 in free r (membe
 pub appended : (rules new : List Rule) (r : Rule) (rest left all : List Rule) → left ≡ r ∷ rest → new ≡ rules ++ r ∷ [] → rules ++ left ≡ all → new ++ rest ≡ all
 appended rules new r rest left all next step so = ap (λ rs. rs ++ rest) step ∙ append_assoc rules (r ∷ []) rest ∙ ap (λ rs. rules ++ rs) (sym next) ∙ so
 
-pub appended_all : (rules left all : List Rule) → left ≡ [] → rules ++ left ≡ all → rules ≡ all
-appended_all rules left all none so = sym (append-nil rules) ∙ ap (λ rs. rules ++ rs) (sym none) ∙ so
-
 pub told_circular : (g h : GrammarValue) (e : Refused) (rule : ℕ) (occ : Occ) → e ≡ Circular h rule occ → HasNoCircle (grammar_of g) (IO (grammar_of g)) → Tells g e → ⊥
 told_circular g h e rule occ is free told = never (not_circular (grammar_of g) (record { rule = rule; occ = occ }) free (subst (Tells g) is told).1)
 

@@ -59,9 +59,6 @@ follows-on u v w p q = record {
 pub did-inj : {x y : Reaction} → Did x ≡ Did y → x ≡ y
 did-inj e = cc
 
-pub new-inj : {x y : Reaction} → New x ≡ New y → x ≡ y
-new-inj e = cc
-
 pub choose_on-boxes : (g : Grammar) (s : Site) (c : Choice) (o : Outcome Ref Ref) (x : Reaction) → choose_on g s c o ≡ Did x → x.site.outbox ≡ s.outbox ++ x.sent
 choose_on-boxes g s c (Refused a) x e = absurd cc
 choose_on-boxes g s (Start st k) Starts x e = subst (λ (x : Reaction). x.site.outbox ≡ s.outbox ++ x.sent) (did-inj e) (sym (append-nil s.outbox))

@@ -36,11 +36,6 @@ delivered-more : (ds : List ℕ) (c : ℕ) → is_delivered (ds ++ c ∷ []) ≡
 delivered-more [] c = refl
 delivered-more (d ∷ ds) c = refl
 
-no-slice : {A B : Type 0} (f : A → B) (xs : List A) (k : ℕ) → slice_get xs k ≡ None → slice_get (map f xs) k ≡ None
-no-slice f [] k e = refl
-no-slice f (x ∷ xs) zero e = absurd cc
-no-slice f (x ∷ xs) (suc k) e = no-slice f xs k e
-
 abbrev site : Kept → Site
 site k = k.site
 

@@ -8,11 +8,6 @@ use Rattle.aw_modular.specs.PartViews.{IsCopy}
 use Rattle.aw_modular.specs.Wholes.{ArePartsOf, HaveRoles, AreInOrder, IsPartOf}
 use Rattle.aw_parts.specs.Parts.{AreFirst}
 
--- a copy of the part of a role is that part
-pub part_of_copy : (g : Grammar) (p : Part) (y : RoleYes) (role : ℕ) → p.role ≡ role → p.grammar.roles ≡ g.roles → p.grammar.cons ≡ g.cons → p.grammar.sorts ≡ g.sorts → p.grammar.rules ≡ rules_at g.sorts role g.rules → IsCopy p y.part → IsPartOf g role y
-part_of_copy g p y role at roles cons sorts rules copy =
-    record { role = copy.role ∙ at; roles = copy.roles ∙ roles; cons = copy.cons ∙ cons; sorts = copy.sorts ∙ sorts; rules = copy.rules ∙ rules }
-
 -- one part more
 parts_more : (g : Grammar) (k n : ℕ) (ys : List RoleYes) (y : RoleYes) → k + length ys ≡ n → ArePartsOf g k ys → IsPartOf g n y → ArePartsOf g k (ys ++ y ∷ [])
 parts_more g k n [] y at are is = let e : n ≡ k = omega (arith, at) in (subst (λ m. IsPartOf g m y) e is, tt)
@@ -26,8 +21,3 @@ pub first_more : (g : Grammar) (n : ℕ) (ys next : List RoleYes) (y : RoleYes) 
 first_more g n ys next y first is step =
     subst (AreFirst g (n + 1)) (sym step)
     record { parts_of = parts_more g 0 n ys y (omega (arith, first.counted)) first.parts_of is; counted = omega (arith, length_more ys y, first.counted) }
-
--- parts of the roles in order, which are some
-pub in_order : (ys : List RoleYes) → (ys ≡ [] → ⊥) → HaveRoles 0 ys → AreInOrder ys
-in_order [] some have = absurd (some refl)
-in_order (y ∷ ys) some have = have

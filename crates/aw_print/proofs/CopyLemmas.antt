@@ -7,7 +7,7 @@ use Rattle.std.proofs.lemmas.List.{length-drop, length-take-le}
 use Rattle.aw_out.specs.Report.{Bounded, printed, Prints, PrintsFront}
 use Rattle.aw_out.specs.declared.error.PrintFault.{PrintFault}
 use Rattle.aw_out.specs.declared.error.PrintFault.TheVariants.{TooLarge}
-use Rattle.aw_out.proofs.Printing.{printed-append, printed-nil, PrintsFront-first}
+use Rattle.aw_out.proofs.Printing.{printed-append, PrintsFront-first}
 use Rattle.aw_print.specs.Drafts.{Whole}
 use Rattle.aw_print.specs.Growing.{Puts, printing}
 use Rattle.aw_print.proofs.StackLemmas.{range_on}
@@ -28,13 +28,6 @@ range_more xs from at end a b =
 pub range_long : (xs : List ℕ) (from until : ℕ) → from ≤ until → until ≤ length xs → length (slice_range xs from until) ≡ until - from
 range_long xs from until a b = length-take-le (until - from) (drop from xs) (omega (arith, a, b, length-drop from xs))
 
-range_none : (xs : List ℕ) (at : ℕ) → slice_range xs at at ≡ []
-range_none xs at = let e : at - at ≡ 0 = omega arith in ap (λ i. take i (drop at xs)) e
-
--- nothing is copied yet
-pub copy_none : (r : Bounded) (from : ℕ) → r ≡ printed r (slice_range r.text from from)
-copy_none r from = sym (ap (printed r) (range_none r.text from) ∙ printed-nil r)
-
 -- some more is copied
 pub copy_step : (r0 r1 r2 : Bounded) (from at end : ℕ) → from ≤ at → at ≤ end → end ≤ length r0.text → r1 ≡ printed r0 (slice_range r0.text from at) → r2 ≡ printed r1 (slice_range r1.text at end) → r2 ≡ printed r0 (slice_range r0.text from end)
 copy_step r0 r1 r2 from at end a b l e f =
@@ -45,12 +38,6 @@ copy_step r0 r1 r2 from at end a b l e f =
 whole_front : (t : List ℕ) (old new : Bounded) → new ≡ printed old t → PrintsFront t old new
 whole_front t old new e = (length t, omega arith, e ∙ ap (printed old) (sym (take-length t)))
 
--- all is copied
-pub copy_done : (r0 r1 : Bounded) (from at until : ℕ) → at ≡ until → r1 ≡ printed r0 (slice_range r0.text from at) → Prints (slice_range r0.text from until) r0 r1 (Ok tt)
-copy_done r0 r1 from at until e f = record {
-  ok = f ∙ ap (λ i. printed r0 (slice_range r0.text from i)) e;
-  too_large = λ h. absurd (cc h);
-  front = tt;
 }
 
 -- the rest is not copied
@@ -72,28 +59,10 @@ copy_past t c r0 r1 e l = record {
   front = PrintsFront-first t c r0 r1 (whole_front t r0 r1 e);
 }
 
--- what was gathered is not added
-pub flush_stops : (t c : List ℕ) (r0 r1 : Bounded) (fault : PrintFault) (result : Result Unit PrintFault) → r1 ≡ r0 → (fault ≡ TooLarge → r0.limit < length r0.text + length t) → result ≡ Err fault → Prints (t ++ c) r0 r1 result
-flush_stops t c r0 r1 fault result e large is = subst (Prints (t ++ c) r0 r1) (sym is) (record {
-  ok = tt;
-  too_large = λ h. let g : fault ≡ TooLarge = cc in omega (arith, large g, length-append t c);
-  front = (0, omega arith, e ∙ sym (printed-nil r0));
 })
 
 -- what was gathered is added
 pub flush_prints : (t : List ℕ) (r0 r1 : Bounded) → r1 ≡ printed r0 t → Prints t r0 r1 (Ok tt)
 flush_prints t r0 r1 e = record { ok = e; too_large = λ h. absurd (cc h); front = tt }
 
--- a text was printed behind what was gathered
-pub prints_puts : (t u c : List ℕ) (r0 r1 : Bounded) (result : Result Unit PrintFault) → Prints (t ++ c) r0 r1 result → OnOk result (u ≡ []) → Puts (λ n. Whole c) (printing t r0) (printing u r1) result
-prints_puts t u c r0 r1 (Ok done) p e = record {
-  taken = t ++ c;
-  out = c;
-  report = p.ok;
-  gathered = ap (λ x. (t ++ c) ++ x) e ∙ append-nil (t ++ c);
-  rest = λ n. (0, sym (append-nil c));
-}
-prints_puts t u c r0 r1 (Err fault) p e = record {
-  too_large = λ h. (0, p.too_large (ap Err h));
-  front = (0, p.front);
 }

@@ -152,15 +152,6 @@ pub first_puts : (one left : ℕ → Draft) (old new : Printing) (result : Resul
 first_puts one left old new (Ok done) go gl u = first_of one left old new go gl u
 first_puts one left old new (Err fault) go gl s = first_stops one left old new.report fault s
 
--- three facts of a result
-pub three : {T E : Type 0} {A B C D X : Type 0} (r : Result T E) → OnOk r A → (B → OnOk r C) → OnOk r D → (A → (B → C) → D → X) → OnOk r X
-three (Ok x) a b d f = f a b d
-three (Err e) a b d f = tt
-
--- how a result came to be another one
-pub same_result : (all left : ℕ → Draft) (old new : Printing) (r s : Result Unit PrintFault) → r ≡ s → PutsTo all old new left r → PutsTo all old new left s
-same_result all left old new r s e = subst (PutsTo all old new left) e
-
 -- drafts that are the same at each depth
 pub alike : (f g left : ℕ → Draft) (old new : Printing) (r : Result Unit PrintFault) → ((n : ℕ) → f n ≡ g n) → PutsTo f old new left r → PutsTo g old new left r
 alike f g left old new r h p = let e : f ≡ g = λ i n. h n i in subst (λ d. PutsTo d old new left r) e p

@@ -144,20 +144,6 @@ num_found names (Some (P.Is (T.Text d) parts)) m h rs w e = elim w [ ]
 pub text_found : (names : List Ref) (b : Option P.Body) (t : List ℕ) (h : Head) (rs : List Ref) → IsKindOf names b kind.Text → as_text b ≡ Some t → b ≡ Some (P.Is h rs) → Found (T.Text t) [] ≡ Found h rs
 text_found names b t h rs w f e = let (u, p, q) = text_there names b w in let same : u ≡ t = cc in cc
 
-pub not_missing : (names : List Ref) (b : Option P.Body) (h : Head) (rs : List Ref) → IsKindOf names b kind.Missing → b ≡ Some (P.Is h rs) → ⊥
-not_missing names None h rs w e = cc
-not_missing names (Some (P.Same r)) h rs w e = elim w [ ]
-not_missing names (Some (P.Is (T.Con d) parts)) h rs w e = elim w [ ]
-not_missing names (Some (P.Is (T.Num d) parts)) h rs w e = elim w [ ]
-not_missing names (Some (P.Is (T.Text d) parts)) h rs w e = elim w [ ]
-
-pub not_same : (names : List Ref) (b : Option P.Body) (s : ℕ) (h : Head) (rs : List Ref) → IsKindOf names b (kind.Same s) → b ≡ Some (P.Is h rs) → ⊥
-not_same names None s h rs w e = elim w [ ]
-not_same names (Some (P.Same r)) s h rs w e = cc
-not_same names (Some (P.Is (T.Con d) parts)) s h rs w e = elim w [ ]
-not_same names (Some (P.Is (T.Num d) parts)) s h rs w e = elim w [ ]
-not_same names (Some (P.Is (T.Text d) parts)) s h rs w e = elim w [ ]
-
 -- where a chase ends
 pub chased_found : (k : Map) (names : List Ref) (slot at : ℕ) (x : Chased) → IsChasedTo k names slot x (answer.Found at) → (h : Head) × (rs : List Ref) × (x ≡ Found h rs) × (body_at k names at ≡ Some (P.Is h rs)) × (at < length names)
 chased_found k names slot at (Found h rs) w = let (r, e, f) = w in (h, rs, refl, ap (option_and_then (find k)) e ∙ f, slice_get_within names at r e)

@@ -20,18 +20,3 @@ table_made (Ok v) old new n m e f = λ x h.
     let front : take n old ≡ [] = nil_from_length (take n old) (omega (arith, e, length-take n old)) in
     absurd (holds_none m h.0 x (subst (λ spans. slice_get spans h.0 ≡ Some (Some x)) (f ∙ ap (λ t. t ++ replicate m no_span) front) h.1))
 table_made (Err v) old new n m e f = tt
-
-pub holds_set : (spans : List (Option Span)) (at i : ℕ) (s x : Span) → slice_get (slice_set spans at (Some s)) i ≡ Some (Some x) → (x ≡ s) ⊎ Holds spans x
-holds_set [] at i s x e = absurd (cc e)
-holds_set (y ∷ ys) zero zero s x e = inl cc
-holds_set (y ∷ ys) zero (suc i) s x e = inr (suc i, e)
-holds_set (y ∷ ys) (suc at) zero s x e = inr (0, e)
-holds_set (y ∷ ys) (suc at) (suc i) s x e = elim (holds_set ys at i s x e) [ inl f ↦ inl f | inr (j, f) ↦ inr (suc j, f) ]
-
-holds_empty : (spans : List (Option Span)) (x : Span) → spans ≡ [] → Holds spans x → ⊥
-holds_empty [] x e h = cc (h.1)
-holds_empty (y ∷ ys) x e h = cc e
-
--- nothing is left, and no text is kept
-pub rest_new : (o : Origin) (d : Desk) → d.pieces ≡ [] → d.table.spans ≡ [] → AreEnds o.equations o.names d.table.ends → IsAtRest o d
-rest_new o d e f ends = (e, record { texts = λ x h. absurd (holds_empty d.table.spans x f h); ends = ends })

@@ -90,10 +90,3 @@ net-counts at role old new broken.NoMemory is counts = absurd (cc (is))
 
 pub carry-rose : {W : Type 0} (w : wires.Ghosts W) (u v : W) (g : R.Grammar) (rounds role : ℕ) → courier.IsBrokenOff g w.content w.faults rounds u v (fault.NetFault role) → Rose (w.faults u) (w.faults v)
 carry-rose w u v g rounds role is = net-counts is.role role (w.faults u) (w.faults v) is.why is.is is.counts
-
--- what is told is done, or a reply that is none
-pub done-reply : (said : Reply) (line : List ℕ) → said ≡ reply Done line → said.status ≡ Done
-done-reply said line is = ap (λ (r : Reply). r.status) is
-
-pub unheard-reply : (said : Reply) (role : List ℕ) → said ≡ reply_with (NoReplyOf role) → said.status ≡ BadReply
-unheard-reply said role is = ap (λ (r : Reply). r.status) is

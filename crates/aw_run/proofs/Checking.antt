@@ -2,7 +2,7 @@
 use Rattle.std.proofs.Common.{◌≡◌, ℕ, ◌<◌, ◌≤◌, Bool, List, [], ◌∷◌, ◌++◌, map, length, Option, Some, slice_get, refl, sym, ap, ◌∙◌, subst, arith, append_assoc, IfOk}
 use Rattle.std.specs.declared.result.Result.{Result}
 use Rattle.std.proofs.lemmas.Option.{slice_get_within}
-use Rattle.aw_list.proofs.Members.{never, got_map, got_unmap}
+use Rattle.aw_list.proofs.Members.{got_map, got_unmap}
 use Rattle.aw_term.specs.Rules as P
 use Rattle.aw_term.specs.Trees.{Never}
 use Rattle.aw_term.specs.Choices.{gives_of}
@@ -46,20 +46,6 @@ position ss t (c, got, i, takes, j, gives) =
 pub positions : (ss : List Sort) (ds : List Triple) → Each (IsOfSort (map counts ss)) ds → Each (IsPosition (sorts_of ss)) ds
 positions ss [] all = tt
 positions ss (d ∷ ds) all = (position ss d all.0, positions ss ds all.1)
-
--- where nothing is declared nothing is told of roles, and else what is told of them
-pub apart_none : (ds : List Triple) (offers : List ℕ) (w : Words) (g : P.Grammar) → ds ≡ [] → TellsApart ds offers w g []
-apart_none ds offers w g none = subst (λ (es : List Triple). TellsApart es offers w g []) (sym none) refl
-
-pub apart_some : {E : Type 0} (r : Result (List ℕ) E) (ds : List Triple) (offers : List ℕ) (w : Words) (g : P.Grammar) → (ds ≡ [] → Never) → IfOk r (λ text. TellsRoles offers ds w g text) → IfOk r (λ text. TellsApart ds offers w g text)
-apart_some r [] offers w g some told = never (some refl)
-apart_some r (d ∷ ds) offers w g some told = told
-
--- one after the other
-pub told_in_turn : (ds : List Triple) (offers : List ℕ) (free : Bool) (w : Words) (g : P.Grammar) (pairs roles waits one two : List ℕ) → TellsAccepted w g pairs → TellsApart ds offers w g roles → TellsFree free w g waits →
-    one ≡ pairs ++ roles → two ≡ one ++ waits → TellsChecked ds offers free w g two
-told_in_turn ds offers free w g pairs roles waits one two accepted apart waiting first second =
-    (pairs, roles, waits, accepted, apart, waiting, second ∙ ap (λ t. t ++ waits) first ∙ append_assoc pairs roles waits)
 
 -- what is told of a grammar is told of what it declares
 told_of_declared : (g : Grammar) (ds : List Triple) (offers : List ℕ) (free : Bool) (text : List ℕ) → TellsChecked ds offers free (words_of g) (grammar_of g) text → TellsChecked ds offers free (words_in (declarations_of g)) (grammar_in (declarations_of g)) text

@@ -175,11 +175,3 @@ front-good (Refused said) input s taken loads writes within good replies = front
 pub stops-opened : (name : List ℕ) (sessions : ℕ) (x : Devices) (input : List ℕ) (s : Spec) (status : Status) → Opens input s → StopsNamed name sessions x s status → StopsKeeping name sessions x input status
 stops-opened name sessions x input s status opens (inl before) = inl before
 stops-opened name sessions x input s status opens (inr (role, named, stops)) = inr (s, role, record { opens = opens; named = named }, stops)
-
--- memory ran out before the wire and the disk were touched
-pub stops-early : (x : Devices) (status : Status) → status ≡ NoMemory → x.wire_after ≡ x.wire_before → x.disk_after ≡ x.disk_before → StopsBefore x status
-stops-early x status is wire disk = record { why = inr is; same_wire = wire; same_disk = disk }
-
--- memory ran out before the wire was touched
-pub stops-unwired : (rounds : ℕ) (x : Wired) (input : List ℕ) (status : Status) → status ≡ NoMemory → x.after ≡ x.before → StopsCarrying rounds x input status
-stops-unwired rounds x input status is wire = inl (record { why = inr is; same_wire = wire })

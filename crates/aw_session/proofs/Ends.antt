@@ -11,19 +11,6 @@ use Rattle.aw_session.specs.Served.{limit, Reading, LeavesNone}
 use Rattle.aw_session.specs.declared.log.How.TheVariants.{End, Cut, Fault}
 use Rattle.aw_session.proofs.Courses.{Adds-up}
 
--- nothing is left
-pub end-left : (buf : List ℕ) (a b : Option Content) → Both (ReadsInSession got.End buf) a b → LeavesNone End b
-end-left buf None None h = tt
-end-left buf None (Some b) h = absurd h
-end-left buf (Some a) None h = absurd h
-end-left buf (Some a) (Some b) h = ap (λ (c : Content). c.left) h.1 ∙ h.0
-
-pub cut-left : (buf : List ℕ) (a b : Option Content) → Both (ReadsInSession got.End buf) a b → LeavesNone Cut b
-cut-left buf None None h = tt
-cut-left buf None (Some b) h = absurd h
-cut-left buf (Some a) None h = absurd h
-cut-left buf (Some a) (Some b) h = ap (λ (c : Content). c.left) h.1 ∙ h.0
-
 module _
     (S W : Type 0)
     (answers : S → Frame → List ℕ → S → Type 0)

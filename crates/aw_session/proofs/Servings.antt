@@ -43,26 +43,6 @@ follow-one role r w f (Some a) None c g h = absurd g
 follow-one role r w f (Some a) (Some b) None g h = absurd h
 follow-one role r w f (Some a) (Some b) (Some c) g h = h.0 ∙ ap (with_last (grown r w f)) g.0 ∙ with_last-append (grown r w f) a.passed (fresh role false)
 
--- none came any more
-pub follow-end : (role : ℕ) (a b : Option Content) → Both (Arrives role NoMore) a b → Both (Follow []) a b
-follow-end role None None h = tt
-follow-end role None (Some b) h = absurd h
-follow-end role (Some a) None h = absurd h
-follow-end role (Some a) (Some b) h = h.1 ∙ sym (append-nil a.passed)
-
-pub none-comes : (role : ℕ) (a b : Option Content) → Both (Arrives role NoMore) a b → NoneComes b
-none-comes role None None h = tt
-none-comes role None (Some b) h = absurd h
-none-comes role (Some a) None h = absurd h
-none-comes role (Some a) (Some b) h = h.2
-
--- none could be opened
-pub follow-failed : (role : ℕ) (a b : Option Content) → Both (Arrives role NotArrived) a b → Both (Follow []) a b
-follow-failed role None None h = tt
-follow-failed role None (Some b) h = absurd h
-follow-failed role (Some a) None h = absurd h
-follow-failed role (Some a) (Some b) h = h.0 ∙ sym (append-nil a.passed)
-
 -- faults are added up
 pub counts-both : (f g : Bool) (x y z : ℕ) → Counts f x y → Counts g y z → Counts (f || g) x z
 counts-both true true x y z a b = (omega (arith, a.0, b.0), omega (arith, a.1, b.0))
@@ -90,11 +70,6 @@ served-one {S} answers role s t t' [] (m ∷ ls) x l h r d k = absurd h
 served-one {S} answers role s t t' (y ∷ xs) [] x l h r d k = absurd h
 served-one {S} answers role s t t' (y ∷ xs) (m ∷ ls) x l h r d k = (h.0, h.1, h.2, h.3, served-one answers role h.0 t t' xs ls x l h.4 r d k)
 
--- no session yet
-pub serving-none : {S W : Type 0} (answers : S → Frame → List ℕ → S → Type 0) (content : W → Option Content) (faults failed_openings : W → ℕ) (role : ℕ) (s : S) (u : W) →
-    IsServing answers content faults failed_openings role s s u u []
-serving-none {S} {W} answers content faults failed_openings role s u = record { sessions = []; served = refl; told = follow-none (content u); counts = refl; openings = refl }
-
 -- and one more
 pub serving-one : {S W : Type 0} (answers : S → Frame → List ℕ → S → Type 0) (content : W → Option Content) (faults failed_openings : W → ℕ) (role : ℕ) (s t t' : S) (u v v' : W) (log : List SessionLog) (entry : SessionLog) →
     IsServing answers content faults failed_openings role s t u v log → IsNext answers content faults failed_openings role t t' v v' entry →
@@ -107,36 +82,8 @@ serving-one {S} {W} answers content faults failed_openings role s t t' u v v' lo
   openings = h.openings ∙ g.openings;
 }
 
--- and no more
-pub serving-last : {S W : Type 0} (answers : S → Frame → List ℕ → S → Type 0) (content : W → Option Content) (faults failed_openings : W → ℕ) (role : ℕ) (s t t' : S) (u v v' : W) (log : List SessionLog) →
-    IsServing answers content faults failed_openings role s t u v log → IsLast content faults failed_openings t t' v v' → IsServing answers content faults failed_openings role s t' u v' log
-serving-last {S} {W} answers content faults failed_openings role s t t' u v v' log g h = record {
-  sessions = g.sessions;
-  served = subst (λ (x : S). AreServed answers role s g.sessions log x) (sym h.same) g.served;
-  told = subst (λ (xs : List Session). Both (Follow xs) (content u) (content v')) (append-nil g.sessions) (follow-then g.sessions [] (content u) (content v) (content v') g.told h.told);
-  counts = subst (λ (n : ℕ). Counts (has_fault log) (faults u) n) (sym h.counts) g.counts;
-  openings = h.openings ∙ g.openings;
 }
 
--- and then it stopped
-pub serving-stops : {S W F : Type 0} (answers : S → Frame → List ℕ → S → Type 0) (breaks : S → Frame → F → S → Type 0) (content : W → Option Content) (faults failed_openings : W → ℕ) (role : ℕ) (s t t' : S) (u v v' : W) (log : List SessionLog) (why : Stopped F) →
-    IsServing answers content faults failed_openings role s t u v log → StopsNext answers breaks content failed_openings role t t' v v' why →
-    StopsServing answers breaks content failed_openings role s t' u v' why
-serving-stops {S} {W} {F} answers breaks content faults failed_openings role s t t' u v v' log NetFault g h = record {
-  log = log;
-  sessions = g.sessions;
-  served = subst (λ (x : S). AreServed answers role s g.sessions log x) (sym h.0) g.served;
-  told = subst (λ (xs : List Session). Both (Follow xs) (content u) (content v')) (append-nil g.sessions) (follow-then g.sessions [] (content u) (content v) (content v') g.told h.1);
-  rose = subst (λ (n : ℕ). Rose n (failed_openings v')) g.openings h.2;
-}
-serving-stops {S} {W} {F} answers breaks content faults failed_openings role s t t' u v v' log (Node fault) g h = record {
-  log = log;
-  sessions = g.sessions;
-  last = h.0;
-  between = t;
-  served = g.served;
-  stops = h.1;
-  told = follow-then g.sessions (option_to_list h.0) (content u) (content v) (content v') g.told h.2;
 }
 
 -- a session failed exactly where it broke off

@@ -67,14 +67,6 @@ pub clash_some : (o : Option P.Body) (b : P.Body) (later : Option Clash) (c : Cl
 clash_some None b later c e = absurd cc
 clash_some (Some a) b later c e = some_cases (body_eq a b) (record { kept = OfReference a; came = OfReference b }) c later e
 
-pub call_none : (o : Option Held) (c : Call) (later : Option Clash) → call_clash o c None ≡ None → call_clash o c later ≡ later
-call_none None c later e = refl
-call_none (Some h) c later e = none_cases (refs_eq h.inherited c.inherited) (record { kept = OfNode h.inherited; came = OfNode c.inherited }) later e
-
-pub call_some : (o : Option Held) (c : Call) (later : Option Clash) (d : Clash) → call_clash o c None ≡ Some d → call_clash o c later ≡ Some d
-call_some None c later d e = absurd cc
-call_some (Some h) c later d e = some_cases (refs_eq h.inherited c.inherited) (record { kept = OfNode h.inherited; came = OfNode c.inherited }) d later e
-
 -- one equation further
 pub clash_next : (k pre rest : Map) (e : Equation) → clash_on (find (k ++ pre) e.left) e.body None ≡ None → first_clash (add_all k pre) (e ∷ rest) ≡ first_clash (add_all k (pre ++ e ∷ [])) rest
 clash_next k pre rest e n =

@@ -99,9 +99,6 @@ reacts_to_tell g s kind x load es e c =
     (λ i. came g s None (loaded i))
     ∙ ap (λ k. react g s (kind_of g k)) (sym e)
 
-pub reacts_to_ask : (g : Grammar) (s : Site) (kind : MsgKind) (r : Ref) (from : ℕ) → kind ≡ msg.Ask r from → react g s (Asks r from) ≡ react g s (kind_of g kind)
-reacts_to_ask g s kind r from e = ap (λ k. react g s (kind_of g k)) (sym e)
-
 -- ---- what is known of a message of which something is new
 
 is_clear : {A : Type 0} (o : Option A) → is_none o ≡ true → o ≡ None

@@ -26,26 +26,6 @@ find_unnamed names (e ∷ k) r h n =
     let (x, y) = and_parts _ _ h in
     unnamed_cases (ref_eq r e.left) e.body (find k r) (not_left names r e.left (ref_eq r e.left) refl (and_parts _ _ x).0 n) (find_unnamed names k r y n)
 
--- a kind that is not Missing
-abbrev pub is_there : Kind → Bool
-is_there kind.Missing = false
-is_there _ = true
-
-pub kind_there : (names : List Ref) (o : Option Body) (k : Kind) → IsKindOf names o k → is_some o ≡ is_there k
-kind_there names None kind.Missing h = refl
-kind_there names None (kind.Same slot) h = elim h [ ]
-kind_there names None (kind.Con c n) h = elim h [ ]
-kind_there names None (kind.Num n) h = elim h [ ]
-kind_there names None kind.Text h = elim h [ ]
-kind_there names (Some (Same r)) kind.Missing h = elim h [ ]
-kind_there names (Some (Is (T.Con c) parts)) kind.Missing h = elim h [ ]
-kind_there names (Some (Is (T.Num c) parts)) kind.Missing h = elim h [ ]
-kind_there names (Some (Is (T.Text c) parts)) kind.Missing h = elim h [ ]
-kind_there names (Some b) (kind.Same slot) h = refl
-kind_there names (Some b) (kind.Con c n) h = refl
-kind_there names (Some b) (kind.Num n) h = refl
-kind_there names (Some b) kind.Text h = refl
-
 some_cases : (b : Bool) (x : Body) (o p : Option Body) (q : Bool) → is_some p ≡ (is_some o || q) → is_some (cond b (Some x) p) ≡ (is_some (cond b (Some x) o) || q)
 some_cases true x o p q e = refl
 some_cases false x o p q e = e

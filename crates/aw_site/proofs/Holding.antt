@@ -82,9 +82,6 @@ module _ {F : Type 0} (f : Ghosts F) (old new : Space F f) (old_subs new_subs : 
     sent = h.sent ∙ (λ i. map (message_of (grammar_of (sym grammar i))) (sym e i));
   }
 
-pub seen_unchanged : {F : Type 0} (f : Ghosts F) (old new : Space F f) → new.accepted.now.grammar ≡ old.accepted.now.grammar → IsUnchanged f old new → space_seen f new ≡ space_seen f old
-seen_unchanged f old new e u = λ i. space_of (grammar_of (e i)) (u.nodes i) (u.choices i) (u.equations i)
-
 -- ---- what was planned is done
 
 pub count_planned : (g : program.Grammar) (t : Site) (x : Reaction) (p : Plan) (copies : List Message) (n : ℕ) → n ≡ length copies → copies ≡ p.sent.items → IsPlanned (grammar_of g) t x p → n ≡ length x.sent

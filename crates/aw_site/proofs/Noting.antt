@@ -43,9 +43,6 @@ asked_one old new r asked writes shows x =
 pub asked_same : (old new : Subs) (asked : List Ref) → ((x : Ref) → is_asked new.subs x ≡ is_asked old.subs x) → ShowsAsked old asked → ShowsAsked new asked
 asked_same old new asked same shows x = shows x ∙ sym (same x)
 
-pub watched_same : (old new : Subs) (ws : List Watch) → ((x : Ref) → watchers new.subs x ≡ watchers old.subs x) → ShowsWatchers old ws → ShowsWatchers new ws
-watched_same old new ws same shows x role l = shows x role l ∙ ap (λ b. has_bit b role) (sym (same x))
-
 watch_push : (x : Ref) (role : ℕ) (w : Watch) (ws : List Watch) → has_watch x role (ws ++ w ∷ []) ≡ ((ref_eq x w.reference && nat_eq role w.role) || has_watch x role ws)
 watch_push x role w [] = refl
 watch_push x role w (v ∷ ws) =
@@ -63,9 +60,3 @@ watched_one old new r from ws writes shows x role l =
 -- one more of some references was asked for
 pub asked_next : (subs : Subs) (asked wanted : List Ref) (i : ℕ) (r : Ref) → i < length wanted → r ≡ get_or wanted i r → ShowsAsked subs ((asked ++ take i wanted) ++ r ∷ []) → ShowsAsked subs (asked ++ take (i + 1) wanted)
 asked_next subs asked wanted i r l e h = subst (ShowsAsked subs) (append_assoc asked (take i wanted) (r ∷ []) ∙ ap (λ ys. asked ++ ys) (sym (take_here wanted i r l e))) h
-
-pub asked_whole : (subs : Subs) (asked wanted : List Ref) (i : ℕ) → length wanted ≤ i → ShowsAsked subs (asked ++ take i wanted) → ShowsAsked subs (asked ++ wanted)
-asked_whole subs asked wanted i l h = subst (ShowsAsked subs) (ap (λ ys. asked ++ ys) (take_all i wanted l)) h
-
-pub asked_none : (subs : Subs) (asked : List Ref) → ShowsAsked subs asked → ShowsAsked subs (asked ++ [])
-asked_none subs asked h = subst (ShowsAsked subs) (sym (append-nil asked)) h

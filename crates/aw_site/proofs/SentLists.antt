@@ -36,14 +36,6 @@ split_cases false x xs = refl
 pub calls_split : (g : Grammar) (s : Site) (c : Call) (cs : List Call) → calls_out g s (c ∷ cs) ≡ calls_out g s (c ∷ []) ++ calls_out g s cs
 calls_split g s c cs = split_cases (nat_eq (home g c.node) s.role) (call_out g s c) (calls_out g s cs)
 
-inherit_cases : (b : Bool) (h : Held) (hs : List Held) → all_inherited (cond b (h ∷ hs) hs) ≡ all_inherited (cond b (h ∷ []) []) ++ all_inherited hs
-inherit_cases true h hs = ap (λ rs. rs ++ all_inherited hs) (sym (append-nil h.inherited))
-inherit_cases false h hs = refl
-
-pub inherited_split : (g : Grammar) (role : ℕ) (c : Call) (cs : List Call) →
-    all_inherited (calls_in g role (c ∷ cs)) ≡ all_inherited (calls_in g role (c ∷ [])) ++ all_inherited (calls_in g role cs)
-inherited_split g role c cs = inherit_cases (nat_eq (home g c.node) role) (called_held c) (calls_in g role cs)
-
 told_cases : (tell : ℕ → Message) (b : Bool) (i : ℕ) (is : List ℕ) → map tell (cond b (i ∷ is) is) ≡ cond b (tell i ∷ []) [] ++ map tell is
 told_cases tell true i is = refl
 told_cases tell false i is = refl
@@ -61,12 +53,6 @@ told_next tell before after whole most i r ws l a b =
     ∙ ap (λ ys. before ++ ys) (sym (told_cases tell (has_watch r i ws) i (watchers_from n (suc i) r ws)))
     ∙ ap (λ k. before ++ map tell (watchers_from k i r ws)) (sym count)
     ∙ b
-
-pub told_last : (tell : ℕ → Message) (after whole : List Message) (most i : ℕ) (r : Ref) (ws : List Watch) → most ≤ i
-    → after ++ map tell (watchers_from (most - i) i r ws) ≡ whole → after ≡ whole
-told_last tell after whole most i r ws l e =
-    let count : most - i ≡ 0 = omega arith in
-    sym (append-nil after) ∙ ap (λ k. after ++ map tell (watchers_from k i r ws)) (sym count) ∙ e
 
 unwatched_on : (bit : ℕ) → bit ≡ 0 → nat_eq bit 1 ≡ false
 unwatched_on bit e = ap (λ n. nat_eq n 1) e

@@ -14,17 +14,10 @@ use Rattle.aw_react.specs.InOrder.{has_ref}
 use Rattle.aw_react.specs.Loads.{Given, may_give, given_on, next_given, walk}
 use Rattle.aw_react.specs.Sites.{Site}
 use Rattle.aw_site.specs.Senders.{Gives, GivesFirst, seen_with}
-use Rattle.aw_site.proofs.Steps.{drop_here}
 
 -- one more reference on the stack
 pub reverse-push : {A : Type 0} (xs ys : List A) (x : A) → ys ≡ xs ++ x ∷ [] → reverse ys ≡ x ∷ reverse xs
 reverse-push xs ys x e = ap reverse e ∙ reverse-append xs (x ∷ [])
-
-pub reversed_more : {A : Type 0} (refs stack new base : List A) (i j : ℕ) (x : A) → j < length refs → j + 1 ≡ i → x ≡ get_or refs j x → new ≡ stack ++ x ∷ [] → reverse stack ≡ drop i refs ++ base → reverse new ≡ drop j refs ++ base
-reversed_more refs stack new base i j x l n e p h =
-    reverse-push stack new x p
-    ∙ ap (λ ys. x ∷ ys) (h ∙ ap (λ k. drop k refs ++ base) (sym n))
-    ∙ ap (λ ys. ys ++ base) (sym (drop_here refs j x l e))
 
 seen_cases : (b h : Bool) (x : P.Body) (o : Option P.Body) → ((b || h) || is_some o) ≡ (h || is_some (cond b (Some x) o))
 seen_cases true true x o = refl
@@ -93,21 +86,6 @@ walked_end i most g s load first rs new whole l h q =
     ∙ ap (λ xs. map equation_of load ++ xs) (sym (walk_end n g s (seen_with load first) rs new h))
     ∙ ap (λ k. map equation_of load ++ walk k g s (seen_with load first) rs) (sym count)
     ∙ q
-
--- as many as there may be
-pub walked_all : (i most : ℕ) (g : Grammar) (s : Site) (load : List Equation) (first rs : List Ref) (whole : List P.Equation) → most ≤ i
-    → map equation_of load ++ walk (most - i) g s (seen_with load first) rs ≡ whole → map equation_of load ≡ whole
-walked_all i most g s load first rs whole l q =
-    let count : most - i ≡ 0 = omega arith in
-    sym (append-nil (map equation_of load))
-    ∙ ap (λ k. map equation_of load ++ walk k g s (seen_with load first) rs) (sym count)
-    ∙ q
-
-pub load_yes : (b : Bool) (es fs : List P.Equation) → b ≡ true → es ≡ fs → es ≡ cond b fs []
-load_yes b es fs e f = f ∙ ap (λ b. cond b fs []) (sym e)
-
-pub load_no : (b : Bool) (fs : List P.Equation) → b ≡ false → [] ≡ cond b fs []
-load_no b fs e = ap (λ b. cond b fs []) (sym e)
 
 -- a reference that gave its equation
 pub gave : (given later : Option Given) (r : Ref) (o : Option Body) (b : Body) (rs new : List Ref) → given ≡ given_on true r (option_map body_of o) rs later → o ≡ Some b → new ≡ mentions (body_of b) ++ rs

@@ -18,17 +18,3 @@ all_named-left ns (x ∷ xs) ys a = let (p, q) = and_parts (is_named ns x) _ a i
 pub all_named-right : (ns xs ys : List Ref) → all_named ns (xs ++ ys) ≡ true → all_named ns ys ≡ true
 all_named-right ns [] ys a = a
 all_named-right ns (x ∷ xs) ys a = let (p, q) = and_parts (is_named ns x) _ a in all_named-right ns xs ys q
-
-pub inherited-append : (hs ks : List Held) → all_inherited (hs ++ ks) ≡ all_inherited hs ++ all_inherited ks
-inherited-append [] ks = refl
-inherited-append (h ∷ hs) ks = ap (λ x. h.inherited ++ x) (inherited-append hs ks) ∙ sym (grouped h.inherited (all_inherited hs) (all_inherited ks))
-  where
-    grouped : (a b c : List Ref) → (a ++ b) ++ c ≡ a ++ (b ++ c)
-    grouped [] b c = refl
-    grouped (x ∷ a) b c = ap (λ z. x ∷ z) (grouped a b c)
-
-pub inherited_taken : (ns : List Ref) (hs : List Held) (i : ℕ) (h : Held) → i < length hs → h ≡ get_or hs i h → all_named ns (all_inherited (take i hs)) ≡ true → all_named ns h.inherited ≡ true → all_named ns (all_inherited (take (i + 1) hs)) ≡ true
-inherited_taken ns hs i h l e before here =
-    ap (λ x. all_named ns (all_inherited x)) (take_more hs i h l ∙ ap (λ x. take i hs ++ x ∷ []) (sym e))
-    ∙ ap (all_named ns) (inherited-append (take i hs) (h ∷ []))
-    ∙ all_named-append ns (all_inherited (take i hs)) (all_inherited (h ∷ [])) before (all_named-append ns h.inherited [] here refl)

@@ -21,11 +21,6 @@ taken_is (Circle r) e = absurd cc
 taken_is TooDeep e = absurd cc
 taken_is Taken e = refl
 
--- what a test tells of an answer
-pub told_taken : (b : Bool) (a : Answer) (x : Q.Answer Ref) → (IsTrue b ↔ (a ≡ Taken)) → answer_of a ≡ x → b ≡ true → x ≡ Q.Taken
-told_taken true a x w e t = sym e ∙ ap answer_of (w.0 refl)
-told_taken false a x w e t = absurd cc
-
 pub told_refused : (b : Bool) (a : Answer) (x : Q.Answer Ref) → (IsTrue b ↔ (a ≡ Taken)) → answer_of a ≡ x → b ≡ false → x ≡ Q.Taken → ⊥
 told_refused true a x w e t f = absurd cc
 told_refused false a x w e t f = let wrong : false ≡ true = w.1 (taken_is a (e ∙ f)) in absurd cc

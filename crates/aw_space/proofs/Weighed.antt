@@ -33,25 +33,6 @@ refused_is (Q.Refused b) a e = cc
 refused_is Q.Starts a e = absurd cc
 refused_is (Q.Takes rule bound) a e = absurd cc
 
--- what leads to no refusal is none
-pub ready_takes : (rule : P.Rule) (w : Weighed) (x : Q.Outcome Ref Ref) → weighed_of rule w ≡ x → None ≡ plain_refusal x → IsRefused w → ⊥
-ready_takes rule (weighed.Refused a) x e f refused = let g = ap plain_refusal e in absurd cc
-ready_takes rule (weighed.Takes bound) x e f refused = absurd (refused bound refl)
-
--- a refusal takes nothing
-pub refused_other : (a : Answer) (bound : List Ref) → weighed.Refused a ≡ weighed.Takes bound → ⊥
-refused_other a bound e = absurd cc
-
--- what a rule of the sort with as many arguments leads to is what its guard gives
-pub by_guard : (k : Map) (n : Node) (args : List Ground) (h : H.Held) (r : P.Rule) (rs : List Ref) (x : Q.Outcome Ref Ref) → r.sort ≡ h.sort → length args ≡ r.params → h.inherited ≡ rs →
-    x ≡ after_guard n r (guard_all k 1 r.patterns rs) → x ≡ by_rule (Some r) k n args h
-by_guard k n args h r rs x same many inherited e =
-    let given = λ (b : Bool). cond b (after_guard n r (guard_all k 1 r.patterns h.inherited)) (Q.Refused Q.Arguments) in
-    let sorted = λ (b : Bool). cond b (given (nat_eq (length args) r.params)) (Q.Refused Q.NotItsRule) in
-    e
-    ∙ ap (λ zs. after_guard n r (guard_all k 1 r.patterns zs)) (sym inherited)
-    ∙ sym (ap sorted (eq-eqb r.sort h.sort same) ∙ ap given (eq-eqb (length args) r.params many))
-
 -- a rule of the node's sort stands at the open node as it stands by its number
 pub stands_there : (g : Grammar) (k : Map) (held : Held) (number : ℕ) (rule : Rule) (sort : ℕ) (s : Standing) → StandsAt (grammar_of g) k held number s → slice_get g.rules number ≡ Some rule →
     sort_or (sort_of (grammar_of g) held.node) ≡ sort → held.done ≡ None → rule.sort ≡ sort → RuleStands k held.node held.inherited (rule_of g.sorts rule) s

@@ -58,10 +58,6 @@ same_somes (x ∷ xs) (y ∷ ys) e =
     let there = same_somes xs ys rest in
     λ i. here i ∷ there i
 
--- slots name one list of references
-pub AreNamed-one : (names : List Ref) (slots : List ℕ) (rs ts : List Ref) → AreNamed names slots rs → AreNamed names slots ts → rs ≡ ts
-AreNamed-one names slots rs ts e f = same_somes rs ts (sym e ∙ f)
-
 -- one slot more
 pub named_push : (names : List Ref) (slots : List ℕ) (rs : List Ref) (s : ℕ) (r : Ref) → AreNamed names slots rs → slice_get names s ≡ Some r → AreNamed names (slots ++ s ∷ []) (rs ++ r ∷ [])
 named_push names slots rs s r e f =

@@ -30,28 +30,6 @@ use Rattle.aw_trial.specs.Counts.{tally_from, config_of, counted, counted_after,
 use Rattle.aw_trial.specs.Specification.{trial_grammar, trial_words}
 use Rattle.aw_trial.specs.Told.{LinesOf, CountsLines, Tells, most_bytes}
 
-abbrev empty_report : Bounded
-empty_report = record { text = []; limit = most_bytes }
-
--- all lines were printed
-pub lines_ok : (n b rows : ℕ) (text : List ℕ) (old new : Bounded) (r : Result Unit PrintFault) → old ≡ empty_report → r ≡ Ok tt → Prints text old new r
-    → length new.text ≤ new.limit → n ≡ rows → b ≡ length new.text → LinesOf rows (length text) (Ok (n, b))
-lines_ok n b rows text old new r eo ok prints within en eb =
-    let made : new ≡ printed empty_report text = (subst (λ x. Prints text old new x) ok prints).ok ∙ ap (λ o. printed o text) eo in
-    let long : length new.text ≡ length text = ap (λ (x : Bounded). length x.text) made in
-    let most : new.limit ≡ most_bytes = ap (λ (x : Bounded). x.limit) made in
-    (en, eb ∙ long, omega (arith, within, long, most))
-
--- they were not
-pub lines_err : (rows : ℕ) (text : List ℕ) (old new : Bounded) (r : Result Unit PrintFault) (fault : PrintFault) → old ≡ empty_report → r ≡ Err fault → Prints text old new r
-    → LinesOf rows (length text) (Err fault)
-lines_err rows text old new r TooLarge eo err prints =
-    let past = prints.too_large err in
-    let limit : old.limit ≡ most_bytes = ap (λ (x : Bounded). x.limit) eo in
-    let none : length old.text ≡ 0 = ap (λ (x : Bounded). length x.text) eo in
-    omega (arith, past, limit, none)
-lines_err rows text old new r NoMemory eo err prints = tt
-
 module _ {W : Type 0} (f : Ghosts W) (w : World W f) where
   configured : undivided (plain_of w) [] (map choice_of w.taken.items) ≡ None → ⊥
   configured none = ∥∥₁_elim (reached_configured f w.accepted.now w.loads w.sites.items w.messages w.marks.delivered.items w.taken.items w.reached) ⊥_prop

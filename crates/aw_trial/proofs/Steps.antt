@@ -45,11 +45,6 @@ module _ {W : Type 0} (f : Ghosts W) (old new : World W f) (t u : Tally) where
       subst (λ j. Comes f new u (delivered (record { world = v; tally = t; events = es }) j (V.step g v (V.Delivers j)))) at
       (record { world = x.world; tally = made ∙ ap (λ y. record (drew t) { repeats = t.repeats + one_if y }) (is ∙ ap replies_again x.reply) })
 
--- as many messages as the plain world has
-pub as_many : {W : Type 0} (f : Ghosts W) (old new : World W f) (t u : Tally) (g : Grammar) (n : ℕ) → ((v : V.World) → Shows f old v → length v.messages ≡ n)
-    → Does f old t new u (among_messages g n) → Does f old t new u (deliver_some g)
-as_many f old new t u g n count does v es S = subst (λ m. Comes f new u (among_messages g m (record { world = v; tally = t; events = es }))) (sym (count v S)) (does v es S)
-
 -- nothing is done
 pub nothing : {W : Type 0} (f : Ghosts W) (w : World W f) (t : Tally) → Does f w t w t (λ s. s)
 nothing f w t v es S = record { world = S; tally = refl }

@@ -50,15 +50,6 @@ adds_both a b c P Q R first then there back = record {
   );
 }
 
--- the same pairs under another name
-pub adds_same : (a b : Io) (P Q : ℕ → ℕ → ℕ → Type 0) → Adds a b P → ((s i j : ℕ) → P s i j → Q s i j) → ((s i j : ℕ) → Q s i j → P s i j) → Adds a b Q
-adds_same a b P Q added there back = record {
-  made = added.made;
-  sorts = added.sorts;
-  pairs = λ s i j. (
-    (λ x. elim ((added.pairs s i j).0 x) [ inl old ↦ inl old | inr p ↦ inr (there s i j p) ]),
-    (λ x. elim x [ inl old ↦ (added.pairs s i j).1 (inl old) | inr q ↦ (added.pairs s i j).1 (inr (back s i j q)) ]),
-  );
 }
 
 -- the pairs of one result more
@@ -97,11 +88,6 @@ last_pattern g r n p at s i j (le, (a, (q, got, l), low, few)) =
           inr (subst Looks one l, (a, same, low, few)))
     ]
 
--- all of its patterns
-pub all_patterns : (g : P.Grammar) (r : P.Rule) (n : ℕ) → length r.patterns ≤ n → (s i j : ℕ) → IsHeldUpBy g r s i j → ByFirst g r n s i j
-all_patterns g r n le s zero j (a, (p, got, l), low, few) = (omega arith, (a, (p, got, l), low, few))
-all_patterns g r n le s (suc i) j (a, (p, got, l), low, few) = (omega (arith, le, slice_get_within r.patterns i p got), (a, (p, got, l), low, few))
-
 -- one rule more
 pub one_rule : (g : P.Grammar) (n : ℕ) (r : P.Rule) → slice_get g.rules n ≡ Some r → (s i j : ℕ) → IsHeldUpBefore g n s i j ⊎ IsHeldUpBy g r s i j → IsHeldUpBefore g (n + 1) s i j
 one_rule g n r at s i j (inl (k, lt, q, got, held)) = (k, omega (arith, lt), q, got, held)
@@ -131,9 +117,6 @@ pub rule_more : (g : P.Grammar) (r : P.Rule) (n count value : ℕ) (p : Term) (a
 rule_more g r n count value p a b c at many next first then =
     adds_both a b c (ByFirst g r n) (AtPattern r.sort (gives g r.sort) (n + 1) p) (ByFirst g r (n + 1)) first
     (subst (λ m. Adds b c (AtPattern r.sort m (n + 1) p)) many (subst (λ k. Adds b c (AtPattern r.sort count k p)) next then)) (one_pattern g r n p at) (last_pattern g r n p at)
-
-pub rule_all : (g : P.Grammar) (r : P.Rule) (n : ℕ) (a b : Io) → length r.patterns ≤ n → Adds a b (ByFirst g r n) → Adds a b (IsHeldUpBy g r)
-rule_all g r n a b le added = adds_same a b (ByFirst g r n) (IsHeldUpBy g r) added (λ s i j x. x.1) (all_patterns g r n le)
 
 pub rule_none : (g : P.Grammar) (r : P.Rule) (s i j : ℕ) → ByFirst g r 0 s i j → Never
 rule_none g r s i j (le, (a, (p, got, l), low, few)) = let z : i ≡ 0 = omega (arith, le) in item_zero r.patterns p (subst (λ k. item r.patterns k ≡ Some p) z got)

@@ -31,9 +31,6 @@ pub each_more : {A : Type 0} (P : A → Type 0) (xs : List A) (i : ℕ) (x : A) 
 each_more P xs i x lt is each here =
     subst (Each P) (sym (take_more xs i x lt ∙ ap (λ y. take i xs ++ y ∷ []) (sym is))) (each_push P (take i xs) x each here)
 
-pub each_all : {A : Type 0} (P : A → Type 0) (xs : List A) (i : ℕ) → length xs ≤ i → Each P (take i xs) → Each P xs
-each_all P xs i le each = subst (Each P) (take_all i xs le) each
-
 -- the same of what a view shows of them
 pub each_more_seen : {A B : Type 0} (P : B → Type 0) (view : A → B) (xs : List A) (i : ℕ) (x : A) → i < length xs → x ≡ get_or xs i x → Each P (map view (take i xs)) → P (view x) → Each P (map view (take (i + 1) xs))
 each_more_seen P view xs i x lt is each here =

@@ -59,10 +59,6 @@ written-last f bytes more ps p q w e =
 pub reverse-nil : {A : Type 0} (xs : List A) → reverse xs ≡ [] → xs ≡ []
 reverse-nil xs e = sym (reverse-reverse xs) ∙ ap reverse e
 
--- a session is taken from the end of those in the other order
-pub reverse-last : {A : Type 0} (xs : List A) (x : A) → reverse (xs ++ x ∷ []) ≡ x ∷ reverse xs
-reverse-last xs x = reverse-append xs (x ∷ [])
-
 -- the open session ended
 pub roomy-close : (ended : List Passed) (cur : Option Passed) (p : Passed) (bytes : List ℕ) (a a' b room most : ℕ) → cur ≡ Some p → a ≤ a' →
     IsRoomy ended cur bytes a b room most → IsRoomy (ended ++ p ∷ []) None bytes a' b room most
@@ -77,12 +73,6 @@ roomy-close ended (Some q) p bytes a a' b room most e up r =
       writes = r.writes;
     }
 
--- it is shown with those that ended
-pub shows-close : (coming : List (List ℕ)) (ended : List Passed) (cur : Option Passed) (p : Passed) (bytes : List ℕ) (room most : ℕ) → cur ≡ Some p →
-    shown coming None (ended ++ p ∷ []) bytes room most ≡ closed (shown coming cur ended bytes room most)
-shows-close coming ended None p bytes room most e = absurd (cc e)
-shows-close coming ended (Some q) p bytes room most e = let same : q ≡ p = cc e in let none = append-nil (ended ++ p ∷ []) in cc
-
 -- a read or a write failed in it
 pub shows-fault : (coming : List (List ℕ)) (ended : List Passed) (cur : Option Passed) (p : Passed) (bytes : List ℕ) (room most : ℕ) → cur ≡ Some p →
     shown coming (Some (record p { failed = true })) ended bytes room most ≡ with_fault (shown coming cur ended bytes room most)
@@ -93,10 +83,6 @@ shows-fault coming ended (Some q) p bytes room most e =
 -- the session after some of what was left was read
 pub read-session : (bytes : List ℕ) (p : Passed) (n : ℕ) → after_read (take n (drop p.at p.bytes)) (session_of bytes p) ≡ session_of bytes (record p { at = p.at + n })
 read-session bytes p n = let both = take-add p.at n p.bytes in cc
-
--- nothing was read
-pub read-nothing : (bytes : List ℕ) (p : Passed) → after_read [] (session_of bytes p) ≡ session_of bytes p
-read-nothing bytes p = let none = append-nil (take p.at p.bytes) in cc
 
 -- some of it was read
 shows-some : (coming : List (List ℕ)) (ended : List Passed) (p : Passed) (bytes : List ℕ) (room most n : ℕ) →

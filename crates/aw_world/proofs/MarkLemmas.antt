@@ -27,9 +27,6 @@ leading_stop (true ∷ bs) zero e = absurd cc
 leading_stop (false ∷ bs) zero e = refl
 leading_stop (b ∷ bs) (suc i) e = leading_stop bs i e
 
-pub leading_past : (bs : List Bool) (i : ℕ) → length bs ≤ i → leading (drop i bs) ≡ 0
-leading_past bs i l = leading_stop bs i (sym (marked_past bs i l))
-
 leading_drop : (bs : List Bool) → leading (drop (leading bs) bs) ≡ 0
 leading_drop [] = refl
 leading_drop (true ∷ bs) = leading_drop bs
