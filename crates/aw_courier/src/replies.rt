@@ -8,6 +8,7 @@ ghost use Rattle.aw_term.specs.Rules.{Grammar as PlainGrammar};
 
 use aw_msg::frame_reading::MOST_OF_PAYLOAD;
 use aw_msg::reading::message_at;
+use aw_msg::reply_writing::{BAD_NAME, CONFLICT, MESSAGE, NEW, NOTHING};
 use aw_wire::Unread;
 use std::alloc::{AllocError, Global};
 
@@ -34,16 +35,13 @@ pub enum Brought {
 /// The bytes of a reply before its payload: the kind and the length.
 const HEAD: usize = 5;
 
-/// The kind of the reply that there are no more messages.
-const NOTHING: u8 = 10;
-
 /// Whether a reply to the request may be of this kind.
 fn may_have(request: Request, kind: u8) -> bool
     ensures { result ≡ spec.may_have request kind }
 {
     match request {
-        Request::Push => 1 <= kind && kind <= 5,
-        Request::Pull => kind == 7 || kind == NOTHING,
+        Request::Push => NEW <= kind && kind <= BAD_NAME,
+        Request::Pull => kind == MESSAGE || kind == NOTHING,
     }
 }
 
@@ -51,7 +49,7 @@ fn may_have(request: Request, kind: u8) -> bool
 fn fits_length(kind: u8, n: u32) -> bool
     ensures { result ≡ spec.fits_length kind n }
 {
-    if kind == 3 || kind == 7 {
+    if kind == CONFLICT || kind == MESSAGE {
         n <= MOST_OF_PAYLOAD
     } else if kind == NOTHING {
         n == 8

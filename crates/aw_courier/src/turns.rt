@@ -16,6 +16,7 @@ use crate::mails::Mails;
 use crate::queue::NextUp;
 use crate::replies::{Brought, Request, what_came};
 use aw_list::Text;
+use aw_msg::frame_reading::{PULL_KIND, PUSH_KIND};
 use aw_out::{Dialed, Wire};
 use aw_session::SESSION_LIMIT;
 use std::alloc::Global;
@@ -46,7 +47,7 @@ fn pull_frame(place: u64) -> [u8; PULL]
 {
     let p = place.to_be_bytes();
     [
-        3, 0, 0, 0, 8, p[0], p[1], p[2], p[3], p[4], p[5], p[6], p[7],
+        PULL_KIND, 0, 0, 0, 8, p[0], p[1], p[2], p[3], p[4], p[5], p[6], p[7],
     ]
 }
 
@@ -56,7 +57,7 @@ fn as_push(reply: Text) -> Text
     ensures { result ≡ 1 ∷ behind reply }
 {
     let mut bytes = reply.into_vec();
-    bytes[0] = 1;
+    bytes[0] = PUSH_KIND;
     Text::from_vec(bytes)
 }
 

@@ -19,6 +19,15 @@ use aw_list::Text;
 use std::alloc::{AllocError, Global};
 use std::marker::Model;
 
+/// How many bytes stand before the text of a head: a gate, the role and the length of the text.
+const HEAD_FRONT: u64 = 11;
+
+/// How many bytes a head has beside its text, with its gate and the one behind it.
+const HEAD_AND_GATES: u64 = 12;
+
+/// How many bytes stand before the payload of a record: a gate and the length of the payload.
+const RECORD_FRONT: u64 = 9;
+
 #[derive(Clone, Copy, Debug, PartialEq, Eq)]
 pub enum AppendFault {
     DiskFault,
@@ -173,7 +182,7 @@ impl Journal {
 fn next_gate(gate: u64, len: u64, limit: u64) -> Option<u64>
     ensures { MatchOption result (limit < gate + len + 10) (λ next. (next ≡ gate + len + 9) × (next < limit)) }
 {
-    let next = gate.checked_add(9)?.checked_add(len)?;
+    let next = gate.checked_add(RECORD_FRONT)?.checked_add(len)?;
     if next < limit { Some(next) } else { None }
 }
 
@@ -214,7 +223,7 @@ fn stands(bytes: &[u8]) -> bool
 fn has_place(len: usize, limit: u64) -> bool
     ensures { IsTrue result ↔ 12 + len ≤ limit }
 {
-    match (len as u64).checked_add(12) {
+    match (len as u64).checked_add(HEAD_AND_GATES) {
         Some(end) => end <= limit,
         None => false,
     }
@@ -313,7 +322,7 @@ fn start<D: Disk>(
             role,
             kept,
             Vec::new(alloc),
-            11 + text.len() as u64,
+            HEAD_FRONT + text.len() as u64,
             limit,
         )),
         Did::Failed => Err(OpenFault::DiskFault),

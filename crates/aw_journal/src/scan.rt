@@ -7,6 +7,12 @@ ghost use Rattle.aw_journal.specs.Scan.{Found, FoundEvent, FoundAll, IsPayload};
 use crate::payload::{NodeEvent, event_in};
 use std::alloc::{AllocError, Global};
 
+/// How many bytes the length of a payload has.
+const LENGTH: usize = 8;
+
+/// How many bytes stand before the payload of a record: a gate and the length of the payload.
+const FRONT: usize = 9;
+
 /// Some events, and the gate behind them.
 #[derive(Drop)]
 pub(crate) struct Scanned {
@@ -41,7 +47,7 @@ fn next_event(
         Some(next) => next,
         None => return Ok(None),
     };
-    match event_in(alloc, &bytes[gate + 9..next])? {
+    match event_in(alloc, &bytes[gate + FRONT..next])? {
         Some(event) => Ok(Some((event, next))),
         None => Ok(None),
     }
@@ -57,7 +63,7 @@ fn record_end(bytes: &[u8], gate: usize) -> Option<usize>
     }
     let (_, rest) = bytes.split_at(gate + 1);
     match payload_len(rest) {
-        Some(n) => Some(gate + 9 + n),
+        Some(n) => Some(gate + FRONT + n),
         None => None,
     }
 }
@@ -67,10 +73,10 @@ fn payload_len(rest: &[u8]) -> Option<usize>
     ensures none { result ≡ None → whole rest.now ≡ None }
     ensures some { (n : ℕ) → result ≡ Some n → IsPayload rest.now n }
 {
-    if rest.len() < 8 {
+    if rest.len() < LENGTH {
         return None;
     }
-    let (long, behind) = rest.split_at(8);
+    let (long, behind) = rest.split_at(LENGTH);
     let n = number_in(long);
     if n >= behind.len() as u64 {
         return None;

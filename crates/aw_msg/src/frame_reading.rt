@@ -20,6 +20,18 @@ use std::alloc::{AllocError, Global};
 /// The most bytes of a payload.
 pub const MOST_OF_PAYLOAD: u32 = 1048576;
 
+/// The kind of a frame that brings a message.
+pub const PUSH_KIND: u8 = 1;
+
+/// The kind of a frame that brings a choice.
+pub const CHOOSE_KIND: u8 = 2;
+
+/// The kind of a frame that asks for the message at a place.
+pub const PULL_KIND: u8 = 3;
+
+/// The kind of a frame that asks for the item at a place. It is the last one.
+pub const LIST_KIND: u8 = 4;
+
 fn whole_message(alloc: Global, bytes: &[u8]) -> Result<Option<Message>, AllocError>
     ensures { IfOk result (λ found. spec.whole message bytes.now ≡ found) }
 {
@@ -56,19 +68,19 @@ fn payload_of(alloc: Global, kind: u8, bytes: &[u8]) -> Result<Option<Frame>, Al
     ensures { IfOk result (λ found. spec.payload kind bytes.now ≡ option_map frame_of found) }
 {
     match kind {
-        1 => match whole_message(alloc, bytes)? {
+        PUSH_KIND => match whole_message(alloc, bytes)? {
             Some(found) => Ok(Some(Frame::Push(found))),
             None => Ok(None),
         },
-        2 => match whole_choice(alloc, bytes)? {
+        CHOOSE_KIND => match whole_choice(alloc, bytes)? {
             Some(found) => Ok(Some(Frame::Choose(found))),
             None => Ok(None),
         },
-        3 => match whole_number(bytes)? {
+        PULL_KIND => match whole_number(bytes)? {
             Some(place) => Ok(Some(Frame::Pull(place))),
             None => Ok(None),
         },
-        4 => match whole_number(bytes)? {
+        LIST_KIND => match whole_number(bytes)? {
             Some(place) => Ok(Some(Frame::List(place))),
             None => Ok(None),
         },
@@ -79,7 +91,7 @@ fn payload_of(alloc: Global, kind: u8, bytes: &[u8]) -> Result<Option<Frame>, Al
 fn has_length(kind: u8, length: u32) -> bool
     ensures { result ≡ spec.has_length kind length }
 {
-    if kind <= 2 {
+    if kind <= CHOOSE_KIND {
         length <= MOST_OF_PAYLOAD
     } else {
         length == 8
@@ -116,7 +128,7 @@ fn payload_at(alloc: Global, kind: u8, length: u32, bytes: &[u8]) -> Result<(Fra
 pub fn frame_at(alloc: Global, bytes: &[u8]) -> Result<(Frame, &[u8]), Unread>
     ensures { Gives (λ x. (frame_of x.0, x.1.now)) result (spec.frame bytes.now) }
 {
-    let (kind, rest) = position_at(4, bytes)?;
+    let (kind, rest) = position_at(LIST_KIND, bytes)?;
     let (length, rest) = length_at(kind, rest)?;
     payload_at(alloc, kind, length, rest)
 }

@@ -16,6 +16,39 @@ use aw_store::{Content, push_body};
 use aw_wire::writing::{add_byte, add_u64};
 use std::alloc::{AllocError, Global};
 
+/// The kind of the reply that the message was new.
+pub const NEW: u8 = 1;
+
+/// The kind of the reply that the message was held already.
+pub const AGAIN: u8 = 2;
+
+/// The kind of the reply that the message contradicts what is held.
+pub const CONFLICT: u8 = 3;
+
+/// The kind of the reply that what is named belongs to another role.
+pub const NOT_MINE: u8 = 4;
+
+/// The kind of the reply that what is named is not valid.
+pub const BAD_NAME: u8 = 5;
+
+/// The kind of the reply that answers a choice.
+pub const ANSWER: u8 = 6;
+
+/// The kind of the reply with a message of the outbox.
+pub const MESSAGE: u8 = 7;
+
+/// The kind of the reply that more bytes came than a session may have.
+pub const TOO_LONG: u8 = 8;
+
+/// The kind of the reply that no frame stands there.
+pub const BAD_FRAME: u8 = 9;
+
+/// The kind of the reply that there is no more.
+pub const NOTHING: u8 = 10;
+
+/// The kind of the reply with an item of the worklist.
+pub const ITEM: u8 = 11;
+
 fn add_content(text: &mut Text, g: &Grammar, content: &Content) -> Result<(), AllocError>
     ensures { OnOk result (text.new ≡ text.old ++ spec.content_text (words_of g.now) (content_of content.now)) }
 {
@@ -47,17 +80,17 @@ fn kind_of(r: &Answered) -> u8
     ensures { (plain : PlainGrammar) → result ≡ spec.reply_kind (response_of plain r.now) }
 {
     match r {
-        Answered::New => 1,
-        Answered::Again => 2,
-        Answered::Conflict { .. } => 3,
-        Answered::NotMine => 4,
-        Answered::BadName => 5,
-        Answered::Answer(_) => 6,
-        Answered::Message(_) => 7,
-        Answered::TooLong => 8,
-        Answered::BadFrame => 9,
-        Answered::Nothing(_) => 10,
-        Answered::Item(_) => 11,
+        Answered::New => NEW,
+        Answered::Again => AGAIN,
+        Answered::Conflict { .. } => CONFLICT,
+        Answered::NotMine => NOT_MINE,
+        Answered::BadName => BAD_NAME,
+        Answered::Answer(_) => ANSWER,
+        Answered::Message(_) => MESSAGE,
+        Answered::TooLong => TOO_LONG,
+        Answered::BadFrame => BAD_FRAME,
+        Answered::Nothing(_) => NOTHING,
+        Answered::Item(_) => ITEM,
     }
 }
 
