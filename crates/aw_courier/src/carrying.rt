@@ -1,5 +1,5 @@
 //! Rounds through all roles, until nothing moves any more.
-ghost use Rattle.std.specs.Prelude.{◌≡◌, ◌||◌, ◌<◌, ◌≤◌, IfOk, IfErr, OnOk};
+ghost use Rattle.std.specs.Prelude.{◌≡◌, ◌||◌, ◌≤◌, IfOk, IfErr, OnOk};
 ghost use Rattle.aw_courier.specs.Carrying as spec;
 ghost use Rattle.aw_courier.specs.Carrying.{Carries, IsBrokenOff, IsRoundMade, IsRoundBroken};
 ghost use Rattle.aw_courier.specs.Mails.{Shows, SameSize, HasRoles};

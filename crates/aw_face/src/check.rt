@@ -1,5 +1,5 @@
 //! Whether the rules of a grammar keep to the faces of its roles.
-ghost use Rattle.std.specs.Prelude.{◌≡◌, ◌≤◌, ◌<◌, Some, None, IfSome, option_map, map, length, slice_get};
+ghost use Rattle.std.specs.Prelude.{◌≡◌, ◌≤◌, None, IfSome, option_map, map, length, slice_get};
 ghost use Rattle.std.specs.Option.{option_copied};
 ghost use Rattle.aw_grammar.specs.GrammarView.{sorts_of, child_of, rule_of};
 ghost use Rattle.aw_grammar.specs.GrammarOf.{grammar_of};

@@ -1,5 +1,5 @@
 //! Walks over the written subtasks of a rule.
-ghost use Rattle.std.specs.Prelude.{◌≡◌, ◌+◌, ◌<◌, ◌++◌, map, length, OnOk};
+ghost use Rattle.std.specs.Prelude.{◌≡◌, ◌+◌, ◌++◌, map, length, OnOk};
 ghost use Rattle.aw_index.specs.Places.{any_stands, all_stand};
 ghost use Rattle.aw_term.specs.WellFormed.{leaves_of};
 ghost use Rattle.aw_grammar.specs.Written.{child_of_raw};

@@ -1,5 +1,5 @@
 //! The rule that a written rule stands for.
-ghost use Rattle.std.specs.Prelude.{◌≡◌, ◌≤◌, length, map, true, IfOk, Some};
+ghost use Rattle.std.specs.Prelude.{◌≡◌, ◌≤◌, length, map, true, IfOk};
 ghost use Rattle.aw_grammar.specs.Written.{child_of_raw, rule_of_raw};
 ghost use Rattle.aw_grammar.specs.Resolved.{entering, child_numbered, children_numbered};
 ghost use Rattle.aw_grammar.specs.Declarations.{entry_of};

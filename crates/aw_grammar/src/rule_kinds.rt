@@ -1,5 +1,5 @@
 //! What is wrong with a rule.
-ghost use Rattle.std.specs.Prelude.{◌≡◌, ◌+◌, ◌<◌, ◌++◌, length, true, IfOk};
+ghost use Rattle.std.specs.Prelude.{◌≡◌, ◌+◌, ◌++◌, length, IfOk};
 ghost use Rattle.aw_index.specs.Places.{any_stands, first_told};
 ghost use Rattle.aw_term.specs.WellFormed.{leaves_of};
 ghost use Rattle.aw_grammar.specs.Written.{rule_of_raw};

@@ -1,5 +1,5 @@
 //! Walks over written terms: their size, and the names in them.
-ghost use Rattle.std.specs.Prelude.{◌≡◌, ◌+◌, ◌<◌, ◌++◌, map, OnOk};
+ghost use Rattle.std.specs.Prelude.{◌≡◌, ◌+◌, ◌++◌, map, OnOk};
 ghost use Rattle.aw_term.specs.WellFormed.{leaves, leaves_of};
 ghost use Rattle.aw_grammar.specs.Written.{written_of};
 ghost use Rattle.aw_grammar.specs.Terms.{depth_of, depth_of_all, symbols_in, symbols_in_all, IsLeftOf};

@@ -1,5 +1,5 @@
 //! Held nodes that stay where they lie.
-ghost use Rattle.std.specs.Prelude.{◌≡◌, ◌+◌, ◌<◌, ◌≤◌, ◌^◌, ◌-◌, [], Some, length, insert, vec_len, vec_capacity, slice_get, OnOk};
+ghost use Rattle.std.specs.Prelude.{◌≡◌, ◌+◌, ◌<◌, ◌≤◌, ◌^◌, [], Some, length, insert, vec_len, vec_capacity, slice_get, OnOk};
 ghost use Rattle.std.specs.Option.{option_copied};
 ghost use Rattle.aw_held.specs.InOrder.{done_at};
 ghost use Rattle.aw_held.specs.Picked.{picked, AreKnown, AreApart};

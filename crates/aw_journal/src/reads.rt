@@ -1,5 +1,5 @@
 //! Reads a whole file.
-ghost use Rattle.std.specs.Prelude.{◌≡◌, ◌≢◌, ◌≤◌, ◌<◌, IsTrue, IfOk, IsErrOf};
+ghost use Rattle.std.specs.Prelude.{◌≡◌, ◌≢◌, ◌≤◌, IsTrue, IfOk, IsErrOf};
 ghost use Rattle.aw_out.specs.Causes.{Rose};
 ghost use Rattle.aw_disk.specs.Disk.{Only};
 ghost use Rattle.aw_journal.specs.Journal.{Quiet};

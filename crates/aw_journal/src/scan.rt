@@ -1,5 +1,5 @@
 //! Finds the open records of a file.
-ghost use Rattle.std.specs.Prelude.{◌≡◌, ◌<◌, ◌+◌, [], ℕ, None, Some, length, drop, IfOk, MatchOption};
+ghost use Rattle.std.specs.Prelude.{◌≡◌, ◌<◌, [], ℕ, None, Some, length, drop, IfOk, MatchOption};
 ghost use Rattle.aw_journal.specs.Format.{events_from, u64_in, u64_bytes, whole};
 ghost use Rattle.aw_journal.specs.EventView.{event_of, events_seen};
 ghost use Rattle.aw_journal.specs.Scan.{Found, FoundEvent, FoundAll, IsPayload};

@@ -2,7 +2,6 @@
 //! with its slot in the number. One write costs less than one for each part.
 ghost use Rattle.std.specs.Prelude.{◌≡◌, ◌<◌};
 ghost use Rattle.std.specs.Hash.{same_Alike};
-ghost use Rattle.aw_name.specs.Digest.{digest_and};
 ghost use Rattle.aw_name.specs.Writes.{slot_number, node_writes, ref_writes};
 ghost use Rattle.aw_name.specs.SameRefs.{derived_node_Decides, derived_ref_Decides};
 

@@ -1,5 +1,5 @@
 //! What a node asks of its workspace.
-ghost use Rattle.std.specs.Prelude.{◌≡◌, ◌<◌, true, IfOk, OnOk, OnErr};
+ghost use Rattle.std.specs.Prelude.{◌≡◌, true, IfOk, OnOk, OnErr};
 ghost use Rattle.aw_base.specs.ChoiceFits.{choice_ok};
 ghost use Rattle.aw_choice.specs.ChoiceView.{answer_of, choice_of};
 ghost use Rattle.aw_grammar.specs.GrammarOf.{grammar_of};

@@ -1,5 +1,5 @@
 //! Arguments of a choice, from the terms that are written.
-ghost use Rattle.std.specs.Prelude.{◌≡◌, map, ◌||◌};
+ghost use Rattle.std.specs.Prelude.{◌≡◌, map};
 ghost use Rattle.aw_term.specs.Views.{ground_of};
 ghost use Rattle.aw_grammar.specs.Written.{written_of};
 ghost use Rattle.aw_grammar.specs.GrammarOf.{words_of};

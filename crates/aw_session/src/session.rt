@@ -1,5 +1,5 @@
 //! One session.
-ghost use Rattle.std.specs.Prelude.{◌≡◌, ℕ, ◌+◌, ◌<◌, ◌≤◌, ◌++◌, ◌∷◌, List, [], Bool, Option, None, Some, true, false, length, IfOk, IfErr, OnOk};
+ghost use Rattle.std.specs.Prelude.{◌≡◌, ℕ, ◌+◌, ◌<◌, ◌≤◌, ◌++◌, ◌∷◌, List, [], Bool, Option, None, true, false, length, IfOk, IfErr, OnOk};
 ghost use Rattle.aw_session.specs.Course.{IsGoing, IsDone, IsHalted, GoesOn, EndsWith};
 ghost use Rattle.aw_session.specs.Frames.{joined, AreAnswered};
 ghost use Rattle.aw_session.specs.Served.{limit, closing};

@@ -1,5 +1,5 @@
 //! What a site makes of a message: the first of five answers that holds.
-ghost use Rattle.std.specs.Prelude.{◌≡◌, ◌<◌, Bool, ◌++◌, [], IfOk, OnOk, None, option_map, map as list_map};
+ghost use Rattle.std.specs.Prelude.{◌≡◌, ◌<◌, Bool, ◌++◌, [], IfOk, OnOk, option_map, map as list_map};
 ghost use Rattle.aw_grammar.specs.GrammarOf.{grammar_of};
 ghost use Rattle.aw_held.specs.InOrder.{IsInOrder};
 ghost use Rattle.aw_held.specs.HeldView.{all_of};

@@ -1,5 +1,5 @@
 //! What a role sends by, and the loads of its messages.
-ghost use Rattle.std.specs.Prelude.{◌≡◌, ◌++◌, List, Option, Some, None, true, IfOk, OnOk, reverse, option_map, map as list_map};
+ghost use Rattle.std.specs.Prelude.{◌≡◌, ◌++◌, List, Option, None, true, IfOk, OnOk, reverse, option_map, map as list_map};
 ghost use Rattle.std.specs.Option.{option_copied};
 ghost use Rattle.aw_grammar.specs.GrammarOf.{grammar_of};
 ghost use Rattle.aw_name.specs.declared.node.Ref.{Ref as RefName};

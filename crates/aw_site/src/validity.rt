@@ -1,5 +1,5 @@
 //! Whether all names in a message are valid, and whether it may come to a role.
-ghost use Rattle.std.specs.Prelude.{◌≡◌, ◌&&◌, IfOk, nat_lt, map as list_map};
+ghost use Rattle.std.specs.Prelude.{◌≡◌, IfOk, nat_lt, map as list_map};
 ghost use Rattle.aw_term.specs.Trees.{Con};
 ghost use Rattle.aw_term.specs.WellFormed.{head_fits};
 ghost use Rattle.aw_grammar.specs.GrammarOf.{grammar_of};

@@ -1,5 +1,5 @@
 //! What a choice of a rule leads to at a held node.
-ghost use Rattle.std.specs.Prelude.{◌≡◌, ◌≤◌, ◌<◌, ◌+◌, List, Some, true, IfOk, length, map, option_map, slice_get, is_some};
+ghost use Rattle.std.specs.Prelude.{◌≡◌, ◌≤◌, ◌+◌, List, Some, true, IfOk, length, map, option_map, slice_get, is_some};
 ghost use Rattle.aw_term.specs.Trees.{join};
 ghost use Rattle.aw_term.specs.Rules.{sort_of};
 ghost use Rattle.aw_term.specs.Views.{ground_of, pattern_of};

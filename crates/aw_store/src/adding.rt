@@ -1,5 +1,5 @@
 //! Adding to the three lists of a store: its equations, its names, and the equations for which memory was taken.
-ghost use Rattle.std.specs.Prelude.{◌≡◌, ◌≤◌, ◌+◌, ◌++◌, ◌∷◌, [], Some, None, true, IfOk, OnOk, OnErr, IsOk, IsSome, Contains, map, is_none, vec_len, vec_capacity, if◌then◌else◌};
+ghost use Rattle.std.specs.Prelude.{◌≡◌, ◌≤◌, ◌+◌, ◌++◌, ◌∷◌, [], None, true, IfOk, OnOk, OnErr, IsOk, IsSome, Contains, map, is_none, vec_len, vec_capacity, if◌then◌else◌};
 ghost use Rattle.aw_store.specs.Equations.{find, mentions};
 ghost use Rattle.aw_store.specs.EquationView.{body_of, equation_of};
 ghost use Rattle.aw_store.specs.NamedRefs.{all_named, has_names, has_names_of, IsNamedOnce, Grows};

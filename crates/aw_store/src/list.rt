@@ -1,5 +1,5 @@
 //! A store that scans a list.
-ghost use Rattle.std.specs.Prelude.{◌≡◌, ◌≤◌, ◌+◌, ◌<◌, [], Some, Contains, map, vec_len, vec_capacity};
+ghost use Rattle.std.specs.Prelude.{◌≡◌, ◌≤◌, ◌+◌, ◌<◌, [], Contains, map, vec_len, vec_capacity};
 ghost use Rattle.aw_store.specs.Equations.{Equation as PlainEquation};
 ghost use Rattle.aw_store.specs.EquationView.{equation_of};
 ghost use Rattle.aw_store.specs.ListStore.{IsSound, lacking};

@@ -1,5 +1,5 @@
 //! Lists of named references, which are scanned.
-ghost use Rattle.std.specs.Prelude.{◌≡◌, ◌<◌, ◌++◌, ◌∷◌, [], Some, true, false, IfOk, OnOk, OnErr, IsOk, MatchOption, slice_get};
+ghost use Rattle.std.specs.Prelude.{◌≡◌, ◌++◌, ◌∷◌, [], Some, true, false, IfOk, OnOk, OnErr, IsOk, MatchOption, slice_get};
 ghost use Rattle.aw_store.specs.Refs.{ref_eq};
 ghost use Rattle.aw_store.specs.NamedRefs.{is_named, all_named, with_name, IsNamedOnce, Grows};
 

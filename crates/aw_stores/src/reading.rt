@@ -1,5 +1,4 @@
 //! Calls as the table spells them. A word is a number: that of the place at which it came first.
-ghost use Rattle.std.specs.Prelude.{◌<◌};
 
 use crate::call::Call;
 use aw_form::Unread;

@@ -1,5 +1,5 @@
 //! Names and contents of texts.
-ghost use Rattle.std.specs.Prelude.{◌≡◌, ◌<◌};
+ghost use Rattle.std.specs.Prelude.{◌≡◌};
 ghost use Rattle.std.specs.List.{list_all};
 ghost use Rattle.aw_text.specs.Spelling.{is_digit, is_letter, is_name, is_name_byte, is_content, is_content_byte};
 

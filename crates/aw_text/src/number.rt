@@ -1,6 +1,6 @@
 //! Numbers: `0`, or digits without a leading zero, below 2 ^ 64.
 ghost use Rattle.std.specs.Prelude.{◌≡◌, ◌≤◌, ◌+◌, ◌-◌, ◌*◌, ◌++◌, ◌^◌, ◌<◌, ℕ, Some, OnOk, OnErr, decimal};
-ghost use Rattle.aw_text.specs.Spelling.{is_digit, is_numeral, number_of, if_word};
+ghost use Rattle.aw_text.specs.Spelling.{is_numeral, number_of, if_word};
 
 use crate::name::{are_digits, is_digit};
 use aw_list::Text;

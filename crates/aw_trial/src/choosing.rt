@@ -2,7 +2,6 @@
 ghost use Rattle.std.specs.Prelude.{◌≡◌, ◌<◌, true, ℕ, Some, IfOk, OnOk, map as list_map, slice_get, is_some};
 ghost use Rattle.aw_base.specs.ChoiceFits.{args_ok, choice_ok};
 ghost use Rattle.aw_choice.specs.ChoiceView.{choice_of};
-ghost use Rattle.aw_kept.specs.Records.{rules_of};
 ghost use Rattle.aw_term.specs.Rules.{Grammar as PlainGrammar, sort_of};
 ghost use Rattle.aw_term.specs.Views.{ground_of};
 ghost use Rattle.aw_world.specs.MoveView.{reply_of};

@@ -1,5 +1,5 @@
 //! Writers of arguments and choices.
-ghost use Rattle.std.specs.Prelude.{◌≡◌, ◌≤◌, ◌<◌, ◌++◌, IfOk, OnOk, OnErr, flat_map, map};
+ghost use Rattle.std.specs.Prelude.{◌≡◌, ◌≤◌, ◌++◌, IfOk, OnOk, OnErr, flat_map, map};
 ghost use Rattle.std.specs.Io.{StartsWith};
 ghost use Rattle.aw_term.specs.WellFormed.{Each};
 ghost use Rattle.aw_term.specs.Views.{ground_of};

@@ -1,5 +1,5 @@
 //! The trusted edge of sockets, whose bytes no contract sees.
-ghost use Rattle.std.specs.Prelude.{◌≡◌, ◌<◌, None, IfSome, is_some, true};
+ghost use Rattle.std.specs.Prelude.{◌≡◌, ◌<◌, None, IfSome, is_some};
 
 use aw_out::{Arrival, Dialed, Got, Put, Wire};
 use std::io::{Read, Write};

@@ -1,5 +1,5 @@
 //! A world.
-ghost use Rattle.std.specs.Prelude.{◌≡◌, ◌≤◌, ◌<◌, Some, None, IfOk, OnErr, length, map as list_map};
+ghost use Rattle.std.specs.Prelude.{◌≡◌, ◌≤◌, ◌<◌, IfOk, OnErr, length, map as list_map};
 ghost use Rattle.aw_grammar.specs.GrammarOf.{grammar_of};
 ghost use Rattle.aw_react.specs.Worlds as V;
 ghost use Rattle.aw_react.specs.Worlds.{count_set, count_open, MayCome};
