@@ -45,10 +45,6 @@ impl Hash for Ref {
 
     fn hash<H: Hasher>(&self, state: &mut H) {
         let number = u64::from(self.node.start) * SLOTS + self.slot.number();
-        digest_and(
-            digest_and(self.node.steps.digest(), number),
-            self.node.case,
-        )
-        .hash(state);
+        digest_and(digest_and(self.node.steps.digest(), number), self.node.case).hash(state);
     }
 }
