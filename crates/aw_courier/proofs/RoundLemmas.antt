@@ -107,8 +107,6 @@ upto-next n m e = ap (λ k. upto 0 k) (let s : m ≡ suc n = omega (arith, e) in
 
 -- ---- a round
 
-}
-
 -- one turn more
 pub round-more : {W' : Type 0} (g : Grammar) (content : W' → Option Content) (faults failed_openings : W' → ℕ) (c : Courier) (n n' : ℕ) (u v w : W') (m m' : Mailed) (moved some : Bool) →
     (h : IsRoundMade g content faults failed_openings c n u v m moved) → IsTurn g content faults failed_openings (after_all c (sessions_of h.turns)) n v w m' some → n' ≡ n + 1 →

@@ -19,14 +19,9 @@ use Rattle.aw_iograph.specs.Occurrences.{inherited, given}
 use Rattle.aw_iograph.specs.Dependence.{Edge, text, call, IsKept}
 use Rattle.aw_iograph.specs.Pairs.{Has, HasMark}
 use Rattle.aw_iograph.specs.Visiting.{IsCalm, AreVisited}
-use Rattle.aw_iograph.proofs.Joining.{zeros, same_or_not}
+use Rattle.aw_iograph.proofs.Joining.{same_or_not}
 use Rattle.aw_iograph.proofs.RuleGraphs.{child_got}
 use Rattle.aw_iograph.proofs.Sweeps.{has_grown}
-
-}
-  where
-    unvisited : (k : ℕ) → slice_index visits.rules.items k ≡ 0
-    unvisited k = ap (λ (xs : List ℕ). slice_index xs k) rules ∙ zeros (length g.rules) k
 
 -- relations grew at one sort alone, and no child of a rule has that sort
 module _ (sorts : List Sort) (r : Rule) (old new : Io) (s : ℕ) (apart : (n : ℕ) (c : Child) → slice_get r.children n ≡ Some c → c.sort ≢ s) (only : (t i j : ℕ) → Has new t i j → Has old t i j ⊎ (t ≡ s)) where

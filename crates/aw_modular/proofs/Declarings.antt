@@ -75,8 +75,6 @@ adds_pair Q t old new q there kept only s i j = (
   (λ x. elim x [ inl was ↦ kept s i j was | inr now ↦ subst (λ (u : Triple). Has new u.sort u.i u.j) now.1 there ]),
 )
 
-)
-
 -- the item at a place within a list
 pub item_got : (xs ts : List Triple) (i : ℕ) (d : Triple) → xs ≡ ts → i < length xs → slice_get ts i ≡ Some (slice_index_or xs i d)
 item_got xs ts i d same lt = subst (λ (zs : List Triple). slice_get zs i ≡ Some (slice_index_or xs i d)) same (got xs i lt)

@@ -44,5 +44,3 @@ IsValidKind g (Asks r from) = IsValidRef g r
 IsValidKind g (Tells e load) = IsValidEquation g e × IsValidLoad g load
 
 -- ---- what is valid is in range
-
-)

@@ -38,8 +38,6 @@ copy_step r0 r1 r2 from at end a b l e f =
 whole_front : (t : List ℕ) (old new : Bounded) → new ≡ printed old t → PrintsFront t old new
 whole_front t old new e = (length t, omega arith, e ∙ ap (printed old) (sym (take-length t)))
 
-}
-
 -- the rest is not copied
 pub copy_stops : (r0 r1 r2 : Bounded) (from at until : ℕ) (fault : PrintFault) (result : Result Unit PrintFault) → from ≤ at → at ≤ until → until ≤ length r0.text → r1 ≡ printed r0 (slice_range r0.text from at) → r2 ≡ r1 →
     (fault ≡ TooLarge → r1.limit < length r1.text + (until - at)) → result ≡ Err fault → Prints (slice_range r0.text from until) r0 r2 result
@@ -59,10 +57,6 @@ copy_past t c r0 r1 e l = record {
   front = PrintsFront-first t c r0 r1 (whole_front t r0 r1 e);
 }
 
-})
-
 -- what was gathered is added
 pub flush_prints : (t : List ℕ) (r0 r1 : Bounded) → r1 ≡ printed r0 t → Prints t r0 r1 (Ok tt)
 flush_prints t r0 r1 e = record { ok = e; too_large = λ h. absurd (cc h); front = tt }
-
-}

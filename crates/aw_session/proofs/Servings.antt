@@ -82,10 +82,6 @@ serving-one {S} {W} answers content faults failed_openings role s t t' u v v' lo
   openings = h.openings ∙ g.openings;
 }
 
-}
-
-}
-
 -- a session failed exactly where it broke off
 failed-so : (how : How) (read written : List ℕ) (failed : Bool) (frames : List Frame) (replies : List (List ℕ)) → Ends how read written failed frames replies → failed ≡ is_fault how
 failed-so End read written failed frames replies h = h.0

@@ -50,8 +50,6 @@ adds_both a b c P Q R first then there back = record {
   );
 }
 
-}
-
 -- the pairs of one result more
 pub one_result : (sort value n : ℕ) (s i j : ℕ) → AtValue sort n value s i j ⊎ ((s ≡ sort) × (i ≡ value) × (j ≡ n + 1)) → AtValue sort (n + 1) value s i j
 one_result sort value n s i j (inl (a, b, low, le)) = (a, b, low, omega (arith, le))
