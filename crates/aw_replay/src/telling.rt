@@ -1,5 +1,5 @@
 //! What an event does in a world, and its lines.
-ghost use Rattle.std.specs.Prelude.{◌≡◌, ◌<◌, true, OnOk, OnErr, IfOk};
+ghost use Rattle.std.specs.Prelude.{◌≡◌, ◌<◌, [], true, OnOk, OnErr, IfOk};
 ghost use Rattle.aw_base.specs.ChoiceFits.{choice_ok};
 ghost use Rattle.aw_choice.specs.ChoiceView.{choice_of};
 ghost use Rattle.aw_choice.specs.Events as E;
@@ -13,7 +13,20 @@ use aw_choice::{Choice, copy_choice};
 use aw_list::Text;
 use aw_sched::Event;
 use aw_world::{Move, Workspace, World};
-use std::alloc::AllocError;
+use std::alloc::{AllocError, Global};
+
+/// The room of a text to begin with: what one event tells mostly fits.
+const USUAL: usize = 512;
+
+/// An empty text, with room for the lines of a usual event where there is memory for it.
+fn empty_text(alloc: Global) -> Text
+    ensures { result ≡ [] }
+{
+    match Vec::with_capacity(alloc, USUAL) {
+        Ok(bytes) => Text::from_vec(bytes),
+        Err(_) => Text::new(alloc),
+    }
+}
 
 /// Makes a choice, and adds its lines. After an error it was made or not.
 fn tell_choice<W: Workspace>(
@@ -90,7 +103,7 @@ fn choice_lines<W: Workspace>(world: &mut World<W>, choice: &Choice) -> Result<T
     ensures tells { IfOk result (λ text. Tells ⟦<W as Workspace>⟧ world.old (E.Chooses (choice_of choice.now)) text) }
     ensures some { OnErr result (DoesSome ⟦<W as Workspace>⟧ world.old world.new (E.Chooses (choice_of choice.now))) }
 {
-    let mut text = Text::new(world.allocator());
+    let mut text = empty_text(world.allocator());
     tell_choice(world, choice, &mut text)?;
     Ok(text)
 }
@@ -103,7 +116,7 @@ fn delivery_lines<W: Workspace>(world: &mut World<W>, number: u64) -> Result<Tex
     ensures tells { IfOk result (λ text. Tells ⟦<W as Workspace>⟧ world.old (E.Delivers number) text) }
     ensures some { OnErr result (DoesSome ⟦<W as Workspace>⟧ world.old world.new (E.Delivers number)) }
 {
-    let mut text = Text::new(world.allocator());
+    let mut text = empty_text(world.allocator());
     tell_delivery(world, number, &mut text)?;
     Ok(text)
 }
@@ -116,7 +129,7 @@ fn settling_lines<W: Workspace>(world: &mut World<W>) -> Result<Text, AllocError
     ensures tells { IfOk result (λ text. Tells ⟦<W as Workspace>⟧ world.old E.Settles text) }
     ensures some { OnErr result (DoesSome ⟦<W as Workspace>⟧ world.old world.new E.Settles) }
 {
-    let mut text = Text::new(world.allocator());
+    let mut text = empty_text(world.allocator());
     tell_settle(world, &mut text)?;
     Ok(text)
 }
