@@ -15,9 +15,20 @@ abbrev pub insert_each : List Ref → List Ref → List Ref
 insert_each [] out = out
 insert_each (r ∷ rs) out = insert_ref r (insert_each rs out)
 
-pub insert_each-push : (rs : List Ref) (r : Ref) (out : List Ref) → insert_each (rs ++ r ∷ []) out ≡ insert_each rs (insert_ref r out)
-insert_each-push [] r out = refl
-insert_each-push (x ∷ rs) r out = ap (insert_ref x) (insert_each-push rs r out)
+-- a last one is put first, where it is taken
+pub insert_taken-push : (p : Ref → Bool) (rs : List Ref) (r : Ref) (out : List Ref) → insert_each (filter p (rs ++ r ∷ [])) out ≡ insert_each (filter p rs) (cond (p r) (insert_ref r out) out)
+insert_taken-push p [] r out = in_cond (p r)
+  where
+    in_cond : (b : Bool) → insert_each (cond b (r ∷ []) []) out ≡ cond b (insert_ref r out) out
+    in_cond true = refl
+    in_cond false = refl
+insert_taken-push p (x ∷ rs) r out = in_cond (p x) (insert_taken-push p rs r out)
+  where
+    in_cond : (b : Bool) → insert_each (filter p (rs ++ r ∷ [])) out ≡ insert_each (filter p rs) (cond (p r) (insert_ref r out) out)
+        → insert_each (cond b (x ∷ filter p (rs ++ r ∷ [])) (filter p (rs ++ r ∷ []))) out
+        ≡ insert_each (cond b (x ∷ filter p rs) (filter p rs)) (cond (p r) (insert_ref r out) out)
+    in_cond true e = ap (insert_ref x) e
+    in_cond false e = e
 
 pub insert_each-all : (rs : List Ref) → insert_each rs [] ≡ in_order rs
 insert_each-all [] = refl

@@ -1,5 +1,5 @@
 -- Lists of messages that grow by one item after the other.
-use Rattle.std.proofs.Common.{◌≡◌, ℕ, zero, suc, subst, ◌+◌, ◌-◌, ◌<◌, ◌≤◌, Bool, true, false, cond, List, [], ◌∷◌, ◌++◌, map, filter, nat_eq, refl, ap, sym, ◌∙◌, append_assoc, add-one, arith}
+use Rattle.std.proofs.Common.{◌≡◌, ℕ, zero, suc, subst, ◌+◌, ◌-◌, ◌<◌, ◌≤◌, Bool, true, false, cond, List, [], ◌∷◌, ◌++◌, map, nat_eq, refl, ap, sym, ◌∙◌, append_assoc, add-one, arith}
 use Rattle.std.specs.Int.{bit_at}
 use Rattle.std.proofs.lemmas.List.{append-nil, map-append}
 use Rattle.std.proofs.lemmas.Nat.Bits.{bit_at-zero}
@@ -81,13 +81,6 @@ tells_split g s e es = one_more (map (tell g s e) (watchers_from 64 0 e.left s.w
 
 pub tells_one : (g : Grammar) (s : Site) (e : Equation) (before after : List Message) → after ≡ before ++ map (tell g s e) (watchers_from 64 0 e.left s.watchers) → after ≡ before ++ tells g s (e ∷ [])
 tells_one g s e before after p = p ∙ ap (λ ys. before ++ ys) (sym (append-nil (map (tell g s e) (watchers_from 64 0 e.left s.watchers))))
-
-keep_cases : {M : Type 0} (b : Bool) (x : M) (xs : List M) → cond b (x ∷ xs) xs ≡ cond b (x ∷ []) [] ++ xs
-keep_cases true x xs = refl
-keep_cases false x xs = refl
-
-pub filter_split : {A : Type 0} (p : A → Bool) (x : A) (xs : List A) → filter p (x ∷ xs) ≡ filter p (x ∷ []) ++ filter p xs
-filter_split p x xs = keep_cases (p x) x (filter p xs)
 
 pub push_map : {A M : Type 0} (f : A → M) (xs ys : List A) (m : A) (z : M) → ys ≡ xs ++ m ∷ [] → f m ≡ z → map f ys ≡ map f xs ++ z ∷ []
 push_map f xs ys m z e q = ap (map f) e ∙ map-append f xs (m ∷ []) ∙ ap (λ y. map f xs ++ y ∷ []) q

@@ -1,5 +1,5 @@
 //! References that are asked for: another role's, without an equation here, and not asked for before.
-ghost use Rattle.std.specs.Prelude.{◌≡◌, ◌≤◌, ◌++◌, ◌∷◌, [], None, IfOk, IfSome, OnOk, filter, insert, length, map as list_map};
+ghost use Rattle.std.specs.Prelude.{◌≡◌, ◌≤◌, ◌++◌, ◌∷◌, [], None, IfOk, IfSome, OnOk, filter, insert, length, map as list_map, if◌then◌else◌};
 ghost use Rattle.aw_grammar.specs.GrammarOf.{grammar_of};
 ghost use Rattle.aw_store.specs.Equations.{mentions};
 ghost use Rattle.aw_store.specs.EquationView.{body_of, equation_of};
@@ -84,16 +84,15 @@ fn insert_ref(refs: &mut Vec<Ref>, r: Ref) -> Result<(), AllocError>
     Ok(())
 }
 
-/// The same references in order, each once.
-fn in_order(alloc: Global, refs: Vec<Ref>) -> Result<Vec<Ref>, AllocError>
-    ensures { IfOk result (λ sorted. sorted.items ≡ in_order refs.items) }
+/// The same references, shared. Where there is none, it takes no memory.
+fn share(alloc: Global, refs: Vec<Ref>) -> Result<Refs, AllocError>
+    ensures { IfOk result (λ shared. shared ≡ refs.items) }
 {
-    let mut refs = refs;
-    let mut sorted = Vec::new(alloc);
-    while let Some(r) = refs.pop() {
-        insert_ref(&mut sorted, r)?;
+    if refs.is_empty() {
+        Ok(Refs::new(alloc))
+    } else {
+        Refs::from_vec(refs)
     }
-    Ok(sorted)
 }
 
 impl<'a, F: Facts> Sender<'a, F> {
@@ -106,27 +105,31 @@ impl<'a, F: Facts> Sender<'a, F> {
             && !subs.has_asked(r)
     }
 
-    /// Adds a copy of a reference, where it is wanted.
-    fn push_wanted(&self, wanted: &mut Vec<Ref>, subs: &Subs, r: &Ref) -> Result<(), AllocError>
-        ensures { OnOk result ((s : P.Site) → SendsAs ⟦<F as Facts>⟧ self.now s → ShowsAsked subs.now s.asked →
-            wanted.new.items ≡ wanted.old.items ++ filter (is_wanted (grammar_of self.now.grammar.now) s) (r.now ∷ [])) }
+    /// Puts a reference among those in order, where it is wanted and does not stand there already.
+    fn insert_wanted(&self, sorted: &mut Vec<Ref>, subs: &Subs, r: Ref) -> Result<(), AllocError>
+        requires { AreInOrder sorted.old.items }
+        ensures ordered { OnOk result (AreInOrder sorted.new.items) }
+        ensures put { OnOk result ((s : P.Site) → SendsAs ⟦<F as Facts>⟧ self.now s → ShowsAsked subs.now s.asked →
+            sorted.new.items ≡ (if is_wanted (grammar_of self.now.grammar.now) s r then insert_ref r sorted.old.items else sorted.old.items)) }
     {
-        if self.is_wanted(subs, r) {
-            wanted.push(copy_ref(r)?)?;
+        if self.is_wanted(subs, &r) {
+            insert_ref(sorted, r)
+        } else {
+            Ok(())
         }
-        Ok(())
     }
 
-    /// Those of the references that are wanted.
-    fn only_wanted(&self, subs: &Subs, refs: &[Ref]) -> Result<Vec<Ref>, AllocError>
-        ensures { IfOk result (λ wanted. (s : P.Site) → SendsAs ⟦<F as Facts>⟧ self.now s → ShowsAsked subs.now s.asked →
-            wanted.items ≡ filter (is_wanted (grammar_of self.now.grammar.now) s) refs.now) }
+    /// Those of the references that are wanted, put in order, each once.
+    fn wanted_in_order(&self, subs: &Subs, refs: Vec<Ref>) -> Result<Vec<Ref>, AllocError>
+        ensures { IfOk result (λ sorted. (s : P.Site) → SendsAs ⟦<F as Facts>⟧ self.now s → ShowsAsked subs.now s.asked →
+            sorted.items ≡ in_order (filter (is_wanted (grammar_of self.now.grammar.now) s) refs.items)) }
     {
-        let mut wanted = Vec::new(self.alloc);
-        for r in refs {
-            self.push_wanted(&mut wanted, subs, r)?;
+        let mut refs = refs;
+        let mut sorted = Vec::new(self.alloc);
+        while let Some(r) = refs.pop() {
+            self.insert_wanted(&mut sorted, subs, r)?;
         }
-        Ok(wanted)
+        Ok(sorted)
     }
 
     /// Those of the references that are wanted, in order, each once.
@@ -134,9 +137,8 @@ impl<'a, F: Facts> Sender<'a, F> {
         ensures { IfOk result (λ wanted. (s : P.Site) → SendsAs ⟦<F as Facts>⟧ self.now s → ShowsAsked subs.now s.asked →
             wanted ≡ wanted_of (grammar_of self.now.grammar.now) s refs.items) }
     {
-        let wanted = self.only_wanted(subs, refs.as_slice())?;
-        let sorted = in_order(self.alloc, wanted)?;
-        Refs::from_vec(sorted)
+        let sorted = self.wanted_in_order(subs, refs)?;
+        share(self.alloc, sorted)
     }
 
     /// The question for a reference.
