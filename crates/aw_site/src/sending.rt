@@ -64,7 +64,7 @@ fn ask_all(subs: &mut Subs, wanted: &[Ref])
 fn copy_messages(alloc: Global, messages: &[Message]) -> Result<Vec<Message>, AllocError>
     ensures { IfOk result (λ copies. copies.items ≡ messages.now) }
 {
-    let mut copies = Vec::new(alloc);
+    let mut copies = Vec::with_capacity(alloc, messages.len())?;
     for m in messages {
         copies.push(copy_message(m)?)?;
     }

@@ -113,7 +113,7 @@ fn names_ok(g: &Grammar, kind: &MsgKind) -> bool
 fn copy_steps(alloc: Global, steps: &[Step]) -> Result<Vec<Step>, AllocError>
     ensures { IfOk result (λ copies. copies.items ≡ steps.now) }
 {
-    let mut copies = Vec::new(alloc);
+    let mut copies = Vec::with_capacity(alloc, steps.len())?;
     for step in steps {
         copies.push(*step)?;
     }
