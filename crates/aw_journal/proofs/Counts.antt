@@ -27,6 +27,33 @@ use Rattle.aw_msg.proofs.Lengths.{payload_short}
 use Rattle.aw_journal.specs.Events.{Event, Took, Got, payload_of, EventInRange}
 use Rattle.aw_journal.specs.Lengths.{capped}
 
+steps_length : (steps : List Step) → length (flat_map spelled_step steps) ≡ 3 * length steps
+steps_length [] = refl
+steps_length (s ∷ ss) = ap length (flat_map-cons spelled_step s ss) ∙ omega (arith, length-append (spelled_step s) (flat_map spelled_step ss), steps_length ss)
+
+pub node_length : (n : Node) → length (spelled_node n) ≡ 11 + 3 * length n.steps
+node_length n = omega (arith, steps_length n.steps)
+
+slot_length : (s : Slot) → length (spelled_slot s) ≡ 3
+slot_length (Result j) = refl
+slot_length (Part k) = refl
+
+pub ref_length : (r : Ref) → length (spelled_ref r) ≡ length (spelled_node r.node) + 3
+ref_length r = omega (arith, length-append (spelled_node r.node) (spelled_slot r.slot), slot_length r.slot)
+
+pub text_length : (t : List ℕ) → length (spelled_text t) ≡ 2 + length t
+text_length t = omega arith
+
+pub equation_length : (e : Equation) → length (spelled_equation e) ≡ length (spelled_ref e.left) + length (spelled_body e.body)
+equation_length e = length-append (spelled_ref e.left) (spelled_body e.body)
+
+pub load_length : (load : List Equation) → 0 < length load → length (spelled_load load) ≡ 1 + length (flat_map spelled_equation load)
+load_length [] some = absurd (omega arith)
+load_length (e ∷ es) some = omega arith
+
+pub message_length : (m : Message) → length (spelled_message m) ≡ 3 + length (spelled_kind m.kind)
+message_length m = omega arith
+
 -- one more of a list is counted
 pub counted_more : {A : Type 0} (spelled : A → List ℕ) (k : ℕ) (xs : List A) (i : ℕ) (x : A) (count one new : ℕ) → i < length xs → x ≡ get_or xs i x → count ≡ capped (k + length (flat_map spelled (take i xs))) → one ≡ capped (length (spelled x))
     → new ≡ capped (count + one) → new ≡ capped (k + length (flat_map spelled (take (i + 1) xs)))
@@ -60,6 +87,18 @@ con_counted g c parts qs n new is same here added =
   where
     sums : (n new a b : ℕ) → n ≡ capped a → new ≡ capped (n + 4) → b ≡ 4 + a → new ≡ capped b
     sums n new a b here added is = omega arith
+
+pub develop_length : (n : Node) (rule : ℕ) (args : List Ground) → length (spelled_choice (Q.Develop n rule args)) ≡ 4 + length (spelled_node n) + length (flat_map spelled_ground args)
+develop_length n rule args = omega (arith, length-append (spelled_node n) (to_be_bytes w16 rule ++ spelled_grounds args))
+
+pub call_length : (c : Call) (load : List Equation) → length (spelled_kind (Calls c load)) ≡ 1 + length (spelled_node c.node) + length (spelled_refs c.inherited) + length (spelled_load load)
+call_length c load = omega (arith, length-append (spelled_node c.node) (spelled_refs c.inherited ++ spelled_load load), length-append (spelled_refs c.inherited) (spelled_load load))
+
+pub ask_length : (r : Ref) (from : ℕ) → length (spelled_kind (Asks r from)) ≡ length (spelled_ref r) + 3
+ask_length r from = omega (arith, length-append (spelled_ref r) (to_be_bytes w16 from))
+
+pub tell_length : (e : Equation) (load : List Equation) → length (spelled_kind (Tells e load)) ≡ 1 + length (spelled_equation e) + length (spelled_load load)
+tell_length e load = omega (arith, length-append (spelled_equation e) (spelled_load load))
 
 -- a payload is short
 pub event_short : (event : Event) → EventInRange event → length (payload_of event) ≤ 1048577

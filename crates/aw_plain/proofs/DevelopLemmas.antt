@@ -8,3 +8,11 @@ pub one_round : {A : Type 0} (f : A → A) (n i : ℕ) (x : A) → i < n → rou
 one_round f n i x l =
     let e : n - i ≡ suc (n - (i + 1)) = omega (arith, l) in
     sym (ap (λ k. rounds k f x) e)
+
+-- a row with these parts is the row done
+pub done_parts : (n : Node) (s : State) (q r : Row) → r.node ≡ q.node → r.sort ≡ q.sort → r.inherited ≡ q.inherited → r.results ≡ q.results → r.state ≡ (done_row n s q).state → r ≡ done_row n s q
+done_parts n s q r en es ei er et = cases (node_eq n q.node) et
+  where
+    cases : (b : Bool) → r.state ≡ (cond b (record q { state = s }) q).state → r ≡ cond b (record q { state = s }) q
+    cases true e = λ i. record { node = en i; sort = es i; inherited = ei i; results = er i; state = e i }
+    cases false e = λ i. record { node = en i; sort = es i; inherited = ei i; results = er i; state = e i }

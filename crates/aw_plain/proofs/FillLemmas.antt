@@ -9,6 +9,7 @@ use Rattle.aw_term.specs.Configs.{fill, lift, holes, nothing}
 use Rattle.aw_term.specs.Views.{term_of, ground_of}
 use Rattle.aw_term.specs.declared.term.Expr as expr
 use Rattle.aw_term.specs.declared.ground.Ground as grounds
+use Rattle.aw_term.proofs.Joined.{upto_end}
 use Rattle.aw_term.proofs.ViewLemmas.{term_con, ground_con}
 use Rattle.aw_plain.specs.declared.tree.Tree as tree
 use Rattle.aw_plain.specs.TreeView.{value_of, values_of}
@@ -27,3 +28,16 @@ lift_con g c parts qs us ie iq iv =
     ap (λ vs. Made (P.Con c) (join vs)) iv
     ∙ sym (ap (λ g. lift (ground_of g)) ie ∙ ap lift (ground_con c parts) ∙ ap (Made (P.Con c)) (binds_join (λ x. elim x [ ]) (map ground_of parts))
     ∙ ap (λ ps. Made (P.Con c) (join (map lift (map ground_of ps)))) (sym iq))
+
+-- one hole more
+pub holes_more : (n : Node) (ts : List tree.Tree) (j : ℕ) → values_of ts ≡ holes n j → values_of (ts ++ tree.Hole n (j + 1) ∷ []) ≡ holes n (j + 1)
+holes_more n ts j e =
+    map-append value_of ts _
+    ∙ ap (λ us. us ++ Leaf (result n (j + 1)) ∷ []) e
+    ∙ sym (ap (λ k. holes n k) step ∙ ap (map hole) (upto_end 1 j) ∙ map-append hole (upto 1 j) _ ∙ ap (λ k. holes n j ++ hole k ∷ []) (omega arith))
+  where
+    hole : ℕ → Value
+    hole k = Leaf (result n k)
+
+    step : j + 1 ≡ suc j
+    step = omega arith

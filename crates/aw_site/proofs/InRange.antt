@@ -16,7 +16,7 @@ use Rattle.aw_msg.specs.declared.message.MsgKind.{MsgKind}
 use Rattle.aw_msg.specs.declared.message.MsgKind.TheVariants as msg
 use Rattle.aw_msg.specs.MessageView.{kind_with, sort_or_zero, message_of, plain_kind, plain_message}
 use Rattle.aw_msg.specs.Messages.{MessageInRange}
-use Rattle.aw_msg.proofs.ValidMessages.{IsValidRef, IsValidBody, IsValidEquation, IsValidLoad, IsValidCall, IsValidKind}
+use Rattle.aw_msg.proofs.ValidMessages.{IsValidRef, IsValidBody, IsValidEquation, IsValidLoad, IsValidCall, IsValidKind, message_is_in_range}
 use Rattle.aw_react.specs.ValidNames.{refs_ok, body_ok, equation_ok, equations_ok, takes_as, call_ok}
 use Rattle.aw_site.specs.Sendable.{load_ok, may_send, all_sendable, is_short, short_refs, short_body, short_equation, short_equations, short_kind, all_short}
 
@@ -76,6 +76,14 @@ module _ (g : Grammar) where
       let (a, b) = and_parts (short_equation (equation_of e)) _ short in
       let (x, y) = and_parts (equation_ok g (equation_of e)) _ ok in
       (valid_equation (equation_of e) a x, valid_load (map equation_of load) b y)
+
+-- each of an outbox
+pub all_in_range : (g : program.Grammar) (ms : List Message) → all_sendable (grammar_of g) (map (message_of (grammar_of g)) ms) ≡ true → all_short ms ≡ true → Each MessageInRange ms
+all_in_range g [] ok short = tt
+all_in_range g (m ∷ ms) ok short =
+    let (x, y) = and_parts (may_send (grammar_of g) (message_of (grammar_of g) m).kind) _ ok in
+    let (a, b) = and_parts (short_kind (plain_kind m.kind)) _ short in
+    (message_is_in_range g (plain_message m) (valid_kind (grammar_of g) m.kind a x), all_in_range g ms y b)
 
 -- more that is short, behind what is short
 pub short_append : (ms ns : List Message) → all_short ms ≡ true → all_short ns ≡ true → all_short (ms ++ ns) ≡ true

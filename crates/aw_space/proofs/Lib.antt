@@ -7,6 +7,7 @@ pub mod OwnChildren
 pub mod Standing
 pub mod Weighed
 pub mod TakenOn
+pub mod Foretelling
 pub mod Clashes
 pub mod Staying
 pub mod FewParts

@@ -33,6 +33,10 @@ refused_is (Q.Refused b) a e = cc
 refused_is Q.Starts a e = absurd cc
 refused_is (Q.Takes rule bound) a e = absurd cc
 
+-- a refusal takes nothing
+pub refused_other : (a : Answer) (bound : List Ref) → weighed.Refused a ≡ weighed.Takes bound → ⊥
+refused_other a bound e = absurd cc
+
 -- a rule of the node's sort stands at the open node as it stands by its number
 pub stands_there : (g : Grammar) (k : Map) (held : Held) (number : ℕ) (rule : Rule) (sort : ℕ) (s : Standing) → StandsAt (grammar_of g) k held number s → slice_get g.rules number ≡ Some rule →
     sort_or (sort_of (grammar_of g) held.node) ≡ sort → held.done ≡ None → rule.sort ≡ sort → RuleStands k held.node held.inherited (rule_of g.sorts rule) s

@@ -116,3 +116,24 @@ numbers_within all (n ∷ ns) is e =
     bound (place_of n all) _ is e (λ i found e1. bound (types_named all ns) _ is e1 (λ more read e2.
     let same : ◌≡◌ {A = List ℕ} (i ∷ more) is = cc in
     subst (Each (λ t. t < length all)) same (place_within n all i found, numbers_within all ns more read)))
+
+counted_later : (i : ℕ) (o : Option ℕ) → option_map (λ k. k + suc i) o ≡ option_map (λ k. k + i) (option_map (λ k. suc k) o)
+counted_later i None = refl
+counted_later i (Some k) = ap Some (omega arith)
+
+counted_first : (i : ℕ) (t : Bool) (o later : Option ℕ) → later ≡ option_map (λ k. k + suc i) o → cond t (Some i) later ≡ option_map (λ k. k + i) (cond t (Some 0) (option_map (λ k. suc k) o))
+counted_first i true o later e = ap Some (omega arith)
+counted_first i false o later e = e ∙ counted_later i o
+
+-- the place of a name, counted on from a number
+pub counted_on : (i : ℕ) (x : List ℕ) (ys : List (List ℕ)) → place_from i x ys ≡ option_map (λ k. k + i) (place_of x ys)
+counted_on i x [] = refl
+counted_on i x (y ∷ ys) = counted_first i (is_same x y) (place_of x ys) (place_from (suc i) x ys) (counted_on (suc i) x ys)
+
+-- the number of a declared type, behind those that stand from the start
+pub number_of_declared : (x : List ℕ) (ys : List (List ℕ)) → place_from 2 x ys ≡ option_map (λ k. suc k) (option_map (λ k. suc k) (place_of x ys))
+number_of_declared x ys = counted_on 2 x ys ∙ two_more (place_of x ys)
+  where
+    two_more : (o : Option ℕ) → option_map (λ k. k + 2) o ≡ option_map (λ k. suc k) (option_map (λ k. suc k) o)
+    two_more None = refl
+    two_more (Some k) = ap Some (omega arith)
