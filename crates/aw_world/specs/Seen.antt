@@ -24,7 +24,8 @@ use Rattle.aw_term.specs.SameGrammar.{same_grammar}
 use Rattle.aw_msg.specs.MessageView.{message_of}
 use Rattle.aw_world.specs.MoveView.{move_of, reply_of}
 use Rattle.aw_world.specs.Reactions.{choice_at, message_at}
-use Rattle.aw_world.specs.SiteAnswers.{sent_by, sent_back, is_new}
+use Rattle.aw_site.specs.Answers.{sent_by, sent_for}
+use Rattle.aw_world.specs.SiteAnswers.{is_new}
 use Rattle.aw_print.specs.declared.ends.Ends.{Ends}
 
 -- one workspace for each role, each made for its own role and this grammar
@@ -59,7 +60,7 @@ pub record ChoseAt {W : Type 0} (f : Ghosts W) (g : Grammar) (new : List W) (at 
 pub record GotAt {W : Type 0} (f : Ghosts W) (g : Grammar) (new : List W) (at : ℕ) (ss : List Site) (old_messages new_messages : List Message) (x : Received Reaction) (b : Bool) : Type 0 where
   pub fresh : b ≡ is_new x
   pub sites : Pairs (λ y s. f.shows y s) new (slice_set ss at (after_message (get (empty_site false at) ss at) x))
-  pub messages : map (message_of (grammar_of g)) new_messages ≡ map (message_of (grammar_of g)) old_messages ++ sent_back x
+  pub messages : map (message_of (grammar_of g)) new_messages ≡ map (message_of (grammar_of g)) old_messages ++ sent_for x
 
 -- some choices and deliveries lead to this world from the one in which no site holds anything
 abbrev pub IsReached : {W : Type 0} (f : Ghosts W) (g : Grammar) → Bool → List W → List Message → List Bool → List Choice → Type 0

@@ -15,11 +15,12 @@ ghost use Rattle.aw_held.specs.declared.held.Held.{Held as HeldValue};
 ghost use Rattle.aw_held.specs.InOrder.{IsInOrder};
 ghost use Rattle.aw_held.specs.HeldView.{all_of};
 ghost use Rattle.aw_react.specs.Worklists.{site_worklist};
+ghost use Rattle.aw_site.specs.Answers.{sent_by, sent_for};
 ghost use Rattle.aw_print.specs.Ends.{KeepsNone};
 ghost use Rattle.aw_print.specs.declared.ends.Ends.{Ends as EndsValue};
 ghost use Rattle.aw_world.specs.PrintedRows.{PrintsRow};
 ghost use Rattle.aw_world.specs.Reactions.{choice_at, message_at, AddsMessages};
-ghost use Rattle.aw_world.specs.SiteAnswers.{sent_by, sent_back, is_new};
+ghost use Rattle.aw_world.specs.SiteAnswers.{is_new};
 
 use aw_accept::Accepted;
 use aw_choice::{Answer, Choice, Worklist};
@@ -78,7 +79,7 @@ pub trait Workspace: Drop {
         ensures role { its_role self.new ≡ its_role self.old }
         ensures new { IfOk result (λ new. (s : P.Site) → shows self.old s → new ≡ is_new (message_at accepted.now.grammar s message.now)) }
         ensures site { OnOk result ((s : P.Site) → shows self.old s → shows self.new (after_message s (message_at accepted.now.grammar s message.now))) }
-        ensures sent { OnOk result ((s : P.Site) → shows self.old s → AddsMessages accepted.now.grammar copy.old copy.new (sent_back (message_at accepted.now.grammar s message.now))) }
+        ensures sent { OnOk result ((s : P.Site) → shows self.old s → AddsMessages accepted.now.grammar copy.old copy.new (sent_for (message_at accepted.now.grammar s message.now))) }
         ensures grows { length copy.old ≤ length copy.new }
         ensures err { OnErr result ((s : P.Site) → shows self.old s → shows self.new s) }
         ensures err_sent { OnErr result (copy.new ≡ copy.old) };

@@ -11,7 +11,7 @@ use Rattle.aw_react.specs.SiteEvents.{after_choice}
 use Rattle.aw_react.specs.Sites.{Site}
 use Rattle.aw_react.specs.Worlds.{node_of}
 use Rattle.aw_site.specs.Seen.{IsShown}
-use Rattle.aw_world.specs.SiteAnswers.{sent_by}
+use Rattle.aw_site.specs.Answers.{sent_by}
 use Rattle.aw_world.proofs.OwnGrammars.{own_grammar, grows_either}
 use Rattle.aw_world.proofs.sites.SiteCellFactsWorkspace.choose_into.Goals as goal
 

@@ -6,7 +6,8 @@ use Rattle.aw_react.specs.Reacting.{receive}
 use Rattle.aw_react.specs.SiteEvents.{after_message}
 use Rattle.aw_react.specs.Sites.{Site}
 use Rattle.aw_site.specs.Seen.{IsShown}
-use Rattle.aw_world.specs.SiteAnswers.{is_new, sent_back}
+use Rattle.aw_site.specs.Answers.{sent_for}
+use Rattle.aw_world.specs.SiteAnswers.{is_new}
 use Rattle.aw_world.proofs.OwnGrammars.{own_grammar, grows_either}
 use Rattle.aw_world.proofs.Pairings.{on_err}
 use Rattle.aw_world.proofs.sites.SiteCellFactsWorkspace.receive_into.Goals as goal
@@ -28,9 +29,9 @@ pub returns-clause-sent : goal.returns-clause-sent
 returns-clause-sent c =
     let same = own_grammar c.accepted-own.result.now c.args.self.now.space.accepted.now c.args._accepted.now c.accepted-own.ensures c.requires in
     subst (λ g. (s : Site) → IsShown cells.ghosts c.args.self.now s →
-    map (message_of g) c.receive_into.new.copy ≡ map (message_of g) c.args.copy.now ++ sent_back (receive g s (message_of g c.args.message.now))) same c.in_ok-received.ensures.copy
+    map (message_of g) c.receive_into.new.copy ≡ map (message_of g) c.args.copy.now ++ sent_for (receive g s (message_of g c.args.message.now))) same c.in_ok-received.ensures.copy
 
 pub returns-clause-grows : goal.returns-clause-grows
 returns-clause-grows c =
     let g = grammar_of c.accepted-own.result.now.grammar in
-    grows_either (message_of g) (λ s. sent_back (receive g s (message_of g c.args.message.now))) c.receive_into.result c.args.copy.now c.receive_into.new.copy c.args.self.now.shown c.receive_into.ensures.copy c.receive_into.ensures.err_copy
+    grows_either (message_of g) (λ s. sent_for (receive g s (message_of g c.args.message.now))) c.receive_into.result c.args.copy.now c.receive_into.new.copy c.args.self.now.shown c.receive_into.ensures.copy c.receive_into.ensures.err_copy
