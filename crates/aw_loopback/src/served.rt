@@ -15,7 +15,7 @@ use aw_site::Site;
 use aw_typed::Typed;
 use aw_wires::NetWire;
 use std::alloc::{AllocError, AllocFailed, Global};
-use std::io::{self, ErrorKind};
+use std::io::{self, ErrorKind, Read};
 use std::net::Net;
 use std::rt::Clock;
 
@@ -97,6 +97,28 @@ fn serve_node<R: Net>(
     serve_over(alloc, g, t, sessions, &mut wire)
 }
 
+/// Peers that have written the bytes of their sessions and ended their writing sides.
+fn ending_peers<R: Net>(
+    alloc: Global,
+    net: &R,
+    sessions: &Texts,
+) -> Result<Vec<R::Stream>, ServedFault> {
+    let mut peers = Vec::new(alloc);
+    for bytes in sessions.as_slice() {
+        peers.push(ending_peer(net, bytes.as_slice())?)?;
+    }
+    Ok(peers)
+}
+
+/// All that each peer reads.
+fn replies_of<S: Read>(alloc: Global, peers: &mut [S]) -> Result<Texts, ServedFault> {
+    let mut replies = Vec::new(alloc);
+    for peer in peers.iter_mut() {
+        replies.push(replies_to(alloc, peer)?)?;
+    }
+    Ok(Texts::from_vec(replies))
+}
+
 /// Peers that end their writing sides.
 fn serve_ending<R: Net + Clock>(
     alloc: Global,
@@ -108,20 +130,11 @@ fn serve_ending<R: Net + Clock>(
     requires { IsMadeFor (grammar_of g.now.grammar) t.now }
 {
     let wire = listen(rt).ok_or(ServedFault::Net)?;
-    let mut peers = Vec::new(alloc);
-    for bytes in sessions.as_slice() {
-        peers.push(ending_peer(rt, bytes.as_slice())?)?;
-    }
+    let mut peers = ending_peers(alloc, rt, sessions)?;
     let count = u32::try_from(peers.len()).unwrap_or(u32::MAX);
     let log = serve_node(alloc, g, t, count, wire)?;
-    let mut replies = Vec::new(alloc);
-    for peer in peers.iter_mut() {
-        replies.push(replies_to(alloc, peer)?)?;
-    }
-    Ok(Served {
-        replies: Texts::from_vec(replies),
-        log,
-    })
+    let replies = replies_of(alloc, peers.as_mut_slice())?;
+    Ok(Served { replies, log })
 }
 
 /// One peer that waits for the node to end the session.

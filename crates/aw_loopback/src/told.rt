@@ -1,7 +1,8 @@
 //! What is told of a node's sessions.
 use crate::served::Served;
 use aw_list::Text;
-use aw_session::{How, SessionLog};
+use aw_out::Texts;
+use aw_session::{How, Log, SessionLog};
 use aw_text::push_number;
 use std::alloc::{AllocError, Global};
 
@@ -34,13 +35,24 @@ fn push_session(told: &mut Text, number: usize, entry: SessionLog) -> Result<(),
     told.push_bytes(b"\n")
 }
 
-/// Adds what is told of each session.
-pub fn push_served(alloc: Global, told: &mut Text, served: &Served) -> Result<(), AllocError> {
-    for read in served.replies.as_slice() {
+/// Adds what each peer read.
+fn push_replies(alloc: Global, told: &mut Text, replies: &Texts) -> Result<(), AllocError> {
+    for read in replies.as_slice() {
         push_read(alloc, told, read.as_slice())?;
     }
-    for number in 0..served.log.len() {
-        push_session(told, number + 1, *served.log.at(number))?;
+    Ok(())
+}
+
+/// Adds how each session went.
+fn push_log(told: &mut Text, log: &Log) -> Result<(), AllocError> {
+    for number in 0..log.len() {
+        push_session(told, number + 1, *log.at(number))?;
     }
     Ok(())
+}
+
+/// Adds what is told of each session.
+pub fn push_served(alloc: Global, told: &mut Text, served: &Served) -> Result<(), AllocError> {
+    push_replies(alloc, told, &served.replies)?;
+    push_log(told, &served.log)
 }
