@@ -1,7 +1,7 @@
 -- A world with crashes, seen as one without.
 use Rattle.std.specs.Prelude.{slice_get, slice_set}
 use Rattle.std.proofs.lemmas.Option.{slice_get_within}
-use Rattle.std.proofs.Common.{◌≡◌, ℕ, zero, suc, ◌<◌, Bool, true, false, List, [], ◌∷◌, ◌++◌, map, length, Option, Some, None, refl, sym, ap, ◌∙◌, subst, arith, append_assoc}
+use Rattle.std.proofs.Common.{◌≡◌, ℕ, ◌<◌, Bool, true, false, List, [], ◌∷◌, ◌++◌, map, length, Option, Some, None, refl, sym, ap, ◌∙◌, subst, arith, append_assoc}
 use Rattle.std.proofs.lemmas.List.{append-nil, map-append}
 use Rattle.aw_list.proofs.Members.{got_map}
 use Rattle.aw_term.specs.Choices.{Choice}
@@ -21,7 +21,8 @@ use Rattle.aw_merge.specs.Laws.{MayCome, world_after, InvariantHolds}
 use Rattle.aw_merge.proofs.Settling.{run_both}
 use Rattle.aw_nodes.specs.Crashes.{Kept, Posted, Past, Frail, new_kept, kept_at, start_at, kept_after, posting, happen, chosen_frail, reaction_of, with_delivery, delivered_frail, frail_step, FrailEvent, frail_run, AreAllowed, is_delivered, choices_in, remaining, world_of}
 use Rattle.aw_nodes.specs.Nodes.{ReadAs}
-use Rattle.aw_nodes.proofs.Crashed.{Own, plain_run, run-own, run-size, empty-size, start-own, without}
+use Rattle.aw_nodes.proofs.OwnEvents.{empty-size, plain_run, run-size, Own, run-own, start-own}
+use Rattle.aw_nodes.proofs.Crashed.{without}
 use Rattle.aw_nodes.proofs.ListParts.{set-get, set-append, map-set, map-get, map-map, map-self, set-same}
 use Rattle.aw_nodes.proofs.Served.{read-append}
 use Rattle.aw_merge.proofs.Lists.{length-mapped}
@@ -157,9 +158,9 @@ module _ (g : Grammar) (loads : Bool) where
   step-tells w (Chooses c) ok = chose-tells w c ok (choose g (kept_at w (home g (node_of c))).site c) refl
   step-tells w (Delivers k) ok = got-tells w k (slice_get w.posted k) refl
 
-  run-tells : (w : Frail) (es : List Move) → Each (MayCome g) es → Tells w (plain_run g loads w es)
+  run-tells : (w : Frail) (es : List Move) → Each (MayCome g) es → Tells w (plain_run g w es)
   run-tells w [] k = tells-none w
-  run-tells w (e ∷ es) k = tells-on w (frail_step g w e) (plain_run g loads (frail_step g w e) es) (step-tells w e k.0) (run-tells (frail_step g w e) es k.1)
+  run-tells w (e ∷ es) k = tells-on w (frail_step g w e) (plain_run g (frail_step g w e) es) (step-tells w e k.0) (run-tells (frail_step g w e) es k.1)
 
   start-seen : world_of (start_at g loads) ≡ empty_world g loads
   start-seen = λ i. record { sites = map-map site (new_kept loads) (upto 0 g.roles) i; messages = []; delivered = []; taken = [] }
@@ -182,8 +183,8 @@ module _ (g : Grammar) (loads : Bool) where
       (kept_at (frail_run g loads (start_at g loads) es) r).site ≡ site_run g (empty_site loads r) (kept_at (frail_run g loads (start_at g loads) es) r).events
   sites_are_their_events es h r l =
       let (fs, k, q) = without g loads [] tt es h in
-      let size : length (frail_run g loads (start_at g loads) es).kept ≡ length (start_at g loads).kept = subst (λ (u : Frail). length u.kept ≡ length (start_at g loads).kept) q (run-size g loads (start_at g loads) fs) in
-      let n = empty-size g loads 0 g.roles in
+      let size : length (frail_run g loads (start_at g loads) es).kept ≡ length (start_at g loads).kept = subst (λ (u : Frail). length u.kept ≡ length (start_at g loads).kept) q (run-size g (start_at g loads) fs) in
+      let n = empty-size loads 0 g.roles in
       let own : Own g loads (frail_run g loads (start_at g loads) es) = subst (Own g loads) q (run-own g loads (start_at g loads) fs (start-own g loads)) in
       own r (omega (arith, size, n, l))
 
