@@ -1,5 +1,5 @@
 -- One held node more of a workspace, with the items that stand in front.
-use Rattle.std.proofs.Common.{◌≡◌, ℕ, zero, suc, ◌+◌, arith, true, List, [], ◌∷◌, ◌++◌, map, take, drop, length, Some, slice_get, sym, ap, ◌∙◌, subst, append_assoc}
+use Rattle.std.proofs.Common.{◌≡◌, ℕ, zero, suc, ◌+◌, arith, true, List, [], ◌∷◌, ◌++◌, map, take, drop, Some, slice_get, sym, ap, ◌∙◌, subst, append_assoc}
 use Rattle.aw_list.specs.Members.{Member}
 use Rattle.aw_list.proofs.Members.{member_unmap}
 use Rattle.aw_term.specs.Held as P

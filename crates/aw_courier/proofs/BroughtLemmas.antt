@@ -18,7 +18,7 @@ use Rattle.aw_msg.proofs.MessageLaws.{message_law}
 use Rattle.aw_nodes.specs.Couriers.{Gave, Had, behind}
 use Rattle.aw_nodes.specs.Nodes.{Push as PushFrame}
 use Rattle.aw_courier.specs.Frames.{spelled_frame}
-use Rattle.aw_courier.specs.Replies.{gave, heard_in, known, reply, IsNone, IsSized, Brings, IsAddressed, NamesRole}
+use Rattle.aw_courier.specs.Replies.{gave, heard_in, known, reply, IsNone, IsSized, Brings, IsAddressed}
 use Rattle.aw_courier.specs.declared.replies.Brought.{Brought}
 use Rattle.aw_courier.specs.declared.replies.Brought.TheVariants as brought
 use Rattle.aw_courier.specs.declared.replies.Request.TheVariants.{Pull}

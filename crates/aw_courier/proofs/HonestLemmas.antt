@@ -27,7 +27,7 @@ use Rattle.aw_msg.proofs.Lengths.{payload_short}
 use Rattle.aw_msg.proofs.MessageLaws.{message_law}
 use Rattle.aw_session.specs.Frames.{joined}
 use Rattle.aw_nodes.specs.Couriers as C
-use Rattle.aw_nodes.specs.Couriers.{Heard, Pushed, Gave, Had, hear, flat, IsPrefix, IsHonestWire, choice_frames, session_frames, visit_frames, turn_room, ChoicesOk, IsQuietCall, QuietMeansQuiet}
+use Rattle.aw_nodes.specs.Couriers.{Heard, Gave, Had, hear, flat, IsPrefix, IsHonestWire, choice_frames, session_frames, visit_frames, turn_room, ChoicesOk, IsQuietCall, QuietMeansQuiet}
 use Rattle.aw_nodes.specs.Nodes.{Frame, Pull as PullFrame, happenings, ReadAs, Response, WasNew, WasHeld, Contradicts, NotForMe, NotValid, Answers, Sends, Shows, Ended, sites_after, all_replies}
 use Rattle.aw_nodes.proofs.ListParts.{cons-inj}
 use Rattle.aw_nodes.proofs.HeardBytes.{cancel}

@@ -1,11 +1,10 @@
 -- Rounds, one turn after the other.
-use Rattle.std.proofs.Common.{◌≡◌, ℕ, zero, suc, ◌+◌, ◌<◌, ◌≤◌, Bool, true, false, ◌||◌, List, [], ◌∷◌, ◌++◌, map, length, Option, None, Some, option_to_list, refl, sym, ap, subst, ◌∙◌, arith, append_assoc, append-nil, length-append}
+use Rattle.std.proofs.Common.{◌≡◌, ℕ, zero, suc, ◌+◌, ◌<◌, Bool, true, false, ◌||◌, List, [], ◌∷◌, ◌++◌, map, length, Option, None, Some, option_to_list, refl, sym, ap, subst, ◌∙◌, arith, append_assoc, append-nil, length-append}
 use Rattle.std.specs.Prelude.{nat_lt}
 use Rattle.std.proofs.lemmas.Bool.{ltb-true, ltb-false}
-use Rattle.aw_out.specs.Causes.{Rose}
 use Rattle.aw_out.specs.Wires as W
 use Rattle.aw_out.specs.Wires.{Content, Both, Dials}
-use Rattle.aw_out.specs.declared.edge.Dialed.TheVariants.{Opened, Failed}
+use Rattle.aw_out.specs.declared.edge.Dialed.TheVariants.{Opened}
 use Rattle.aw_term.specs.Rules.{Grammar, upto}
 use Rattle.aw_term.specs.WellFormed.{Each}
 use Rattle.aw_term.proofs.Eaches.{each_append, each_push}

@@ -1,7 +1,7 @@
 -- What a wire tells of a session that was dialed.
-use Rattle.std.proofs.Common.{◌≡◌, ℕ, List, [], ◌∷◌, ◌++◌, Bool, true, Option, None, Some, refl, ap, sym, subst, ◌∙◌, append-nil}
+use Rattle.std.proofs.Common.{◌≡◌, ℕ, List, [], ◌∷◌, ◌++◌, Bool, true, Option, None, Some, refl, ap, sym, subst, ◌∙◌}
 use Rattle.aw_out.specs.Wires.{Session, Content, Both, with_last, fresh, Dials}
-use Rattle.aw_out.specs.declared.edge.Dialed.TheVariants.{Opened, Failed}
+use Rattle.aw_out.specs.declared.edge.Dialed.TheVariants.{Opened}
 use Rattle.aw_session.specs.Sessions.{Follow}
 use Rattle.aw_session.specs.Talking.{grown, Grows}
 

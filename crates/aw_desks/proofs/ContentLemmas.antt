@@ -1,16 +1,15 @@
 -- What a wire tells of its sessions.
 use Rattle.std.proofs.Common.{◌≡◌, ℕ, List, [], ◌∷◌, ◌++◌, length, take, drop, map, true, Option, None, Some, refl, sym, ap, ◌∙◌, append-nil, arith}
-use Rattle.std.specs.Prelude.{is_some, option_to_list}
+use Rattle.std.specs.Prelude.{is_some}
 use Rattle.std.proofs.lemmas.List.{map-append, take-append-drop, take-append-le}
 use Rattle.std.proofs.Math.Seq.{take-length}
 use Rattle.aw_out.specs.Edge.{given}
 use Rattle.aw_out.specs.Reads.{answer_of}
-use Rattle.aw_out.specs.Wires.{Session, with_last, after_read, after_write, after_fault, Dials, ReadsInSession, WritesInSession}
-use Rattle.aw_out.specs.declared.edge.Dialed.TheVariants as dialed
+use Rattle.aw_out.specs.Wires.{Session, with_last, after_read, after_write, after_fault, ReadsInSession, WritesInSession}
 use Rattle.aw_out.specs.declared.edge.Got.{Got}
 use Rattle.aw_out.specs.declared.edge.Got.TheVariants.{Read, End, Failed}
 use Rattle.aw_out.specs.declared.edge.Put.TheVariants as put
-use Rattle.aw_desks.specs.Calls.{Call, Calls, session_of, new_call, has_read, has_written, has_failed, left_in, content_of, opened, changed}
+use Rattle.aw_desks.specs.Calls.{Call, Calls, session_of, has_read, has_written, has_failed, left_in, content_of, changed}
 
 -- the last of some sessions is changed
 with_last-append : (f : Session → Session) (xs : List Session) (x : Session) → with_last f (xs ++ x ∷ []) ≡ xs ++ f x ∷ []

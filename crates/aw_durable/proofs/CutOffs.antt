@@ -1,5 +1,5 @@
 -- Sessions that were cut off, as a simpler workspace sees them, with what holds of the workspace then.
-use Rattle.std.proofs.Common.{◌≡◌, ℕ, List, Bool, Option, None, Some, Result, Ok, Err, refl, sym, subst}
+use Rattle.std.proofs.Common.{◌≡◌, ℕ, List, Option, None, Some, Result, Ok, Err, refl, sym, subst}
 use Rattle.std.specs.Result.{IfOk, IfErr, IsErrOf}
 use Rattle.aw_out.specs.Wires.{Session, Content}
 use Rattle.aw_msg.specs.Frames.{Frame}

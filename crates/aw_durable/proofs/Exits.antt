@@ -1,5 +1,5 @@
 -- Lists of events that begin one another, and files between them.
-use Rattle.std.proofs.Common.{◌≡◌, ℕ, List, [], ◌∷◌, ◌++◌, Option, None, Some, ◌⊎◌, inl, inr, ⊎_elim, refl, sym, ap, ◌∙◌, subst, append-nil, append_assoc}
+use Rattle.std.proofs.Common.{◌≡◌, ℕ, List, [], ◌∷◌, ◌++◌, Option, None, Some, ◌⊎◌, inl, inr, refl, sym, ap, ◌∙◌, subst, append-nil, append_assoc}
 use Rattle.aw_journal.specs.Events.{Event}
 use Rattle.aw_journal.specs.Format.{events_of}
 use Rattle.aw_durable.specs.Exits.{Begins, IsBetween, IsOldOrBetween, IsWithOneInHand}

@@ -1,6 +1,6 @@
 -- Appending the event that a frame was.
-use Rattle.std.proofs.Common.{◌≡◌, ℕ, ◌+◌, ◌<◌, ◌≤◌, List, [], ◌∷◌, ◌++◌, Bool, true, false, IsTrue, Option, None, Some, Result, Ok, Err, inl, inr, length, refl, sym, ap, ◌∙◌, subst, ltb, ltb-true, ltb-false}
-use Rattle.std.specs.Result.{OnOk, IfOk, IfErr, IsErrOf}
+use Rattle.std.proofs.Common.{◌≡◌, ℕ, ◌<◌, ◌≤◌, List, [], ◌∷◌, ◌++◌, Bool, true, false, IsTrue, Option, None, Some, Result, Ok, Err, inl, inr, refl, sym, ap, ◌∙◌, subst, ltb, ltb-true, ltb-false}
+use Rattle.std.specs.Result.{OnOk, IfErr, IsErrOf}
 use Rattle.aw_out.specs.Causes.{Rose}
 use Rattle.aw_react.specs.Sites.{Site}
 use Rattle.aw_msg.specs.Frames.{Frame}
@@ -16,7 +16,7 @@ use Rattle.aw_journal.specs.declared.journal.AppendFault.{AppendFault}
 use Rattle.aw_journal.specs.declared.journal.AppendFault.TheVariants.{DiskFault, Full, NoMemory}
 use Rattle.aw_journal.proofs.Events.{events_push}
 use Rattle.aw_node.specs.TypedNodes.{Rules, HandlesAs}
-use Rattle.aw_durable.specs.Appending.{Writes, IsAppended, Appends, Fails, FailsAsSeen}
+use Rattle.aw_durable.specs.Appending.{Writes, Appends, Fails, FailsAsSeen}
 use Rattle.aw_durable.specs.KeptEvents.{event_by, kept_of}
 
 module _ {D : Type 0} (d : Ghosts D) where

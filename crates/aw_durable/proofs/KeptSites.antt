@@ -1,7 +1,6 @@
 -- A site is what its events make of the first one.
 use Rattle.std.specs.Prelude.{not, nat_eq, ◌&&◌}
-use Rattle.std.proofs.Common.{◌≡◌, ◌≢◌, ℕ, Bool, true, false, cond, List, [], ◌∷◌, ◌++◌, Option, None, Some, length, refl, sym, ap, ◌∙◌, subst}
-use Rattle.aw_term.specs.Choices.{Choice}
+use Rattle.std.proofs.Common.{◌≡◌, Bool, true, false, cond, List, [], ◌∷◌, ◌++◌, Option, None, Some, refl, sym, ap, ◌∙◌, subst}
 use Rattle.aw_base.specs.ChoiceFits.{choice_ok}
 use Rattle.aw_typed.specs.TypeFaults.{arg_ok}
 use Rattle.aw_apply.specs.Messages.{Received, New, Repeat, Conflict, NotMine, BadName}
@@ -15,7 +14,7 @@ use Rattle.aw_msg.specs.Frames as F
 use Rattle.aw_msg.specs.MessageView.{message_of}
 use Rattle.aw_journal.specs.Events.{Event, Took, Got}
 use Rattle.aw_node.specs.TypedNodes.{Rules, told, handle}
-use Rattle.aw_durable.specs.KeptEvents.{is_news, asked, event_by, kept_of, frame_for, is_kept, after_event, site_by, AreKept}
+use Rattle.aw_durable.specs.KeptEvents.{is_news, asked, kept_of, frame_for, is_kept, after_event, site_by, AreKept}
 use Rattle.aw_durable.specs.KeptSites.{KeptSite, with_event, IsMadeOf}
 
 -- ---- what is no news changes nothing

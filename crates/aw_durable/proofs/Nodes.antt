@@ -1,5 +1,5 @@
 -- What a kept node does is what the site does that keeps its events.
-use Rattle.std.proofs.Common.{◌≡◌, ◌≢◌, ℕ, ◌≤◌, List, IsTrue, refl, sym, ap, ◌∙◌, subst}
+use Rattle.std.proofs.Common.{◌≡◌, ◌≢◌, ℕ, ◌≤◌, List, IsTrue, refl, sym, ◌∙◌, subst}
 use Rattle.aw_out.specs.declared.edge.Wire as wires
 use Rattle.aw_react.specs.Sites.{Site}
 use Rattle.aw_msg.specs.Frames.{Frame}

@@ -9,7 +9,7 @@ use Rattle.aw_journal.specs.Events.{Event}
 use Rattle.aw_journal.specs.EventView.{events_seen}
 use Rattle.aw_journal.specs.Format.{events_of, has_head}
 use Rattle.aw_journal.specs.Journal.{Kept, IsSettled}
-use Rattle.aw_journal.specs.Opens.{IsForeign, IsOldOrSame, AllOldOrAllSame}
+use Rattle.aw_journal.specs.Opens.{IsForeign, IsOldOrSame}
 use Rattle.aw_journal.specs.declared.journal.AppendFault.{AppendFault}
 use Rattle.aw_journal.specs.declared.journal.AppendFault.TheVariants as append
 use Rattle.aw_journal.specs.declared.reads.OpenFault.{OpenFault}
@@ -19,11 +19,11 @@ use Rattle.aw_session.specs.declared.log.SessionLog.{SessionLog}
 use Rattle.aw_session.specs.declared.serving.Stopped.{Stopped}
 use Rattle.aw_session.specs.declared.serving.Stopped.TheVariants as stopped
 use Rattle.aw_node.specs.TypedNodes.{Rules}
-use Rattle.aw_durable.specs.Exits.{IsOldOrBetween, IsLeft, Origin, Stands, Halts}
+use Rattle.aw_durable.specs.Exits.{IsOldOrBetween, Origin, Stands}
 use Rattle.aw_durable.specs.Faults.{of_opening, of_append}
 use Rattle.aw_durable.specs.KeptSites.{KeptSite, reopened}
 use Rattle.aw_durable.specs.Redone.{RedoesAll, StopsRedoing}
-use Rattle.aw_durable.specs.Serving.{kept_limit, begun_at, IsReopened, IsKeptServing, IsKeptUnopened, IsKeptCutOff, IsNotBegun, IsBadEvent, StopsKept, GoesOn, StopsNode}
+use Rattle.aw_durable.specs.Serving.{kept_limit, begun_at, IsReopened, IsKeptServing, IsKeptUnopened, IsKeptCutOff, IsNotBegun, StopsKept, GoesOn, StopsNode}
 use Rattle.aw_durable.specs.declared.node.Unanswered.{Unanswered}
 use Rattle.aw_durable.specs.declared.fault.KeptFault.{KeptFault}
 use Rattle.aw_durable.specs.declared.fault.KeptFault.TheVariants.{NetFault, DiskFault, BadHead, BadEvent, Full, NoMemory}

@@ -1,13 +1,13 @@
 -- Events of a journal, done again one by one.
-use Rattle.std.proofs.Common.{◌≡◌, ℕ, zero, suc, ◌+◌, ◌<◌, true, List, [], ◌∷◌, ◌++◌, length, take, drop, map, get_or, refl, sym, ap, ◌∙◌, subst, arith, take-append-drop}
+use Rattle.std.proofs.Common.{◌≡◌, ℕ, zero, suc, ◌+◌, ◌<◌, List, [], ◌∷◌, ◌++◌, length, take, drop, get_or, refl, sym, ap, ◌∙◌, subst, arith}
 use Rattle.std.proofs.lemmas.List.{take_more}
 use Rattle.aw_react.specs.Sites.{Site}
-use Rattle.aw_journal.specs.Events.{Event, IsEvent, AllEvents, EventInRange}
+use Rattle.aw_journal.specs.Events.{Event, AllEvents, EventInRange}
 use Rattle.aw_journal.specs.EventView.{event_of, events_seen}
 use Rattle.aw_journal.specs.declared.payload.NodeEvent.{NodeEvent}
 use Rattle.aw_journal.proofs.Events.{events_push}
 use Rattle.aw_node.specs.TypedNodes.{Rules}
-use Rattle.aw_durable.specs.KeptEvents.{is_kept, after_event, site_by, AreKept, IsFirstBad}
+use Rattle.aw_durable.specs.KeptEvents.{site_by, AreKept}
 use Rattle.aw_durable.specs.Redone.{Redoes, RedoesAll, StopsAt, StopsRedoing}
 use Rattle.aw_durable.specs.declared.fault.KeptFault.{KeptFault}
 use Rattle.aw_durable.specs.declared.fault.KeptFault.TheVariants.{NetFault, DiskFault, BadHead, BadEvent, Full, NoMemory}

@@ -1,6 +1,6 @@
 -- A site by its events is a site of a world that may crash.
-use Rattle.std.specs.Prelude.{not, nat_eq, ◌&&◌}
-use Rattle.std.proofs.Common.{◌≡◌, ℕ, zero, suc, Bool, true, false, List, [], ◌∷◌, take, map, refl, sym, ap, ◌∙◌}
+use Rattle.std.specs.Prelude.{nat_eq, ◌&&◌}
+use Rattle.std.proofs.Common.{◌≡◌, zero, suc, Bool, true, false, [], ◌∷◌, map, refl, ap, ◌∙◌}
 use Rattle.aw_base.specs.ChoiceFits.{choice_ok}
 use Rattle.aw_typed.specs.TypeFaults.{arg_ok}
 use Rattle.aw_apply.specs.Messages.{Received, New, Repeat, Conflict, NotMine, BadName}
@@ -14,7 +14,7 @@ use Rattle.aw_nodes.specs.Nodes as N
 use Rattle.aw_msg.specs.MessageView.{message_of}
 use Rattle.aw_journal.specs.Events.{Event, Took, Got}
 use Rattle.aw_node.specs.TypedNodes.{Rules, told}
-use Rattle.aw_durable.specs.KeptEvents.{is_news, is_kept, after_event, site_by, AreKept}
+use Rattle.aw_durable.specs.KeptEvents.{is_news, is_kept, after_event}
 use Rattle.aw_durable.specs.Laws.{site_event, SitesAreRuns, FirstAreKept}
 use Rattle.aw_durable.proofs.KeptSites.{chosen-by}
 

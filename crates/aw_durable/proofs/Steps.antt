@@ -1,5 +1,5 @@
 -- What stands while frames are answered, and what is left where one gets no reply.
-use Rattle.std.proofs.Common.{◌≡◌, ℕ, ◌+◌, ◌<◌, ◌≤◌, List, [], ◌∷◌, ◌++◌, Bool, IsTrue, length, Option, None, Some, inl, inr, ⊎_elim, refl, sym, ap, ◌∙◌, subst, arith, append_assoc}
+use Rattle.std.proofs.Common.{◌≡◌, ℕ, ◌+◌, ◌<◌, ◌≤◌, List, [], ◌∷◌, ◌++◌, IsTrue, length, Option, None, Some, inl, inr, refl, sym, ap, ◌∙◌, subst, arith}
 use Rattle.aw_out.specs.Causes.{Rose}
 use Rattle.aw_react.specs.Sites.{Site}
 use Rattle.aw_msg.specs.Frames.{Frame}
@@ -7,16 +7,16 @@ use Rattle.aw_disk.specs.Disk.{LeavesOnly}
 use Rattle.aw_disk.specs.declared.edge.Disk.{Ghosts}
 use Rattle.aw_journal.specs.Events.{Event}
 use Rattle.aw_journal.specs.EventView.{events_seen}
-use Rattle.aw_journal.specs.Format.{events_of, front}
+use Rattle.aw_journal.specs.Format.{front}
 use Rattle.aw_journal.specs.Journal.{Kept, IsBeforeOrAfter, end_after}
 use Rattle.aw_journal.specs.declared.journal.AppendFault.{AppendFault}
 use Rattle.aw_journal.specs.declared.journal.AppendFault.TheVariants.{DiskFault, Full, NoMemory}
 use Rattle.aw_journal.proofs.Moments.{weaker, runs_on}
-use Rattle.aw_node.specs.TypedNodes.{Rules, handle}
-use Rattle.aw_durable.specs.Appending.{Writes, IsAppended, Appends, Tries, Because, Fails, AnswersAndKeeps, FailsAsSeen}
-use Rattle.aw_durable.specs.Exits.{Begins, IsBetween, IsOldOrBetween, IsWithOneInHand, IsLeft, IsWithin, Origin, Stands, Halts}
-use Rattle.aw_durable.specs.KeptEvents.{kept_of, AreKept}
-use Rattle.aw_durable.specs.KeptSites.{KeptSite, keeps, after_frame, with_event, IsMadeOf}
+use Rattle.aw_node.specs.TypedNodes.{handle}
+use Rattle.aw_durable.specs.Appending.{Writes, Appends, Tries, Because, AnswersAndKeeps, FailsAsSeen}
+use Rattle.aw_durable.specs.Exits.{IsOldOrBetween, IsLeft, Origin, Stands, Halts}
+use Rattle.aw_durable.specs.KeptEvents.{kept_of}
+use Rattle.aw_durable.specs.KeptSites.{KeptSite, keeps, after_frame, with_event}
 use Rattle.aw_durable.proofs.Exits.{begins-same, begins-more, IsOneOf, between-one, old-or-more, in-hand}
 use Rattle.aw_durable.proofs.KeptSites.{made-with}
 

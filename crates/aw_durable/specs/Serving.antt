@@ -1,5 +1,5 @@
 -- What serving a kept workspace leaves at each exit.
-use Rattle.std.specs.Prelude.{◌≡◌, ◌⊎◌, ℕ, ◌+◌, ◌<◌, ◌≤◌, List, [], ◌∷◌, ◌++◌, IsTrue, false, length, Option}
+use Rattle.std.specs.Prelude.{◌≡◌, ◌⊎◌, ℕ, ◌+◌, ◌<◌, ◌≤◌, List, IsTrue, false, length}
 use Rattle.aw_out.specs.Causes.{Rose}
 use Rattle.aw_out.specs.declared.edge.Wire as wires
 use Rattle.aw_react.specs.Sites.{Site}
@@ -9,7 +9,7 @@ use Rattle.aw_session.specs.declared.log.SessionLog.{SessionLog}
 use Rattle.aw_disk.specs.Disk.{LeavesOnly}
 use Rattle.aw_disk.specs.declared.edge.Disk as disks
 use Rattle.aw_journal.specs.Events.{Event}
-use Rattle.aw_journal.specs.Format.{events_of, has_head, front}
+use Rattle.aw_journal.specs.Format.{events_of, has_head}
 use Rattle.aw_journal.specs.Opens.{IsForeign, IsOldOrSame, AllOldOrAllSame}
 use Rattle.aw_journal.specs.declared.journal.AppendFault.{AppendFault}
 use Rattle.aw_journal.specs.declared.journal.AppendFault.TheVariants as append

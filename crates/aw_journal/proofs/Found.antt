@@ -1,5 +1,5 @@
 -- Whether a whole record stands behind a gate.
-use Rattle.std.specs.Prelude.{◌≡◌, ◌≢◌, ℕ, zero, suc, ◌+◌, ◌-◌, ◌^◌, ◌<◌, ◌≤◌, List, [], ◌∷◌, ◌++◌, Bool, true, false, None, Some, length, take, drop, get_or, cond, nat_lt, ◌==◌}
+use Rattle.std.specs.Prelude.{◌≡◌, ◌≢◌, ℕ, ◌+◌, ◌-◌, ◌^◌, ◌<◌, ◌≤◌, List, [], ◌∷◌, ◌++◌, Bool, true, false, None, Some, length, take, drop, get_or, cond, ◌==◌}
 use Rattle.std.proofs.Common.{refl, sym, ◌∙◌, ap, arith, append_assoc, take-append-drop, length-drop}
 use Rattle.std.proofs.lemmas.List.{length-take-le, length-take, drop-drop, drop_more}
 use Rattle.std.proofs.lemmas.Bool.Decides.{nat_tests}

@@ -1,7 +1,6 @@
 -- What a crash leaves while a record is written behind a closed gate, and then the gate is opened.
-use Rattle.std.specs.Prelude.{◌≡◌, ℕ, ◌+◌, ◌≤◌, List, [], ◌∷◌, ◌++◌, Bool, IsTrue, length, take, drop}
-use Rattle.std.proofs.Common.{sym, ◌∙◌, ap, subst, arith, length-append}
-use Rattle.std.proofs.lemmas.List.{length-take-le}
+use Rattle.std.specs.Prelude.{◌≡◌, ℕ, ◌+◌, List, [], ◌∷◌, ◌++◌, Bool, IsTrue, length}
+use Rattle.std.proofs.Common.{sym, ◌∙◌, ap, subst}
 use Rattle.aw_disk.specs.Disk.{written, Torn, Only}
 use Rattle.aw_journal.proofs.Places.{torn_behind, torn_place, written_behind, written_place}
 use Rattle.aw_journal.specs.Journal.{AfterTorn, StandsAt, behind_gate}

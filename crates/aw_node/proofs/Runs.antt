@@ -1,21 +1,17 @@
 -- Frames in turn at one typed node, and honest frames at all of them.
 use Rattle.std.proofs.Common.{◌≡◌, ℕ, Bool, true, false, cond, List, [], ◌∷◌, map, refl, ap, sym, ◌∙◌, subst}
 use Rattle.std.specs.Prelude.{◌&&◌, slice_set}
-use Rattle.aw_term.specs.Choices.{Choice, Answer}
+use Rattle.aw_term.specs.Choices.{Answer}
 use Rattle.aw_term.specs.Names.{Ref}
-use Rattle.aw_term.specs.Rules.{Grammar}
-use Rattle.aw_term.specs.WellFormed.{Each}
 use Rattle.aw_base.specs.ChoiceFits.{choice_ok}
 use Rattle.aw_typed.specs.TypeFaults.{arg_ok}
 use Rattle.aw_react.specs.Sites.{Site}
-use Rattle.aw_react.specs.Worlds.{empty_world, Move}
-use Rattle.aw_merge.specs.Laws.{MayCome, world_after}
+use Rattle.aw_react.specs.Worlds.{empty_world}
 use Rattle.aw_nodes.specs.Nodes as N
 use Rattle.aw_nodes.specs.Nodes.{site_of}
 use Rattle.aw_msg.specs.Frames as F
-use Rattle.aw_session.specs.Frames.{AreAnswered}
-use Rattle.aw_node.specs.TypedNodes.{Rules, handle, reply, answers, replies, site_after}
-use Rattle.aw_node.specs.TypedRuns.{InTurn, Asked, plain_frame, plain_asked, handled, ask, sites_after, IsHonestFrame, AreHonest, AreOneWorld}
+use Rattle.aw_node.specs.TypedNodes.{Rules, handle, replies, site_after}
+use Rattle.aw_node.specs.TypedRuns.{InTurn, Asked, plain_frame, plain_asked, ask, sites_after, IsHonestFrame, AreHonest, AreOneWorld}
 
 -- ---- one node
 

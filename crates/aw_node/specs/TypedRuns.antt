@@ -14,7 +14,7 @@ use Rattle.aw_nodes.specs.Nodes.{site_of}
 use Rattle.aw_msg.specs.Frames as F
 use Rattle.aw_msg.specs.MessageView.{message_of}
 use Rattle.aw_session.specs.Frames.{AreAnswered}
-use Rattle.aw_node.specs.TypedNodes.{Rules, handle, reply, answers, replies, site_after}
+use Rattle.aw_node.specs.TypedNodes.{Rules, handle, answers, replies, site_after}
 
 -- ---- one node
 

@@ -1,5 +1,5 @@
 -- What is printed behind all events.
-use Rattle.std.proofs.Common.{◌≡◌, ℕ, List, [], ◌++◌, length, map, codes, ap, sym, ◌∙◌, refl, subst, append_assoc, Some, None}
+use Rattle.std.proofs.Common.{◌≡◌, ℕ, [], ◌++◌, length, map, codes, ap, sym, ◌∙◌, refl, subst, append_assoc, Some, None}
 use Rattle.std.specs.Prelude.{Option, Result}
 use Rattle.std.specs.Fmt.{decimal}
 use Rattle.std.proofs.Math.Logic.{∥∥₁_elim}
@@ -16,7 +16,7 @@ use Rattle.aw_react.specs.Worlds as V
 use Rattle.aw_world.specs.declared.workspace.Workspace.{Ghosts}
 use Rattle.aw_world.specs.declared.world.World.{World}
 use Rattle.aw_world.specs.Marks.{marks}
-use Rattle.aw_world.specs.Shown.{Shows, first_open}
+use Rattle.aw_world.specs.Shown.{first_open}
 use Rattle.aw_world.proofs.WorldFacts.{reached_configured}
 use Rattle.aw_replay.specs.Telling.{plain_of, named_by, undelivered_line, artifacts_line, PrintsEnding, PrintsQuiet}
 

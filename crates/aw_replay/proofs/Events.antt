@@ -1,5 +1,5 @@
 -- A list of events, one after the other.
-use Rattle.std.proofs.Common.{◌≡◌, ℕ, zero, suc, ◌+◌, ◌<◌, ◌≤◌, arith, List, [], ◌∷◌, ◌++◌, length, take, drop, map, get_or, ap, sym, ◌∙◌, refl, subst}
+use Rattle.std.proofs.Common.{◌≡◌, ℕ, zero, suc, ◌+◌, ◌<◌, arith, List, [], ◌∷◌, ◌++◌, length, take, drop, map, get_or, ap, sym, ◌∙◌, refl, subst}
 use Rattle.aw_term.specs.Rules.{Grammar}
 use Rattle.aw_term.specs.Artifacts.{Words}
 use Rattle.aw_term.specs.WellFormed.{Each}

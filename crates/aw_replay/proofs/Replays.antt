@@ -1,5 +1,5 @@
 -- What holds of replayed events because the grammar was accepted.
-use Rattle.std.proofs.Common.{◌≡◌, ℕ, Bool, List, [], ◌∷◌, ◌++◌, ap, sym, ◌∙◌, refl, subst, Some, None}
+use Rattle.std.proofs.Common.{ℕ, Bool, List, [], ◌∷◌, ◌++◌, subst, None}
 use Rattle.std.specs.Prelude.{Option}
 use Rattle.std.proofs.Math.Logic.{∥∥₁_elim, ∥∥₁_map}
 use Rattle.std.proofs.Props.{props}
@@ -14,7 +14,7 @@ use Rattle.aw_joint.specs.Laws.{IsAccepted}
 use Rattle.aw_react.specs.Bounds.{settled}
 use Rattle.aw_react.specs.Outputs.{MayStand, after_events, all_moves}
 use Rattle.aw_react.specs.Worlds as V
-use Rattle.aw_react.specs.Worlds.{empty_world, MayCome}
+use Rattle.aw_react.specs.Worlds.{empty_world}
 use Rattle.aw_merge.specs.Headline.{HeadlineHolds}
 use Rattle.aw_merge.proofs.Headlining.{headline_law, events_run, events_may}
 use Rattle.aw_merge.proofs.WorldLaws.{bound_law}

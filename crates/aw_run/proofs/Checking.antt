@@ -1,10 +1,8 @@
 -- What is told of a specification that is accepted.
-use Rattle.std.proofs.Common.{◌≡◌, ℕ, ◌<◌, ◌≤◌, Bool, List, [], ◌∷◌, ◌++◌, map, length, Option, Some, slice_get, refl, sym, ap, ◌∙◌, subst, arith, append_assoc, IfOk}
-use Rattle.std.specs.declared.result.Result.{Result}
+use Rattle.std.proofs.Common.{◌≡◌, ℕ, ◌≤◌, Bool, List, [], ◌∷◌, map, Option, Some, slice_get, refl, sym, subst, arith}
 use Rattle.std.proofs.lemmas.Option.{slice_get_within}
 use Rattle.aw_list.proofs.Members.{got_map, got_unmap}
 use Rattle.aw_term.specs.Rules as P
-use Rattle.aw_term.specs.Trees.{Never}
 use Rattle.aw_term.specs.Choices.{gives_of}
 use Rattle.aw_term.specs.WellFormed.{Each, takes_of}
 use Rattle.aw_term.specs.Artifacts.{Words}
@@ -15,11 +13,9 @@ use Rattle.aw_grammar.specs.GrammarView.{sort_of, sorts_of}
 use Rattle.aw_grammar.specs.GrammarOf.{grammar_of, words_of, declarations_of}
 use Rattle.aw_grammar.specs.Declarations.{grammar_in, words_in}
 use Rattle.aw_grammar.proofs.Entries.{declared_words, declared_grammar}
-use Rattle.aw_told.specs.Told.{TellsAccepted}
-use Rattle.aw_apart.specs.ApartTold.{TellsRoles}
 use Rattle.aw_modular.specs.Refusals.{IsPosition}
 use Rattle.aw_spec.specs.TypesFit.{IsOfSort}
-use Rattle.aw_run.specs.Checked.{TellsApart, TellsFree, TellsChecked}
+use Rattle.aw_run.specs.Checked.{TellsChecked}
 use Rattle.aw_run.specs.declared.reply.Status.TheVariants.{Done}
 use Rattle.aw_run.specs.Output.{Output, Writes, WritesChecked}
 use Rattle.aw_run.specs.Replies.{Replies, reply}

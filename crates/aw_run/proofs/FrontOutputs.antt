@@ -15,17 +15,15 @@ use Rattle.aw_accept.specs.Refusals.{Tells}
 use Rattle.aw_iograph.specs.Dependence.{IO, HasNoCircle}
 use Rattle.aw_typed.specs.TypeFaults.{Fault as TypeFault, type_fault}
 use Rattle.aw_typed.specs.Typing.{types_of, IsMadeFor, TellsTypes}
-use Rattle.aw_typed.specs.declared.data.Typed.{Typed}
 use Rattle.aw_typed.specs.declared.data.Types.{Types}
 use Rattle.aw_typed.specs.declared.data.TypeFault as told
 use Rattle.aw_spec.specs.KindNames.{kind_name}
-use Rattle.aw_spec.specs.Reading.{Spec, Reading, Good, Faulty, specification}
+use Rattle.aw_spec.specs.Reading.{Spec, Good, Faulty, specification}
 use Rattle.aw_spec.specs.declared.fault.SpecKind.{SpecKind}
 use Rattle.aw_write.specs.SpecLines.{written}
 use Rattle.aw_run.specs.declared.source.TheConstants.{INPUT_LIMIT}
 use Rattle.aw_run.specs.declared.reply.Reply.{Reply}
 use Rattle.aw_run.specs.declared.reply.Status.{Status}
-use Rattle.aw_run.specs.declared.reply.Status.TheVariants.{NoMemory}
 use Rattle.aw_run.specs.declared.front.Front.{Front}
 use Rattle.aw_run.specs.declared.front.Front.TheVariants.{Ready, Refused}
 use Rattle.aw_run.specs.declared.front.Opened.{Opened}
@@ -34,8 +32,8 @@ use Rattle.aw_run.specs.Refusals.{at_line}
 use Rattle.aw_run.specs.Output.{Output, PastInputLimit, BadSpecification, ByFault, ByTypes, IfAccepted, IfTyped, OfAccepted}
 use Rattle.aw_run.specs.Replies.{Replies, RefusesGrammar, RefusesTypes, reply_with}
 use Rattle.aw_run.specs.Serving.{ServesNamed, IsServingOutputOf}
-use Rattle.aw_run.specs.Keeping.{KeepsNamed, IsKeepingOutputOf, StopsBefore, StopsKeeping, StopsNamed}
-use Rattle.aw_run.specs.Carrying.{CarriesOver, IsCarryingOutputOf, StopsCarrying, StopsUnwired}
+use Rattle.aw_run.specs.Keeping.{KeepsNamed, IsKeepingOutputOf, StopsKeeping, StopsNamed}
+use Rattle.aw_run.specs.Carrying.{CarriesOver, IsCarryingOutputOf}
 use Rattle.aw_run.specs.Opening.{Opens}
 use Rattle.aw_run.specs.Fronts.{IsFrontOf, IsReady, Nothing, ReadyOr}
 use Rattle.aw_run.proofs.Outputs.{by-input-map, by-input-past, by-input-read}

@@ -31,9 +31,7 @@ use Rattle.aw_replay.proofs.Events.{all_may_stand}
 use Rattle.aw_replay.proofs.Replays.{replay_headline, settling_ends}
 use Rattle.aw_run.specs.declared.words.Job.{Job}
 use Rattle.aw_run.specs.declared.words.Job.TheVariants.{Check, Tells}
-use Rattle.aw_run.specs.declared.words.Telling.{Telling}
 use Rattle.aw_run.specs.declared.reply.Reply.{Reply}
-use Rattle.aw_run.specs.declared.reply.Status.{Status}
 use Rattle.aw_run.specs.declared.reply.Status.TheVariants.{Done}
 use Rattle.aw_run.specs.Promises.{Promises, OfRead, OfSchedule, OfReading, OfEvents, IfTells}
 use Rattle.aw_run.specs.Replies.{RefusesGrammar, RefusesTypes}

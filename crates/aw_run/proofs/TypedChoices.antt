@@ -1,5 +1,5 @@
 -- The choices among events that were read fit, and so do those of them that are taken.
-use Rattle.std.proofs.Common.{◌≡◌, ℕ, zero, suc, List, [], ◌∷◌, ◌++◌, map, take, Bool, Option, Some, None, true, refl, sym, ap, ◌∙◌, subst}
+use Rattle.std.proofs.Common.{◌≡◌, ℕ, zero, suc, List, [], ◌∷◌, map, take, Bool, Option, Some, None, true, refl, sym, ap, ◌∙◌, subst}
 use Rattle.std.specs.Prelude.{option_and_then}
 use Rattle.aw_term.specs.Rules.{Grammar}
 use Rattle.aw_term.specs.Configs.{Config}

@@ -8,7 +8,6 @@ use Rattle.aw_base.specs.ChoiceFits.{choice_ok}
 use Rattle.aw_sched.specs.Events.{Chooses}
 use Rattle.aw_out.specs.declared.edge.Wire as wires
 use Rattle.aw_disk.specs.declared.edge.Disk as disks
-use Rattle.aw_joint.specs.Laws.{IsAccepted}
 use Rattle.aw_run.specs.declared.words.Job.{Job}
 use Rattle.aw_run.specs.declared.words.Telling.TheVariants.{Undivided, Replayed}
 use Rattle.aw_run.specs.declared.reply.Reply.{Reply}

@@ -1,7 +1,6 @@
 -- How a session ends where nothing more is read.
-use Rattle.std.proofs.Common.{◌≡◌, ◌≢◌, ℕ, ◌≤◌, List, [], ◌++◌, length, Bool, true, false, Option, None, Some, refl, ap, sym, subst, ◌∙◌, arith, append-nil}
-use Rattle.aw_out.specs.Wires.{Content, Both, ReadsInSession}
-use Rattle.aw_out.specs.declared.edge.Got.TheVariants as got
+use Rattle.std.proofs.Common.{◌≡◌, ◌≢◌, ℕ, ◌≤◌, List, [], ◌++◌, length, Bool, true, false, Option, refl, ap, sym, subst, arith, append-nil}
+use Rattle.aw_out.specs.Wires.{Content}
 use Rattle.aw_msg.specs.Frames.{Frame}
 use Rattle.aw_msg.specs.Pieces.{Yields}
 use Rattle.aw_msg.specs.Streams.{Stream}

@@ -1,18 +1,16 @@
 -- Several sessions, one after the other.
-use Rattle.std.proofs.Common.{◌≡◌, ℕ, List, [], ◌∷◌, ◌++◌, Bool, true, false, ◌||◌, Option, None, Some, option_to_list, refl, ap, sym, subst, ◌∙◌, arith, append_assoc, append-nil}
-use Rattle.aw_out.specs.Causes.{Rose}
+use Rattle.std.proofs.Common.{◌≡◌, ℕ, List, [], ◌∷◌, ◌++◌, Bool, true, false, ◌||◌, Option, None, Some, refl, ap, sym, subst, ◌∙◌, arith, append_assoc, append-nil}
 use Rattle.aw_out.specs.Wires.{Session, Content, Both, with_last, fresh, Arrives}
-use Rattle.aw_out.specs.declared.edge.Arrival.TheVariants.{Session as Came, End as NoMore, Failed as NotArrived}
+use Rattle.aw_out.specs.declared.edge.Arrival.TheVariants.{Session as Came}
 use Rattle.aw_msg.specs.Frames.{Frame}
 use Rattle.aw_session.specs.Course.{IsDone, IsHalted}
 use Rattle.aw_session.specs.Served.{AreServed, IsServed, Ends}
-use Rattle.aw_session.specs.Sessions.{is_fault, has_fault, Follow, IsServing, NoneComes, IsNext, IsLast, ServesNext, StopsNext, StopsServing}
+use Rattle.aw_session.specs.Sessions.{is_fault, has_fault, Follow, IsServing, IsNext, ServesNext, StopsNext}
 use Rattle.aw_session.specs.Talking.{grown, Grows, Counts, Talks}
 use Rattle.aw_session.specs.declared.log.How.{How}
 use Rattle.aw_session.specs.declared.log.How.TheVariants.{End, Cut, Bad, Long, Fault}
 use Rattle.aw_session.specs.declared.log.SessionLog.{SessionLog}
-use Rattle.aw_session.specs.declared.serving.Stopped.{Stopped}
-use Rattle.aw_session.specs.declared.serving.Stopped.TheVariants.{NetFault, Node}
+use Rattle.aw_session.specs.declared.serving.Stopped.TheVariants.{Node}
 
 -- the last of some sessions is changed
 with_last-append : (f : Session → Session) (xs : List Session) (x : Session) → with_last f (xs ++ x ∷ []) ≡ xs ++ f x ∷ []

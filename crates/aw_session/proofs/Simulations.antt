@@ -1,5 +1,5 @@
 -- Sessions as a simpler workspace sees them: where `R` relates the one to the other, and what a reply does to the one it does to the other.
-use Rattle.std.proofs.Common.{◌≡◌, ℕ, List, [], ◌∷◌, Bool, Option, None, Some, refl, sym, subst}
+use Rattle.std.proofs.Common.{ℕ, List, [], ◌∷◌, Bool, Option, None, Some, refl, sym, subst}
 use Rattle.aw_out.specs.Wires.{Session, Content}
 use Rattle.aw_msg.specs.Frames.{Frame}
 use Rattle.aw_session.specs.Broken.{Anyhow, Reading, IsStopped}

@@ -2,14 +2,10 @@
 use Rattle.std.proofs.Common.{◌≡◌, Bool, true, false, cond, List, [], ◌∷◌, ◌++◌, Option, Some, None, refl, ap, ◌∙◌}
 use Rattle.std.specs.Prelude.{◌||◌, is_some}
 use Rattle.std.proofs.lemmas.Bool.{and_parts}
-use Rattle.aw_term.specs.Trees as T
 use Rattle.aw_term.specs.Names.{Ref, ref_eq}
 use Rattle.aw_term.proofs.RefTests.{ref_eq-true}
-use Rattle.aw_store.specs.Equations.{Body, Same, Is, Map, find}
+use Rattle.aw_store.specs.Equations.{Body, Map, find}
 use Rattle.aw_store.specs.NamedRefs.{is_named, has_names}
-use Rattle.aw_store.specs.StoreView.{IsKindOf}
-use Rattle.aw_store.specs.declared.facts.Kind.{Kind}
-use Rattle.aw_store.specs.declared.facts.Kind.TheVariants as kind
 
 unnamed_cases : (b : Bool) (x : Body) (o : Option Body) → b ≡ false → o ≡ None → cond b (Some x) o ≡ None
 unnamed_cases true x o e f = absurd cc

@@ -19,7 +19,7 @@ use Rattle.aw_react.specs.ValidNames.{message_ok}
 use Rattle.aw_space.specs.declared.space.Space.{Space}
 use Rattle.aw_space.specs.Spaces as S
 use Rattle.aw_space.specs.SpaceView.{space_of}
-use Rattle.aw_space.specs.Seen.{space_seen, IsUnchanged}
+use Rattle.aw_space.specs.Seen.{space_seen}
 use Rattle.aw_site.specs.declared.plan.Plan.{Plan}
 use Rattle.aw_site.specs.Doing.{doing_planned, IsPlanned}
 use Rattle.aw_site.specs.Holders.{holder, IsOfRole, ShowsAsked, ShowsWatchers}

@@ -5,8 +5,6 @@ use Rattle.std.proofs.lemmas.Bool.{and_parts, and_from, eqb-true, leb-true}
 use Rattle.aw_term.specs.Names.{Ref}
 use Rattle.aw_term.specs.Rules.{Grammar, sort_of}
 use Rattle.aw_term.specs.WellFormed.{Each, head_fits, takes_of}
-use Rattle.aw_grammar.specs.declared.grammar.Grammar as program
-use Rattle.aw_grammar.specs.GrammarOf.{grammar_of}
 use Rattle.aw_base.specs.ChoiceFits.{ref_ok}
 use Rattle.aw_store.specs.EquationView.{equation_of}
 use Rattle.aw_store.specs.Equations.{Body, Same, Is, Equation}
@@ -18,7 +16,7 @@ use Rattle.aw_msg.specs.MessageView.{kind_with, sort_or_zero, message_of, plain_
 use Rattle.aw_msg.specs.Messages.{MessageInRange}
 use Rattle.aw_msg.proofs.ValidMessages.{IsValidRef, IsValidBody, IsValidEquation, IsValidLoad, IsValidCall, IsValidKind, message_is_in_range}
 use Rattle.aw_react.specs.ValidNames.{refs_ok, body_ok, equation_ok, equations_ok, takes_as, call_ok}
-use Rattle.aw_site.specs.Sendable.{load_ok, may_send, all_sendable, is_short, short_refs, short_body, short_equation, short_equations, short_kind, all_short}
+use Rattle.aw_site.specs.Sendable.{load_ok, may_send, is_short, short_refs, short_body, short_equation, short_equations, short_kind, all_short}
 
 module _ (g : Grammar) where
   valid_ref : (r : Ref) → is_short r.node ≡ true → ref_ok g r ≡ true → IsValidRef g r

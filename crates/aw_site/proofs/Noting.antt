@@ -1,8 +1,7 @@
 -- What was asked for and who watches, after one more.
-use Rattle.std.proofs.Common.{◌≡◌, ℕ, ◌+◌, ◌<◌, ◌≤◌, length, take, get_or, append_assoc, subst, Bool, true, false, List, [], ◌∷◌, ◌++◌, nat_eq, refl, ap, sym, ◌∙◌, eq-eqb}
+use Rattle.std.proofs.Common.{◌≡◌, ℕ, ◌+◌, ◌<◌, length, take, get_or, append_assoc, subst, Bool, true, false, List, [], ◌∷◌, ◌++◌, nat_eq, refl, ap, sym, ◌∙◌, eq-eqb}
 use Rattle.std.specs.Prelude.{◌||◌, ◌&&◌}
 use Rattle.std.proofs.lemmas.Bool.{eqb-true}
-use Rattle.std.proofs.lemmas.List.{append-nil, take_all}
 use Rattle.aw_site.proofs.Steps.{take_here}
 use Rattle.aw_term.specs.Names.{Ref, ref_eq}
 use Rattle.aw_term.proofs.RefTests.{ref_eq-true, ref_eq-self}
@@ -10,7 +9,7 @@ use Rattle.aw_react.specs.InOrder.{has_ref}
 use Rattle.aw_react.specs.Sites.{Watch}
 use Rattle.aw_react.specs.Telling.{has_watch}
 use Rattle.aw_subs.specs.declared.subs.Subs.{Subs}
-use Rattle.aw_subs.specs.Entries.{has_bit, is_asked, watchers, watches}
+use Rattle.aw_subs.specs.Entries.{is_asked, watches}
 use Rattle.aw_site.specs.Holders.{ShowsAsked, ShowsWatchers}
 
 both_tests : (b c : Bool) → (b ≡ true → c ≡ true) → (c ≡ true → b ≡ true) → b ≡ c

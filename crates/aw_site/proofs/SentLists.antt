@@ -5,15 +5,12 @@ use Rattle.std.proofs.lemmas.List.{append-nil, map-append}
 use Rattle.std.proofs.lemmas.Nat.Bits.{bit_at-zero}
 use Rattle.aw_term.specs.Names.{Ref}
 use Rattle.aw_term.specs.Rules.{Grammar}
-use Rattle.aw_term.specs.Held.{Held}
-use Rattle.aw_joint.specs.Joint.{called_held}
 use Rattle.aw_store.specs.Equations.{Equation}
 use Rattle.aw_apply.specs.Made.{Call}
 use Rattle.aw_apply.specs.Messages.{Message}
-use Rattle.aw_react.specs.Asking.{all_inherited}
 use Rattle.aw_react.specs.Homes.{home}
 use Rattle.aw_react.specs.Sites.{Watch, Site}
-use Rattle.aw_react.specs.Telling.{has_watch, watchers_from, tell, tells, call_out, calls_out, calls_in}
+use Rattle.aw_react.specs.Telling.{has_watch, watchers_from, tell, tells, call_out, calls_out}
 use Rattle.aw_site.specs.Holders.{AreWatchers}
 
 -- one item further, where what a list makes is what its first makes before what the rest makes

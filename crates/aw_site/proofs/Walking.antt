@@ -1,5 +1,5 @@
 -- The walk of a load, one equation after the other.
-use Rattle.std.proofs.Common.{◌≡◌, ℕ, suc, ◌+◌, ◌-◌, ◌<◌, ◌≤◌, Bool, true, false, cond, List, [], ◌∷◌, ◌++◌, length, map, drop, get_or, reverse, Option, Some, None, refl, ap, sym, ◌∙◌, append_assoc, subst, arith}
+use Rattle.std.proofs.Common.{◌≡◌, ℕ, suc, ◌+◌, ◌-◌, ◌<◌, Bool, true, false, cond, List, [], ◌∷◌, ◌++◌, map, reverse, Option, Some, None, refl, ap, sym, ◌∙◌, append_assoc, subst, arith}
 use Rattle.std.specs.Prelude.{◌||◌, is_some, option_map}
 use Rattle.std.proofs.lemmas.List.{reverse-append, append-nil, map-append}
 use Rattle.std.proofs.Math.Bool.{or-false}

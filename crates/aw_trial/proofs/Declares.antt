@@ -1,12 +1,12 @@
 -- The declarations of the trial: nothing is wrong with them, and no value can come to depend on itself.
-use Rattle.std.proofs.Common.{◌≡◌, ℕ, suc, true, List, [], ◌∷◌, ◌++◌, map, Result, Ok, Err, Some, None, refl, ap, sym, ◌∙◌, subst}
+use Rattle.std.proofs.Common.{◌≡◌, ℕ, suc, List, [], ◌∷◌, ◌++◌, map, Result, Ok, Err, Some, None, refl, ap, sym, ◌∙◌, subst}
 use Rattle.std.specs.Prelude.{IfOk, Option}
 use Rattle.aw_grammar.specs.declared.raw.RawTerm.{RawTerm}
 use Rattle.aw_grammar.specs.declared.raw.RawTerm as raw
 use Rattle.aw_grammar.specs.declared.raw.RawRule.{RawRule}
 use Rattle.aw_grammar.specs.declared.raw.Parts.{Parts}
 use Rattle.aw_grammar.specs.declared.fault.DeclPlace.TheVariants as place
-use Rattle.aw_grammar.specs.Written.{Word, Apply, side_by_side, written_of, WrittenRule, rule_of_raw}
+use Rattle.aw_grammar.specs.Written.{Word, Apply, side_by_side, written_of, rule_of_raw}
 use Rattle.aw_grammar.specs.Declarations.{no_declarations}
 use Rattle.aw_grammar.specs.Build.{AllSpelled, Rule as Rule', roles_placed, cons_placed, sorts_placed, starts_placed, rules_placed, placed, all_placed, first_fault}
 use Rattle.aw_grammar.proofs.WrittenLemmas.{written_apply}
@@ -14,7 +14,7 @@ use Rattle.aw_iograph.specs.Dependence.{IO, HasNoCircle}
 use Rattle.aw_iograph.proofs.Relations.{plus_map, io_least}
 use Rattle.aw_tried.specs.Decided.{Pair, Holds}
 use Rattle.aw_tried.proofs.Deciding.{decided_closed, decided_none}
-use Rattle.aw_trial.specs.Specification.{apply_2, trial_rules, AreDeclared, trial_placed, trial_grammar}
+use Rattle.aw_trial.specs.Specification.{apply_2, AreDeclared, trial_placed, trial_grammar}
 
 pub one_applied : {E : Type 0} (n a b name : List ℕ) (parts : List RawTerm) (r : Result (List RawTerm) E) → name ≡ n → map written_of parts ≡ Word a ∷ Word b ∷ []
     → IfOk r (λ terms. terms ≡ raw.Apply name parts ∷ []) → IfOk r (λ terms. map written_of terms ≡ apply_2 n (Word a) (Word b) ∷ [])

@@ -1,5 +1,5 @@
 -- What is counted in the end.
-use Rattle.std.proofs.Common.{◌≡◌, ℕ, ◌+◌, ◌<◌, ◌≤◌, List, [], length, map, Some, None, Ok, Err, refl, ap, sym, ◌∙◌, subst, arith}
+use Rattle.std.proofs.Common.{◌≡◌, ℕ, ◌<◌, ◌≤◌, List, [], length, map, Some, None, Ok, Err, refl, ap, sym, ◌∙◌, subst}
 use Rattle.std.specs.Prelude.{Result, Option, IfOk, false}
 use Rattle.std.proofs.Math.Logic.{∥∥₁_elim}
 use Rattle.std.proofs.lemmas.List.{length-map}
@@ -15,7 +15,6 @@ use Rattle.aw_choice.specs.ChoiceView.{choice_of}
 use Rattle.aw_msg.specs.MessageView.{message_of}
 use Rattle.aw_out.specs.declared.error.PrintFault.{PrintFault}
 use Rattle.aw_out.specs.declared.error.PrintFault.TheVariants.{TooLarge, NoMemory}
-use Rattle.aw_out.specs.Report.{Bounded, printed, Prints}
 use Rattle.aw_react.specs.Worlds as V
 use Rattle.aw_react.specs.Bounds.{settled}
 use Rattle.aw_world.specs.declared.workspace.Workspace.{Ghosts}
@@ -28,7 +27,7 @@ use Rattle.aw_trial.specs.Turns.{turns}
 use Rattle.aw_trial.specs.Comes.{Does, plain_of, named_by}
 use Rattle.aw_trial.specs.Counts.{tally_from, config_of, counted, counted_after, trial_in}
 use Rattle.aw_trial.specs.Specification.{trial_grammar, trial_words}
-use Rattle.aw_trial.specs.Told.{LinesOf, CountsLines, Tells, most_bytes}
+use Rattle.aw_trial.specs.Told.{CountsLines, Tells, most_bytes}
 
 module _ {W : Type 0} (f : Ghosts W) (w : World W f) where
   configured : undivided (plain_of w) [] (map choice_of w.taken.items) ≡ None → ⊥

@@ -2,24 +2,22 @@
 use Rattle.std.proofs.Common.{◌≡◌, ℕ, zero, suc, Bool, cond, true, false, List, [], ◌∷◌, ◌++◌, length, map, Some, None, refl, ap, sym, ◌∙◌, subst, inl, inr, ◌+◌, arith}
 use Rattle.std.specs.Prelude.{slice_get, Option, is_some, nat_eq, nat_le, ◌⊎◌}
 use Rattle.std.proofs.lemmas.Bool.{and_from}
-use Rattle.aw_list.proofs.Members.{never}
-use Rattle.aw_term.specs.Trees.{Never}
 use Rattle.aw_term.specs.Names.{Node}
-use Rattle.aw_term.specs.Rules.{Grammar, Rule, get, sort_of}
+use Rattle.aw_term.specs.Rules.{Grammar, get, sort_of}
 use Rattle.aw_term.specs.Artifacts.{Words}
-use Rattle.aw_term.specs.Choices.{Choice, Start, Develop, undivided, or_same}
+use Rattle.aw_term.specs.Choices.{Start, Develop, undivided, or_same}
 use Rattle.aw_term.specs.Runs.{artifacts}
 use Rattle.aw_term.specs.WellFormed.{Each}
 use Rattle.aw_choice.specs.Events.{Event, Chooses, Delivers, Settles}
-use Rattle.aw_base.specs.ChoiceFits.{args_ok, choice_ok}
+use Rattle.aw_base.specs.ChoiceFits.{args_ok}
 use Rattle.aw_base.specs.NodeNames.{is_start}
 use Rattle.aw_joint.specs.Laws.{IsAccepted}
 use Rattle.aw_kept.specs.Records.{rules_of}
-use Rattle.aw_apply.specs.Messages.{Message, Received, Repeat, New}
+use Rattle.aw_apply.specs.Messages.{Received, Repeat, New}
 use Rattle.aw_react.specs.Sites.{Reaction}
 use Rattle.aw_react.specs.Reacting.{receive}
 use Rattle.aw_react.specs.Worlds as V
-use Rattle.aw_react.specs.Worlds.{World, MayCome, empty_world, world_after, run, undelivered, deliver, deliver_on, received_at, settle, gather, site_at}
+use Rattle.aw_react.specs.Worlds.{World, MayCome, empty_world, world_after, undelivered, deliver, deliver_on, received_at, settle, gather, site_at}
 use Rattle.aw_react.specs.Bounds.{settled}
 use Rattle.aw_react.specs.Outputs.{MayStand, after_event, after_events, all_moves, all_lines}
 use Rattle.aw_world.specs.Opened.{open_nodes}
@@ -27,11 +25,11 @@ use Rattle.aw_merge.proofs.Headlining.{events_run, events_may, headline_law}
 use Rattle.aw_merge.proofs.Settling.{run_both}
 use Rattle.aw_merge.proofs.WorldLaws.{knowledge_law, repeats_law, quiet_law, bound_law, settle_law, invariant_law}
 use Rattle.aw_trial.proofs.Steps.{rules_declared}
-use Rattle.aw_trial.specs.Counts.{start_from, config_of}
-use Rattle.aw_trial.specs.Laws.{SettlesFresh, after_turns, schedule_of, IsReplayed, AreReplayed}
+use Rattle.aw_trial.specs.Counts.{config_of}
+use Rattle.aw_trial.specs.Laws.{SettlesFresh, after_turns, schedule_of, AreReplayed}
 use Rattle.aw_trial.specs.Draws.{next_below, drew}
 use Rattle.aw_trial.specs.declared.tally.Tally.{Tally}
-use Rattle.aw_trial.specs.Turns.{State, start_case, make_choice, argument_for, drew_argument, params_of, develop, rules_for, among_rules, at_node, among_nodes, choose_some, among_messages, deliver_some, turn_on, turn, turns}
+use Rattle.aw_trial.specs.Turns.{State, start_case, argument_for, drew_argument, params_of, develop, rules_for, among_rules, among_nodes, choose_some, among_messages, deliver_some, turn_on}
 
 -- ---- lists of events
 after_more : (g : Grammar) (v : World) (es : List Event) (e : Event) → after_events g v (es ++ e ∷ []) ≡ after_event g (after_events g v es) e

@@ -7,7 +7,7 @@ use Rattle.aw_grammar.specs.declared.raw.RawSort.{RawSort}
 use Rattle.aw_grammar.specs.declared.raw.Parts.{Parts}
 use Rattle.aw_grammar.specs.declared.fault.DeclPlace.{DeclPlace}
 use Rattle.aw_grammar.specs.declared.fault.DeclPlace.TheVariants as place
-use Rattle.aw_grammar.specs.Written.{Written, Word, Apply, Empty, Then, WrittenChild, WrittenRule, rule_of_raw}
+use Rattle.aw_grammar.specs.Written.{Written, Word, Apply, Empty, Then, WrittenRule, rule_of_raw}
 use Rattle.aw_grammar.specs.Declarations.{Declarations, no_declarations, grammar_in, words_in}
 use Rattle.aw_grammar.specs.Build.{Declaration, Rule, roles_placed, cons_placed, sorts_placed, starts_placed, placed, declare_all}
 

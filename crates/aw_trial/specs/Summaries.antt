@@ -1,5 +1,5 @@
 -- The text of a summary.
-use Rattle.std.specs.Prelude.{ℕ, List, [], ◌∷◌, ◌++◌, codes}
+use Rattle.std.specs.Prelude.{ℕ, List, ◌++◌, codes}
 use Rattle.std.specs.Fmt.{decimal}
 use Rattle.aw_trial.specs.declared.summary.Summary.{Summary}
 

@@ -1,7 +1,7 @@
 -- The turns of a trial: each starts a case, makes a choice or delivers a message, as numbers are drawn.
 use Rattle.std.specs.Prelude.{ℕ, zero, suc, ◌+◌, Bool, true, false, List, [], ◌∷◌, ◌++◌, length, Option, Some, None, slice_get, nat_eq, nat_le, if◌then◌else◌}
 use Rattle.aw_term.specs.Trees.{Num, Made, Nil}
-use Rattle.aw_term.specs.Names.{Node, Ref}
+use Rattle.aw_term.specs.Names.{Node}
 use Rattle.aw_term.specs.Rules.{Ground, Rule, Grammar, get, sort_of}
 use Rattle.aw_term.specs.Choices.{Choice, Start, Develop}
 use Rattle.aw_choice.specs.Events as E

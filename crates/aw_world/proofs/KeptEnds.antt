@@ -1,6 +1,6 @@
 -- What is kept of the ends of chases, beside each workspace.
-use Rattle.std.proofs.Common.{◌≡◌, ℕ, zero, suc, ◌<◌, arith, List, [], ◌∷◌, ◌++◌, length, get_or, ap, sym, refl, subst, Option, Some, slice_get}
-use Rattle.std.specs.Prelude.{Result, Ok, Err, None, IsSome, slice_set, option_and_then}
+use Rattle.std.proofs.Common.{◌≡◌, ℕ, zero, suc, ◌<◌, arith, List, [], ◌∷◌, ◌++◌, length, sym, refl, subst, Option, Some, slice_get}
+use Rattle.std.specs.Prelude.{Result, Err, None, IsSome, slice_set, option_and_then}
 use Rattle.std.proofs.lemmas.Option.{same_Some, slice_get_within}
 use Rattle.aw_accept.specs.Acyclic.{Pairs}
 use Rattle.aw_out.specs.declared.error.PrintFault.{PrintFault}

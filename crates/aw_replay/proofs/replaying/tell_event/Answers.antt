@@ -1,4 +1,4 @@
-use Rattle.std.proofs.Common.{◌≡◌, ℕ, take, ap, sym, ◌∙◌, subst}
+use Rattle.std.proofs.Common.{ℕ, take, ap, sym, ◌∙◌, subst}
 use Rattle.aw_grammar.specs.GrammarOf.{grammar_of}
 use Rattle.aw_react.specs.Worlds as V
 use Rattle.aw_sched.specs.Answers.{event_seen}

@@ -1,11 +1,9 @@
-use Rattle.std.proofs.Common.{rules, ◌≡◌, ℕ, ◌+◌, List, ◌++◌, map, take, drop, ap, sym, ◌∙◌, refl, subst, Ok, Err}
-use Rattle.std.specs.declared.result.Result.{Result}
-use Rattle.std.proofs.lemmas.List.{drop_all, take_all}
+use Rattle.std.proofs.Common.{rules, ℕ, ◌+◌, map, take, drop, ap, sym, ◌∙◌, refl, subst, Ok}
+use Rattle.std.proofs.lemmas.List.{drop_all}
 use Rattle.aw_accept.specs.declared.accepted.Accepted.{Accepted}
 use Rattle.aw_grammar.specs.GrammarOf.{grammar_of, words_of}
-use Rattle.aw_out.specs.declared.error.PrintFault.{PrintFault}
-use Rattle.aw_out.specs.Report.{Bounded, Prints}
-use Rattle.aw_out.proofs.Printing.{Prints-second, Prints-stopped, Prints-nothing}
+use Rattle.aw_out.specs.Report.{Prints}
+use Rattle.aw_out.proofs.Printing.{Prints-second, Prints-nothing}
 use Rattle.aw_react.specs.Worlds as V
 use Rattle.aw_sched.specs.Answers.{event_seen, MayCome}
 use Rattle.aw_world.specs.Shown.{Shows}

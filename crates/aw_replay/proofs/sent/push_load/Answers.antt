@@ -1,4 +1,4 @@
-use Rattle.std.proofs.Common.{codes, flat_map, ◌++◌, map}
+use Rattle.std.proofs.Common.{codes, map}
 use Rattle.aw_grammar.specs.GrammarOf.{words_of}
 use Rattle.aw_store.specs.EquationView.{equation_of}
 use Rattle.aw_react.specs.Transcripts.{equation_text, load_text}

@@ -1,4 +1,4 @@
-use Rattle.std.proofs.Common.{◌≡◌, ℕ, ◌++◌, take, ap, ◌∙◌}
+use Rattle.std.proofs.Common.{◌++◌, ap, ◌∙◌}
 use Rattle.aw_choice.specs.Events as E
 use Rattle.aw_react.specs.Outputs.{event_lines}
 use Rattle.aw_react.specs.Worlds as V

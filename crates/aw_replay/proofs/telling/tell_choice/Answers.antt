@@ -1,4 +1,4 @@
-use Rattle.std.proofs.Common.{◌≡◌, ◌++◌, length, map, ap, sym, ◌∙◌}
+use Rattle.std.proofs.Common.{◌++◌, length, map, ap, sym, ◌∙◌}
 use Rattle.std.proofs.lemmas.Result.{on_ok_weaker}
 use Rattle.std.proofs.lemmas.List.{length-map}
 use Rattle.aw_accept.specs.declared.accepted.Accepted.{Accepted}
@@ -8,7 +8,6 @@ use Rattle.aw_react.specs.Worlds as V
 use Rattle.aw_react.specs.Transcripts.{move_lines}
 use Rattle.aw_msg.specs.MessageView.{message_of}
 use Rattle.aw_world.specs.MoveView.{reply_of}
-use Rattle.aw_world.specs.Shown.{Shows}
 use Rattle.aw_replay.proofs.LineParts.{told_choice}
 use Rattle.aw_replay.proofs.telling.tell_choice.Goals as goal
 

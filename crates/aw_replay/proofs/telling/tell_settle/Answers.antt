@@ -1,6 +1,5 @@
-use Rattle.std.proofs.Common.{◌≡◌, ℕ, suc, ◌-◌, ◌<◌, ◌≤◌, ◌++◌, ap, sym, ◌∙◌, arith, subst, map, append_assoc, inl, inr, codes}
+use Rattle.std.proofs.Common.{◌≡◌, suc, ◌-◌, ◌<◌, ◌++◌, ap, sym, ◌∙◌, arith, subst, map, append_assoc, inl, inr, codes}
 use Rattle.std.specs.Fmt.{decimal}
-use Rattle.std.specs.Prelude.{◌⊎◌, Some, None}
 use Rattle.std.proofs.lemmas.Result.{on_ok_weaker}
 use Rattle.aw_choice.specs.ChoiceView.{choice_of}
 use Rattle.aw_grammar.specs.GrammarOf.{grammar_of, words_of}

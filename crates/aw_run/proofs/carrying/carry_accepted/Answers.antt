@@ -1,4 +1,4 @@
-use Rattle.std.proofs.Common.{◌≡◌, ◌∙◌, sym, ap, refl, inl, inr, rules}
+use Rattle.std.proofs.Common.{inl, rules}
 use Rattle.aw_run.specs.declared.reply.Stop.TheVariants as stop
 use Rattle.aw_run.proofs.ServedOutputs.{err-passed}
 use Rattle.aw_run.proofs.CarriedOutputs.{breaks-off, carried-told, carry-rose, line-lost, name-lost, unheard-told}

@@ -1,7 +1,6 @@
-use Rattle.std.proofs.Common.{◌≡◌, inr, rules, refl}
+use Rattle.std.proofs.Common.{inr}
 use Rattle.std.proofs.lemmas.Result.{IfOk-weaker, IfErr-weaker}
 use Rattle.aw_run.specs.Devices.{wired}
-use Rattle.aw_run.specs.Statuses.{status_of_stop}
 use Rattle.aw_run.proofs.FrontOutputs.{carries-opened, carries-refused}
 use Rattle.aw_run.proofs.carrying.carry_input.Goals as goal
 

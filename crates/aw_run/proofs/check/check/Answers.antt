@@ -1,7 +1,6 @@
 use Rattle.std.proofs.Common.{refl}
 use Rattle.aw_spec.specs.Views.{spec_seen}
-use Rattle.aw_run.specs.Output.{TellsSpecification, WritesChecked}
-use Rattle.aw_run.specs.Replies.{Replies}
+use Rattle.aw_run.specs.Output.{TellsSpecification}
 use Rattle.aw_run.proofs.Checking.{positions, declared_too}
 use Rattle.aw_run.proofs.Verdicts.{accepts-grammar, refuses-grammar, reply-map}
 use Rattle.aw_run.proofs.check.check.Goals as goal

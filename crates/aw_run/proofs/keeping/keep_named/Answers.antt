@@ -1,4 +1,4 @@
-use Rattle.std.proofs.Common.{◌≡◌, ◌∙◌, sym, ap, refl, inl, inr, Ok, Some, None}
+use Rattle.std.proofs.Common.{sym, inr, Some}
 use Rattle.std.proofs.lemmas.Result.{IfOk-weaker, IfErr-weaker}
 use Rattle.aw_run.specs.Devices.{around}
 use Rattle.aw_run.specs.Keeping.{KeepsRole}

@@ -1,4 +1,4 @@
-use Rattle.std.proofs.Common.{◌≡◌, arith, ◌∙◌, sym, ap, refl, inr, rules}
+use Rattle.std.proofs.Common.{◌∙◌, sym, ap, rules}
 use Rattle.aw_run.specs.Devices.{around}
 use Rattle.aw_run.specs.Serving.{session_lines}
 use Rattle.aw_run.specs.declared.reply.Stop.TheVariants as stop

@@ -1,4 +1,4 @@
-use Rattle.std.proofs.Common.{◌≡◌, ◌∙◌, sym, ap, subst, Some, List, []}
+use Rattle.std.proofs.Common.{◌≡◌, ◌∙◌, sym, ap, subst, Some, []}
 use Rattle.aw_run.specs.Words.{command_of}
 use Rattle.aw_run.specs.declared.words.Command.TheVariants.{Reads, Tries, Serves, Keeps, Carries}
 use Rattle.aw_run.proofs.Endings.{replies-read, replies-node, replies-kept, replies-carried, stops-kept, stops-carried, for-any}

@@ -1,4 +1,4 @@
-use Rattle.std.proofs.Common.{arith, ◌∙◌, ap}
+use Rattle.std.proofs.Common.{◌∙◌, ap}
 use Rattle.aw_run.specs.Serving.{session_lines}
 use Rattle.aw_run.proofs.ServedOutputs.{serves-role}
 use Rattle.aw_run.proofs.serving.serve_role.Goals as goal

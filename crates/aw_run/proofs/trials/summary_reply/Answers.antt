@@ -1,4 +1,4 @@
-use Rattle.std.proofs.Common.{◌∙◌, ap, Err, refl}
+use Rattle.std.proofs.Common.{◌∙◌, ap, Err}
 use Rattle.aw_run.proofs.TrialOutputs.{told-trial, past-trial}
 use Rattle.aw_run.proofs.trials.summary_reply.Goals as goal
 

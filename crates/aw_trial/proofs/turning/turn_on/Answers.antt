@@ -1,4 +1,4 @@
-use Rattle.std.proofs.Common.{rules, ◌≡◌, nat_eq, true, false, eq-eqb}
+use Rattle.std.proofs.Common.{rules, ◌≡◌, nat_eq, true, false}
 use Rattle.std.specs.Prelude.{nat_le}
 use Rattle.std.proofs.lemmas.Result.{on_ok_weaker}
 use Rattle.aw_trial.specs.Comes.{plain_of}

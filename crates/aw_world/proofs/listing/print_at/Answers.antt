@@ -1,4 +1,4 @@
-use Rattle.std.proofs.Common.{◌≡◌, ◌<◌, false, arith, length, slice_get, Some, refl}
+use Rattle.std.proofs.Common.{◌<◌, false, arith, length, refl}
 use Rattle.std.proofs.lemmas.Option.{slice_get_read}
 use Rattle.aw_react.specs.Sites.{empty_site}
 use Rattle.aw_term.specs.Rules.{get}
