@@ -1,5 +1,5 @@
 //! Sessions one after the other.
-ghost use Rattle.std.specs.Prelude.{◌≡◌, ◌⊎◌, ◌<◌, ◌≤◌, [], ◌∷◌, ◌++◌, length, vec_len, vec_capacity, IfOk, IfErr, OnOk};
+ghost use Rattle.std.specs.Prelude.{◌≡◌, ◌⊎◌, ◌<◌, ◌≤◌, [], ◌∷◌, ◌++◌, length, vec_len, vec_capacity, IfOk, IfErr, OnOk, IsErrOf};
 ghost use Rattle.aw_session.specs.Sessions.{IsServing, NoneComes, StopsServing, ServesNext, StopsNext};
 
 use crate::handles::Handles;
@@ -38,6 +38,7 @@ fn serve_next<W: Wire, H: Handles>(
     ensures ready { OnOk result (H.ready node.new) }
     ensures ok { IfOk result (ServesNext H.answers W.content W.faults W.failed_openings role node.old node.new wire.old wire.new log.old.items log.new.items) }
     ensures err { IfErr result (StopsNext H.answers H.breaks W.content W.failed_openings role node.old node.new wire.old wire.new) }
+    ensures openings_kept { (IsErrOf result Stopped.NetFault → ⊥) → W.failed_openings wire.new ≡ W.failed_openings wire.old }
 {
     if let Err(fault) = log.reserve(1) {
         return Err(Stopped::Node(H::Fault::from(fault)));
@@ -70,6 +71,8 @@ pub fn serve_sessions<W: Wire, H: Handles>(
     ensures most { IfOk result (λ log. length log ≤ sessions) }
     ensures all { IfOk result (λ log. (length log ≡ sessions) ⊎ NoneComes (W.content wire.new)) }
     ensures err { IfErr result (StopsServing H.answers H.breaks W.content W.failed_openings role node.old node.new wire.old wire.new) }
+    // A session that could not be opened is told; after any other answer each was opened.
+    ensures openings_kept { (IsErrOf result Stopped.NetFault → ⊥) → W.failed_openings wire.new ≡ W.failed_openings wire.old }
 {
     let mut log = Vec::new(alloc);
     while log.len() < sessions as usize {
