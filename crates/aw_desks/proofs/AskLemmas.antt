@@ -1,5 +1,5 @@
 -- Frames that are asked of the desk of a role, one after the other.
-use Rattle.std.proofs.Common.{◌≡◌, ℕ, zero, suc, ◌≤◌, List, [], ◌∷◌, ◌++◌, length, Ok, Option, None, Some, refl, sym, ap, subst, ◌∙◌, append-nil, arith}
+use Rattle.std.proofs.Common.{◌≡◌, ℕ, zero, suc, ◌≤◌, List, [], ◌∷◌, ◌++◌, length, Ok, Option, None, Some, inl, refl, sym, ap, subst, ◌∙◌, append-nil, arith}
 use Rattle.std.specs.Prelude.{slice_get, slice_set}
 use Rattle.aw_msg.specs.Frames.{Frame, frame}
 use Rattle.aw_msg.specs.Pieces.{Yields, HasEnded, IsSound}
@@ -7,7 +7,7 @@ use Rattle.aw_msg.specs.Streams.{Stream}
 use Rattle.aw_msg.proofs.Extensions.{yields_one}
 use Rattle.aw_session.specs.Frames.{joined}
 use Rattle.aw_session.proofs.Stretches.{answered-then, joined-append}
-use Rattle.aw_desks.specs.Asking.{AskedOf, AreAsked, IsAsked, IsStretch, IsAnswered}
+use Rattle.aw_desks.specs.Asking.{AskedOf, AreAsked, IsAsked, IsStretch, IsStarved, IsAnswered}
 
 -- ---- places of a list
 
@@ -99,6 +99,10 @@ module _
       asked = asked-then ds es us old.frames (f ∷ []) old.replies one.replies old.asked one.asked;
       text_is = one.added ∙ ap (λ (t : List ℕ). t ++ joined one.replies) old.text_is ∙ sym (joined-append old.replies one.replies);
     }
+
+    -- memory ran out before any was asked
+    pub starved-none : (ds : List D) (bytes : List ℕ) → IsStarved answers role ds ds bytes
+    starved-none ds bytes = record { frames = []; replies = []; rest = bytes; between = ds; yields = refl; asked = asked-none ds; last = inl refl }
 
     -- no whole one is left
     pub stretch-ends : (ds es us : List D) (from mid to : Stream) (text more : List ℕ) → IsStretch answers role ds es from mid text → to.bytes ≡ mid.bytes → (IsSound from → HasEnded to.failed to.bytes) → us ≡ es → more ≡ text →

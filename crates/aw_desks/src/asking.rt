@@ -1,8 +1,8 @@
 //! Asking the frames that are there.
-ghost use Rattle.std.specs.Prelude.{IfOk, OnOk};
+ghost use Rattle.std.specs.Prelude.{IfOk, OnOk, OnErr};
 ghost use Rattle.aw_msg.specs.Frames.{FrameInRange};
 ghost use Rattle.aw_msg.specs.FrameView.{frame_of};
-ghost use Rattle.aw_desks.specs.Asking.{IsAsked, AsksNext, IsAnswered};
+ghost use Rattle.aw_desks.specs.Asking.{IsAsked, OthersStay, AsksNext, AsksInVain, IsAnswered, IsStarved};
 
 use crate::desk::Desk;
 use aw_list::Text;
@@ -17,7 +17,8 @@ fn ask<D: Desk>(
     replies: &mut Text,
 ) -> Result<(), AllocError>
     requires { FrameInRange (frame_of frame.now) }
-    ensures { OnOk result (IsAsked D.answers role desks.old.items desks.new.items (frame_of frame.now) replies.old replies.new) }
+    ensures ok { OnOk result (IsAsked D.answers role desks.old.items desks.new.items (frame_of frame.now) replies.old replies.new) }
+    ensures err { OnErr result (OthersStay role desks.old.items desks.new.items) }
 {
     if role < desks.len() {
         let reply = desks[role].reply_to(frame)?;
@@ -33,7 +34,8 @@ fn ask_next<D: Desk>(
     role: usize,
     replies: &mut Text,
 ) -> Result<bool, AllocError>
-    ensures { IfOk result (AsksNext D.answers role desks.old.items desks.new.items reader.old reader.new replies.old replies.new) }
+    ensures ok { IfOk result (AsksNext D.answers role desks.old.items desks.new.items reader.old reader.new replies.old replies.new) }
+    ensures err { OnErr result (AsksInVain role desks.old.items desks.new.items reader.old.bytes) }
 {
     match reader.next()? {
         Next::Frame(frame) => {
@@ -51,7 +53,8 @@ pub(crate) fn ask_all<D: Desk>(
     desks: &mut Vec<D>,
     role: usize,
 ) -> Result<Text, AllocError>
-    ensures { IfOk result (IsAnswered D.answers role desks.old.items desks.new.items reader.old reader.new) }
+    ensures ok { IfOk result (IsAnswered D.answers role desks.old.items desks.new.items reader.old reader.new) }
+    ensures err { OnErr result (IsStarved D.answers role desks.old.items desks.new.items reader.old.bytes) }
 {
     let mut replies = Text::new(alloc);
     while ask_next(reader, desks, role, &mut replies)? {}

@@ -1,10 +1,11 @@
 //! A wire over desks.
-ghost use Rattle.std.specs.Prelude.{◌≡◌, ◌≢◌, ◌≤◌, ◌<◌, ◌↔◌, List, Some, true, is_some, length, OnOk, OnErr};
+ghost use Rattle.std.specs.Prelude.{◌≡◌, ◌≢◌, ◌≤◌, ◌<◌, ◌↔◌, ◌++◌, List, Some, true, is_some, length, OnOk, OnErr};
 ghost use Rattle.aw_out.specs.Causes.{Rose};
 ghost use Rattle.aw_out.specs.Edge.{FitsBuffer, FitsBytes, given};
 ghost use Rattle.aw_out.specs.Reads.{answer_of};
 ghost use Rattle.aw_out.specs.Wires.{Arrives, Dials, ReadsInSession, WritesInSession};
-ghost use Rattle.aw_desks.specs.Calls.{no_calls, passed_in, left_in, content_of, closed, opened, changed, has_read, has_failed, written_in, reader_after};
+ghost use Rattle.aw_desks.specs.Asking.{IsStarved};
+ghost use Rattle.aw_desks.specs.Calls.{no_calls, passed_in, role_in, left_in, content_of, closed, opened, changed, has_read, has_failed, written_in, reader_after};
 ghost use Rattle.aw_desks.specs.Honest.{WasHonest, IsWritten};
 
 use crate::asking::ask_all;
@@ -80,6 +81,7 @@ impl<D: Desk> DeskWire<D> {
         requires open { self.old.calls.is_open ≡ true }
         ensures ok { OnOk result (IsWritten D.answers self.old.desks.items self.new.desks.items self.old.reader self.new.reader self.old.calls self.new.calls bytes.now) }
         ensures err { OnErr result (self.new.calls ≡ self.old.calls) }
+        ensures starves { OnErr result (IsStarved D.answers (role_in self.old.calls.last) self.old.desks.items self.new.desks.items (self.old.reader.bytes ++ bytes.now)) }
         ensures some { is_some self.old.calls.last ≡ true }
         ensures starved { self.new.starved ≡ self.old.starved }
         ensures unopened { self.new.unopened ≡ self.old.unopened }
@@ -169,6 +171,7 @@ impl<D: Desk> Wire for DeskWire<D> {
         ensures all { result ≢ Put.Failed → result ≡ Put.Took (length b.now) }
         ensures asked { result ≢ Put.Failed → IsWritten D.answers self.old.desks.items self.new.desks.items self.old.reader self.new.reader self.old.calls self.new.calls b.now }
         ensures failed { result ≡ Put.Failed → self.new.calls ≡ changed has_failed self.old.calls }
+        ensures starves { result ≡ Put.Failed → IsStarved D.answers (role_in self.old.calls.last) self.old.desks.items self.new.desks.items (self.old.reader.bytes ++ b.now) }
         ensures honest { (ds : List D) → WasHonest D.answers ds self.old.desks.items self.old.reader self.old.calls → result ≢ Put.Failed →
             WasHonest D.answers ds self.new.desks.items self.new.reader self.new.calls }
         ensures open { self.new.calls.is_open ≡ true }
