@@ -35,11 +35,11 @@ module _ {D : Type 0} (d : Ghosts D) where
   written : (r : Result Unit AppendFault) (e : NodeEvent) (j k : Kept) (old new : D) → Called r e j k old new → Writes d (event_of e) (events_seen j.events) old new
   written r e j k old new h = record { moments = h.moments; tells_same = h.tells_same; never_falls = h.never_falls }
 
-  within : (u : Unit {0}) (e : NodeEvent) (j k : Kept) (old new : D) → Called (Ok u) e j k old new → end_after j (event_of e) ≤ j.limit
-  within u e j k old new h = go (ltb j.limit (end_after j (event_of e))) refl
+  within : (r : Result Unit AppendFault) (e : NodeEvent) (j k : Kept) (old new : D) → (IsErrOf r Full → ⊥) → Called r e j k old new → end_after j (event_of e) ≤ j.limit
+  within r e j k old new other h = go (ltb j.limit (end_after j (event_of e))) refl
     where
       go : (b : Bool) → ltb j.limit (end_after j (event_of e)) ≡ b → end_after j (event_of e) ≤ j.limit
-      go true is = absurd (cc (h.full_always (ltb-true j.limit (end_after j (event_of e)) is)))
+      go true is = absurd (other (h.full_always (ltb-true j.limit (end_after j (event_of e)) is)))
       go false is = ltb-false j.limit (end_after j (event_of e)) is
 
   pub appends-one : (r : Result Unit AppendFault) (e : NodeEvent) (event : Option Event) (j k : Kept) (old new : D) → Some (event_of e) ≡ event → Called r e j k old new → OnOk r (Appends d event j k old new)
@@ -49,14 +49,14 @@ module _ {D : Type 0} (d : Ghosts D) where
     same_role = ap (λ (x : Kept). x.role) h.acknowledged;
     same_text = ap (λ (x : Kept). x.text) h.acknowledged;
     same_limit = ap (λ (x : Kept). x.limit) h.acknowledged;
-    within = within u e j k old new h;
+    within = within (Ok u) e j k old new (λ is. cc is) h;
     durable = λ told c left. h.durable told c left ∙ (ap (λ (x : Kept). events_seen x.events) h.acknowledged ∙ events_push j.events e);
   })
   appends-one (Err fault) e event j k old new is h = tt
 
   pub fails-one : (r : Result Unit AppendFault) (e : NodeEvent) (event : Option Event) (j k : Kept) (old new : D) → Some (event_of e) ≡ event → Called r e j k old new → IfErr r (Fails d event j old new)
   fails-one (Ok u) e event j k old new is h = tt
-  fails-one (Err DiskFault) e event j k old new is h = (inr (event_of e, sym is, written (Err DiskFault) e j k old new h), h.disk_fault refl)
+  fails-one (Err DiskFault) e event j k old new is h = (inr (event_of e, sym is, written (Err DiskFault) e j k old new h, within (Err DiskFault) e j k old new (λ full. cc full) h), h.disk_fault refl)
   fails-one (Err Full) e event j k old new is h = (inl (h.full refl).1, (event_of e, sym is, (h.full refl).0))
   fails-one (Err NoMemory) e event j k old new is h = (inl (h.no_memory refl), tt)
 
@@ -70,7 +70,7 @@ module _ {D : Type 0} (d : Ghosts D) where
   -- there was no memory for the reply
   pub fails-behind : (event : Option Event) (j k : Kept) (old new : D) → Appends d event j k old new → Fails d event j old new NoMemory
   fails-behind None j k old new p = (inl p.1, tt)
-  fails-behind (Some e) j k old new p = (inr (e, refl, p.writes), tt)
+  fails-behind (Some e) j k old new p = (inr (e, refl, p.writes, p.within), tt)
 
   -- nor for the answer
   pub fails-before : (r : Rules) (f : Frame) (shows : Site → Type 0) (j : Kept) (old : D) → FailsAsSeen d r f shows j old old NoMemory

@@ -107,6 +107,7 @@ module _ {W D : Type 0} (w : wires.Ghosts W) (d : disks.Ghosts D) (r : Rules) (r
             after = h.0;
             served = h.1;
             made = h.2.made;
+            within = h.2.within;
             left = λ told. left-standing d (begun_at r s role text events old) reads counts shows j new h.0 h.2 told;
           }
 

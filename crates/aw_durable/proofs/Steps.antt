@@ -103,7 +103,7 @@ module _ {D : Type 0} (d : Ghosts D) (o : Origin D) where
       }
 
       -- what is left where nothing more was written, or an event
-      images-of : (shows : Site → Type 0) (j : Kept) (old new : D) (l : KeptSite) (event : Option Event) → Stands d o shows j old l → Tries d event (events_seen j.events) old new → IsTrue (d.tells o.disk) → (c : List ℕ) → d.may_leave new c → IsOneOf l.events event c
+      images-of : (shows : Site → Type 0) (j : Kept) (old new : D) (l : KeptSite) (event : Option Event) → Stands d o shows j old l → Tries d event j old new → IsTrue (d.tells o.disk) → (c : List ℕ) → d.may_leave new c → IsOneOf l.events event c
       images-of shows j old new l event st (inl same) told c left = inl (st.durable told c (subst (λ (x : D). d.may_leave x c) same left))
       images-of shows j old new l event st (inr h) told c left =
           let run = h.2.moments (told-now shows j old l st told) in
@@ -113,7 +113,7 @@ module _ {D : Type 0} (d : Ghosts D) (o : Origin D) where
           one-of (inl before) = inl (before ∙ st.same)
           one-of (inr after) = inr (after ∙ ap (λ (es : List Event). es ++ h.0 ∷ []) st.same)
 
-      moments-of : (shows : Site → Type 0) (j : Kept) (old new : D) (l : KeptSite) (event : Option Event) → Stands d o shows j old l → Tries d event (events_seen j.events) old new → IsTrue (d.tells o.disk) →
+      moments-of : (shows : Site → Type 0) (j : Kept) (old new : D) (l : KeptSite) (event : Option Event) → Stands d o shows j old l → Tries d event j old new → IsTrue (d.tells o.disk) →
           LeavesOnly d.moment d.left_since o.disk new (IsOldOrBetween (d.may_leave o.disk) o.first (with_event l.events event))
       moments-of shows j old new l event st (inl same) told =
           subst (λ (x : D). LeavesOnly d.moment d.left_since o.disk x (IsOldOrBetween (d.may_leave o.disk) o.first (with_event l.events event))) (sym same)
@@ -121,11 +121,11 @@ module _ {D : Type 0} (d : Ghosts D) (o : Origin D) where
       moments-of shows j old new l event st (inr h) told =
           subst (λ (x : Option Event). LeavesOnly d.moment d.left_since o.disk new (IsOldOrBetween (d.may_leave o.disk) o.first (with_event l.events x))) (sym h.1) (moments-more shows j old new l h.0 st h.2 told)
 
-      tells-of : (shows : Site → Type 0) (j : Kept) (old new : D) (l : KeptSite) (event : Option Event) → Stands d o shows j old l → Tries d event (events_seen j.events) old new → d.tells new ≡ d.tells o.disk
+      tells-of : (shows : Site → Type 0) (j : Kept) (old new : D) (l : KeptSite) (event : Option Event) → Stands d o shows j old l → Tries d event j old new → d.tells new ≡ d.tells o.disk
       tells-of shows j old new l event st (inl same) = ap d.tells same ∙ st.tells_same
       tells-of shows j old new l event st (inr h) = h.2.tells_same ∙ st.tells_same
 
-      faults-of : (shows : Site → Type 0) (j : Kept) (old new : D) (l : KeptSite) (event : Option Event) → Stands d o shows j old l → Tries d event (events_seen j.events) old new → d.faults o.disk ≤ d.faults new
+      faults-of : (shows : Site → Type 0) (j : Kept) (old new : D) (l : KeptSite) (event : Option Event) → Stands d o shows j old l → Tries d event j old new → d.faults o.disk ≤ d.faults new
       faults-of shows j old new l event st (inl same) = subst (λ (x : D). d.faults o.disk ≤ d.faults x) (sym same) st.never_falls
       faults-of shows j old new l event st (inr h) = omega (arith, h.2.never_falls, st.never_falls)
 
@@ -139,6 +139,21 @@ module _ {D : Type 0} (d : Ghosts D) (o : Origin D) where
       full-of shows j old new l event DiskFault st h e = absurd (cc e)
       full-of shows j old new l event Full st h e = (h.0, h.1, omega (arith, h.2, ends-at shows j old l h.0 st, st.same_limit))
       full-of shows j old new l event NoMemory st h e = absurd (cc e)
+
+      -- what is left is within the limit
+      within-of : (shows : Site → Type 0) (j : Kept) (old new : D) (l : KeptSite) (event : Option Event) → Stands d o shows j old l → Tries d event j old new → IsTrue (d.tells o.disk) → (c : List ℕ) → d.may_leave new c →
+          IsWithin o.role o.text o.limit o.first (events_of c)
+      within-of shows j old new l event st (inl same) told c left =
+          subst (IsWithin o.role o.text o.limit o.first) (sym (st.durable told c (subst (λ (x : D). d.may_leave x c) same left))) st.within
+      within-of shows j old new l event st (inr h) told c left =
+          let run = h.2.moments (told-now shows j old l st told) in
+          one-of (run.each c (counts new (d.moment old) c run.later left))
+        where
+          one-of : IsBeforeOrAfter (events_seen j.events) h.0 c → IsWithin o.role o.text o.limit o.first (events_of c)
+          one-of (inl before) = subst (IsWithin o.role o.text o.limit o.first) (sym (before ∙ st.same)) st.within
+          one-of (inr after) =
+              subst (IsWithin o.role o.text o.limit o.first) (sym (after ∙ ap (λ (es : List Event). es ++ h.0 ∷ []) st.same))
+              (inr (omega (arith, h.3, ends-at shows j old l h.0 st, st.same_limit)))
 
       -- a frame got no reply
       pub halts : (shows : Site → Type 0) (j : Kept) (old new : D) (f : Frame) (l : KeptSite) (fault : AppendFault) → FailsAsSeen d o.rules f shows j old new fault → Stands d o shows j old l → Halts d o new l fault
@@ -156,6 +171,8 @@ module _ {D : Type 0} (d : Ghosts D) (o : Origin D) where
               images = λ c left. between-one l.events l.events event c (begins-same l.events l.events refl) (images-of shows j old new l event st both.0 told c left);
               reads = in-hand l.events event (d.seen new) (images-of shows j old new l event st both.0 told (d.seen new) (reads new (subst IsTrue (sym (tells-of shows j old new l event st both.0)) told)));
             };
+            within = st.within;
+            images_within = λ told c left. within-of shows j old new l event st both.0 told c left;
             disk_fault = rose-of shows j old new l event fault st both.1;
             full = full-of shows j old new l event fault st both.1;
           }
@@ -169,6 +186,8 @@ module _ {D : Type 0} (d : Ghosts D) (o : Origin D) where
         tells_same = st.tells_same;
         never_falls = st.never_falls;
         left = λ told. left-standing shows j now l st told;
+        within = st.within;
+        images_within = λ told c left. subst (IsWithin o.role o.text o.limit o.first) (sym (st.durable told c left)) st.within;
         disk_fault = λ e. absurd (cc e);
         full = λ e. absurd (cc e);
       }

@@ -39,9 +39,9 @@ abbrev pub Appends : {D : Type 0} → Ghosts D → Option Event → Kept → Kep
 Appends {D} d None j k old new = (k ≡ j) × (new ≡ old)
 Appends {D} d (Some e) j k old new = IsAppended d e j k old new
 
--- nothing was written, or this event
-abbrev pub Tries : {D : Type 0} → Ghosts D → Option Event → List Event → D → D → Type 0
-Tries {D} d event events old new = (new ≡ old) ⊎ ((e : Event) × (event ≡ Some e) × Writes d e events old new)
+-- nothing was written, or this event, whose record has room
+abbrev pub Tries : {D : Type 0} → Ghosts D → Option Event → Kept → D → D → Type 0
+Tries {D} d event j old new = (new ≡ old) ⊎ ((e : Event) × (event ≡ Some e) × Writes d e (events_seen j.events) old new × (end_after j e ≤ j.limit))
 
 -- Why a frame got no reply: the disk had a fault, or the record of its event would end past the limit, or memory ran out.
 abbrev pub Because : {D : Type 0} → Ghosts D → Option Event → Kept → D → D → AppendFault → Type 0
@@ -51,7 +51,7 @@ Because {D} d event j old new NoMemory = Unit {0}
 
 -- a frame got no reply, for this cause
 abbrev pub Fails : {D : Type 0} → Ghosts D → Option Event → Kept → D → D → AppendFault → Type 0
-Fails {D} d event j old new fault = Tries d event (events_seen j.events) old new × Because d event j old new fault
+Fails {D} d event j old new fault = Tries d event j old new × Because d event j old new fault
 
 -- a frame was answered as each site answers that was shown, and what it was is appended
 abbrev pub AnswersAndKeeps : {D : Type 0} → Ghosts D → Rules → Frame → (Site → Type 0) → (Site → Type 0) → Kept → Kept → D → D → List ℕ → Type 0

@@ -67,7 +67,8 @@ pub record Stands {D : Type 0} (d : Ghosts D) (o : Origin D) (shows : Site → T
   pub moments : IsTrue (d.tells o.disk) → LeavesOnly d.moment d.left_since o.disk now (IsOldOrBetween (d.may_leave o.disk) o.first k.events)
   pub durable : IsTrue (d.tells o.disk) → (c : List ℕ) → d.may_leave now c → events_of c ≡ k.events
 
--- Where a frame got no reply: the site before it, the event in hand, and the cause.
+-- Where a frame got no reply: the site before it, the event in hand, and the cause. The journal had stayed within its limit, and whatever a crash leaves is
+-- within it too.
 pub record Halts {D : Type 0} (d : Ghosts D) (o : Origin D) (new : D) (k : KeptSite) (fault : AppendFault) : Type 0 where
   pub made : IsMadeOf o.rules o.start k
   pub in_hand : Option Event
@@ -75,5 +76,7 @@ pub record Halts {D : Type 0} (d : Ghosts D) (o : Origin D) (new : D) (k : KeptS
   pub tells_same : d.tells new ≡ d.tells o.disk
   pub never_falls : d.faults o.disk ≤ d.faults new
   pub left : IsTrue (d.tells o.disk) → IsLeft d o.first k.events (with_event k.events in_hand) o.disk new
+  pub within : IsWithin o.role o.text o.limit o.first k.events
+  pub images_within : IsTrue (d.tells o.disk) → (c : List ℕ) → d.may_leave new c → IsWithin o.role o.text o.limit o.first (events_of c)
   pub disk_fault : fault ≡ DiskFault → Rose (d.faults o.disk) (d.faults new)
   pub full : fault ≡ Full → (e : Event) × (in_hand ≡ Some e) × (o.limit < length (front o.role o.text (k.events ++ e ∷ [])) + 1)

@@ -59,6 +59,7 @@ pub record IsKeptUnopened {W D : Type 0} (w : wires.Ghosts W) (d : disks.Ghosts 
   pub after : KeptSite
   pub served : IsUnopened (keeps r) w.content w.failed_openings role (reopened r s events) after u v
   pub made : IsMadeOf r s after
+  pub within : IsWithin role text kept_limit events after.events
   pub left : IsTrue (d.tells old) → IsLeft d events after.events after.events old new
 
 -- so sessions were served, and then a frame got no reply, or there was no memory for one more session

@@ -51,6 +51,7 @@ fn serve_node<W: Wire, D: Disk, P: Workspace>(
     ensures kept { OnOk result (D.faults node.new.disk.now ≡ D.faults node.old.disk.now) }
     ensures kept_unopened { IsErrOf result Stopped.NetFault → D.faults node.new.disk.now ≡ D.faults node.old.disk.now }
     ensures kept_stopped { node.new.reason ≢ AppendFault.DiskFault → D.faults node.new.disk.now ≡ D.faults node.old.disk.now }
+    ensures openings_kept { (IsErrOf result Stopped.NetFault → ⊥) → W.failed_openings wire.new ≡ W.failed_openings wire.old }
 {
     serve_sessions(alloc, node, role, sessions, wire)
 }
@@ -82,6 +83,8 @@ pub fn serve_kept_workspace<W: Wire, D: Disk, P: Workspace + Drop>(
     ensures stopped { (s : Site) → P.shows site s → IfErr result (StopsKept ⟦<W as Wire>⟧ ⟦<D as Disk>⟧ (rules_of g.now.grammar t.now) role text.now s wire.old wire.new disk.old disk.new) }
     // A call of the disk that failed is told; after any other answer none has failed.
     ensures kept { (IsErrOf result KeptFault.DiskFault → ⊥) → D.faults disk.new ≡ D.faults disk.old }
+    // A session that could not be opened is told; after any other answer each was opened.
+    ensures openings_kept { (IsErrOf result KeptFault.NetFault → ⊥) → W.failed_openings wire.new ≡ W.failed_openings wire.old }
 {
     let mut journal = Journal::reopen(alloc, disk, role, text, JOURNAL_LIMIT)?;
     let mut site = site;

@@ -42,6 +42,8 @@ pub fn serve_kept<W: Wire, D: Disk>(
     ensures stopped { IfErr result (StopsKept ⟦<W as Wire>⟧ ⟦<D as Disk>⟧ (rules_of g.now.grammar t.now) role text.now (empty_site true role) wire.old wire.new disk.old disk.new) }
     // A call of the disk that failed is told; after any other answer none has failed.
     ensures kept { (IsErrOf result KeptFault.DiskFault → ⊥) → D.faults disk.new ≡ D.faults disk.old }
+    // A session that could not be opened is told; after any other answer each was opened.
+    ensures openings_kept { (IsErrOf result KeptFault.NetFault → ⊥) → W.failed_openings wire.new ≡ W.failed_openings wire.old }
 {
     let site = Site::new(alloc, g, role, CellFacts::new(alloc), true);
     serve_kept_workspace(

@@ -301,6 +301,7 @@ fn start<D: Disk>(
     ensures reads { IsTrue (D.tells disk.old) → events_of (D.seen disk.new) ≡ [] }
     ensures not_bad { IsErrOf result OpenFault.BadHead → ⊥ }
     ensures full { IsErrOf result OpenFault.Full → (limit < 12 + length text.now) × (disk.new ≡ disk.old) }
+    ensures full_always { limit < 12 + length text.now → IsErrOf result OpenFault.Full }
     ensures not_full { OnOk result (12 + length text.now ≤ limit) }
     ensures tells { D.tells disk.new ≡ D.tells disk.old }
     ensures never_falls { D.faults disk.old ≤ D.faults disk.new }

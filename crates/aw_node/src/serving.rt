@@ -1,5 +1,5 @@
 //! Serving a workspace.
-ghost use Rattle.std.specs.Prelude.{◌≡◌, ◌⊎◌, ◌<◌, ◌≤◌, true, length, IfOk, IfErr};
+ghost use Rattle.std.specs.Prelude.{◌≡◌, ◌⊎◌, ◌<◌, ◌≤◌, true, length, IfOk, IfErr, IsErrOf};
 ghost use Rattle.aw_grammar.specs.GrammarOf.{grammar_of};
 ghost use Rattle.aw_node.specs.Serving.{Serves, Stops};
 ghost use Rattle.aw_node.specs.TypedNodes.{rules_of};
@@ -47,6 +47,8 @@ pub fn serve_workspace<W: Wire, P: Workspace + Drop>(
     ensures most { IfOk result (λ log. length log ≤ sessions) }
     ensures all { IfOk result (λ log. (length log ≡ sessions) ⊎ NoneComes (W.content wire.new)) }
     ensures stopped { (s : S.Site) → P.shows site s → IfErr result (Stops W.content W.failed_openings (rules_of g.now.grammar t.now) role s wire.old wire.new) }
+    // A session that could not be opened is told; after any other answer each was opened.
+    ensures openings_kept { (IsErrOf result ServeFault.NetFault → ⊥) → W.failed_openings wire.new ≡ W.failed_openings wire.old }
 {
     let mut node = Node::new(alloc, g, t, site);
     match serve_sessions(alloc, &mut node, role, sessions, wire) {
@@ -75,6 +77,8 @@ pub fn serve<W: Wire>(
     ensures most { IfOk result (λ log. length log ≤ sessions) }
     ensures all { IfOk result (λ log. (length log ≡ sessions) ⊎ NoneComes (W.content wire.new)) }
     ensures stopped { IfErr result (Stops W.content W.failed_openings (rules_of g.now.grammar t.now) role (empty_site true role) wire.old wire.new) }
+    // A session that could not be opened is told; after any other answer each was opened.
+    ensures openings_kept { (IsErrOf result ServeFault.NetFault → ⊥) → W.failed_openings wire.new ≡ W.failed_openings wire.old }
 {
     let site = Site::new(alloc, g, role, CellFacts::new(alloc), true);
     serve_workspace(alloc, g, t, ListedSite::new(site), role, sessions, wire)

@@ -17,6 +17,7 @@ use Rattle.aw_courier.specs.Honest.{MeansQuiet}
 use Rattle.aw_courier.specs.declared.broken.Broken.{Broken}
 use Rattle.aw_courier.specs.declared.broken.Broken.TheVariants as broken
 use Rattle.aw_courier.specs.declared.carrying.Carried.{Carried}
+use Rattle.aw_courier.specs.declared.carrying.Carried.TheVariants.{Quiet, RoundsSpent}
 use Rattle.aw_courier.specs.declared.carrying.CarryFault.{CarryFault}
 use Rattle.aw_courier.specs.declared.carrying.CarryFault.TheVariants as fault
 use Rattle.aw_spec.specs.Reading.{Spec}
@@ -88,3 +89,18 @@ net-counts at role old new broken.NoMemory is counts = absurd (cc (is))
 
 pub carry-rose : {W : Type 0} (w : wires.Ghosts W) (u v : W) (g : R.Grammar) (rounds role : ℕ) → courier.IsBrokenOff g w.content w.faults rounds u v (fault.NetFault role) → Rose (w.faults u) (w.faults v)
 carry-rose w u v g rounds role is = net-counts is.role role (w.faults u) (w.faults v) is.why is.is is.counts
+
+-- and stayed where none did
+counts-stayed : (at old new : ℕ) (why : Broken) (told : CarryFault) → told ≡ fault_at at why → ((role : ℕ) → told ≡ fault.NetFault role → ⊥) → Counts (is_net why) old new → new ≡ old
+counts-stayed at old new broken.Net told is other counts = absurd (other at is)
+counts-stayed at old new broken.Reply told is other counts = counts
+counts-stayed at old new broken.NoMemory told is other counts = counts
+
+pub broken-kept : {W : Type 0} (w : wires.Ghosts W) (u v : W) (g : R.Grammar) (rounds : ℕ) (why : CarryFault) → ((role : ℕ) → why ≡ fault.NetFault role → ⊥) →
+    courier.IsBrokenOff g w.content w.faults rounds u v why → w.faults v ≡ w.faults u
+broken-kept w u v g rounds why other is = counts-stayed is.role (w.faults u) (w.faults v) is.why why is.is other is.counts
+
+pub carried-kept : {W : Type 0} (w : wires.Ghosts W) (u v : W) (g : R.Grammar) (rounds : ℕ) (carried : Carried) →
+    courier.Carries g w.content w.faults w.failed_openings rounds u v carried → w.faults v ≡ w.faults u
+carried-kept w u v g rounds Quiet is = is.made.counts
+carried-kept w u v g rounds RoundsSpent is = is.made.counts

@@ -129,6 +129,16 @@ NetFailed (Some (Serves sessions)) openings_before openings_after faults_before 
 NetFailed (Some (Keeps sessions)) openings_before openings_after faults_before faults_after = Rose openings_before openings_after
 NetFailed (Some (Carries rounds)) openings_before openings_after faults_before faults_after = Rose faults_before faults_after
 
+-- Which counts of the wire stayed where a command tells no such failure: of a node that of openings that failed, of a courier that of all its faults, and
+-- of a command that does not use the wire both.
+abbrev pub NetKept : Option Command → (openings_before : ℕ) → (openings_after : ℕ) → (faults_before : ℕ) → (faults_after : ℕ) → Type 0
+NetKept None openings_before openings_after faults_before faults_after = (openings_after ≡ openings_before) × (faults_after ≡ faults_before)
+NetKept (Some (Reads job)) openings_before openings_after faults_before faults_after = (openings_after ≡ openings_before) × (faults_after ≡ faults_before)
+NetKept (Some (Tries number)) openings_before openings_after faults_before faults_after = (openings_after ≡ openings_before) × (faults_after ≡ faults_before)
+NetKept (Some (Serves sessions)) openings_before openings_after faults_before faults_after = openings_after ≡ openings_before
+NetKept (Some (Keeps sessions)) openings_before openings_after faults_before faults_after = openings_after ≡ openings_before
+NetKept (Some (Carries rounds)) openings_before openings_after faults_before faults_after = faults_after ≡ faults_before
+
 -- A command with a good input is done, unless memory runs out, the source fails or the sink does, or the wire or the disk of a command that uses it, or
 -- what a courier hears is no reply.
 abbrev pub IsDoneOrStopped : Option Command → Status → Type 0

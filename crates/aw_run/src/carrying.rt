@@ -43,6 +43,7 @@ fn carry_accepted<W: Wire>(
     ensures stopped { IfErr result (λ stop. (s : Spec) → s.declared ≡ declarations_of accepted.now.grammar →
         StopsCourier s rounds (wired ⟦<W as Wire>⟧ wire.old wire.new) (status_of_stop stop)) }
     ensures net_cause { result ≡ Err Stop.NetFault → Rose (W.faults wire.old) (W.faults wire.new) }
+    ensures net_kept { result ≢ Err Stop.NetFault → W.faults wire.new ≡ W.faults wire.old }
     ensures no_read_fault { result ≢ Err Stop.ReadFault }
     ensures no_journal { IfErr result (λ stop. IsJournalStop (status_of_stop stop) → ⊥) }
 {
@@ -68,6 +69,7 @@ fn carry_input<W: Wire>(
     ensures stopped { IfErr result (λ stop.
         StopsCarrying rounds (wired ⟦<W as Wire>⟧ wire.old wire.new) input.now (status_of_stop stop)) }
     ensures net_cause { result ≡ Err Stop.NetFault → Rose (W.faults wire.old) (W.faults wire.new) }
+    ensures net_kept { result ≢ Err Stop.NetFault → W.faults wire.new ≡ W.faults wire.old }
     ensures no_read_fault { result ≢ Err Stop.ReadFault }
     ensures no_journal { IfErr result (λ stop. IsJournalStop (status_of_stop stop) → ⊥) }
 {
@@ -102,6 +104,7 @@ pub fn carry_source<S: Source, W: Wire>(
     ensures unread { result ≡ Err Stop.ReadFault → wire.new ≡ wire.old }
     ensures stop_end { IfErr result (λ stop. IsPastReading (status_of_stop stop) → IsUsedUp (S.left src.new)) }
     ensures net_cause { result ≡ Err Stop.NetFault → Rose (W.faults wire.old) (W.faults wire.new) }
+    ensures net_kept { result ≢ Err Stop.NetFault → W.faults wire.new ≡ W.faults wire.old }
     ensures no_journal { IfErr result (λ stop. IsJournalStop (status_of_stop stop) → ⊥) }
     ensures never_falls { S.faults src.old ≤ S.faults src.new }
 {

@@ -41,6 +41,7 @@ fn keep_role<W: Wire, D: Disk>(
     ensures stopped { IfErr result (λ stop. (s : Spec) → s.declared ≡ declarations_of accepted.now.grammar → s.types ≡ typed.now.types → text.now ≡ written s →
         StopsRole s role sessions (around ⟦<W as Wire>⟧ ⟦<D as Disk>⟧ wire.old wire.new disk.old disk.new) (status_of_stop stop)) }
     ensures net_cause { result ≡ Err Stop.NetFault → Rose (W.failed_openings wire.old) (W.failed_openings wire.new) }
+    ensures net_kept { result ≢ Err Stop.NetFault → W.failed_openings wire.new ≡ W.failed_openings wire.old }
     ensures disk_cause { result ≡ Err Stop.DiskFault → Rose (D.faults disk.old) (D.faults disk.new) }
     ensures disk_kept { result ≢ Err Stop.DiskFault → D.faults disk.new ≡ D.faults disk.old }
     ensures no_read_fault { result ≢ Err Stop.ReadFault }
@@ -72,6 +73,7 @@ fn keep_named<W: Wire, D: Disk>(
     ensures stopped { IfErr result (λ stop. (s : Spec) → s.declared ≡ declarations_of accepted.now.grammar → s.types ≡ typed.now.types → text.now ≡ written s →
         StopsNamed name.now sessions (around ⟦<W as Wire>⟧ ⟦<D as Disk>⟧ wire.old wire.new disk.old disk.new) s (status_of_stop stop)) }
     ensures net_cause { result ≡ Err Stop.NetFault → Rose (W.failed_openings wire.old) (W.failed_openings wire.new) }
+    ensures net_kept { result ≢ Err Stop.NetFault → W.failed_openings wire.new ≡ W.failed_openings wire.old }
     ensures disk_cause { result ≡ Err Stop.DiskFault → Rose (D.faults disk.old) (D.faults disk.new) }
     ensures disk_kept { result ≢ Err Stop.DiskFault → D.faults disk.new ≡ D.faults disk.old }
     ensures no_read_fault { result ≢ Err Stop.ReadFault }
@@ -98,6 +100,7 @@ fn keep_input<W: Wire, D: Disk>(
     ensures stopped { IfErr result (λ stop.
         StopsKeeping name.now sessions (around ⟦<W as Wire>⟧ ⟦<D as Disk>⟧ wire.old wire.new disk.old disk.new) input.now (status_of_stop stop)) }
     ensures net_cause { result ≡ Err Stop.NetFault → Rose (W.failed_openings wire.old) (W.failed_openings wire.new) }
+    ensures net_kept { result ≢ Err Stop.NetFault → W.failed_openings wire.new ≡ W.failed_openings wire.old }
     ensures disk_cause { result ≡ Err Stop.DiskFault → Rose (D.faults disk.old) (D.faults disk.new) }
     ensures disk_kept { result ≢ Err Stop.DiskFault → D.faults disk.new ≡ D.faults disk.old }
     ensures no_read_fault { result ≢ Err Stop.ReadFault }
@@ -145,6 +148,7 @@ pub fn keep_source<S: Source, W: Wire, D: Disk>(
     ensures unread { result ≡ Err Stop.ReadFault → (wire.new ≡ wire.old) × (disk.new ≡ disk.old) }
     ensures stop_end { IfErr result (λ stop. IsPastReading (status_of_stop stop) → IsUsedUp (S.left src.new)) }
     ensures net_cause { result ≡ Err Stop.NetFault → Rose (W.failed_openings wire.old) (W.failed_openings wire.new) }
+    ensures net_kept { result ≢ Err Stop.NetFault → W.failed_openings wire.new ≡ W.failed_openings wire.old }
     ensures disk_cause { result ≡ Err Stop.DiskFault → Rose (D.faults disk.old) (D.faults disk.new) }
     ensures disk_kept { result ≢ Err Stop.DiskFault → D.faults disk.new ≡ D.faults disk.old }
     ensures never_falls { S.faults src.old ≤ S.faults src.new }

@@ -8,7 +8,7 @@ ghost use Rattle.aw_run.specs.Carrying.{StopsCarrying};
 ghost use Rattle.aw_run.specs.Keeping.{StopsKeeping};
 ghost use Rattle.aw_run.specs.Statuses.{IsReply, IsPastReading, IsSilent, IsStop, IsJournalStop, IsRefusal, status_of_stop};
 ghost use Rattle.aw_run.specs.Promises.{PlainIsTyped, ReplayIsTyped, RepliesKeeping, RulesStayEnabled, Settled, StartsStayEnabled, StaysAcyclic, WritesAnyOrder, WritesWith};
-ghost use Rattle.aw_run.specs.Replies.{EndsWith, ForInput, IsDoneOrStopped, IsGood, NetFailed, Replied, Says, SomeReply, WritesCarrying, WritesKeeping, WritesServing, WritesSome};
+ghost use Rattle.aw_run.specs.Replies.{EndsWith, ForInput, IsDoneOrStopped, IsGood, NetFailed, NetKept, Replied, Says, SomeReply, WritesCarrying, WritesKeeping, WritesServing, WritesSome};
 ghost use Rattle.aw_run.specs.Replies.{around, contents, reads, uses_disk, uses_wire, wired};
 
 use crate::carrying::carry_source;
@@ -44,6 +44,7 @@ fn prepare<S: Source, W: Wire, D: Disk>(
     ensures read_before { result ≡ Err Stop.ReadFault → GivesSome (S.left src.old) (S.left src.new) (λ bytes. length bytes ≤ INPUT_LIMIT) }
     ensures read_command { result ≡ Err Stop.ReadFault → reads (command_of words.now) ≡ true }
     ensures net_cause { result ≡ Err Stop.NetFault → NetFailed (command_of words.now) (W.failed_openings wire.old) (W.failed_openings wire.new) (W.faults wire.old) (W.faults wire.new) }
+    ensures net_kept { result ≢ Err Stop.NetFault → NetKept (command_of words.now) (W.failed_openings wire.old) (W.failed_openings wire.new) (W.faults wire.old) (W.faults wire.new) }
     ensures net_command { result ≡ Err Stop.NetFault → uses_wire (command_of words.now) ≡ true }
     ensures no_disk { uses_disk (command_of words.now) ≡ false → disk.new ≡ disk.old }
     ensures disk_cause { result ≡ Err Stop.DiskFault → Rose (D.faults disk.old) (D.faults disk.new) }
@@ -185,10 +186,12 @@ pub fn run<S: Source, K: Sink, W: Wire, D: Disk>(
     ensures disk_command { IsJournalStop result → uses_disk (command_of words.now) ≡ true }
     ensures refused { IsRefusal result → (wire.new ≡ wire.old) × (disk.new ≡ disk.old) }
 
-    // Each read that fails is told, and so is each write and each call of the disk; after any other answer none has failed.
+    // Each read that fails is told, and so is each write and each call of the disk; a node tells each session that could not be opened, and a courier each
+    // call of the wire that fails. After any other answer none has failed.
     ensures source_kept { result ≢ Status.ReadFault → S.faults src.new ≡ S.faults src.old }
     ensures sink_kept { result ≢ Status.WriteFault → K.faults out.new ≡ K.faults out.old }
     ensures disk_kept { result ≢ Status.DiskFault → D.faults disk.new ≡ D.faults disk.old }
+    ensures net_kept { result ≢ Status.NetFault → NetKept (command_of words.now) (W.failed_openings wire.old) (W.failed_openings wire.new) (W.faults wire.old) (W.faults wire.new) }
     ensures source_count { S.faults src.old ≤ S.faults src.new }
     ensures sink_count { K.faults out.old ≤ K.faults out.new }
 {

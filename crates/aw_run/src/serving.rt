@@ -34,6 +34,7 @@ fn serve_role<W: Wire>(
     ensures reply { IfOk result (λ reply. (s : Spec) → s.declared ≡ declarations_of accepted.now.grammar → s.types ≡ typed.now.types →
         Replies (ServesRole s role sessions (contents (W.content wire.old) (W.content wire.new))) reply) }
     ensures net_cause { result ≡ Err Stop.NetFault → Rose (W.failed_openings wire.old) (W.failed_openings wire.new) }
+    ensures net_kept { result ≢ Err Stop.NetFault → W.failed_openings wire.new ≡ W.failed_openings wire.old }
     ensures done { IfOk result (λ reply. reply.status ≡ Status.Done) }
     ensures no_read_fault { result ≢ Err Stop.ReadFault }
     ensures no_journal { IfErr result (λ stop. IsJournalStop (status_of_stop stop) → ⊥) }
@@ -61,6 +62,7 @@ fn serve_named<W: Wire>(
     ensures reply { IfOk result (λ reply. (s : Spec) → s.declared ≡ declarations_of accepted.now.grammar → s.types ≡ typed.now.types →
         Replies (ServesNamed name.now sessions (contents (W.content wire.old) (W.content wire.new)) s) reply) }
     ensures net_cause { result ≡ Err Stop.NetFault → Rose (W.failed_openings wire.old) (W.failed_openings wire.new) }
+    ensures net_kept { result ≢ Err Stop.NetFault → W.failed_openings wire.new ≡ W.failed_openings wire.old }
     ensures refused { IfOk result (λ reply. IsRefusal reply.status → wire.new ≡ wire.old) }
     ensures no_read_fault { result ≢ Err Stop.ReadFault }
     ensures no_journal { IfErr result (λ stop. IsJournalStop (status_of_stop stop) → ⊥) }
@@ -84,6 +86,7 @@ fn serve_input<W: Wire>(
         Replies (IsServingOutputOf name.now sessions (contents (W.content wire.old) (W.content wire.new)) input.now) reply) }
     ensures refused { IfOk result (λ reply. IsRefusal reply.status → wire.new ≡ wire.old) }
     ensures net_cause { result ≡ Err Stop.NetFault → Rose (W.failed_openings wire.old) (W.failed_openings wire.new) }
+    ensures net_kept { result ≢ Err Stop.NetFault → W.failed_openings wire.new ≡ W.failed_openings wire.old }
     ensures no_read_fault { result ≢ Err Stop.ReadFault }
     ensures no_journal { IfErr result (λ stop. IsJournalStop (status_of_stop stop) → ⊥) }
 {
@@ -115,6 +118,7 @@ pub fn serve_source<S: Source, W: Wire>(
     ensures kept { result ≢ Err Stop.ReadFault → S.faults src.new ≡ S.faults src.old }
     ensures read_before { result ≡ Err Stop.ReadFault → GivesSome (S.left src.old) (S.left src.new) (λ bytes. length bytes ≤ INPUT_LIMIT) }
     ensures net_cause { result ≡ Err Stop.NetFault → Rose (W.failed_openings wire.old) (W.failed_openings wire.new) }
+    ensures net_kept { result ≢ Err Stop.NetFault → W.failed_openings wire.new ≡ W.failed_openings wire.old }
     ensures net_end { result ≡ Err Stop.NetFault → IsUsedUp (S.left src.new) }
     ensures refused { IfOk result (λ reply. IsRefusal reply.status → wire.new ≡ wire.old) }
     ensures unread { result ≡ Err Stop.ReadFault → wire.new ≡ wire.old }

@@ -1,7 +1,8 @@
 use Rattle.std.proofs.Common.{inl, rules}
+use Rattle.aw_courier.specs.declared.carrying.CarryFault.TheVariants as fault
 use Rattle.aw_run.specs.declared.reply.Stop.TheVariants as stop
 use Rattle.aw_run.proofs.ServedOutputs.{err-passed}
-use Rattle.aw_run.proofs.CarriedOutputs.{breaks-off, carried-told, carry-rose, line-lost, name-lost, unheard-told}
+use Rattle.aw_run.proofs.CarriedOutputs.{breaks-off, broken-kept, carried-kept, carried-told, carry-rose, line-lost, name-lost, unheard-told}
 use Rattle.aw_run.proofs.carrying.carry_accepted.Goals as goal
 
 pub returns-in_ok-line-in-Ok-clause-reply : goal.returns-in_ok-line-in-Ok-clause-reply
@@ -40,3 +41,23 @@ pub returns-in-Err-NoMemory-clause-stopped : goal.returns-in-Err-NoMemory-clause
 returns-in-Err-NoMemory-clause-stopped g c = λ s same.
     inl (breaks-off g.W.Wire c.args.wire.now c.carry.new.wire s c.args.accepted.now.grammar c.args.rounds _ same
     (rw c.in-Err-NoMemory.field-0-is at c.in-Err-NoMemory.ensures.err))
+
+pub returns-in_ok-line-in-Ok-clause-net_kept : goal.returns-in_ok-line-in-Ok-clause-net_kept
+returns-in_ok-line-in-Ok-clause-net_kept g c = λ other. carried-kept g.W.Wire c.args.wire.now c.carry.new.wire _ c.args.rounds c.in-Ok.carried c.in-Ok.ensures.ok
+
+pub returns-in_err-line-in-Ok-clause-net_kept : goal.returns-in_err-line-in-Ok-clause-net_kept
+returns-in_err-line-in-Ok-clause-net_kept g c = λ other. carried-kept g.W.Wire c.args.wire.now c.carry.new.wire _ c.args.rounds c.in-Ok.carried c.in-Ok.ensures.ok
+
+pub returns-in_ok-bad_reply-in-Err-BadReply-clause-net_kept : goal.returns-in_ok-bad_reply-in-Err-BadReply-clause-net_kept
+returns-in_ok-bad_reply-in-Err-BadReply-clause-net_kept g c = λ other.
+    broken-kept g.W.Wire c.args.wire.now c.carry.new.wire _ c.args.rounds (fault.BadReply c.in-Err-BadReply.role) (λ role is. cc is)
+    (rw c.in-Err-BadReply.field-0-is at c.in-Err-BadReply.ensures.err)
+
+pub returns-in_err-bad_reply-in-Err-BadReply-clause-net_kept : goal.returns-in_err-bad_reply-in-Err-BadReply-clause-net_kept
+returns-in_err-bad_reply-in-Err-BadReply-clause-net_kept g c = λ other.
+    broken-kept g.W.Wire c.args.wire.now c.carry.new.wire _ c.args.rounds (fault.BadReply c.in-Err-BadReply.role) (λ role is. cc is)
+    (rw c.in-Err-BadReply.field-0-is at c.in-Err-BadReply.ensures.err)
+
+pub returns-in-Err-NoMemory-clause-net_kept : goal.returns-in-Err-NoMemory-clause-net_kept
+returns-in-Err-NoMemory-clause-net_kept g c = λ other.
+    broken-kept g.W.Wire c.args.wire.now c.carry.new.wire _ c.args.rounds fault.NoMemory (λ role is. cc is) (rw c.in-Err-NoMemory.field-0-is at c.in-Err-NoMemory.ensures.err)
