@@ -7,14 +7,14 @@ use Rattle.aw_disk.specs.Disk.{LeavesOnly}
 use Rattle.aw_disk.specs.declared.edge.Disk.{Ghosts}
 use Rattle.aw_journal.specs.Events.{Event}
 use Rattle.aw_journal.specs.EventView.{events_seen}
-use Rattle.aw_journal.specs.Format.{front}
+use Rattle.aw_journal.specs.Format.{front, events_of}
 use Rattle.aw_journal.specs.Journal.{Kept, IsBeforeOrAfter, end_after}
 use Rattle.aw_journal.specs.declared.journal.AppendFault.{AppendFault}
 use Rattle.aw_journal.specs.declared.journal.AppendFault.TheVariants.{DiskFault, Full, NoMemory}
 use Rattle.aw_journal.proofs.Moments.{weaker, runs_on}
 use Rattle.aw_node.specs.TypedNodes.{handle}
 use Rattle.aw_durable.specs.Appending.{Writes, Appends, Tries, Because, AnswersAndKeeps, FailsAsSeen}
-use Rattle.aw_durable.specs.Exits.{IsOldOrBetween, IsLeft, Origin, Stands, Halts}
+use Rattle.aw_durable.specs.Exits.{IsOldOrBetween, IsLeft, Origin, Stands, Halts, IsWithin}
 use Rattle.aw_durable.specs.KeptEvents.{kept_of}
 use Rattle.aw_durable.specs.KeptSites.{KeptSite, keeps, after_frame, with_event}
 use Rattle.aw_durable.proofs.Exits.{begins-same, begins-more, IsOneOf, between-one, old-or-more, in-hand}

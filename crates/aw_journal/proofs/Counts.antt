@@ -1,5 +1,6 @@
 -- How long spellings are.
-use Rattle.std.proofs.Common.{◌≡◌, ℕ, ◌+◌, ◌<◌, ◌≤◌, List, [], ◌++◌, length, get_or, take, map, refl, sym, ap, ◌∙◌, arith}
+use Rattle.aw_term.specs.Choices as Q
+use Rattle.std.proofs.Common.{◌≡◌, ℕ, ◌+◌, ◌<◌, ◌≤◌, List, [], ◌++◌, length, get_or, take, map, refl, sym, ap, ◌∙◌, arith, ◌*◌, ◌∷◌}
 use Rattle.std.specs.List.{flat_map}
 use Rattle.std.proofs.lemmas.List.{length-append, take_all}
 use Rattle.std.proofs.lemmas.List.Folds.{flat_map-map}
@@ -7,13 +8,24 @@ use Rattle.aw_term.specs.Trees.{count}
 use Rattle.aw_term.specs.Views.{ground_of}
 use Rattle.aw_term.specs.declared.ground.Ground as grounds
 use Rattle.aw_term.proofs.ViewLemmas.{ground_con}
-use Rattle.aw_wire.specs.Grounds.{spelled_ground}
+use Rattle.aw_wire.specs.Grounds.{spelled_ground, spelled_grounds}
 use Rattle.aw_wire.proofs.GroundLaws.{parts_join}
 use Rattle.aw_wire.proofs.Adding.{one_more}
 use Rattle.aw_msg.specs.Frames.{Push, Choose}
 use Rattle.aw_msg.proofs.Lengths.{payload_short}
 use Rattle.aw_journal.specs.Events.{Event, Took, Got, payload_of, EventInRange}
 use Rattle.aw_journal.specs.Lengths.{capped}
+use Rattle.std.specs.Int.{w16, to_be_bytes}
+use Rattle.std.proofs.lemmas.List.Concat.{flat_map-cons}
+use Rattle.aw_term.specs.Names.{Step, Node, Slot, Result, Part, Ref}
+use Rattle.aw_term.specs.Rules.{Ground}
+use Rattle.aw_store.specs.Equations.{Equation}
+use Rattle.aw_apply.specs.Made.{Call}
+use Rattle.aw_apply.specs.Messages.{Calls, Asks, Tells, Message}
+use Rattle.aw_wire.specs.Names.{spelled_step, spelled_node, spelled_slot, spelled_ref, spelled_refs}
+use Rattle.aw_wire.specs.Texts.{spelled_text}
+use Rattle.aw_wire.specs.Choices.{spelled_choice}
+use Rattle.aw_msg.specs.Spelling.{spelled_body, spelled_equation, spelled_load, spelled_kind, spelled_message}
 
 steps_length : (steps : List Step) → length (flat_map spelled_step steps) ≡ 3 * length steps
 steps_length [] = refl

@@ -1,4 +1,5 @@
 -- A message of the program with valid and short names is in the range of those that have a spelling.
+use Rattle.aw_grammar.specs.declared.grammar.Grammar as program
 use Rattle.std.proofs.Common.{◌≡◌, ℕ, true, List, [], ◌∷◌, ◌++◌, length, map, Option, None, Some, refl, ap, ◌∙◌}
 use Rattle.std.specs.Prelude.{nat_le, slice_get}
 use Rattle.std.proofs.lemmas.Bool.{and_parts, and_from, eqb-true, leb-true}
@@ -16,7 +17,8 @@ use Rattle.aw_msg.specs.MessageView.{kind_with, sort_or_zero, message_of, plain_
 use Rattle.aw_msg.specs.Messages.{MessageInRange}
 use Rattle.aw_msg.proofs.ValidMessages.{IsValidRef, IsValidBody, IsValidEquation, IsValidLoad, IsValidCall, IsValidKind, message_is_in_range}
 use Rattle.aw_react.specs.ValidNames.{refs_ok, body_ok, equation_ok, equations_ok, takes_as, call_ok}
-use Rattle.aw_site.specs.Sendable.{load_ok, may_send, is_short, short_refs, short_body, short_equation, short_equations, short_kind, all_short}
+use Rattle.aw_site.specs.Sendable.{load_ok, may_send, is_short, short_refs, short_body, short_equation, short_equations, short_kind, all_short, all_sendable}
+use Rattle.aw_grammar.specs.GrammarOf.{grammar_of}
 
 module _ (g : Grammar) where
   valid_ref : (r : Ref) → is_short r.node ≡ true → ref_ok g r ≡ true → IsValidRef g r
