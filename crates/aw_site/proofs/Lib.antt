@@ -16,5 +16,6 @@ pub mod SentNames
 pub mod MadeValid
 pub mod SentValid
 pub mod Outboxes
+pub mod ValidInRange
 pub mod InRange
 pub mod Listing
