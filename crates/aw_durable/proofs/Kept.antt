@@ -1,5 +1,5 @@
 -- Appending the event that a frame was.
-use Rattle.std.proofs.Common.{◌≡◌, ℕ, ◌<◌, ◌≤◌, List, [], ◌∷◌, ◌++◌, Bool, true, false, IsTrue, Option, None, Some, Result, Ok, Err, inl, inr, refl, sym, ap, ◌∙◌, subst, ltb, ltb-true, ltb-false, ◌+◌}
+use Rattle.std.proofs.Common.{◌≡◌, ℕ, ◌<◌, ◌≤◌, List, [], ◌∷◌, ◌++◌, Bool, true, false, IsTrue, Option, None, Some, Result, Ok, Err, inl, inr, refl, sym, ap, ◌∙◌, subst, ltb, ltb-true, ltb-false}
 use Rattle.std.specs.Result.{OnOk, IfErr, IsErrOf}
 use Rattle.aw_out.specs.Causes.{Rose}
 use Rattle.aw_react.specs.Sites.{Site}

@@ -1,5 +1,5 @@
 -- Lines of events, put together from their parts.
-use Rattle.std.proofs.Common.{◌≡◌, ℕ, zero, suc, ◌-◌, ◌≤◌, arith, List, ◌++◌, length, drop, map, codes, ap, sym, ◌∙◌, refl, ◌+◌}
+use Rattle.std.proofs.Common.{◌≡◌, ℕ, zero, suc, ◌-◌, ◌≤◌, arith, List, ◌++◌, length, drop, map, codes, ap, sym, ◌∙◌, refl}
 use Rattle.std.specs.Prelude.{Option, Some, None}
 use Rattle.std.specs.Fmt.{decimal}
 use Rattle.aw_term.specs.Rules.{Grammar}

@@ -22,7 +22,7 @@ use Rattle.aw_courier.specs.declared.carrying.CarryFault.{CarryFault}
 use Rattle.aw_courier.specs.declared.carrying.CarryFault.TheVariants as fault
 use Rattle.aw_spec.specs.Reading.{Spec}
 use Rattle.aw_run.specs.declared.reply.Reply.{Reply}
-use Rattle.aw_run.specs.declared.reply.Status.TheVariants.{Done, NoMemory, BadReply}
+use Rattle.aw_run.specs.declared.reply.Status.TheVariants.{Done, NoMemory}
 use Rattle.aw_run.specs.Devices.{wired}
 use Rattle.aw_run.specs.Output.{Writes, NoReplyOf}
 use Rattle.aw_run.specs.Replies.{Replies, reply, reply_with}

@@ -7,7 +7,7 @@ use Rattle.aw_lex.specs.Lines.{lines_of, without_empty_last}
 use Rattle.aw_grammar.specs.Declarations.{Declarations}
 use Rattle.aw_typed.specs.Types.{Types}
 use Rattle.aw_spec.specs.Reading as S
-use Rattle.aw_spec.specs.Reading.{Spec, Draft, LineRead, Next, Fault, End, Reading, Good, after_line, Faulty}
+use Rattle.aw_spec.specs.Reading.{Spec, Draft, LineRead, Next, Fault, End, Reading, Good, after_line}
 use Rattle.aw_sched.specs.Schedules as T
 use Rattle.aw_sched.specs.Schedules.{Nothing, Gives, Read, Events, FaultAt, with_event, in_front}
 use Rattle.aw_sched.specs.declared.fault.SchedKind.{SchedKind}
