@@ -1,17 +1,12 @@
 -- A message whose names are valid for a grammar is in range.
-use Rattle.std.proofs.Common.{◌≡◌, ℕ, ◌≤◌, true, List, length, Some, is_some, slice_get, ap, subst, sym, arith}
-use Rattle.aw_term.specs.Trees.{Head, Con, Num, Text}
+use Rattle.std.proofs.Common.{◌≡◌, ℕ, ◌≤◌, true, List, length, Some, slice_get}
 use Rattle.aw_term.specs.Names.{Ref}
 use Rattle.aw_term.specs.Rules.{Grammar, sort_of}
 use Rattle.aw_term.specs.WellFormed.{Each, head_fits, takes_of}
-use Rattle.aw_grammar.specs.declared.grammar.Grammar as program
-use Rattle.aw_grammar.specs.GrammarOf.{grammar_of}
 use Rattle.aw_base.specs.ChoiceFits.{ref_ok}
 use Rattle.aw_store.specs.Equations.{Body, Same, Is, Equation}
 use Rattle.aw_apply.specs.Made.{Call}
-use Rattle.aw_apply.specs.Messages.{Kind, Calls, Asks, Tells, Message}
-use Rattle.aw_wire.specs.Ranges.{NodeInRange, RefInRange, RefsInRange, HeadInRange}
-use Rattle.aw_msg.specs.MessageRanges.{BodyInRange, EquationInRange, LoadInRange, KindInRange, MessageInRange}
+use Rattle.aw_apply.specs.Messages.{Kind, Calls, Asks, Tells}
 
 -- ---- what is valid; names have at most 250 steps, as each of the program has
 

@@ -11,4 +11,3 @@ pub mod GroundWriting
 pub mod Extending
 pub mod ReadersExtend
 pub mod Cuts
-pub mod OkInRange
