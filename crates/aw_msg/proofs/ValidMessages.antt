@@ -1,4 +1,4 @@
--- A message whose names are valid for a grammar is in range.
+-- Messages whose names are valid for a grammar.
 use Rattle.std.proofs.Common.{◌≡◌, ℕ, ◌≤◌, true, List, length, Some, slice_get}
 use Rattle.aw_term.specs.Names.{Ref}
 use Rattle.aw_term.specs.Rules.{Grammar, sort_of}
@@ -37,5 +37,3 @@ abbrev pub IsValidKind : Grammar → Kind → Type 0
 IsValidKind g (Calls c load) = IsValidCall g c × IsValidLoad g load
 IsValidKind g (Asks r from) = IsValidRef g r
 IsValidKind g (Tells e load) = IsValidEquation g e × IsValidLoad g load
-
--- ---- what is valid is in range
