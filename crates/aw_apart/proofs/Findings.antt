@@ -3,7 +3,6 @@ use Rattle.std.proofs.Common.{◌≡◌, ℕ, suc, ◌+◌, Bool, true, false, L
 use Rattle.std.specs.Prelude.{◌&&◌}
 use Rattle.aw_base.specs.declared.declared.Triple.{Triple}
 use Rattle.aw_term.specs.Rules as P
-use Rattle.aw_term.specs.Rules.{some_rules}
 use Rattle.aw_term.specs.Artifacts.{Words}
 use Rattle.aw_grammar.specs.declared.rule.Sort.{Sort}
 use Rattle.aw_grammar.specs.declared.rule.Rule.{Rule}

@@ -6,7 +6,7 @@ use Rattle.std.proofs.lemmas.Bool.{eqb-true, and_parts}
 use Rattle.std.proofs.lemmas.List.{at_drop_more, drop_more, map-append, length-append}
 use Rattle.std.proofs.lemmas.Option.{slice_get_within, get_or_from_slice_get}
 use Rattle.aw_term.specs.Trees as P
-use Rattle.aw_term.specs.Trees.{Head, Con, Leaf, Made, Nil, More, count, nats_eq, head_eq, join}
+use Rattle.aw_term.specs.Trees.{Head, Con, Leaf, Made, Nil, More, nats_eq, head_eq, join}
 use Rattle.aw_term.specs.Names.{Ref}
 use Rattle.aw_term.specs.Matching.{Matched, Yes, Waits, Differs, Circle, and_then, under}
 use Rattle.aw_term.specs.WellFormed.{leaves, all_leaves}

@@ -1,12 +1,12 @@
 -- Which node a text names, by the parts of the text.
-use Rattle.std.proofs.Common.{◌≡◌, ℕ, ◌+◌, ◌≤◌, ◌<◌, refl, ap, true, false, cond, ◌==◌, List, [], ◌∷◌, length, Option, Some, None, is_some, option_map, option_and_then, count_by, arith, IsSomeAnd}
+use Rattle.std.proofs.Common.{◌≡◌, ℕ, ◌+◌, ◌≤◌, ◌<◌, refl, ap, true, cond, ◌==◌, List, [], ◌∷◌, length, Option, Some, None, is_some, option_map, option_and_then, count_by, arith, IsSomeAnd}
 use Rattle.std.proofs.lemmas.Bool.{lt-ltb}
 use Rattle.std.proofs.lemmas.List.Splits.{length-slice_split}
 use Rattle.aw_text.specs.Spelling.{parts, steps_of, step_of, name_from, start_of, parts_of_name}
 use Rattle.aw_term.specs.Names.{Step}
 use Rattle.aw_term.specs.Rules.{Grammar}
 use Rattle.aw_term.specs.Artifacts.{Words}
-use Rattle.aw_base.specs.NodeNames.{NoNodeName, TooLong, steps_named, with_start, with_parts}
+use Rattle.aw_base.specs.NodeNames.{TooLong, steps_named, with_start, with_parts}
 use Rattle.aw_grammar.specs.Named.{number_named}
 
 abbrev Parts : Type 0

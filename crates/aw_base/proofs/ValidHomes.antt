@@ -1,5 +1,5 @@
 -- A node whose name is valid has a declared sort, and so a home.
-use Rattle.std.proofs.Common.{◌≡◌, ℕ, zero, suc, ◌<◌, true, cond, nat_eq, List, [], ◌∷◌, length, Option, Some, None, is_some, slice_get, get_or, option_map, option_and_then, refl, ap, sym, subst, ◌∙◌}
+use Rattle.std.proofs.Common.{◌≡◌, ℕ, zero, suc, ◌<◌, true, cond, nat_eq, List, [], ◌∷◌, length, Option, Some, None, is_some, slice_get, option_map, option_and_then, refl, ap, sym, subst, ◌∙◌}
 use Rattle.std.proofs.Math.Logic.{∥∥₁_elim}
 use Rattle.std.proofs.Math.Bool.{Bool-set}
 use Rattle.std.proofs.lemmas.Option.{same_Some, slice_get_within, slice_get-get_or}

@@ -1,6 +1,6 @@
 //! Naming references: each new one gets the next slot.
 ghost use Rattle.std.specs.Prelude.{◌≡◌, ◌≤◌, ◌+◌, ◌^◌, ◌<◌, ◌++◌, ◌∷◌, [], Some, true, false, IfOk, OnOk, OnErr, IsOk, MatchOption, length, slice_get, vec_capacity};
-ghost use Rattle.aw_store.specs.NamedRefs.{is_named, all_named, with_name, Grows};
+ghost use Rattle.aw_store.specs.NamedRefs.{is_named, all_named, with_name, Grows, NamesOnly};
 ghost use Rattle.aw_cells.specs.StoredBodies.{refs_of, all_below};
 ghost use Rattle.slab.specs.Slab.{HasRoomFor};
 ghost use Rattle.aw_cells.specs.Rows.{IsOnlyRoom};
@@ -94,6 +94,7 @@ pub fn name_parts(t: &mut Table, refs: &[Ref]) -> Result<Slots, AllocError>
     requires few { length refs.now ≤ 8 }
     ensures table { IsTable t.new }
     ensures grows { Grows (names_of t.old) (names_of t.new) }
+    ensures only { NamesOnly (names_of t.old) (names_of t.new) refs.now }
     ensures map { map_of t.new ≡ map_of t.old }
     ensures slots { IfOk result (λ slots. refs_of (names_of t.new) slots.items ≡ refs.now) }
     ensures below { IfOk result (λ slots. all_below (length (names_of t.new)) slots.items ≡ true) }

@@ -1,8 +1,8 @@
 -- Small cases that were worked by hand, on which the definitions over references are tried.
-use Rattle.std.specs.Prelude.{◌≡◌, ℕ, Bool, true, false, List, [], ◌∷◌, ◌++◌, map, codes, Option, Some, option_map}
+use Rattle.std.specs.Prelude.{◌≡◌, ℕ, true, false, List, [], ◌∷◌, ◌++◌, map, codes, Option, Some, option_map}
 use Rattle.aw_term.specs.Trees.{Tree, Con, Num, Text, Leaf, Made, Nil, More}
 use Rattle.aw_term.specs.Names.{Node, Ref, root, below, result, part}
-use Rattle.aw_term.specs.Rules.{Term, Value, Child, Rule, Sort, Grammar, upto}
+use Rattle.aw_term.specs.Rules.{Value, Grammar, upto}
 use Rattle.aw_term.specs.Configs.{Done}
 use Rattle.aw_term.specs.Choices.{Choice, Start, Develop, Answer, Taken, WaitsFor, answer_of}
 use Rattle.aw_store.specs.Equations.{Same, Is, Equation}

@@ -1,17 +1,12 @@
 -- A guard waits only for a reference that has no equation; and how a rule stands by what its guard gives.
-use Rattle.std.proofs.Common.{◌≡◌, ◌<◌, ℕ, zero, suc, ◌⊎◌, inl, inr, Bool, true, false, cond, List, [], ◌∷◌, length, map, Option, Some, None, slice_get, get_or, refl, sym, ap, ◌∙◌, arith}
-use Rattle.std.specs.Prelude.{nat_eq, nat_lt, ◌&&◌, option_and_then}
-use Rattle.std.proofs.lemmas.List.{length-map}
+use Rattle.std.proofs.Common.{◌≡◌, ◌<◌, ℕ, zero, suc, ◌⊎◌, inl, inr, Bool, true, false, cond, List, [], ◌∷◌, length, Option, Some, None, slice_get, get_or, refl, sym, ap, ◌∙◌, arith}
+use Rattle.std.specs.Prelude.{nat_eq, ◌&&◌, option_and_then}
 use Rattle.std.proofs.lemmas.Bool.{lt-ltb}
 use Rattle.aw_term.specs.Trees.{Head, Leaf, Made, Trees, Nil, More, count, head_eq}
-use Rattle.aw_term.specs.Names.{Node, Ref}
+use Rattle.aw_term.specs.Names.{Ref}
 use Rattle.aw_term.specs.Rules as T
 use Rattle.aw_term.specs.Matching.{Matched, Yes, Waits, Differs, Circle, and_then, under}
-use Rattle.aw_term.specs.Choices.{TooDeep, Refused, Takes, after_guard, deep}
-use Rattle.aw_term.specs.Runs.{refusal_of}
-use Rattle.aw_grammar.specs.declared.rule.Sort.{Sort}
-use Rattle.aw_grammar.specs.declared.rule.Rule.{Rule}
-use Rattle.aw_grammar.specs.GrammarView.{rule_of, child_of}
+use Rattle.aw_term.specs.Choices.{TooDeep}
 use Rattle.aw_store.specs.Equations.{Body, Same, Is, Map, find}
 use Rattle.aw_store.specs.Chase.{Chased, Found, Missing, Round, chase, chase_in, chase_on}
 use Rattle.aw_store.specs.NamedRefs.{body_at, AreNamed}
@@ -22,7 +17,7 @@ use Rattle.aw_apply.specs.Telling.{IsLive}
 use Rattle.aw_apply.specs.declared.guard.Guard.{Guard}
 use Rattle.aw_apply.specs.declared.guard.Guard.TheVariants as given
 use Rattle.aw_kept.specs.declared.record.Stands.TheVariants as stands
-use Rattle.aw_kept.specs.Standings.{kept_refusal, guard_stands}
+use Rattle.aw_kept.specs.Standings.{guard_stands}
 use Rattle.aw_kept.specs.Records.{has_live}
 use Rattle.aw_kept.specs.Tested.{LacksBody}
 

@@ -21,13 +21,12 @@ use Rattle.aw_kept.specs.declared.record.Stands.{Stands}
 use Rattle.aw_kept.specs.declared.record.Stands.TheVariants as stands
 use Rattle.aw_kept.specs.declared.record.Mark.{Mark}
 use Rattle.aw_kept.specs.declared.record.Record.{Record}
-use Rattle.aw_kept.specs.declared.kept.Kept.{Kept}
 use Rattle.aw_kept.specs.Standings.{waits_for_one, is_one_of}
 use Rattle.aw_kept.specs.Records.{AreRising, IsFit, IsOf, IsTold, AreTold, WaitsAtEnd, stand_at, with_stands, mark_rule, open_rules, has_live, is_of_sort}
 use Rattle.aw_kept.specs.Due.{due_of, due_marks, due_record, due, AreSame, waiting_mark}
 use Rattle.aw_kept.specs.Tested.{IsSet, LacksBody}
 use Rattle.aw_held.specs.Picked.{AreApart}
-use Rattle.aw_kept.specs.KeptStates.{AreFit, AreKept, IsFitKept, AreLiveAt}
+use Rattle.aw_kept.specs.KeptStates.{AreFit, AreKept}
 use Rattle.aw_kept.proofs.Places.{IsSetAt}
 use Rattle.aw_kept.proofs.WaitEnds.{told_ends}
 use Rattle.aw_kept.proofs.DueLemmas.{marks_stand, due_changed, due_at, due_is, is_triple, triple_counts, NodeWaits}

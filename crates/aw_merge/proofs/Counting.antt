@@ -2,7 +2,7 @@
 use Rattle.std.proofs.Common.{Bool, List, None, Some, [], ap, arith, false, length, map, refl, suc, true, zero, ℕ, ◌++◌, ◌+◌, ◌∷◌, ◌≡◌, ◌≤◌}
 use Rattle.std.specs.Prelude.{slice_get, slice_set}
 use Rattle.std.proofs.lemmas.Option.{same_Some}
-use Rattle.aw_react.specs.Worlds.{count_open, count_set, first_false}
+use Rattle.aw_react.specs.Worlds.{count_set, first_false}
 
 pub count_within : (ds : List Bool) → count_set ds ≤ length ds
 count_within [] = omega arith

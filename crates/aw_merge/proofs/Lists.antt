@@ -1,5 +1,5 @@
 -- Members of lists, and references in order.
-use Rattle.std.specs.Prelude.{filter, not, ◌||◌, ◌⊎◌, ◌++◌}
+use Rattle.std.specs.Prelude.{filter, ◌||◌, ◌⊎◌, ◌++◌}
 use Rattle.std.proofs.Common.{Bool, List, [], ap, cond, false, inl, inr, length, map, refl, subst, sym, true, ◌∙◌, ◌∷◌, ◌≡◌}
 use Rattle.std.proofs.lemmas.List.{length-map}
 use Rattle.aw_list.specs.Members.{Member}

@@ -7,7 +7,6 @@ use Rattle.std.proofs.lemmas.List.{length-map}
 use Rattle.std.proofs.lemmas.Option.{slice_get_within}
 use Rattle.aw_list.proofs.Members.{below_or_at, member_got, member_place}
 use Rattle.aw_base.specs.declared.declared.Triple.{Triple}
-use Rattle.aw_term.specs.Trees.{Never}
 use Rattle.aw_term.specs.Choices.{gives_of}
 use Rattle.aw_term.specs.WellFormed.{Each, takes_of}
 use Rattle.aw_grammar.specs.declared.grammar.Grammar.{Grammar}

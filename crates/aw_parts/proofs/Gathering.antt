@@ -1,11 +1,8 @@
 -- Parts that are gathered one role after the other.
-use Rattle.std.proofs.Common.{◌≡◌, ℕ, suc, ◌+◌, List, [], ◌∷◌, ◌++◌, length, Option, None, Some, Result, Ok, Err, IfOk, refl, sym, ap, ◌∙◌, subst, arith}
+use Rattle.std.proofs.Common.{◌≡◌, ℕ, suc, ◌+◌, List, [], ◌∷◌, ◌++◌, length, refl, sym, subst, arith}
 use Rattle.aw_grammar.specs.declared.grammar.Grammar.{Grammar}
-use Rattle.aw_grammar.specs.SomeRules.{rules_at}
-use Rattle.aw_modular.specs.declared.part.Part.{Part}
 use Rattle.aw_modular.specs.declared.yes.RoleYes.{RoleYes}
-use Rattle.aw_modular.specs.PartViews.{IsCopy}
-use Rattle.aw_modular.specs.Wholes.{ArePartsOf, HaveRoles, AreInOrder, IsPartOf}
+use Rattle.aw_modular.specs.Wholes.{ArePartsOf, IsPartOf}
 use Rattle.aw_parts.specs.Parts.{AreFirst}
 
 -- one part more

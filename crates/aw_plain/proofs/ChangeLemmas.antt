@@ -5,7 +5,7 @@ use Rattle.std.proofs.lemmas.Simd.{map-map}
 use Rattle.aw_term.specs.Names.{Node, node_lt}
 use Rattle.aw_term.specs.Rules.{Value, Ground, Rule}
 use Rattle.aw_term.specs.Configs as Q
-use Rattle.aw_term.specs.Configs.{State, Done, Config, done_row, rounds, env, fill, child_rows, insert_row, insert_rows, row_put, put, develop}
+use Rattle.aw_term.specs.Configs.{Done, Config, done_row, rounds, env, fill, child_rows, insert_row, insert_rows, row_put, put, develop}
 use Rattle.aw_term.proofs.RowParts.{rounds_node}
 use Rattle.aw_plain.specs.declared.row.Row.{Row}
 use Rattle.aw_plain.specs.declared.change.Change.{Change}

@@ -2,7 +2,7 @@
 use Rattle.std.proofs.Common.{◌≡◌, ℕ, suc, ◌+◌, List, [], ◌∷◌, ◌++◌, map, sym, ap, ◌∙◌, arith}
 use Rattle.std.proofs.lemmas.List.{map-append}
 use Rattle.aw_term.specs.Trees as P
-use Rattle.aw_term.specs.Trees.{Leaf, Made, join, bind}
+use Rattle.aw_term.specs.Trees.{Leaf, Made, join}
 use Rattle.aw_term.specs.Names.{Node, result}
 use Rattle.aw_term.specs.Rules.{Value, get, upto}
 use Rattle.aw_term.specs.Configs.{fill, lift, holes, nothing}

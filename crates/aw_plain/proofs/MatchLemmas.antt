@@ -4,7 +4,7 @@ use Rattle.std.specs.Prelude.{nat_eq, nat_le, ◌&&◌, zero}
 use Rattle.std.proofs.lemmas.Bool.{and_parts, ne_eqb}
 use Rattle.std.proofs.lemmas.List.{at_drop_more, map-append, length-map}
 use Rattle.aw_term.specs.Trees as P
-use Rattle.aw_term.specs.Trees.{Leaf, Made, Nil, More, count, head_eq, join}
+use Rattle.aw_term.specs.Trees.{Leaf, Made, Nil, More, count, join}
 use Rattle.aw_term.specs.Names.{Ref}
 use Rattle.aw_term.specs.Rules.{Value}
 use Rattle.aw_term.specs.Matching.{Matched, Yes, Waits, Differs, Circle, and_then, under, match, match_parts}

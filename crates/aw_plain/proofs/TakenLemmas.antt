@@ -1,6 +1,6 @@
 -- What a choice keeps: that rows are filled, that they are reached, and so that they are acyclic.
 use Rattle.std.proofs.Common.{◌≡◌, ℕ, zero, suc, arith, Bool, true, false, cond, List, [], ◌∷◌, ◌++◌, length, map, Option, Some, None, slice_get, sym, ap, ◌∙◌, refl, subst}
-use Rattle.std.specs.Prelude.{option_and_then, Result, Ok, Err, IfOk, OnErr}
+use Rattle.std.specs.Prelude.{Result, Ok, Err, IfOk, OnErr}
 use Rattle.std.proofs.Math.Logic.{∥∥₁_map, ∥∥₁_map₂}
 use Rattle.std.proofs.lemmas.List.{length-map}
 use Rattle.std.proofs.lemmas.Result.{IfOk-weaker}
@@ -9,7 +9,7 @@ use Rattle.aw_term.specs.Trees.{bind}
 use Rattle.aw_term.specs.Names.{Node, Ref, node_eq, node_lt}
 use Rattle.aw_term.specs.Rules.{Ground, Value, Child, Rule, Sort, Grammar}
 use Rattle.aw_term.specs.Configs.{State, Done, Row, Config, child_rows, insert_row, insert_rows, row_of, done_row, row_put, rounds, develop, fill}
-use Rattle.aw_term.specs.Choices.{Choice, Start, Develop, Outcome, Refused, Starts, Takes, outcome, start_row, taken, or_same, answer, after, undivided}
+use Rattle.aw_term.specs.Choices.{Choice, Start, Develop, Outcome, Refused, Starts, Takes, outcome, start_row, taken, or_same, answer, after}
 use Rattle.aw_term.specs.Artifacts.{Words}
 use Rattle.aw_term.specs.WellFormed.{Each, takes_of, SortFits, ChildFits, RuleFits, IsWellFormed}
 use Rattle.aw_choice.specs.declared.choice.Answer.{Answer}

@@ -1,6 +1,6 @@
 -- Copying what was printed.
-use Rattle.std.proofs.Common.{◌≡◌, ℕ, zero, suc, ◌+◌, ◌-◌, ◌<◌, ◌≤◌, List, [], ◌∷◌, ◌++◌, take, drop, length, sym, ap, ◌∙◌, subst, arith, append-nil, length-append}
-use Rattle.std.specs.Prelude.{Result, Ok, Err, OnOk, slice_range}
+use Rattle.std.proofs.Common.{◌≡◌, ℕ, zero, suc, ◌+◌, ◌-◌, ◌<◌, ◌≤◌, List, [], ◌∷◌, ◌++◌, take, drop, length, sym, ap, ◌∙◌, subst, arith, length-append}
+use Rattle.std.specs.Prelude.{Result, Ok, Err, slice_range}
 use Rattle.std.proofs.Math.ListN.{drop_of_length-le}
 use Rattle.std.proofs.Math.Seq.{take-add, take-length}
 use Rattle.std.proofs.lemmas.List.{length-drop, length-take-le}
@@ -8,8 +8,6 @@ use Rattle.aw_out.specs.Report.{Bounded, printed, Prints, PrintsFront}
 use Rattle.aw_out.specs.declared.error.PrintFault.{PrintFault}
 use Rattle.aw_out.specs.declared.error.PrintFault.TheVariants.{TooLarge}
 use Rattle.aw_out.proofs.Printing.{printed-append, PrintsFront-first}
-use Rattle.aw_print.specs.Drafts.{Whole}
-use Rattle.aw_print.specs.Growing.{Puts, printing}
 use Rattle.aw_print.proofs.StackLemmas.{range_on}
 
 drop_drop : (n m j : ℕ) (xs : List ℕ) → j ≡ m + n → drop n (drop m xs) ≡ drop j xs

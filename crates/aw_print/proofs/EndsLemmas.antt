@@ -1,13 +1,10 @@
 -- Where the chases from slots end, and what is kept of it.
-use Rattle.std.proofs.Common.{◌≡◌, ℕ, zero, suc, ◌<◌, List, [], ◌∷◌, ◌++◌, length, take, replicate, Some, Ok, Err, inl, inr, refl, sym, ap, ◌∙◌, subst}
-use Rattle.std.specs.Prelude.{Option, None, Result, OnOk, is_ok, if◌then◌else◌, ◌⊎◌, slice_get, slice_set, option_and_then}
+use Rattle.std.proofs.Common.{◌≡◌, ℕ, zero, suc, ◌<◌, List, [], ◌∷◌, length, Some, inl, inr, refl, sym, ap, ◌∙◌, subst}
+use Rattle.std.specs.Prelude.{Option, ◌⊎◌, slice_get}
 use Rattle.std.proofs.lemmas.Option.{slice_get_within}
 use Rattle.aw_term.specs.Trees as T
-use Rattle.aw_term.specs.Trees.{Head}
 use Rattle.aw_term.specs.Names.{Ref}
-use Rattle.aw_store.specs.Equations.{Body, Same, Is, Map, find}
-use Rattle.aw_store.specs.NamedRefs.{body_at}
-use Rattle.aw_store.specs.StoreView.{IsKindOf}
+use Rattle.aw_store.specs.Equations.{Same, Map, find}
 use Rattle.aw_store.specs.Chase.{Chased, Found, Missing, Round, chase_on, chase_in, chase}
 use Rattle.aw_store.specs.ChaseView.{IsChasedTo}
 use Rattle.aw_store.specs.declared.facts.Kind.TheVariants as kind

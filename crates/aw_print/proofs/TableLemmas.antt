@@ -1,10 +1,9 @@
 -- The table of texts that were printed whole.
-use Rattle.std.proofs.Common.{◌≡◌, ℕ, zero, suc, List, [], ◌∷◌, ◌++◌, length, take, replicate, Some, Ok, Err, inl, inr, ap, ◌∙◌, subst, arith}
+use Rattle.std.proofs.Common.{◌≡◌, ℕ, zero, suc, List, [], ◌++◌, length, take, replicate, Some, Ok, Err, ap, ◌∙◌, subst, arith}
 use Rattle.std.proofs.lemmas.List.{nil_from_length, length-take}
-use Rattle.std.specs.Prelude.{Option, None, Result, OnOk, is_ok, if◌then◌else◌, ◌⊎◌, slice_get, slice_set}
+use Rattle.std.specs.Prelude.{Option, None, Result, OnOk, is_ok, if◌then◌else◌, slice_get}
 use Rattle.aw_print.specs.declared.stack.Span.{Span}
-use Rattle.aw_print.specs.Ends.{AreEnds}
-use Rattle.aw_print.specs.Stacks.{Holds, Origin, Desk, IsAtRest}
+use Rattle.aw_print.specs.Stacks.{Holds}
 
 abbrev no_span : Option Span
 no_span = None

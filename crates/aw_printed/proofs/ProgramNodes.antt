@@ -1,18 +1,14 @@
 -- A valid node of the program, printed and read by it.
-use Rattle.std.proofs.Common.{◌≡◌, sym, ap, ◌∙◌, List, true, is_some}
+use Rattle.std.proofs.Common.{◌≡◌, ap, ◌∙◌, List, true, is_some}
 use Rattle.std.proofs.Math.Logic.{∥∥₁_elim}
-use Rattle.std.proofs.lemmas.List.{length-map}
 use Rattle.std.specs.Prelude.{ℕ}
 use Rattle.aw_term.specs.Names.{Node}
 use Rattle.aw_term.specs.Rules.{sort_of}
 use Rattle.aw_term.specs.Artifacts.{node_text}
-use Rattle.aw_grammar.specs.GrammarView.{rule_of}
 use Rattle.aw_grammar.specs.GrammarView as view
 use Rattle.aw_grammar.specs.GrammarOf.{grammar_of, words_of}
 use Rattle.aw_base.specs.NodeNames.{Named, node_read}
 use Rattle.aw_grammar.specs.declared.grammar.Grammar.{Grammar}
-use Rattle.aw_grammar.specs.declared.rule.Sort.{Sort}
-use Rattle.aw_grammar.specs.declared.rule.Rule.{Rule}
 use Rattle.aw_printed.specs.Printed.{IsHeld}
 use Rattle.aw_printed.proofs.NodeProps.{named_prop}
 use Rattle.aw_printed.proofs.Reading.{node_again}

@@ -1,12 +1,12 @@
 -- What a call and equations cost, by the program's nodes and by the plain ones.
-use Rattle.std.proofs.Common.{◌≡◌, ℕ, ◌+◌, ◌≤◌, true, List, [], ◌∷◌, map, Option, Some, None, refl, ap, sym, subst, ◌∙◌, arith, All, filter}
+use Rattle.std.proofs.Common.{◌≡◌, ℕ, ◌+◌, ◌≤◌, true, List, [], ◌∷◌, map, Option, Some, None, refl, ap, sym, ◌∙◌, arith, All, filter}
 use Rattle.std.specs.Prelude.{option_map}
 use Rattle.std.proofs.lemmas.Bool.{and_parts}
 use Rattle.std.proofs.lemmas.List.Elements.{All-nil, All-cons}
 use Rattle.aw_term.specs.Rules.{Grammar, sort_of}
 use Rattle.aw_term.specs.Held as P
 use Rattle.aw_apply.specs.declared.making.MadeChild.{MadeChild}
-use Rattle.aw_store.specs.Equations.{Equation, Map, find}
+use Rattle.aw_store.specs.Equations.{Equation, find}
 use Rattle.aw_held.specs.declared.held.Held.{Held}
 use Rattle.aw_held.specs.HeldView.{all_of}
 use Rattle.aw_held.specs.Row.{Row}

@@ -1,11 +1,8 @@
 -- The references that nodes inherited, one after the other, and that they are named.
-use Rattle.std.proofs.Common.{◌≡◌, ℕ, ◌+◌, ◌<◌, true, List, [], ◌∷◌, ◌++◌, length, take, get_or, refl, ap, sym, ◌∙◌}
-use Rattle.std.proofs.lemmas.List.{take_more}
+use Rattle.std.proofs.Common.{◌≡◌, ◌+◌, true, List, [], ◌∷◌, ◌++◌, refl}
 use Rattle.std.proofs.lemmas.Bool.{and_parts, and_from}
 use Rattle.aw_term.specs.Names.{Ref}
 use Rattle.aw_store.specs.NamedRefs.{is_named, all_named}
-use Rattle.aw_held.specs.declared.held.Held.{Held}
-use Rattle.aw_space.specs.Sound.{all_inherited}
 
 pub all_named-append : (ns xs ys : List Ref) → all_named ns xs ≡ true → all_named ns ys ≡ true → all_named ns (xs ++ ys) ≡ true
 all_named-append ns [] ys a b = b

@@ -1,9 +1,9 @@
 -- What is kept of nodes that are to be held.
-use Rattle.std.proofs.Common.{◌≡◌, ℕ, zero, suc, ◌+◌, ◌≤◌, Bool, true, false, cond, List, [], ◌∷◌, length, map, Option, Some, None, is_some, refl, ap, sym, subst, ◌∙◌, arith, All}
-use Rattle.std.specs.Prelude.{option_map, count_by, nat_eq, slice_get, vec_len}
+use Rattle.std.proofs.Common.{◌≡◌, ℕ, suc, ◌+◌, ◌≤◌, Bool, true, false, cond, List, [], ◌∷◌, length, map, Option, Some, None, is_some, refl, ap, sym, ◌∙◌, arith, All}
+use Rattle.std.specs.Prelude.{option_map, count_by, nat_eq, slice_get}
 use Rattle.std.proofs.lemmas.Bool.{eqb-true}
 use Rattle.std.proofs.lemmas.List.Sums.{sum_by-cons}
-use Rattle.aw_term.specs.Names.{Node, Ref, node_eq, node_lt}
+use Rattle.aw_term.specs.Names.{Ref, node_eq, node_lt}
 use Rattle.aw_term.specs.Rules.{Rule, Grammar, sort_of}
 use Rattle.aw_term.specs.WellFormed.{takes_of}
 use Rattle.aw_term.proofs.NodeTests.{node_self}
@@ -16,8 +16,7 @@ use Rattle.aw_react.specs.ValidNames.{takes_as}
 use Rattle.aw_kept.specs.declared.kept.Kept.{Kept}
 use Rattle.aw_kept.specs.declared.record.Record.{Record}
 use Rattle.aw_kept.specs.KeptStates.{HasRoom}
-use Rattle.aw_kept.specs.Records.{IsFit, IsOf, open_node, open_rules, mark_rule, rules_of as numbers_of}
-use Rattle.aw_kept.specs.Tested.{IsFresh}
+use Rattle.aw_kept.specs.Records.{IsOf, open_node, open_rules, mark_rule, rules_of as numbers_of}
 use Rattle.aw_kept.proofs.Growing.{fit_grows, of_grows}
 use Rattle.aw_term.specs.Held as P
 use Rattle.aw_space.specs.Costs.{rules_of, rules_at}

@@ -1,5 +1,5 @@
 -- What is kept, where an equation comes that rules waited for.
-use Rattle.std.proofs.Common.{◌≡◌, ℕ, zero, suc, ◌+◌, ◌≤◌, Bool, true, false, cond, List, [], ◌∷◌, ◌++◌, length, map, take, drop, get_or, All, Option, Some, None, is_some, slice_get, refl, ap, sym, ◌∙◌, subst, arith}
+use Rattle.std.proofs.Common.{◌≡◌, ℕ, zero, suc, ◌+◌, ◌≤◌, Bool, true, false, cond, List, [], ◌∷◌, ◌++◌, length, map, take, drop, get_or, All, Some, None, is_some, slice_get, refl, ap, sym, ◌∙◌, subst, arith}
 use Rattle.std.specs.Prelude.{◌||◌, option_and_then, sum_by}
 use Rattle.std.proofs.lemmas.Bool.{and_parts, and_from}
 use Rattle.std.proofs.lemmas.List.Elements.{All-head, All-tail}
@@ -8,7 +8,7 @@ use Rattle.std.proofs.lemmas.Option.{slice_get-get_or}
 use Rattle.aw_term.specs.Names.{Ref, ref_eq}
 use Rattle.aw_term.specs.Rules.{Grammar}
 use Rattle.aw_term.proofs.RefTests.{ref_eq-self, ref_eq-true}
-use Rattle.aw_store.specs.Equations.{Body, Equation, Map, find, mentions}
+use Rattle.aw_store.specs.Equations.{Equation, Map, find, mentions}
 use Rattle.aw_store.specs.NamedRefs.{is_named, all_named, has_names, has_names_of, Grows, body_at, IsNamedOnce}
 use Rattle.aw_store.proofs.MoreEquations.{find-left_more, find-right_more}
 use Rattle.aw_store.specs.EquationView.{equation_of}
@@ -18,13 +18,12 @@ use Rattle.aw_store.specs.declared.facts.Added.{Added}
 use Rattle.aw_store.specs.declared.facts.Added.TheVariants.{New, Same, Conflict}
 use Rattle.aw_held.specs.declared.held.Held.{Held}
 use Rattle.aw_held.specs.HeldView.{all_of}
-use Rattle.aw_joint.specs.Laws.{IsSubmap}
 use Rattle.aw_react.specs.Worklists.{site_worklist}
 use Rattle.aw_work.specs.Triples.{waiting_at}
 use Rattle.aw_kept.specs.Items.{waiting_on}
 use Rattle.aw_kept.proofs.ItemLemmas.{pairs_wait}
 use Rattle.aw_kept.specs.declared.kept.Kept.{Kept}
-use Rattle.aw_kept.specs.KeptStates.{AreFit, IsFitKept, IsKept, IsKeptBut, AreLate}
+use Rattle.aw_kept.specs.KeptStates.{IsFitKept, IsKept, IsKeptBut, AreLate}
 use Rattle.aw_kept.proofs.Growing.{fit_grows, kept_named, kept_grown}
 use Rattle.aw_space.specs.Waking.{AreKnown, IsBound, left_of, lefts_of}
 

@@ -1,13 +1,11 @@
 -- What is weighed of a rule by how it stands.
-use Rattle.std.proofs.Common.{◌≡◌, ℕ, Bool, cond, List, length, map, Option, Some, None, slice_get, refl, ap, sym, ◌∙◌}
-use Rattle.std.specs.Prelude.{option_map, nat_eq}
-use Rattle.std.proofs.lemmas.Bool.{eq-eqb}
+use Rattle.std.proofs.Common.{◌≡◌, ℕ, List, Some, None, slice_get, ap, sym, ◌∙◌}
+use Rattle.std.specs.Prelude.{option_map}
 use Rattle.std.proofs.lemmas.Option.{slice_get-map}
-use Rattle.aw_term.specs.Names.{Node, Ref}
+use Rattle.aw_term.specs.Names.{Ref}
 use Rattle.aw_term.specs.Rules as P
-use Rattle.aw_term.specs.Rules.{Ground, sort_of}
+use Rattle.aw_term.specs.Rules.{sort_of}
 use Rattle.aw_term.specs.Choices as Q
-use Rattle.aw_term.specs.Choices.{after_guard}
 use Rattle.aw_term.specs.Held as H
 use Rattle.aw_term.specs.Runs.{refusal_of as plain_refusal}
 use Rattle.aw_choice.specs.declared.choice.Standing.{Standing}
@@ -17,15 +15,11 @@ use Rattle.aw_grammar.specs.declared.rule.Rule.{Rule}
 use Rattle.aw_grammar.specs.GrammarOf.{grammar_of}
 use Rattle.aw_grammar.specs.GrammarView.{rule_of}
 use Rattle.aw_store.specs.Equations.{Map}
-use Rattle.aw_apply.specs.Guard.{guard_all}
-use Rattle.aw_joint.specs.Joint.{by_rule}
-use Rattle.aw_apply.specs.Telling.{weighed_of}
 use Rattle.aw_apply.specs.declared.telling.Weighed.{Weighed}
 use Rattle.aw_apply.specs.declared.telling.Weighed.TheVariants as weighed
 use Rattle.aw_held.specs.declared.held.Held.{Held}
 use Rattle.aw_held.specs.HeldView.{sort_or}
 use Rattle.aw_kept.specs.Items.{RuleStands, StandsAt}
-use Rattle.aw_space.specs.Weighing.{IsRefused}
 
 -- what leads to a refusal is refused so
 pub refused_is : (x : Q.Outcome Ref Ref) (a : Q.Answer Ref) → Some a ≡ plain_refusal x → Q.Refused a ≡ x

@@ -1,8 +1,8 @@
 -- How many guards a space tests at most.
-use Rattle.std.specs.Prelude.{ℕ, ◌+◌, Bool, false, List, [], ◌∷◌, Option, Some, None, count_by, sum_by, nat_eq}
-use Rattle.aw_term.specs.Names.{Ref, ref_eq}
+use Rattle.std.specs.Prelude.{ℕ, ◌+◌, List, [], ◌∷◌, Option, Some, None, count_by, sum_by, nat_eq}
+use Rattle.aw_term.specs.Names.{Ref}
 use Rattle.aw_term.specs.Rules.{Rule, Grammar}
-use Rattle.aw_term.specs.Choices.{Choice, Start, Develop, Answer, WaitsFor, Outcome, Starts, Takes}
+use Rattle.aw_term.specs.Choices.{Choice, Start, Develop, Outcome, Starts, Takes}
 use Rattle.aw_term.specs.Artifacts.{Item}
 use Rattle.aw_term.specs.Held.{Held}
 use Rattle.aw_store.specs.Equations.{Equation, find}

@@ -8,11 +8,11 @@ use Rattle.aw_store.specs.Refs.{ref_eq}
 use Rattle.aw_store.specs.Equations as P
 use Rattle.aw_store.specs.Equations.{Map, find}
 use Rattle.aw_store.specs.EquationView.{equation_of}
-use Rattle.aw_store.specs.NamedRefs.{has_names_of, has_names}
+use Rattle.aw_store.specs.NamedRefs.{is_named, has_names_of, has_names, refs_in, all_refs_in, NamesOnly}
 use Rattle.aw_store.specs.ListStore.{lacking}
 use Rattle.aw_store.specs.declared.equation.Equation.{Equation}
 use Rattle.aw_term.proofs.RefTests.{ref_eq-true, ref_eq-self}
-use Rattle.aw_store.proofs.NameLemmas.{has_names-push}
+use Rattle.aw_store.proofs.NameLemmas.{has_names-push, is_named-append, is_named-behind, only_more, only_among}
 
 -- Members
 pub has_names-member : (ns : List Ref) (k : Map) (e : P.Equation) → Contains k e → has_names ns k ≡ true → has_names_of ns e ≡ true
@@ -133,3 +133,15 @@ pub has_names-take : (ns : List Ref) (es : List Equation) (i : ℕ) (e : Equatio
 has_names-take ns es i e l f w v =
     ap (λ x. has_names ns (map equation_of x)) (take_more es i e l ∙ ap (λ x. take i es ++ x ∷ []) (sym f)) ∙ ap (has_names ns) (map_push equation_of (take i es) e)
     ∙ has_names-push ns (map equation_of (take i es)) (equation_of e) w v
+
+-- Which names came
+among_all : (es : List Equation) (i : ℕ) (e : Equation) (q : Ref) → i < length es → e ≡ get_or es i e → is_named (refs_in (equation_of e)) q ≡ true → is_named (all_refs_in (map equation_of es)) q ≡ true
+among_all [] i e q l f w = absurd (omega (arith, l))
+among_all (x ∷ es) zero e q l f w = is_named-append (refs_in (equation_of x)) _ q (ap (λ y. is_named (refs_in (equation_of y)) q) (sym f) ∙ w)
+among_all (x ∷ es) (suc i) e q l f w = is_named-behind (refs_in (equation_of x)) _ q (among_all es i e q (omega (arith, l)) f w)
+
+-- a step of a loop over equations
+pub only_at : (a b c : List Ref) (es : List Equation) (i : ℕ) (e : Equation) → i < length es → e ≡ get_or es i e → NamesOnly a b (all_refs_in (map equation_of es)) → NamesOnly b c (refs_in (equation_of e)) → NamesOnly a c (all_refs_in (map equation_of es))
+only_at a b c es i e l f g h =
+    let all = all_refs_in (map equation_of es) in
+    only_more a b c all g (only_among b c (refs_in (equation_of e)) all (λ q w. among_all es i e q l f w) h)

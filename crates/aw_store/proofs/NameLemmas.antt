@@ -1,14 +1,14 @@
 -- Lists of named references.
 use Rattle.std.proofs.Common.{◌≡◌, ℕ, zero, suc, ◌+◌, ◌<◌, Bool, true, false, List, [], ◌∷◌, ◌++◌, length, take, get_or, Some, refl, ap, sym, ◌∙◌, inl, inr, append_assoc}
-use Rattle.std.specs.Prelude.{slice_get, ◌⊎◌, ◌||◌, if◌then◌else◌, Result, Ok, Err, IsOk, OnOk}
+use Rattle.std.specs.Prelude.{slice_get, ◌⊎◌, ◌||◌, if◌then◌else◌, Result, Ok, Err, IsOk, OnOk, OnErr}
 use Rattle.std.proofs.lemmas.Bool.{and_parts, and_from, both_ways, or_right}
 use Rattle.std.proofs.lemmas.List.{take_more}
 use Rattle.std.proofs.lemmas.Option.{slice_get_read}
 use Rattle.aw_term.specs.Names.{Ref}
 use Rattle.aw_store.specs.Refs.{ref_eq}
 use Rattle.aw_store.specs.Equations.{Equation, Map, mentions}
-use Rattle.aw_store.specs.NamedRefs.{is_named, all_named, has_names_of, has_names, with_name, IsNamedOnce, Grows}
-use Rattle.aw_term.proofs.RefTests.{ref_eq-self}
+use Rattle.aw_store.specs.NamedRefs.{is_named, all_named, has_names_of, has_names, with_name, refs_in, IsNamedOnce, Grows, NamesOnly}
+use Rattle.aw_term.proofs.RefTests.{ref_eq-self, ref_eq-true}
 
 pub grows_more : (a b c : List Ref) → Grows a b → Grows b c → Grows a c
 grows_more a b c (m, e) (n, f) = (m ++ n, f ∙ ap (λ x. x ++ n) e ∙ append_assoc a m n)
@@ -17,7 +17,7 @@ by_first : (b x y : Bool) → (b || x) ≡ true → (x ≡ true → y ≡ true) 
 by_first true x y e go = refl
 by_first false x y e go = go e
 
-is_named-append : (ns more : List Ref) (r : Ref) → is_named ns r ≡ true → is_named (ns ++ more) r ≡ true
+pub is_named-append : (ns more : List Ref) (r : Ref) → is_named ns r ≡ true → is_named (ns ++ more) r ≡ true
 is_named-append [] more r e = absurd cc
 is_named-append (n ∷ ns) more r e = by_first (ref_eq r n) (is_named ns r) (is_named (ns ++ more) r) e (is_named-append ns more r)
 
@@ -102,3 +102,50 @@ names_both (Err x) ns e a w = w
 -- a name that is there is not named again
 pub with_name-named : (ns : List Ref) (r : Ref) → is_named ns r ≡ true → ns ≡ with_name ns r
 with_name-named ns r w = ap (λ b. if b then ns else ns ++ r ∷ []) (sym w)
+
+-- Which names came
+pub only_same : (ns new rs : List Ref) → new ≡ ns → NamesOnly ns new rs
+only_same ns new rs e = λ q v. inl (sym (ap (λ x. is_named x q) e) ∙ v)
+
+pub only_more : (a b c rs : List Ref) → NamesOnly a b rs → NamesOnly b c rs → NamesOnly a c rs
+only_more a b c rs f g = λ q v. elim (g q v) [ inl w ↦ f q w | inr w ↦ inr w ]
+
+pub only_among : (a b rs qs : List Ref) → ((q : Ref) → is_named rs q ≡ true → is_named qs q ≡ true) → NamesOnly a b rs → NamesOnly a b qs
+only_among a b rs qs h f = λ q v. elim (f q v) [ inl w ↦ inl w | inr w ↦ inr (h q w) ]
+
+pub is_named-behind : (ns more : List Ref) (r : Ref) → is_named more r ≡ true → is_named (ns ++ more) r ≡ true
+is_named-behind [] more r w = w
+is_named-behind (n ∷ ns) more r w = or_right (ref_eq r n) _ (is_named-behind ns more r w)
+
+pub named_first : (r : Ref) (rs : List Ref) → is_named (r ∷ rs) r ≡ true
+named_first r rs = ap (λ b. b || is_named rs r) (ref_eq-self r)
+
+came_behind : (b x y : Bool) (P : Type 0) → (b || y) ≡ true → (y ≡ true → (x ≡ true) ⊎ P) → ((b || x) ≡ true) ⊎ P
+came_behind true x y P e go = inl refl
+came_behind false x y P e go = go e
+
+-- a reference among the names and one more
+came : (ns : List Ref) (r q : Ref) → is_named (ns ++ r ∷ []) q ≡ true → (is_named ns q ≡ true) ⊎ (q ≡ r)
+came [] r q v = inr (by (ref_eq q r) refl v)
+  where
+    by : (b : Bool) → ref_eq q r ≡ b → (b || false) ≡ true → q ≡ r
+    by true f e = ref_eq-true q r f
+    by false f e = absurd cc
+came (n ∷ ns) r q v = came_behind (ref_eq q n) (is_named ns q) (is_named (ns ++ r ∷ []) q) (q ≡ r) v (came ns r q)
+
+came_with : (ns : List Ref) (r q : Ref) (b : Bool) → is_named (if b then ns else ns ++ r ∷ []) q ≡ true → (is_named ns q ≡ true) ⊎ (q ≡ r)
+came_with ns r q true v = inl v
+came_with ns r q false v = came ns r q v
+
+pub only_named : {T E : Type 0} (o : Result T E) (ns new rs : List Ref) (r : Ref) → is_named rs r ≡ true → OnOk o (new ≡ with_name ns r) → OnErr o (new ≡ ns) → NamesOnly ns new rs
+only_named (Ok x) ns new rs r h e w = λ q v.
+    elim (came_with ns r q (is_named ns r) (sym (ap (λ y. is_named y q) e) ∙ v)) [ inl u ↦ inl u | inr u ↦ inr (ap (is_named rs) u ∙ h) ]
+only_named (Err x) ns new rs r h w e = only_same ns new rs e
+
+-- the names of a body, after that of the left side
+pub only_both : (a b c : List Ref) (e : Equation) → NamesOnly a b (refs_in e) → NamesOnly b c (mentions e.body) → NamesOnly a c (refs_in e)
+only_both a b c e f g = only_more a b c (refs_in e) f (only_among b c (mentions e.body) (refs_in e) (λ q w. or_right (ref_eq q e.left) _ w) g)
+
+-- a step of a loop over references
+pub only_at : {T E : Type 0} (o : Result T E) (a b c rs : List Ref) (i : ℕ) (r : Ref) → i < length rs → r ≡ get_or rs i r → NamesOnly a b rs → OnOk o (c ≡ with_name b r) → OnErr o (c ≡ b) → NamesOnly a c rs
+only_at o a b c rs i r l e f k w = only_more a b c rs f (only_named o b c rs r (is_named-at rs i r (slice_get_read rs (length rs) i r refl l e)) k w)

@@ -1,5 +1,5 @@
 -- The references that a store has named, each by its place in one list: its slot.
-use Rattle.std.specs.Prelude.{◌≡◌, ℕ, Bool, true, false, ◌&&◌, ◌||◌, if◌then◌else◌, List, [], ◌∷◌, ◌++◌, map, Option, Some, None, slice_get, option_and_then}
+use Rattle.std.specs.Prelude.{◌≡◌, ℕ, Bool, true, false, ◌&&◌, ◌||◌, if◌then◌else◌, List, [], ◌∷◌, ◌++◌, map, Option, Some, None, slice_get, option_and_then, ◌⊎◌}
 use Rattle.aw_term.specs.Trees.{Con, Text}
 use Rattle.aw_term.specs.Names.{Ref}
 use Rattle.aw_store.specs.Refs.{ref_eq}
@@ -31,6 +31,19 @@ IsNamedOnce names = (i j : ℕ) (r : Ref) → slice_get names i ≡ Some r → s
 -- more names may have come; a slot keeps its name
 abbrev pub Grows : List Ref → List Ref → Type 0
 Grows old new = (more : List Ref) × (new ≡ old ++ more)
+
+-- the references of an equation: its left side, and those that stand in its body
+abbrev pub refs_in : Equation → List Ref
+refs_in e = e.left ∷ mentions e.body
+
+-- the references of all these equations
+abbrev pub all_refs_in : Map → List Ref
+all_refs_in [] = []
+all_refs_in (e ∷ es) = refs_in e ++ all_refs_in es
+
+-- each reference that is named now was named before, or is one of these
+abbrev pub NamesOnly : List Ref → List Ref → List Ref → Type 0
+NamesOnly old new rs = (r : Ref) → is_named new r ≡ true → (is_named old r ≡ true) ⊎ (is_named rs r ≡ true)
 
 -- the names with this one among them, at the end where it was not
 abbrev pub with_name : List Ref → Ref → List Ref

@@ -2,7 +2,7 @@
 ghost use Rattle.std.specs.Prelude.{◌≡◌, ◌≤◌, ◌+◌, ◌++◌, ◌∷◌, [], None, true, IfOk, OnOk, OnErr, IsOk, IsSome, Contains, map, is_none, vec_len, vec_capacity, if◌then◌else◌};
 ghost use Rattle.aw_store.specs.Equations.{find, mentions};
 ghost use Rattle.aw_store.specs.EquationView.{body_of, equation_of};
-ghost use Rattle.aw_store.specs.NamedRefs.{all_named, has_names, has_names_of, IsNamedOnce, Grows};
+ghost use Rattle.aw_store.specs.NamedRefs.{all_named, has_names, has_names_of, refs_in, all_refs_in, IsNamedOnce, Grows, NamesOnly};
 ghost use Rattle.aw_store.specs.StoreView.{Adds, IsAddable, Compares, has_few};
 ghost use Rattle.aw_store.specs.ListStore.{IsSound, lacking};
 
@@ -18,6 +18,7 @@ fn name_body(names: &mut Vec<Ref>, body: &Body) -> Result<(), AllocError>
     requires { IsNamedOnce names.old.items }
     ensures once { IsNamedOnce names.new.items }
     ensures grows { Grows names.old.items names.new.items }
+    ensures only { NamesOnly names.old.items names.new.items (mentions (body_of body.now)) }
     ensures ok { OnOk result (all_named names.new.items (mentions (body_of body.now)) ≡ true) }
     ensures named { all_named names.old.items (mentions (body_of body.now)) ≡ true → IsOk result }
 {
@@ -36,6 +37,7 @@ fn name_equation(names: &mut Vec<Ref>, e: &Equation) -> Result<(), AllocError>
     requires { IsNamedOnce names.old.items }
     ensures once { IsNamedOnce names.new.items }
     ensures grows { Grows names.old.items names.new.items }
+    ensures only { NamesOnly names.old.items names.new.items (refs_in (equation_of e.now)) }
     ensures ok { OnOk result (has_names_of names.new.items (equation_of e.now) ≡ true) }
     ensures named { has_names_of names.old.items (equation_of e.now) ≡ true → IsOk result }
 {
@@ -48,6 +50,7 @@ fn name_equations(names: &mut Vec<Ref>, es: &[Equation]) -> Result<(), AllocErro
     requires { IsNamedOnce names.old.items }
     ensures once { IsNamedOnce names.new.items }
     ensures grows { Grows names.old.items names.new.items }
+    ensures only { NamesOnly names.old.items names.new.items (all_refs_in (map equation_of es.now)) }
     ensures ok { OnOk result (has_names names.new.items (map equation_of es.now) ≡ true) }
 {
     for e in es {
@@ -69,6 +72,7 @@ pub fn reserve_in(
     ensures sound { IsSound names.new.items (map equation_of equations.new.items) (map equation_of ready.new.items) }
     ensures room { vec_len equations.new + lacking (map equation_of equations.new.items) (map equation_of ready.new.items) ≤ vec_capacity equations.new }
     ensures grows { Grows names.old.items names.new.items }
+    ensures only { NamesOnly names.old.items names.new.items (all_refs_in (map equation_of es.now)) }
     ensures ready { OnOk result (ready.new.items ≡ es.now) }
 {
     let copies = copy_equations(es.allocator(), es.as_slice())?;
@@ -115,6 +119,7 @@ fn add_new(
     ensures sound { IsSound names.new.items (map equation_of equations.new.items) (map equation_of ready.new.items) }
     ensures room { vec_len equations.new + lacking (map equation_of equations.new.items) (map equation_of ready.new.items) ≤ vec_capacity equations.new }
     ensures grows { Grows names.old.items names.new.items }
+    ensures only { NamesOnly names.old.items names.new.items (refs_in (equation_of e)) }
     ensures ok { OnOk result (equations.new.items ≡ equations.old.items ++ e ∷ []) }
     ensures err { OnErr result (equations.new.items ≡ equations.old.items) }
     ensures ready { Contains (map equation_of ready.old.items) (equation_of e) → ready.new.items ≡ ready.old.items }
@@ -140,6 +145,7 @@ pub fn add_to(
     ensures sound { IsSound names.new.items (map equation_of equations.new.items) (map equation_of ready.new.items) }
     ensures room { vec_len equations.new + lacking (map equation_of equations.new.items) (map equation_of ready.new.items) ≤ vec_capacity equations.new }
     ensures grows { Grows names.old.items names.new.items }
+    ensures only { NamesOnly names.old.items names.new.items (refs_in (equation_of e)) }
     ensures added { IfOk result (λ added. Adds (map equation_of equations.old.items) e added (map equation_of equations.new.items)) }
     ensures err { OnErr result (equations.new.items ≡ equations.old.items) }
     ensures kept_names { IsSome (find (map equation_of equations.old.items) e.left) → names.new.items ≡ names.old.items }

@@ -3,7 +3,7 @@ ghost use Rattle.std.specs.Prelude.{◌≡◌, ◌<◌, List, Some, true, false,
 ghost use Rattle.aw_term.specs.Names.{Ref as RefName};
 ghost use Rattle.aw_store.specs.Equations.{Equation as PlainEquation, Map, find};
 ghost use Rattle.aw_store.specs.EquationView.{equation_of};
-ghost use Rattle.aw_store.specs.NamedRefs.{is_named, has_names, with_name, IsNamedOnce, Grows, body_at, parts_at, text_at};
+ghost use Rattle.aw_store.specs.NamedRefs.{is_named, has_names, with_name, refs_in, all_refs_in, IsNamedOnce, Grows, NamesOnly, body_at, parts_at, text_at};
 ghost use Rattle.aw_store.specs.StoreView.{IsKindOf, Adds, IsAddable, has_few, all_few};
 
 use crate::equation::{Body, Equation, Equations};
@@ -104,23 +104,26 @@ pub trait Facts {
         ensures err { OnErr result (names self.new ≡ names self.old) }
         ensures named { is_named (names self.old) r.now ≡ true → IsOk result };
 
-    /// Takes the memory for adding these equations, and may name references. A constructor has at most 8 references.
-    /// An error leaves the equations as they were, may have named references, and leaves any equations ready, or none.
+    /// Takes the memory for adding these equations, and may name their references, no others. A constructor has at most 8
+    /// references. An error leaves the equations as they were, may have named some of these references, and leaves any
+    /// equations ready, or none.
     fn reserve(&mut self, es: &Equations) -> Result<(), AllocError>
         requires { all_few (list_map equation_of es.now) ≡ true }
         ensures map { map self.new ≡ map self.old }
         ensures names { Grows (names self.old) (names self.new) }
+        ensures only { NamesOnly (names self.old) (names self.new) (all_refs_in (list_map equation_of es.now)) }
         ensures ready { OnOk result ((e : PlainEquation) → Contains (list_map equation_of es.now) e → is_ready self.new e) };
 
-    /// Adds an equation where its left side has none. A constructor has at most 8 references. Where the left side has an
-    /// equation, nothing changes, neither names nor what is ready, also on an error. Else an error leaves the equations
-    /// as they were, and may have named references. There is no error for an equation that is ready, but where the left
-    /// side has another one.
+    /// Adds an equation where its left side has none; its references are named, no others. A constructor has at most 8
+    /// references. Where the left side has an equation, nothing changes, neither names nor what is ready, also on an error.
+    /// Else an error leaves the equations as they were, and may have named some of these references. There is no error for
+    /// an equation that is ready, but where the left side has another one.
     fn add(&mut self, e: Equation) -> Result<Added, AllocError>
         requires { has_few (equation_of e) ≡ true }
         ensures added { IfOk result (λ added. Adds (map self.old) e added (map self.new)) }
         ensures err { OnErr result (map self.new ≡ map self.old) }
         ensures names { Grows (names self.old) (names self.new) }
+        ensures only { NamesOnly (names self.old) (names self.new) (refs_in (equation_of e)) }
         ensures kept_names { IsSome (find (map self.old) e.left) → names self.new ≡ names self.old }
         ensures kept_ready { IsSome (find (map self.old) e.left) → (x : PlainEquation) → is_ready self.old x → is_ready self.new x }
         ensures ready { is_ready self.old (equation_of e) → (x : PlainEquation) → is_ready self.old x → is_ready self.new x }

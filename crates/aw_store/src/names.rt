@@ -1,7 +1,7 @@
 //! Lists of named references, which are scanned.
 ghost use Rattle.std.specs.Prelude.{◌≡◌, ◌++◌, ◌∷◌, [], Some, true, false, IfOk, OnOk, OnErr, IsOk, MatchOption, slice_get};
 ghost use Rattle.aw_store.specs.Refs.{ref_eq};
-ghost use Rattle.aw_store.specs.NamedRefs.{is_named, all_named, with_name, IsNamedOnce, Grows};
+ghost use Rattle.aw_store.specs.NamedRefs.{is_named, all_named, with_name, IsNamedOnce, Grows, NamesOnly};
 
 use aw_name::{Ref, copy_ref, is_same_ref};
 use std::alloc::AllocError;
@@ -72,6 +72,7 @@ pub fn name_all(names: &mut Vec<Ref>, refs: &[Ref]) -> Result<(), AllocError>
     requires { IsNamedOnce names.old.items }
     ensures once { IsNamedOnce names.new.items }
     ensures grows { Grows names.old.items names.new.items }
+    ensures only { NamesOnly names.old.items names.new.items refs.now }
     ensures ok { OnOk result (all_named names.new.items refs.now ≡ true) }
     ensures named { all_named names.old.items refs.now ≡ true → IsOk result }
 {

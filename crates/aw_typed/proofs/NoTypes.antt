@@ -1,5 +1,5 @@
 -- Types of a grammar that has none.
-use Rattle.std.proofs.Common.{◌≡◌, ℕ, zero, suc, ◌+◌, refl, sym, ap, ◌∙◌, subst, List, [], ◌∷◌, replicate, map, length, Option, Some, None, option_map, slice_get, option_and_then}
+use Rattle.std.proofs.Common.{◌≡◌, ℕ, zero, suc, ◌+◌, refl, sym, ap, ◌∙◌, subst, List, replicate, map, length, Option, Some, None, option_map, slice_get, option_and_then}
 use Rattle.std.proofs.lemmas.List.{length-map}
 use Rattle.aw_term.specs.WellFormed.{Each}
 use Rattle.aw_grammar.specs.declared.rule.Con.{Con}

@@ -1,9 +1,9 @@
 -- A small grammar on which the definitions of types are tried: a clinic asks a laboratory.
 --   role clinic · role lab · con blood 1 · con report 2 · con found 2 · con none 0
 --   sort visit clinic 0 1 · sort test lab 1 1 · start visit · offer test · use clinic test
-use Rattle.std.specs.Prelude.{ℕ, Bool, true, false, List, [], ◌∷◌}
+use Rattle.std.specs.Prelude.{ℕ, Bool, true, false, [], ◌∷◌}
 use Rattle.aw_term.specs.Trees.{Tree, Con, Leaf, Made, Nil, More}
-use Rattle.aw_term.specs.Rules.{Term, Child, Rule, Sort, Grammar}
+use Rattle.aw_term.specs.Rules.{Term, Rule, Sort, Grammar}
 
 -- a constructor with one part, and one with two
 abbrev con1 : {A : Type 0} → ℕ → Tree A → Tree A

@@ -1,7 +1,6 @@
 -- Pairs that are added one after the other, and what all rules hold up.
-use Rattle.std.proofs.Common.{◌≡◌, ℕ, zero, suc, ◌+◌, ◌<◌, ◌≤◌, List, length, Some, slice_get, sym, ◌∙◌, subst, inl, inr, arith}
+use Rattle.std.proofs.Common.{◌≡◌, ℕ, suc, ◌+◌, ◌<◌, ◌≤◌, List, length, Some, slice_get, sym, ◌∙◌, subst, inl, inr, arith}
 use Rattle.std.specs.Prelude.{◌⊎◌, ◌↔◌}
-use Rattle.std.proofs.lemmas.Option.{slice_get_within}
 use Rattle.aw_list.proofs.Members.{never, below_or_at, member_got, member_place}
 use Rattle.aw_term.specs.Trees.{Never}
 use Rattle.aw_term.specs.Rules as P

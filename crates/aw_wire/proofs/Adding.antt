@@ -1,7 +1,7 @@
 -- Adding at the end of a text, one part after the other.
-use Rattle.std.proofs.Common.{◌≡◌, ℕ, zero, suc, ◌+◌, ◌<◌, ◌≤◌, List, [], ◌∷◌, ◌++◌, length, get_or, take, map, sym, ap, subst, ◌∙◌, append_assoc, arith}
+use Rattle.std.proofs.Common.{◌≡◌, ℕ, zero, suc, ◌+◌, ◌<◌, List, [], ◌∷◌, ◌++◌, length, get_or, take, map, sym, ap, subst, ◌∙◌, append_assoc, arith}
 use Rattle.std.specs.List.{flat_map}
-use Rattle.std.proofs.lemmas.List.{take_more, take_all, map-append, flat_map_more}
+use Rattle.std.proofs.lemmas.List.{take_more, map-append, flat_map_more}
 use Rattle.aw_term.proofs.Eaches.{each_push}
 use Rattle.aw_term.specs.WellFormed.{Each}
 

@@ -1,6 +1,6 @@
 -- Sessions in memory as they are shown.
-use Rattle.std.proofs.Common.{◌≡◌, ℕ, zero, suc, ◌+◌, ◌≤◌, ◌-◌, List, [], ◌∷◌, ◌++◌, length, take, drop, map, reverse, true, refl, ap, sym, ◌∙◌, arith, length-append, append-nil, Option, None, Some, option_to_list, slice_get, subst}
-use Rattle.std.proofs.lemmas.List.{take-append-le, map-append, reverse-reverse, reverse-append, length-take-le, drop-append-le, drop-drop}
+use Rattle.std.proofs.Common.{◌≡◌, ℕ, zero, suc, ◌+◌, ◌≤◌, ◌-◌, List, [], ◌∷◌, ◌++◌, length, take, drop, map, reverse, true, refl, ap, sym, ◌∙◌, arith, length-append, Option, None, Some, option_to_list, slice_get, subst}
+use Rattle.std.proofs.lemmas.List.{take-append-le, map-append, reverse-reverse, length-take-le, drop-append-le, drop-drop}
 use Rattle.std.proofs.lemmas.Option.{slice_get-map}
 use Rattle.std.proofs.Math.Seq.{take-add, take-length}
 use Rattle.aw_out.specs.Edge.{FitsBuffer, given}
@@ -8,7 +8,7 @@ use Rattle.aw_out.specs.Reads.{left_after}
 use Rattle.aw_out.specs.Wires.{Session, with_last, after_read, after_write, after_fault}
 use Rattle.aw_out.specs.declared.edge.Got.{Got}
 use Rattle.aw_out.specs.declared.edge.Got.TheVariants.{Read, End, Failed}
-use Rattle.aw_wires.specs.MemWires.{closed, with_read, with_written, with_fault}
+use Rattle.aw_wires.specs.MemWires.{with_read, with_written, with_fault}
 use Rattle.aw_wires.specs.Shown.{session_of, left_of, shown, IsWithin, AreWithin, IsLast, IsRoomy, written_in}
 use Rattle.aw_wires.specs.declared.passed.Passed.{Passed}
 

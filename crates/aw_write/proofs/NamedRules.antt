@@ -5,7 +5,7 @@ use Rattle.std.proofs.lemmas.List.{length-map, length-take-le, take_all, take-ap
 use Rattle.std.proofs.lemmas.Bool.{and_from, or_from, not_from_true, eq-eqb, le-ltb, lt-leb}
 use Rattle.aw_index.specs.Places.{stands, all_stand, has_double}
 use Rattle.aw_term.specs.Rules as P
-use Rattle.aw_term.specs.Rules.{Term, get, upto}
+use Rattle.aw_term.specs.Rules.{Term, get}
 use Rattle.aw_term.specs.Choices.{gives_of}
 use Rattle.aw_term.specs.WellFormed.{Each, Differ, leaves_of, child_symbols, outs_of, takes_of, TermFits, ChildFits, RuleFits, SortFits}
 use Rattle.aw_term.proofs.Eaches.{each_append}

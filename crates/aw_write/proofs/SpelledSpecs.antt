@@ -5,7 +5,7 @@ use Rattle.std.proofs.lemmas.Bool.{and_parts}
 use Rattle.aw_text.specs.Spelling.{is_content}
 use Rattle.aw_term.specs.Trees.{Head, Con, Num, Text, Leaf, Made, Trees, Nil, More, count}
 use Rattle.aw_term.specs.Rules as P
-use Rattle.aw_term.specs.Rules.{Term, get, upto}
+use Rattle.aw_term.specs.Rules.{Term}
 use Rattle.aw_term.specs.WellFormed.{Each, leaves, all_leaves, leaves_of, heads_fit, all_heads_fit, head_fits, TermFits, ChildFits, RuleFits, SortFits, outs_of}
 use Rattle.aw_term.proofs.Eaches.{each_append, each_get, each_left, each_right}
 use Rattle.aw_grammar.specs.declared.rule.Con as decl

@@ -1,6 +1,5 @@
 -- The lines of types, shapes, carries and dependences can be spelled.
-use Rattle.std.proofs.Common.{◌≡◌, ℕ, zero, suc, ◌+◌, ◌<◌, ◌≤◌, ◌^◌, slice_get, refl, ap, subst, true, List, [], ◌∷◌, ◌++◌, length, map, Option, Some, None, arith}
-use Rattle.aw_text.specs.Spelling.{is_name}
+use Rattle.std.proofs.Common.{◌≡◌, ℕ, zero, suc, ◌+◌, ◌<◌, ◌≤◌, ◌^◌, slice_get, refl, ap, subst, List, [], ◌∷◌, ◌++◌, length, map, Option, Some, None, arith}
 use Rattle.aw_term.specs.Rules.{get}
 use Rattle.aw_term.specs.WellFormed.{Each, SortFits}
 use Rattle.aw_term.proofs.Eaches.{each_append, each_get}
@@ -13,7 +12,7 @@ use Rattle.aw_typed.specs.declared.data.Shape.{Shape}
 use Rattle.aw_typed.specs.declared.data.Carry.{Carry}
 use Rattle.aw_spec.specs.Lines.{TypeLine}
 use Rattle.aw_spec.specs.TypeLines.{type_names}
-use Rattle.aw_spec.specs.TypesFit.{Alongside, ShapeFits, CarryFits, IsOfSort, arities_in, counts_in, TypesFit}
+use Rattle.aw_spec.specs.TypesFit.{Alongside, ShapeFits, CarryFits, IsOfSort, counts_in, TypesFit}
 use Rattle.aw_spec.specs.Reading.{Spec}
 use Rattle.aw_spec.proofs.TypeSteps.{mapped_at, some_within}
 use Rattle.aw_write.specs.SpecLines.{type_lines, shape_line, shape_lines, carry_line, carry_lines, depends_line, typing_lines}

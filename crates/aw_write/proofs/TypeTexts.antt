@@ -1,5 +1,5 @@
 -- The names of types by their numbers, and the lines of shapes and carries from a place on.
-use Rattle.std.proofs.Common.{◌≡◌, ℕ, zero, suc, ◌-◌, refl, sym, ap, ◌∙◌, List, [], ◌∷◌, ◌++◌, codes, drop, map, Option, Some, None, slice_get, append_assoc, append-nil, arith}
+use Rattle.std.proofs.Common.{◌≡◌, ℕ, zero, suc, ◌-◌, refl, ap, ◌∙◌, List, [], ◌∷◌, ◌++◌, codes, drop, map, Option, Some, None, slice_get, append_assoc, append-nil, arith}
 use Rattle.aw_term.specs.Rules.{get}
 use Rattle.aw_grammar.specs.declared.rule.Con as decl
 use Rattle.aw_grammar.specs.declared.rule.Sort.{Sort}

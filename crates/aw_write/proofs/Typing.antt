@@ -1,9 +1,9 @@
 -- The lines of types, shapes, carries and dependences lead from a specification without them to the specification.
-use Rattle.std.proofs.Common.{◌≡◌, ℕ, zero, suc, ◌+◌, ◌<◌, ◌≤◌, nat_eq, nat_le, refl, sym, ap, ◌∙◌, subst, Bool, true, false, cond, not, ◌&&◌, ◌||◌, List, [], ◌∷◌, ◌++◌, set, length, map, Option, Some, None, is_some, option_and_then, slice_get, arith, append_assoc, length-append}
+use Rattle.std.proofs.Common.{◌≡◌, ℕ, suc, ◌+◌, ◌<◌, ◌≤◌, nat_eq, nat_le, refl, sym, ap, ◌∙◌, subst, Bool, true, false, not, ◌&&◌, ◌||◌, List, [], ◌∷◌, ◌++◌, length, map, Option, Some, None, is_some, option_and_then, slice_get, arith, append_assoc, length-append}
 use Rattle.std.proofs.lemmas.List.{map-append, length-map, set_at}
 use Rattle.std.proofs.lemmas.Bool.{eqb-true, eq-eqb, ne_eqb, lt-leb, le-leb, and_from}
 use Rattle.std.specs.List.{list_any}
-use Rattle.aw_index.specs.Places.{place_of, stands}
+use Rattle.aw_index.specs.Places.{place_of}
 use Rattle.aw_term.specs.Rules.{get}
 use Rattle.aw_term.specs.WellFormed.{Each, Later, Differ}
 use Rattle.aw_term.proofs.Eaches.{each_map}
@@ -17,11 +17,11 @@ use Rattle.aw_form.specs.Forms.{◌>>=◌}
 use Rattle.aw_typed.specs.declared.data.Shape.{Shape}
 use Rattle.aw_typed.specs.declared.data.Carry.{Carry}
 use Rattle.aw_typed.specs.declared.data.Types.{Types}
-use Rattle.aw_spec.specs.Lines.{Line, TypeLine, ShapeLine, CarryLine}
+use Rattle.aw_spec.specs.Lines.{TypeLine, ShapeLine, CarryLine}
 use Rattle.aw_spec.specs.Stages.{types_stage, shapes_stage, carries_stage, depends_stage}
 use Rattle.aw_spec.specs.TypeLines.{type_names, types_named, shape_named, carry_named, is_other_arity, are_other_counts, are_no_positions, is_position, is_dependence}
 use Rattle.aw_spec.specs.TypesFit.{is_empty, Alongside, ShapeFits, CarryFits, IsOfSort, AreTwo, arities_in, counts_in, TypesFit}
-use Rattle.aw_spec.specs.Reading.{Spec, On, says, tested, shaping, carrying, depending, type_tests, with_type, shape_tests, with_shape, carry_tests, with_carry, depends_tests, with_depends}
+use Rattle.aw_spec.specs.Reading.{Spec, On, says, shaping, carrying, depending, type_tests, with_type, shape_tests, with_shape, carry_tests, with_carry, depends_tests, with_depends}
 use Rattle.aw_spec.proofs.ReadLines.{then}
 use Rattle.aw_spec.proofs.Tested.{tested_none}
 use Rattle.aw_spec.proofs.TypeSteps.{mapped_at, some_within}

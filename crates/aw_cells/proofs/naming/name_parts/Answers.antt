@@ -1,7 +1,7 @@
 use Rattle.std.proofs.Common.{◌++◌, ◌∷◌, [], length, take, ap, sym, ◌∙◌, arith}
 use Rattle.std.proofs.lemmas.List.{take_more, length-append}
 use Rattle.std.proofs.lemmas.Option.{slice_get_within}
-use Rattle.aw_store.proofs.NameLemmas.{grows_more, is_named-grown, named_at, not_ok}
+use Rattle.aw_store.proofs.NameLemmas.{grows_more, is_named-grown, named_at, not_ok, only_at}
 use Rattle.aw_cells.specs.StoredBodies.{refs_of, all_below}
 use Rattle.aw_cells.specs.TableView.{names_of}
 use Rattle.aw_cells.proofs.BodyLemmas.{refs_of-push, all_below-push, all_below-grown}
@@ -27,6 +27,7 @@ loop-r-preserved c =
     record {
       table = c.name_one.ensures.table;
       grows = grows_more _ _ _ inv.grows grows;
+      only = only_at c.name_one.result (names_of c.args.t.now) old new refs c.loop-r.r-index r' c.loop-r-test.true c.r-item.is inv.only c.name_one.ensures.ok c.name_one.ensures.err;
       map = c.name_one.ensures.map ∙ inv.map;
       slots =
           ap (refs_of new) c.push.ensures.items ∙ refs_of-push new slots slot r' at
@@ -37,3 +38,7 @@ loop-r-preserved c =
           ∙ all_below-push (length new) slots slot (all_below-grown (length old) (length new) slots (length-grows old new grows) inv.below) (slice_get_within new slot r' at);
       len = omega (arith, ap length c.push.ensures.items, length-append slots (slot ∷ []), inv.len);
     }
+
+pub returns-in_err-name_one-clause-only : goal.returns-in_err-name_one-clause-only
+returns-in_err-name_one-clause-only c =
+    only_at c.name_one.result (names_of c.args.t.now) (names_of c.loop-r.t) (names_of c.name_one.new.t) c.args.refs.now c.loop-r.r-index c.r-item.result c.loop-r-test.true c.r-item.is c.loop-r.invariant.only c.name_one.ensures.ok c.name_one.ensures.err

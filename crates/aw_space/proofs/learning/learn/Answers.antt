@@ -1,9 +1,9 @@
-use Rattle.std.proofs.Common.{◌≡◌, ◌+◌, ◌≤◌, ◌∙◌, subst, ap}
+use Rattle.std.proofs.Common.{◌+◌, ◌≤◌, subst}
 use Rattle.aw_grammar.specs.GrammarOf.{grammar_of}
 use Rattle.aw_held.specs.HeldView.{all_of}
 use Rattle.aw_react.specs.Worklists.{site_worklist}
 use Rattle.aw_kept.specs.Items.{waiting_on}
-use Rattle.aw_space.proofs.Waking.{fits_named, named_more, grown_same}
+use Rattle.aw_space.proofs.Waking.{fits_named, grown_same}
 use Rattle.aw_space.proofs.learning.learn.Goals as goal
 
 pub returns-in_err-slot-clause-kept : goal.returns-in_err-slot-clause-kept

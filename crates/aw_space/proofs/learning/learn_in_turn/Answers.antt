@@ -1,4 +1,4 @@
-use Rattle.std.proofs.Common.{◌≡◌, ◌+◌, ◌≤◌, None, ◌∷◌, ◌∙◌, sym, ap, subst, map, true, Contains, arith}
+use Rattle.std.proofs.Common.{◌≡◌, None, ◌∷◌, ◌∙◌, sym, ap, subst, map, true, Contains, arith}
 use Rattle.std.proofs.lemmas.Bool.{and_parts}
 use Rattle.std.specs.Vec.Iter.{into_iter_items}
 use Rattle.aw_grammar.specs.GrammarOf.{grammar_of}

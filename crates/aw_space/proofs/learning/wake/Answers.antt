@@ -1,7 +1,7 @@
-use Rattle.std.proofs.Common.{◌≡◌, ◌+◌, ◌≤◌, ◌∙◌, is_some, ap, arith, true, false}
+use Rattle.std.proofs.Common.{◌≡◌, ◌∙◌, is_some, ap, arith, false}
 use Rattle.std.specs.Prelude.{option_and_then}
 use Rattle.aw_store.specs.Equations.{find}
-use Rattle.aw_store.specs.NamedRefs.{is_named, body_at}
+use Rattle.aw_store.specs.NamedRefs.{is_named}
 use Rattle.aw_space.proofs.Waking.{found_named}
 use Rattle.aw_space.proofs.learning.wake.Goals as goal
 

@@ -1,4 +1,4 @@
-use Rattle.std.proofs.Common.{◌≡◌, ◌+◌, ◌≤◌, length, map, drop, refl, subst, arith}
+use Rattle.std.proofs.Common.{◌≡◌, ◌+◌, length, map, drop, refl, subst, arith}
 use Rattle.std.specs.Prelude.{slice_get, Some}
 use Rattle.std.proofs.lemmas.Option.{slice_get_read}
 use Rattle.aw_grammar.specs.GrammarOf.{grammar_of}

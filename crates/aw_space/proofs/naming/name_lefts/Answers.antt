@@ -1,7 +1,5 @@
-use Rattle.std.proofs.Common.{◌≡◌, ◌∙◌, length, map, take, refl, ap, sym, arith, true}
-use Rattle.std.specs.Prelude.{slice_get, Some}
+use Rattle.std.proofs.Common.{◌∙◌, length, map, take, refl, arith, true}
 use Rattle.std.proofs.lemmas.Option.{slice_get_read}
-use Rattle.aw_store.specs.NamedRefs.{all_named}
 use Rattle.aw_store.proofs.NameLemmas.{grows_more, all_named-grown, is_named-at}
 use Rattle.aw_space.specs.Waking.{left_of}
 use Rattle.aw_space.proofs.Waking.{lefts_taken, all_lefts}

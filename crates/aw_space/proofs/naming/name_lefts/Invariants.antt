@@ -1,5 +1,4 @@
 use Rattle.std.proofs.Common.{◌≡◌, true, map, take}
-use Rattle.aw_store.specs.EquationView.{equation_of}
 use Rattle.aw_store.specs.NamedRefs.{all_named, Grows}
 use Rattle.aw_space.specs.Waking.{left_of}
 use Rattle.aw_space.proofs.naming.name_lefts.Given as goal

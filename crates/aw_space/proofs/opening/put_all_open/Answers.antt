@@ -1,9 +1,9 @@
-use Rattle.std.proofs.Common.{◌≡◌, ◌+◌, ◌≤◌, ◌∷◌, ◌∙◌, suc, List, length, map, ap, sym, subst, arith, All}
+use Rattle.std.proofs.Common.{◌≡◌, ◌∷◌, ◌∙◌, List, length, map, ap, sym, subst, arith, All}
 use Rattle.std.specs.Vec.Iter.{into_iter_items}
 use Rattle.std.proofs.lemmas.List.Elements.{All-head, All-tail}
 use Rattle.std.proofs.lemmas.List.Sums.{sum_by-cons}
 use Rattle.aw_grammar.specs.GrammarOf.{grammar_of}
-use Rattle.aw_held.specs.InOrder.{Lacks, LackEach, insert_in, insert_all_in}
+use Rattle.aw_held.specs.InOrder.{LackEach, insert_all_in}
 use Rattle.aw_kept.specs.KeptStates.{HasRoom}
 use Rattle.aw_space.specs.Openings.{IsReady, all_tests, held_in, tests_of}
 use Rattle.aw_space.specs.declared.opening.Opening.{Opening}

@@ -1,9 +1,8 @@
-use Rattle.std.proofs.Common.{◌≡◌, ◌+◌, ◌≤◌, ◌++◌, ◌∙◌, [], ap, sym, subst, map, arith, All}
-use Rattle.std.specs.Prelude.{Contains}
+use Rattle.std.proofs.Common.{◌+◌, ◌++◌, ◌∙◌, [], ap, sym, subst, map, arith}
 use Rattle.std.proofs.lemmas.List.Elements.{All-weaker}
 use Rattle.aw_term.specs.Names.{Ref}
 use Rattle.aw_grammar.specs.GrammarOf.{grammar_of}
-use Rattle.aw_held.specs.InOrder.{IsInOrder, LackEach, done_at}
+use Rattle.aw_held.specs.InOrder.{IsInOrder, done_at}
 use Rattle.aw_held.specs.HeldView.{all_of}
 use Rattle.aw_held.proofs.InOrderLemmas.{up_of, far}
 use Rattle.aw_held.proofs.HeldViews.{ordered_done}
@@ -11,8 +10,7 @@ use Rattle.aw_store.specs.EquationView.{equation_of}
 use Rattle.aw_react.specs.Worklists.{site_worklist}
 use Rattle.aw_kept.specs.Items.{waiting_on}
 use Rattle.aw_kept.specs.KeptStates.{IsKept}
-use Rattle.aw_space.specs.Openings.{IsReady, held_in}
-use Rattle.aw_space.specs.Waking.{IsBound, left_of}
+use Rattle.aw_space.specs.Openings.{IsReady}
 use Rattle.aw_space.proofs.Openings.{ready_grows}
 use Rattle.aw_space.proofs.Waking.{named_more, grown_by_all, all_known, sum_lefts, closed_bound}
 use Rattle.aw_space.proofs.taking.take_ready.Goals as goal

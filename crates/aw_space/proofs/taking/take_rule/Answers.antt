@@ -1,18 +1,16 @@
-use Rattle.std.proofs.Common.{◌≡◌, ◌+◌, ◌≤◌, ◌∷◌, ◌∙◌, List, true, map, ap, sym, subst, arith, All}
+use Rattle.std.proofs.Common.{◌≡◌, ◌∙◌, List, true, map, ap, sym, subst, arith, All}
 use Rattle.std.proofs.lemmas.List.Elements.{All-weaker}
 use Rattle.aw_grammar.specs.GrammarOf.{grammar_of}
 use Rattle.aw_store.specs.NamedRefs.{all_named}
-use Rattle.aw_store.proofs.NameLemmas.{grows_more, all_named-grown}
+use Rattle.aw_store.proofs.NameLemmas.{all_named-grown}
 use Rattle.aw_store.specs.EquationView.{equation_of}
 use Rattle.aw_store.specs.declared.equation.Equation.{Equation}
-use Rattle.aw_held.specs.declared.held.Held.{Held}
 use Rattle.aw_held.specs.HeldView.{all_of}
 use Rattle.aw_held.specs.InOrder.{LackEach, insert_all_in, done_at}
 use Rattle.aw_react.specs.Worklists.{site_worklist}
-use Rattle.aw_kept.specs.KeptStates.{IsKept}
 use Rattle.aw_space.specs.Children.{own_children}
 use Rattle.aw_space.specs.Costs.{rules_at, waiting_on_lefts}
-use Rattle.aw_space.specs.Openings.{IsOpenable, IsReady, held_in}
+use Rattle.aw_space.specs.Openings.{IsOpenable, IsReady}
 use Rattle.aw_space.specs.Sound.{all_inherited}
 use Rattle.aw_space.proofs.Costing.{own_openable}
 use Rattle.aw_space.proofs.Openings.{ready_grows, all_ready_named, all_tests_are}

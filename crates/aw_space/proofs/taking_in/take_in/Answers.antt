@@ -1,5 +1,4 @@
-use Rattle.std.proofs.Common.{◌≡◌, ◌+◌, ◌≤◌, ◌∙◌, List, None, ap, sym, subst, map, true, arith, Contains}
-use Rattle.std.specs.Prelude.{option_map}
+use Rattle.std.proofs.Common.{◌≡◌, ◌∙◌, List, ap, sym, subst, map, true, arith}
 use Rattle.std.specs.Option.{option_copied}
 use Rattle.aw_grammar.specs.GrammarOf.{grammar_of}
 use Rattle.aw_held.specs.HeldView.{all_of}
@@ -7,10 +6,8 @@ use Rattle.aw_store.specs.EquationView.{equation_of}
 use Rattle.aw_store.specs.declared.equation.Equation.{Equation}
 use Rattle.aw_store.specs.NamedRefs.{all_named}
 use Rattle.aw_store.proofs.NameLemmas.{grows_more, all_named-grown}
-use Rattle.aw_kept.specs.KeptStates.{IsKept}
 use Rattle.aw_space.specs.Missing.{missing_node, with_node, inherited_by, LacksIf}
-use Rattle.aw_space.specs.Openings.{held_in}
-use Rattle.aw_space.specs.TakenIn.{IsOpenableIf, IsReadyIf, tests_if, rules_if}
+use Rattle.aw_space.specs.TakenIn.{IsOpenableIf, rules_if}
 use Rattle.aw_space.specs.Waking.{lefts_of, turns_cost}
 use Rattle.aw_space.proofs.Called.{missing_lacks}
 use Rattle.aw_space.proofs.Costing.{ready_if_grows, ready_if_named, tests_if_are}

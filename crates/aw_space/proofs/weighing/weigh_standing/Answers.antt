@@ -1,4 +1,4 @@
-use Rattle.std.proofs.Common.{◌∙◌, ap, sym, List}
+use Rattle.std.proofs.Common.{◌∙◌, ap, sym}
 use Rattle.std.specs.Prelude.{option_map}
 use Rattle.aw_choice.specs.ChoiceView.{answer_of}
 use Rattle.aw_space.proofs.Weighed.{refused_is}

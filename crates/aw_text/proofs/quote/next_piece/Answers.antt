@@ -1,4 +1,4 @@
-use Rattle.std.proofs.Common.{◌≡◌, ◌∙◌, ◌++◌, sym, ap, take, drop, length, List, ℕ, option_map}
+use Rattle.std.proofs.Common.{◌≡◌, ◌∙◌, sym, ap, take, drop, List, ℕ, option_map}
 use Rattle.aw_text.specs.Spelling.{content_before_quote}
 use Rattle.aw_text.specs.Pieces.{run_len, with_run}
 use Rattle.aw_text.proofs.Quotes.{run_piece}

@@ -1,4 +1,4 @@
-use Rattle.std.proofs.Common.{◌∙◌, ◌∷◌, [], sym, ap, arith}
+use Rattle.std.proofs.Common.{◌∙◌, sym, ap, arith}
 use Rattle.aw_text.specs.Spelling.{content_before_quote}
 use Rattle.aw_text.proofs.Quotes.{whole_after, whole_at_start, whole_one_more, whole_run, whole_too_long}
 use Rattle.aw_text.proofs.quote.read_whole.Goals as goal
