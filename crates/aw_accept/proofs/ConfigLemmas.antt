@@ -10,7 +10,7 @@ use Rattle.std.proofs.lemmas.Bool.{cases_lt}
 use Rattle.std.proofs.lemmas.List.{length-map, same_from_push}
 use Rattle.aw_list.specs.Members.{Member}
 use Rattle.aw_list.proofs.Members.{never, member_map, member_unmap, got_unmap}
-use Rattle.aw_term.proofs.NodeTests.{node_is}
+use Rattle.aw_name.specs.SameNodes.{node_is}
 use Rattle.aw_term.proofs.Gets.{member_upto}
 use Rattle.aw_accept.proofs.Binding.{In-bind}
 

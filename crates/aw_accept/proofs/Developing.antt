@@ -21,7 +21,7 @@ use Rattle.aw_accept.proofs.Binding.{In-bind}
 use Rattle.aw_accept.proofs.Sources.{Source, Source_at, env_enters, entered}
 use Rattle.aw_accept.proofs.ConfigLemmas.{below-child, child_row, Member-insert_rows, Member-child_rows, Member-rounds, rounds-sort, rounds-state, item-mapped, rounds-inherited, Chain, end, link, In-rounds, In-put, get-filled, done_row-cases, Member-all_inserted, Member-made_children, Member-rounded, length-upto, Member-upto, upto-bound, upto-low, rounds-results-length, rounds-inherited-list, rounds-results-list, done_row-same}
 use Rattle.aw_accept.proofs.Pigeonholes.{pigeon}
-use Rattle.aw_term.proofs.NodeTests.{node_self}
+use Rattle.aw_name.specs.SameNodes.{node_self}
 use Rattle.aw_term.proofs.RowParts.{rounds_node}
 use Rattle.aw_term.proofs.Eaches.{each_map}
 use Rattle.aw_iograph.proofs.Reaching.{join}

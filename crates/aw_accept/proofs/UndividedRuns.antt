@@ -20,7 +20,7 @@ use Rattle.aw_accept.specs.Acyclic.{gives}
 use Rattle.aw_accept.proofs.Spots.{occ_of, moves}
 use Rattle.aw_accept.proofs.ConfigLemmas.{below-child, child_row, Member-insert_row, Member-inserted, Member-all_inserted, Member-rounds, Member-rounded, rounds-sort, rounds-state, rounds-results-length, done_row-cases, length-upto, upto-bound, upto-low, done_row-same}
 use Rattle.aw_accept.proofs.Developing.{Taking, develop-acyclic, added, sigma, e, FromChild, added_cases}
-use Rattle.aw_term.proofs.NodeTests.{node_is, node_self}
+use Rattle.aw_name.specs.SameNodes.{node_is, node_self}
 use Rattle.aw_term.proofs.RowParts.{rounds_node}
 
 item_none : {A : Type 0} (i : ℕ) (t : A) → item [] i ≡ Some t → Never

@@ -9,7 +9,7 @@ use Rattle.aw_term.specs.Held.{Held, held_of, mark}
 use Rattle.aw_term.specs.Names.{Node, Ref, node_eq}
 use Rattle.aw_term.specs.Rules.{Grammar, Ground, Rule}
 use Rattle.aw_term.specs.WellFormed.{Each}
-use Rattle.aw_term.proofs.NodeTests.{node_self}
+use Rattle.aw_name.specs.SameNodes.{node_self}
 use Rattle.aw_store.specs.Equations.{Map}
 use Rattle.aw_apply.specs.Made.{made}
 use Rattle.aw_joint.specs.Joint.{Joint, empty_joint, by_held}

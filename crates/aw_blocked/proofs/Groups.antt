@@ -6,7 +6,7 @@ use Rattle.aw_list.proofs.Members.{never}
 use Rattle.aw_term.specs.Artifacts as plain
 use Rattle.aw_term.specs.Names.{Node, node_eq}
 use Rattle.aw_term.specs.Trees.{Never}
-use Rattle.aw_term.proofs.NodeTests.{node_is, node_self}
+use Rattle.aw_name.specs.SameNodes.{node_is, node_self}
 use Rattle.aw_choice.specs.declared.choice.Item.{Item}
 use Rattle.aw_choice.specs.ChoiceView.{item_of}
 

@@ -4,7 +4,7 @@ use Rattle.aw_list.specs.Members.{Member}
 use Rattle.aw_list.proofs.Members.{never}
 use Rattle.aw_term.specs.Held.{Held}
 use Rattle.aw_term.specs.Names.{Node, node_eq}
-use Rattle.aw_term.proofs.NodeTests.{node_is, node_self}
+use Rattle.aw_name.specs.SameNodes.{node_is, node_self}
 use Rattle.aw_blocked.specs.Waiters.{is_done, holds_done}
 
 -- a held node is held as it stands, where it is held once

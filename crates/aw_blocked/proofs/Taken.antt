@@ -6,7 +6,7 @@ use Rattle.aw_list.proofs.Members.{never}
 use Rattle.aw_term.specs.Names.{Node}
 use Rattle.aw_term.specs.Rules.{Ground}
 use Rattle.aw_term.specs.Choices.{Choice, Start, Develop}
-use Rattle.aw_term.proofs.NodeTests.{node_is, node_self}
+use Rattle.aw_name.specs.SameNodes.{node_is, node_self}
 use Rattle.aw_waits.specs.SiteWaits.{IsUntaken}
 use Rattle.aw_blocked.specs.Waiters.{develops, is_developed}
 

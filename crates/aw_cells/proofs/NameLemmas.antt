@@ -9,7 +9,8 @@ use Rattle.aw_term.specs.Names.{Ref}
 use Rattle.aw_store.specs.Refs.{ref_eq}
 use Rattle.aw_store.specs.Equations.{Map, find}
 use Rattle.aw_store.specs.NamedRefs.{is_named, has_names_of, has_names, Grows}
-use Rattle.aw_term.proofs.RefTests.{ref_derived, ref_eq-true}
+use Rattle.aw_name.specs.SameRefs.{ref_same}
+use Rattle.aw_term.proofs.RefTests.{ref_eq-true}
 use Rattle.std.proofs.lemmas.List.{length-append}
 use Rattle.std.proofs.lemmas.Option.{slice_get_within}
 use Rattle.aw_cells.specs.StoredBodies.{refs_of, all_below}
@@ -19,7 +20,7 @@ abbrev pub key_eq : Ref → Ref → Bool
 key_eq = (reference.ghosts).eq
 
 pub key_is : (a b : Ref) → key_eq a b ≡ ref_eq a b
-key_is a b = ref_derived a b
+key_is a b = ref_same a b
 
 pub any_named : (ns : List Ref) (r : Ref) → list_any (key_eq r) ns ≡ is_named ns r
 any_named [] r = refl

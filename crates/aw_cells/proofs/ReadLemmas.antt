@@ -11,7 +11,7 @@ use Rattle.aw_store.specs.Equations as P
 use Rattle.aw_store.specs.EquationView.{body_of}
 use Rattle.aw_store.specs.declared.equation.Body.{Body}
 use Rattle.aw_store.specs.declared.equation.Body.TheVariants as body
-use Rattle.aw_term.proofs.RefTests.{ref_Decides}
+use Rattle.aw_name.specs.SameRefs.{ref_Decides}
 use Rattle.aw_cells.specs.declared.stored.Stored.{Stored}
 use Rattle.aw_cells.specs.declared.stored.Stored.TheVariants.{Missing, Same, Con, Num, Text}
 use Rattle.aw_cells.specs.StoredBodies.{with_ref, refs_of, body_from, all_below, fits, is_at, are_at, is_body}

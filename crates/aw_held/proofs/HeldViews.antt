@@ -5,7 +5,7 @@ use Rattle.aw_term.specs.Names.{Node, node_lt, node_eq}
 use Rattle.aw_term.specs.Rules.{Grammar}
 use Rattle.aw_term.specs.Configs.{State}
 use Rattle.aw_term.specs.WellFormed.{Each}
-use Rattle.aw_term.proofs.NodeTests.{node_is, node_self}
+use Rattle.aw_name.specs.SameNodes.{node_is, node_self}
 use Rattle.aw_term.specs.Held as P
 use Rattle.aw_term.specs.Held.{insert_held, insert_all, mark}
 use Rattle.aw_held.specs.declared.held.Held.{Held}

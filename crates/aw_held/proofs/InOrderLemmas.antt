@@ -8,7 +8,7 @@ use Rattle.aw_term.specs.Names.{Node, node_lt, node_eq}
 use Rattle.aw_term.specs.ByNode.{IsOrderedBy}
 use Rattle.aw_term.specs.WellFormed.{Each, Later}
 use Rattle.aw_term.proofs.Eaches.{each_map}
-use Rattle.aw_term.proofs.NodeTests.{node_self}
+use Rattle.aw_name.specs.SameNodes.{node_self}
 use Rattle.std.proofs.lemmas.Option.{slice_get_within, get_or_from_slice_get}
 use Rattle.aw_term.proofs.NodeOrder.{node_order, node_tied, node-trans, node-no}
 use Rattle.aw_term.proofs.ByNodeLemmas.{other_before, other_after}

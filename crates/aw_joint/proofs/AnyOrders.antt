@@ -20,7 +20,7 @@ use Rattle.aw_apply.proofs.Numbering.{made-holds}
 use Rattle.aw_joint.proofs.Guarding.{guard_all-keeps, Final}
 use Rattle.aw_accept.proofs.Binding.{yes-inj}
 use Rattle.aw_accept.proofs.UndividedRuns.{found_cases, tests-take}
-use Rattle.aw_term.proofs.NodeTests.{node_is, node_self}
+use Rattle.aw_name.specs.SameNodes.{node_is, node_self}
 use Rattle.aw_term.proofs.RefTests.{ref_eq-true}
 
 pub held_of-found : (n : Node) (hs : List Held) (h : Held) → held_of n hs ≡ Some h → Member h hs × (h.node ≡ n)

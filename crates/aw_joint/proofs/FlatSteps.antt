@@ -20,7 +20,7 @@ use Rattle.aw_joint.specs.Laws.{AllUnfold}
 use Rattle.aw_joint.proofs.Substituting.{lay-unfolds, lay_result-unfolds, rounds-leaf, VarOk, Answered, IsChange, substitute, variables_go, rounds-bind}
 use Rattle.aw_accept.proofs.Developing.{Taking, Known, sigma, fate_term, no_own}
 use Rattle.aw_joint.proofs.Entering.{IsTermOf}
-use Rattle.aw_term.proofs.NodeTests.{node_is, node_self}
+use Rattle.aw_name.specs.SameNodes.{node_is, node_self}
 use Rattle.aw_term.proofs.Eaches.{each_map}
 
 pub node_cases : (b : Bool) (n m : Node) → node_eq n m ≡ b → (n ≡ m) ⊎ (node_eq n m ≡ false)

@@ -10,7 +10,7 @@ use Rattle.aw_term.specs.Rules.{Grammar}
 use Rattle.aw_term.specs.Trees.{Con, Head, Never, Num, Text, head_eq, nats_eq}
 use Rattle.aw_term.specs.WellFormed.{Each}
 use Rattle.aw_term.specs.Held.{Held, held_of, insert_held}
-use Rattle.aw_term.proofs.NodeTests.{node_self}
+use Rattle.aw_name.specs.SameNodes.{node_self}
 use Rattle.aw_term.proofs.RefTests.{ref_eq-self}
 use Rattle.aw_base.specs.ChoiceFits.{ref_ok}
 use Rattle.aw_accept.proofs.Fitting.{each_member}

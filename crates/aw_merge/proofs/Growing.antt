@@ -9,7 +9,7 @@ use Rattle.aw_term.specs.Names.{Node, Ref, node_eq}
 use Rattle.aw_term.specs.Rules.{Grammar, Term, Ground}
 use Rattle.aw_term.specs.Trees.{Never}
 use Rattle.aw_term.specs.Held.{Held, held_of, mark}
-use Rattle.aw_term.proofs.NodeTests.{node_is}
+use Rattle.aw_name.specs.SameNodes.{node_is}
 use Rattle.aw_store.specs.Equations.{Body, find}
 use Rattle.aw_store.proofs.MoreEquations.{find-left_more}
 use Rattle.aw_apply.specs.Guard.{guard_all}

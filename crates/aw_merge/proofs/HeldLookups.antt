@@ -10,7 +10,7 @@ use Rattle.aw_term.specs.Names.{Node, Ref, node_eq}
 use Rattle.aw_term.specs.Rules.{Grammar, Ground, Rule}
 use Rattle.aw_term.specs.Trees.{Never}
 use Rattle.aw_term.specs.Held.{Held, held_of}
-use Rattle.aw_term.proofs.NodeTests.{node_is, node_self}
+use Rattle.aw_name.specs.SameNodes.{node_is, node_self}
 use Rattle.aw_store.specs.Equations.{Map}
 use Rattle.aw_apply.specs.Guard.{guard_all}
 use Rattle.aw_joint.specs.Joint.{by_rule, by_state}

@@ -12,7 +12,7 @@ use Rattle.aw_term.specs.Names.{Node, Ref, below, node_eq}
 use Rattle.aw_term.specs.Rules.{Grammar, Ground, Rule, Value, sort_of}
 use Rattle.aw_term.specs.Trees.{Never}
 use Rattle.aw_term.specs.Held.{Held, held_of, insert_all, mark}
-use Rattle.aw_term.proofs.NodeTests.{node_self}
+use Rattle.aw_name.specs.SameNodes.{node_self}
 use Rattle.aw_iograph.specs.Dependence.{HasNoCircle, IO}
 use Rattle.aw_accept.specs.Acyclic.{IsGivenGrammar}
 use Rattle.aw_accept.proofs.Fitting.{each_member}

@@ -1,23 +1,21 @@
 -- When two names of values are one.
-use Rattle.std.specs.Prelude.{◌≡◌, ℕ, ◌==◌, ◌&&◌, Bool, false}
+use Rattle.std.specs.Prelude.{◌≡◌, ℕ, ◌&&◌, Bool, false, nat_eq}
 use Rattle.std.specs.Bool.{Decides}
 use Rattle.std.proofs.Common.{refl, ap, ◌∙◌}
 use Rattle.std.proofs.lemmas.Bool.Decides.{Decides-eqb, Decides-and, Decides-like, Decides-at}
 use Rattle.aw_name.specs.contracts.node.SlotPartialEq.TheImpl as slot
-use Rattle.aw_name.specs.contracts.node.NodePartialEq.TheImpl as node
 use Rattle.aw_name.specs.contracts.node.RefPartialEq.TheImpl as reference
-use Rattle.aw_name.specs.declared.node.Node.{Node}
 use Rattle.aw_name.specs.declared.node.Slot.{Slot}
 use Rattle.aw_name.specs.declared.node.Slot.TheVariants.{Result, Part}
 use Rattle.aw_name.specs.declared.node.Ref.{Ref}
-use Rattle.aw_name.specs.SameNodes.{node_eq, node_Decides}
+use Rattle.aw_name.specs.SameNodes.{node_eq, node_Decides, node_same}
 
 -- whether two slots are one: both of results or both of parts, with the same number
 abbrev pub slot_eq : Slot → Slot → Bool
-slot_eq (Result i) (Result j) = i == j
+slot_eq (Result i) (Result j) = nat_eq i j
 slot_eq (Result i) (Part k) = false
 slot_eq (Part k) (Result j) = false
-slot_eq (Part k) (Part l) = k == l
+slot_eq (Part k) (Part l) = nat_eq k l
 
 -- the number of a slot, of whichever kind
 abbrev number_of : Slot → ℕ
@@ -50,7 +48,7 @@ slot_same (Part k) (Part l) = refl
 
 -- the derived test of references is this one
 pub ref_same : (a b : Ref) → (reference.ghosts).eq a b ≡ ref_eq a b
-ref_same a b = ap (λ t. node_eq a.node b.node && t) (slot_same a.slot b.slot)
+ref_same a b = ap (λ t. t && (slot.ghosts).eq a.slot b.slot) (node_same a.node b.node) ∙ ap (λ t. node_eq a.node b.node && t) (slot_same a.slot b.slot)
 
 -- what the derived test of references gives tells whether two are one
 pub ref_exact : (a b : Ref) (r : Bool) → r ≡ (reference.ghosts).eq a b → Decides r (a ≡ b)
@@ -59,7 +57,3 @@ ref_exact a b r e = Decides-at r _ (e ∙ ref_same a b) (ref_Decides a b)
 -- the derived test of references tells whether two are one
 pub derived_ref_Decides : (a b : Ref) → Decides ((reference.ghosts).eq a b) (a ≡ b)
 derived_ref_Decides a b = ref_exact a b _ refl
-
--- and that of nodes
-pub derived_node_Decides : (a b : Node) → Decides ((node.ghosts).eq a b) (a ≡ b)
-derived_node_Decides a b = node_Decides a b

@@ -3,7 +3,8 @@
 ghost use Rattle.std.specs.Prelude.{◌≡◌, ◌<◌};
 ghost use Rattle.std.specs.Hash.{same_Alike};
 ghost use Rattle.aw_name.specs.Writes.{slot_number, node_writes, ref_writes};
-ghost use Rattle.aw_name.specs.SameRefs.{derived_node_Decides, derived_ref_Decides};
+ghost use Rattle.aw_name.specs.SameNodes.{derived_node_Decides};
+ghost use Rattle.aw_name.specs.SameRefs.{derived_ref_Decides};
 
 use crate::node::{Node, Ref, Slot, digest_and};
 use std::hash::{Hash, Hasher};

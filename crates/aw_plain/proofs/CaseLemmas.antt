@@ -8,7 +8,7 @@ use Rattle.aw_term.specs.Rules.{Term, Ground, Value, Child, Rule, Grammar, get, 
 use Rattle.aw_term.specs.Matching.{Yes, match_all}
 use Rattle.aw_term.specs.Configs.{State, Done, Row, Config, env, nothing, fill, child_rows, insert_row, insert_rows, row_of, done_row, result_at, put, row_put, rounds, develop}
 use Rattle.aw_term.specs.Choices.{Choice, Start, Develop, Outcome, Refused, Starts, Takes, gives_of, start_row, outcome, taken, or_same, after}
-use Rattle.aw_term.proofs.NodeTests.{node_is}
+use Rattle.aw_name.specs.SameNodes.{node_is}
 use Rattle.aw_term.proofs.RowParts.{rounds_node}
 use Rattle.aw_accept.specs.Acyclic.{Stands}
 use Rattle.aw_accept.proofs.Binding.{In-bind}

@@ -1,14 +1,9 @@
 -- Choices in turn, refused ones too, and the undivided run of those that are taken.
-use Rattle.std.specs.Prelude.{◌≡◌, Bool, true, false, List, [], ◌∷◌, Some, if◌then◌else◌}
+use Rattle.std.specs.Prelude.{◌≡◌, List, [], ◌∷◌, Some, if◌then◌else◌}
 use Rattle.aw_term.specs.Rules.{Grammar}
 use Rattle.aw_term.specs.Configs.{Config}
-use Rattle.aw_term.specs.Choices.{Choice, Answer, Taken, answer, after, undivided}
+use Rattle.aw_term.specs.Choices.{Choice, is_taken, answer, after, undivided}
 use Rattle.aw_term.specs.Runs.{after_all}
-
--- the answer is that the choice was taken
-abbrev pub is_taken : {R : Type 0} → Answer R → Bool
-is_taken Taken = true
-is_taken a = false
 
 -- those of the choices that are taken, one after the other
 abbrev pub taken_among : Grammar → Config → List Choice → List Choice

@@ -10,7 +10,7 @@ use Rattle.aw_term.specs.Matching.{Matched, Yes, Waits, Differs, Circle}
 use Rattle.aw_term.specs.Configs.{State, Pending, Done}
 use Rattle.aw_term.specs.Choices.{Choice, Start, Develop, Outcome, Refused, Starts, Takes, TooDeep, Arguments, NotItsRule, after_guard, deep, answer_of}
 use Rattle.aw_term.specs.Held.{Held, held_of}
-use Rattle.aw_term.proofs.NodeTests.{node_is}
+use Rattle.aw_name.specs.SameNodes.{node_is}
 use Rattle.aw_store.specs.Equations.{Map}
 use Rattle.aw_store.specs.EquationView.{equation_of}
 use Rattle.aw_apply.specs.declared.making.Made.{Made as ProgramMade}

@@ -5,7 +5,8 @@ use Rattle.std.proofs.lemmas.Bool.{and_parts, and_from}
 use Rattle.std.specs.Cmp.Lexicographic.{pointwise}
 use Rattle.aw_name.specs.contracts.node.RefPartialEq.TheImpl as reference
 use Rattle.aw_term.specs.Names.{Ref, ref_eq}
-use Rattle.aw_term.proofs.RefTests.{ref_eq-true, ref_eq-self, ref_derived}
+use Rattle.aw_name.specs.SameRefs.{ref_same}
+use Rattle.aw_term.proofs.RefTests.{ref_eq-true, ref_eq-self}
 use Rattle.aw_term.proofs.HeadTests as heads
 use Rattle.aw_store.specs.Equations as P
 use Rattle.aw_store.specs.Equations.{Equation, Map, find}
@@ -94,7 +95,7 @@ refs_eq-true (r ∷ rs) [] e = absurd cc
 -- the equality that is derived in the program
 pub refs_derived : (rs ss : List Ref) → pointwise (reference.ghosts).eq rs ss ≡ refs_eq rs ss
 refs_derived [] [] = refl
-refs_derived (r ∷ rs) (s ∷ ss) = (λ i. ref_derived r s i && refs_derived rs ss i)
+refs_derived (r ∷ rs) (s ∷ ss) = (λ i. ref_same r s i && refs_derived rs ss i)
 refs_derived [] (s ∷ ss) = refl
 refs_derived (r ∷ rs) [] = refl
 

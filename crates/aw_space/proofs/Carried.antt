@@ -13,7 +13,7 @@ use Rattle.aw_term.specs.Choices as Q
 use Rattle.aw_term.specs.Views.{ground_of}
 use Rattle.aw_term.specs.WellFormed.{Each}
 use Rattle.aw_term.proofs.Eaches.{each_map}
-use Rattle.aw_term.proofs.NodeTests.{node_self}
+use Rattle.aw_name.specs.SameNodes.{node_self}
 use Rattle.aw_term.proofs.ByNodeLemmas.{other_before, other_after}
 use Rattle.aw_choice.specs.ChoiceView.{choice_of}
 use Rattle.aw_choice.specs.declared.choice.Choice.{Choice}

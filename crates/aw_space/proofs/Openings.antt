@@ -6,7 +6,7 @@ use Rattle.std.proofs.lemmas.List.Sums.{sum_by-cons}
 use Rattle.aw_term.specs.Names.{Ref, node_eq, node_lt}
 use Rattle.aw_term.specs.Rules.{Rule, Grammar, sort_of}
 use Rattle.aw_term.specs.WellFormed.{takes_of}
-use Rattle.aw_term.proofs.NodeTests.{node_self}
+use Rattle.aw_name.specs.SameNodes.{node_self}
 use Rattle.aw_store.specs.NamedRefs.{Grows, all_named}
 use Rattle.aw_store.proofs.SlotLemmas.{AreNamed-all}
 use Rattle.aw_held.specs.declared.held.Held.{Held}

@@ -9,7 +9,7 @@ use Rattle.aw_term.specs.Rules.{Grammar, sort_of}
 use Rattle.aw_term.specs.WellFormed.{Each, Later}
 use Rattle.aw_term.specs.Held as P
 use Rattle.aw_term.proofs.Eaches.{each_map}
-use Rattle.aw_term.proofs.NodeTests.{node_is}
+use Rattle.aw_name.specs.SameNodes.{node_is}
 use Rattle.aw_apply.specs.Made.{Call}
 use Rattle.aw_apply.specs.MadeView.{as_child}
 use Rattle.aw_apply.specs.declared.making.MadeChild.{MadeChild}

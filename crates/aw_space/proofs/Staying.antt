@@ -8,7 +8,7 @@ use Rattle.aw_term.specs.Rules.{Ground, Grammar}
 use Rattle.aw_term.specs.Configs.{Done}
 use Rattle.aw_term.specs.Choices.{Choice, Start, Develop, Outcome, Refused, Starts, Takes}
 use Rattle.aw_term.specs.Held.{Held, held_of, mark, insert_held}
-use Rattle.aw_term.proofs.NodeTests.{node_is}
+use Rattle.aw_name.specs.SameNodes.{node_is}
 use Rattle.aw_store.specs.Equations.{Body, Equation, Map, find}
 use Rattle.aw_store.proofs.MoreEquations.{find-left_more}
 use Rattle.aw_apply.specs.Made.{Call, made}

@@ -9,13 +9,14 @@ use Rattle.std.proofs.lemmas.List.Elements.{All-push}
 use Rattle.std.proofs.lemmas.Nat.Bits.{bit_at_set_same, bit_at_set_other}
 use Rattle.aw_name.specs.contracts.node.RefPartialEq.TheImpl as reference
 use Rattle.aw_term.specs.Names.{Ref, ref_eq}
-use Rattle.aw_term.proofs.RefTests.{ref_eq-true, ref_eq-self, ref_derived}
+use Rattle.aw_name.specs.SameRefs.{ref_same}
+use Rattle.aw_term.proofs.RefTests.{ref_eq-true, ref_eq-self}
 use Rattle.aw_subs.specs.declared.subs.Sub.{Sub}
 use Rattle.aw_subs.specs.Entries.{entry_of, watchers_in, has_bit, Writes}
 
 -- an entry, found by the equality that is derived in the program
 pub entry_derived : {S : Type 0} (m : HashMap Ref Sub S) (r : Ref) → get (reference.ghosts).eq m r ≡ entry_of m r
-entry_derived m r = λ i. get (λ a b. ref_derived a b i) m r
+entry_derived m r = λ i. get (λ a b. ref_same a b i) m r
 
 -- what `Writes` says, with that equality
 abbrev pub WritesDerived : {S : Type 0} → HashMap Ref Sub S → HashMap Ref Sub S → Ref → Sub → Type 0
@@ -23,7 +24,7 @@ WritesDerived m n k w = (q : Ref) → get (reference.ghosts).eq n q ≡ cond ((r
 
 pub writes_derived : {S : Type 0} (m n : HashMap Ref Sub S) (k : Ref) (w : Sub) → WritesDerived m n k w → Writes m n k w
 writes_derived m n k w writes q =
-    sym (entry_derived n q) ∙ writes q ∙ (λ i. cond (ref_derived k q i) (Some w) (entry_derived m q i))
+    sym (entry_derived n q) ∙ writes q ∙ (λ i. cond (ref_same k q i) (Some w) (entry_derived m q i))
 
 ready_cases : (b : Bool) (w : Sub) (o p : Option Sub) → p ≡ cond b (Some w) o → is_some o ≡ true → is_some p ≡ true
 ready_cases true w o p e h = ap is_some e

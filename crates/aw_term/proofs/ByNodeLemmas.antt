@@ -13,7 +13,7 @@ use Rattle.aw_term.specs.Names.{Node, node_eq, node_lt}
 use Rattle.aw_term.specs.ByNode.{IsOrderedBy, insert_by, insert_all_by, find_by}
 use Rattle.aw_term.specs.Configs.{rounds}
 use Rattle.aw_term.specs.WellFormed.{Each}
-use Rattle.aw_term.proofs.NodeTests.{node_is, node_Decides}
+use Rattle.aw_name.specs.SameNodes.{node_is, node_Decides}
 use Rattle.aw_term.proofs.NodeOrder.{node_order, node_tied}
 use Rattle.aw_term.proofs.StrictOrders.{before_cases}
 

@@ -6,7 +6,6 @@ pub mod HeadTests
 pub mod Joined
 pub mod LastSteps
 pub mod NodeOrder
-pub mod NodeTests
 pub mod NumbersFirst
 pub mod RefOrder
 pub mod RefTests

@@ -8,7 +8,7 @@ use Rattle.std.proofs.lemmas.Bool.Decides.{nat_tests}
 use Rattle.aw_name.specs.Order.{node_cmp, slot_cmp, ref_cmp}
 use Rattle.aw_term.specs.Trees.{Never}
 use Rattle.aw_term.specs.Names.{Slot, Result, Part, Ref, node_eq, node_lt, slot_lt, ref_lt}
-use Rattle.aw_term.proofs.NodeTests.{node_is, node_self}
+use Rattle.aw_name.specs.SameNodes.{node_is, node_self}
 use Rattle.aw_term.proofs.NumbersFirst.{in_turn}
 use Rattle.aw_term.proofs.NodeOrder.{node_before, node_alike, node-no, node-trans, node-tri}
 use Rattle.aw_term.proofs.StrictOrders.{strict_order, tied_by}

@@ -1,5 +1,5 @@
 -- Choices, their answers, and the undivided run: all choices in turn on one configuration.
-use Rattle.std.specs.Prelude.{ℕ, Bool, ◌&&◌, List, [], ◌∷◌, length, Option, Some, None, slice_get, nat_eq, nat_lt, if◌then◌else◌, option_and_then}
+use Rattle.std.specs.Prelude.{ℕ, Bool, true, false, ◌&&◌, List, [], ◌∷◌, length, Option, Some, None, slice_get, nat_eq, nat_lt, if◌then◌else◌, option_and_then}
 use Rattle.aw_term.specs.Names.{Node, Ref, root}
 use Rattle.aw_term.specs.Rules.{Ground, Value, Rule, Sort, Grammar}
 use Rattle.aw_term.specs.Matching.{Matched, Yes, Waits, Differs, Circle, match_all}
@@ -73,6 +73,11 @@ abbrev pub answer_of : {A R : Type 0} → Outcome A R → Answer R
 answer_of (Refused a) = a
 answer_of Starts = Taken
 answer_of (Takes rule bound) = Taken
+
+-- whether an answer is that the choice was taken
+abbrev pub is_taken : {R : Type 0} → Answer R → Bool
+is_taken Taken = true
+is_taken a = false
 
 -- the answer to a choice; it is enabled where the answer is Taken
 abbrev pub answer : Grammar → Config → Choice → Answer Ref

@@ -5,16 +5,8 @@ pub use Rattle.aw_name.specs.declared.node.Node.{Node}
 pub use Rattle.aw_name.specs.declared.node.Slot.{Slot}
 pub use Rattle.aw_name.specs.declared.node.Slot.TheVariants.{Result, Part}
 pub use Rattle.aw_name.specs.declared.node.Ref.{Ref}
-
--- whether the steps of two nodes are the same
-abbrev pub steps_eq : List Step → List Step → Bool
-steps_eq [] [] = true
-steps_eq (a ∷ xs) (b ∷ ys) = nat_eq a.rule b.rule && (nat_eq a.child b.child && steps_eq xs ys)
-steps_eq _ _ = false
-
--- whether two nodes are one
-abbrev pub node_eq : Node → Node → Bool
-node_eq a b = nat_eq a.start b.start && (nat_eq a.case b.case && steps_eq a.steps b.steps)
+pub use Rattle.aw_name.specs.SameNodes.{steps_eq, node_eq}
+pub use Rattle.aw_name.specs.SameRefs.{slot_eq, ref_eq}
 
 -- whether steps come before others: at the first that differs by rule and then by child, a proper prefix first
 abbrev pub steps_lt : List Step → List Step → Bool
@@ -26,16 +18,6 @@ steps_lt (a ∷ xs) (b ∷ ys) = nat_lt a.rule b.rule || (nat_eq a.rule b.rule &
 -- whether a node comes before another: by start sort, case, and steps, a proper prefix first
 abbrev pub node_lt : Node → Node → Bool
 node_lt a b = nat_lt a.start b.start || (nat_eq a.start b.start && (nat_lt a.case b.case || (nat_eq a.case b.case && steps_lt a.steps b.steps)))
-
--- whether two values of a node are one
-abbrev pub slot_eq : Slot → Slot → Bool
-slot_eq (Result i) (Result j) = nat_eq i j
-slot_eq (Part i) (Part j) = nat_eq i j
-slot_eq _ _ = false
-
--- whether two references are one
-abbrev pub ref_eq : Ref → Ref → Bool
-ref_eq a b = node_eq a.node b.node && slot_eq a.slot b.slot
 
 -- whether a value of a node comes before another: results before parts, and then by number
 abbrev pub slot_lt : Slot → Slot → Bool

@@ -3,14 +3,13 @@ use Rattle.std.specs.Prelude.{ℕ, zero, suc, ◌+◌, Bool, true, false, List, 
 use Rattle.aw_term.specs.Trees.{Num, Made, Nil}
 use Rattle.aw_term.specs.Names.{Node}
 use Rattle.aw_term.specs.Rules.{Ground, Rule, Grammar, get, sort_of}
-use Rattle.aw_term.specs.Choices.{Choice, Start, Develop}
+use Rattle.aw_term.specs.Choices.{Choice, Start, Develop, is_taken}
 use Rattle.aw_choice.specs.Events as E
 use Rattle.aw_choice.specs.Events.{Event}
 use Rattle.aw_kept.specs.Records.{rules_of}
 use Rattle.aw_react.specs.Worlds as V
 use Rattle.aw_react.specs.Worlds.{World, Reply, Stepped, gather, step}
 use Rattle.aw_world.specs.Opened.{open_nodes}
-use Rattle.aw_world.specs.SiteAnswers.{is_taken}
 use Rattle.aw_trial.specs.Draws.{next_below, drew}
 use Rattle.aw_trial.specs.declared.tally.Tally.{Tally}
 

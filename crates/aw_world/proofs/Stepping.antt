@@ -24,7 +24,7 @@ use Rattle.aw_msg.specs.declared.message.Message.{Message}
 use Rattle.aw_world.specs.declared.moves.Reply.TheVariants as replies
 use Rattle.aw_world.specs.Marks.{marks}
 use Rattle.aw_msg.specs.MessageView.{message_of}
-use Rattle.aw_world.specs.SiteAnswers.{is_taken}
+use Rattle.aw_term.specs.Choices.{is_taken}
 use Rattle.aw_world.specs.MoveView.{reply_of}
 use Rattle.aw_world.specs.Seen.{Seen, Steps, ChoseAt, GotAt}
 use Rattle.aw_world.proofs.MarkLemmas.{marks_more, marks_set}

@@ -1,6 +1,5 @@
 -- Whether a site took in what came.
 use Rattle.std.specs.Prelude.{Bool, true, false}
-use Rattle.aw_term.specs.Choices.{Answer, Taken}
 use Rattle.aw_apply.specs.Messages.{Received, New}
 use Rattle.aw_react.specs.Sites.{Reaction}
 
@@ -8,8 +7,3 @@ use Rattle.aw_react.specs.Sites.{Reaction}
 abbrev pub is_new : Received Reaction → Bool
 is_new (New x) = true
 is_new _ = false
-
--- whether an answer is `taken`
-abbrev pub is_taken : {R : Type 0} → Answer R → Bool
-is_taken Taken = true
-is_taken a = false

@@ -6,7 +6,7 @@ ghost use Rattle.aw_choice.specs.ChoiceView.{choice_of, answer_of};
 ghost use Rattle.aw_react.specs.Homes.{home};
 ghost use Rattle.aw_react.specs.Sites as P;
 ghost use Rattle.aw_react.specs.Worlds as V;
-ghost use Rattle.aw_world.specs.SiteAnswers.{is_taken};
+ghost use Rattle.aw_term.specs.Choices.{is_taken};
 ghost use Rattle.aw_world.specs.Marked.{StaysSeenForAllDelivered};
 ghost use Rattle.aw_world.specs.Seen.{ArePlaced, ShowEach, AnswersAt, Chooses};
 

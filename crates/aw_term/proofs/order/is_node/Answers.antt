@@ -1,5 +1,5 @@
 use Rattle.std.proofs.lemmas.Bool.Decides.{same_from_decides}
-use Rattle.aw_term.proofs.NodeTests.{node_Decides}
+use Rattle.aw_name.specs.SameNodes.{node_Decides}
 use Rattle.aw_term.proofs.order.is_node.Goals as goal
 
 pub returns : goal.returns

@@ -1,5 +1,5 @@
 use Rattle.std.proofs.lemmas.Bool.Decides.{same_from_decides}
-use Rattle.aw_term.proofs.RefTests.{ref_Decides}
+use Rattle.aw_name.specs.SameRefs.{ref_Decides}
 use Rattle.aw_term.proofs.order.is_ref.Goals as goal
 
 pub returns : goal.returns

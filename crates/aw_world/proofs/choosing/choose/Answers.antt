@@ -9,7 +9,7 @@ use Rattle.aw_react.specs.Worlds as V
 use Rattle.aw_react.specs.Choosing as D
 use Rattle.aw_merge.proofs.Sorts.{home_within, choice_node}
 use Rattle.aw_world.specs.declared.moves.Reply.TheVariants as replies
-use Rattle.aw_world.specs.SiteAnswers.{is_taken}
+use Rattle.aw_term.specs.Choices.{is_taken}
 use Rattle.aw_world.specs.Seen.{Steps}
 use Rattle.aw_world.proofs.Stepping.{chose, honest}
 use Rattle.aw_world.proofs.choosing.choose.Goals as goal
