@@ -84,6 +84,12 @@ Lexed (Ok found) tokens = tokens ≡ Ok found
 Lexed (Err (Bad at)) tokens = tokens ≡ Err at
 Lexed (Err NoMemory) tokens = Unit {0}
 
+--- The tokens in a list are these, unless memory ran out.
+abbrev pub LexedInto : List Token → Result Unit LexFault → Result (List Token) ℕ → Type 0
+LexedInto found (Ok done) tokens = tokens ≡ Ok found
+LexedInto found (Err (Bad at)) tokens = tokens ≡ Err at
+LexedInto found (Err NoMemory) tokens = Unit {0}
+
 -- bytes that a token of the kind has
 abbrev pub Spells : TokenKind → List ℕ → Type 0
 Spells Name bs = is_name bs ≡ true

@@ -1,6 +1,6 @@
 //! The tokens of a line.
-ghost use Rattle.std.specs.Prelude.{◌≡◌, IfOk};
-ghost use Rattle.aw_lex.specs.Tokens.{tokens_of, Lexed, AreSlices};
+ghost use Rattle.std.specs.Prelude.{◌≡◌, IfOk, OnOk};
+ghost use Rattle.aw_lex.specs.Tokens.{tokens_of, Lexed, LexedInto, AreSlices};
 
 use crate::front::{Front, front_of};
 use aw_list::Items;
@@ -52,12 +52,13 @@ impl<T: Drop> From<AllocFailed<T>> for LexFault {
     }
 }
 
-/// The tokens of a line, in order. A line that holds anything else is `Bad` at the first such item.
-pub fn tokens(alloc: Global, line: &[u8]) -> Result<Tokens, LexFault>
-    ensures exact { Lexed result (tokens_of line.now) }
-    ensures slices { IfOk result (λ found. AreSlices line.now 0 found) }
+/// Reads the tokens of a line, in order, in place of those that a list holds, and keeps its memory: one list serves line after line.
+/// A line that holds anything else is `Bad` at the first such item. An error leaves any tokens in the list.
+pub fn read_tokens(found: &mut Tokens, line: &[u8]) -> Result<(), LexFault>
+    ensures exact { LexedInto found.new result (tokens_of line.now) }
+    ensures slices { OnOk result (AreSlices line.now 0 found.new) }
 {
-    let mut found = Tokens::new(alloc);
+    found.truncate(0);
     let mut at = 0;
     while at < line.len() {
         let (_, rest) = line.split_at(at);
@@ -75,5 +76,15 @@ pub fn tokens(alloc: Global, line: &[u8]) -> Result<Tokens, LexFault>
             Front::Bad => return Err(LexFault::Bad { at }),
         }
     }
+    Ok(())
+}
+
+/// The tokens of a line, in order. A line that holds anything else is `Bad` at the first such item.
+pub fn tokens(alloc: Global, line: &[u8]) -> Result<Tokens, LexFault>
+    ensures exact { Lexed result (tokens_of line.now) }
+    ensures slices { IfOk result (λ found. AreSlices line.now 0 found) }
+{
+    let mut found = Tokens::new(alloc);
+    read_tokens(&mut found, line)?;
     Ok(found)
 }

@@ -8,11 +8,11 @@ use Rattle.aw_sched.specs.declared.line.SchedLine.TheVariants.{Start, Choose, De
 
 -- a line of the program, with its arguments as they are written
 abbrev pub line_seen : SchedLine → P.Line
-line_seen (Start sort case) = P.StartLine sort case
-line_seen (Choose node rule args) = P.ChooseLine node rule (map written_of args)
+line_seen (Start sort case) = P.StartLine sort.now case
+line_seen (Choose node rule args) = P.ChooseLine node.now rule.now (map written_of args)
 line_seen (Deliver message) = P.DeliverLine message
 line_seen Settle = P.SettleLine
-line_seen (List role) = P.ListLine role
+line_seen (List role) = P.ListLine role.now
 
 -- the texts in the arguments are contents
 abbrev pub HasContents : P.Line → Type 0

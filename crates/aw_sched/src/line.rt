@@ -1,19 +1,19 @@
 //! A line of a schedule, its names not looked up.
-use aw_base::{RawTerms, Text};
+use aw_base::RawTerms;
 
-/// What a line says.
+/// What a line says, in the line's own bytes.
 #[derive(Debug, Drop)]
-pub enum SchedLine {
+pub enum SchedLine<'a> {
     Start {
-        sort: Text,
+        sort: &'a [u8],
         case: u64,
     },
     Choose {
-        node: Text,
-        rule: Text,
+        node: &'a [u8],
+        rule: &'a [u8],
         args: RawTerms,
     },
     Deliver(u64),
     Settle,
-    List(Text),
+    List(&'a [u8]),
 }

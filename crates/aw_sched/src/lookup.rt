@@ -111,18 +111,16 @@ fn list_event(g: &Grammar, role: &[u8]) -> Result<Event, LineFault>
 }
 
 /// The event that a line asks for, or the first kind of fault in it.
-pub(crate) fn event_of(alloc: Global, g: &Grammar, line: &SchedLine) -> Result<Event, LineFault>
+pub(crate) fn event_of(alloc: Global, g: &Grammar, line: &SchedLine<'_>) -> Result<Event, LineFault>
     requires { HasContents (line_seen line.now) }
     ensures gives { GivesEvent (line_kind (declarations_of g.now) (line_seen line.now)) (event_of (declarations_of g.now) (line_seen line.now)) result }
     ensures fits { IfOk result (MayCome (grammar_of g.now)) }
 {
     match line {
-        SchedLine::Start { sort, case } => start_event(g, sort.as_slice(), *case),
-        SchedLine::Choose { node, rule, args } => {
-            choose_event(alloc, g, node.as_slice(), rule.as_slice(), args)
-        }
+        SchedLine::Start { sort, case } => start_event(g, sort, *case),
+        SchedLine::Choose { node, rule, args } => choose_event(alloc, g, node, rule, args),
         SchedLine::Deliver(message) => Ok(Event::Deliver(*message)),
         SchedLine::Settle => Ok(Event::Settle),
-        SchedLine::List(role) => list_event(g, role.as_slice()),
+        SchedLine::List(role) => list_event(g, role),
     }
 }

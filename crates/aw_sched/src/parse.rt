@@ -8,58 +8,54 @@ ghost use Rattle.aw_sched.specs.Lines as lines;
 ghost use Rattle.aw_sched.specs.LineSeen.{line_seen};
 
 use crate::line::SchedLine;
-use aw_base::Text;
 use aw_form::{Unread, end, name, node, number, terms_in_braces};
 use aw_lex::Token;
 use std::alloc::Global;
 
-fn start_line(alloc: Global, line: &[u8], tokens: &[Token]) -> Result<SchedLine, Unread>
-    ensures { Gives line_seen result (lines.start_line (lexemes line.now tokens.now)) }
+fn start_line<'a>(line: &'a [u8], tokens: &'a [Token]) -> Result<SchedLine<'a>, Unread>
+    ensures { Gives line_seen result (lines.start_line (lexemes line.entry.now tokens.entry.now)) }
 {
     let (sort, rest) = name(line, tokens)?;
     let (case, rest) = number(line, rest)?;
     end(line, rest)?;
-    Ok(SchedLine::Start {
-        sort: Text::from_bytes(alloc, sort)?,
-        case,
-    })
+    Ok(SchedLine::Start { sort, case })
 }
 
-fn choose_line(alloc: Global, line: &[u8], tokens: &[Token]) -> Result<SchedLine, Unread>
-    ensures { Gives line_seen result (lines.choose_line (lexemes line.now tokens.now)) }
+fn choose_line<'a>(
+    alloc: Global,
+    line: &'a [u8],
+    tokens: &'a [Token],
+) -> Result<SchedLine<'a>, Unread>
+    ensures { Gives line_seen result (lines.choose_line (lexemes line.entry.now tokens.entry.now)) }
 {
     let (node, rest) = node(line, tokens)?;
     let (rule, rest) = name(line, rest)?;
     let (args, rest) = terms_in_braces(alloc, line, rest)?;
     end(line, rest)?;
-    Ok(SchedLine::Choose {
-        node: Text::from_bytes(alloc, node)?,
-        rule: Text::from_bytes(alloc, rule)?,
-        args,
-    })
+    Ok(SchedLine::Choose { node, rule, args })
 }
 
-fn deliver_line(line: &[u8], tokens: &[Token]) -> Result<SchedLine, Unread>
-    ensures { Gives line_seen result (lines.deliver_line (lexemes line.now tokens.now)) }
+fn deliver_line<'a>(line: &'a [u8], tokens: &'a [Token]) -> Result<SchedLine<'a>, Unread>
+    ensures { Gives line_seen result (lines.deliver_line (lexemes line.entry.now tokens.entry.now)) }
 {
     let (message, rest) = number(line, tokens)?;
     end(line, rest)?;
     Ok(SchedLine::Deliver(message))
 }
 
-fn settle_line(line: &[u8], tokens: &[Token]) -> Result<SchedLine, Unread>
-    ensures { Gives line_seen result (form.only lines.SettleLine (lexemes line.now tokens.now)) }
+fn settle_line<'a>(line: &'a [u8], tokens: &'a [Token]) -> Result<SchedLine<'a>, Unread>
+    ensures { Gives line_seen result (form.only lines.SettleLine (lexemes line.entry.now tokens.entry.now)) }
 {
     end(line, tokens)?;
     Ok(SchedLine::Settle)
 }
 
-fn list_line(alloc: Global, line: &[u8], tokens: &[Token]) -> Result<SchedLine, Unread>
-    ensures { Gives line_seen result (lines.list_line (lexemes line.now tokens.now)) }
+fn list_line<'a>(line: &'a [u8], tokens: &'a [Token]) -> Result<SchedLine<'a>, Unread>
+    ensures { Gives line_seen result (lines.list_line (lexemes line.entry.now tokens.entry.now)) }
 {
     let (role, rest) = name(line, tokens)?;
     end(line, rest)?;
-    Ok(SchedLine::List(Text::from_bytes(alloc, role)?))
+    Ok(SchedLine::List(role))
 }
 
 fn is_word(word: &[u8], wanted: &[u8]) -> bool
@@ -69,12 +65,16 @@ fn is_word(word: &[u8], wanted: &[u8]) -> bool
 }
 
 /// The line that the tokens spell, where they spell one.
-pub fn parse_line(alloc: Global, line: &[u8], tokens: &[Token]) -> Result<SchedLine, Unread>
-    ensures { Gives line_seen result (lines.line_of (lexemes line.now tokens.now)) }
+pub fn parse_line<'a>(
+    alloc: Global,
+    line: &'a [u8],
+    tokens: &'a [Token],
+) -> Result<SchedLine<'a>, Unread>
+    ensures { Gives line_seen result (lines.line_of (lexemes line.entry.now tokens.entry.now)) }
 {
     let (word, rest) = name(line, tokens)?;
     if is_word(word, b"start") {
-        start_line(alloc, line, rest)
+        start_line(line, rest)
     } else if is_word(word, b"choose") {
         choose_line(alloc, line, rest)
     } else if is_word(word, b"deliver") {
@@ -82,7 +82,7 @@ pub fn parse_line(alloc: Global, line: &[u8], tokens: &[Token]) -> Result<SchedL
     } else if is_word(word, b"settle") {
         settle_line(line, rest)
     } else if is_word(word, b"list") {
-        list_line(alloc, line, rest)
+        list_line(line, rest)
     } else {
         Err(Unread::Form)
     }

@@ -19,7 +19,7 @@ use crate::lookup::event_of;
 use crate::parse::parse_line;
 use aw_base::Grammar;
 use aw_form::Unread;
-use aw_lex::{LexFault, Token, is_passed_over, next_line, tokens};
+use aw_lex::{LexFault, Token, Tokens, is_passed_over, next_line, read_tokens};
 use aw_typed::{Typed, arg_ok};
 use std::alloc::Global;
 
@@ -55,7 +55,7 @@ fn said_event(
     alloc: Global,
     g: &Grammar,
     t: &Typed,
-    line: &SchedLine,
+    line: &SchedLine<'_>,
 ) -> Result<Option<Event>, LineFault>
     requires contents { HasContents (line_seen line.now) }
     requires made { IsMadeFor (grammar_of g.now) t.now }
@@ -90,7 +90,7 @@ fn event_said(
 }
 
 fn line_event(
-    alloc: Global,
+    found: &mut Tokens,
     g: &Grammar,
     t: &Typed,
     line: &[u8],
@@ -103,16 +103,16 @@ fn line_event(
     if is_passed_over(line) {
         return Ok(None);
     }
-    match tokens(alloc, line) {
-        Ok(tokens) => event_said(alloc, g, t, line, tokens.as_slice()),
+    match read_tokens(found, line) {
+        Ok(()) => event_said(found.allocator(), g, t, line, found.as_slice()),
         Err(LexFault::Bad { .. }) => Err(LineFault::Bad(SchedKind::Token)),
         Err(LexFault::NoMemory) => Err(LineFault::NoMemory),
     }
 }
 
-/// Adds the event of a line, where it gives one.
+/// Adds the event of a line, where it gives one. The list of tokens is filled anew for each line.
 fn add_line(
-    alloc: Global,
+    found: &mut Tokens,
     g: &Grammar,
     t: &Typed,
     events: &mut Events,
@@ -125,7 +125,7 @@ fn add_line(
     ensures fits { OnOk result (Each (MayCome (grammar_of g.now)) events.new) }
     ensures types { OnOk result (Each (HasTypes (types_of t.now.types) (grammar_of g.now)) events.new) }
 {
-    match line_event(alloc, g, t, line)? {
+    match line_event(found, g, t, line)? {
         Some(event) => {
             events.push(event)?;
             Ok(())
@@ -157,11 +157,12 @@ pub fn read_schedule(
     ensures types { IfOk result (λ events. Each (HasTypes (types_of t.now.types) (grammar_of g.now)) events) }
 {
     let mut events = Events::new(alloc);
+    let mut found = Tokens::new(alloc);
     let mut rest = text;
     let mut number = 0;
     while let Some((line, behind)) = next_line(rest) {
         number += 1;
-        match add_line(alloc, g, t, &mut events, line) {
+        match add_line(&mut found, g, t, &mut events, line) {
             Ok(()) => rest = behind,
             Err(fault) => return Err(fault_at(number, fault)),
         }

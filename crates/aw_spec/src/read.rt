@@ -15,7 +15,7 @@ use crate::draft::{AfterLine, Draft, LineFault};
 use crate::fault::SpecFault;
 use crate::reader::Reader;
 use crate::spec_text::SpecText;
-use aw_lex::next_line;
+use aw_lex::{Tokens, next_line};
 use std::alloc::Global;
 
 fn at_line(fault: LineFault, line: u64) -> SpecFault
@@ -59,11 +59,12 @@ fn read_lines(alloc: Global, text: &[u8]) -> Result<SpecText, SpecFault>
     ensures words { IfOk result (λ s. words_of s.grammar ≡ words_in (declarations_of s.grammar)) }
 {
     let mut reader = Reader::new(alloc);
+    let mut found = Tokens::new(alloc);
     let mut rest = text;
     let mut lines = 0;
     while let Some((line, behind)) = next_line(rest) {
         lines += 1;
-        match reader.read_line(alloc, line) {
+        match reader.read_line(&mut found, line) {
             Ok(AfterLine::Next) => rest = behind,
             Ok(AfterLine::End { loads }) => {
                 return Ok(text_of(reader.draft, loads, lines, text.len() - behind.len()));

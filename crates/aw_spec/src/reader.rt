@@ -8,7 +8,7 @@ use crate::line::SpecLine;
 use crate::spelled::spelled_line;
 use aw_base::{Grammar, Names, Numbers};
 use aw_face::{Faces, Uses};
-use aw_lex::is_passed_over;
+use aw_lex::{Tokens, is_passed_over};
 use aw_typed::{Carries, Shapes, Types};
 use std::alloc::Global;
 
@@ -68,19 +68,19 @@ impl Reader {
     }
 
     /// What comes of the bytes of a line that is not passed over.
-    fn read_spelled(&mut self, alloc: Global, line: &[u8]) -> Result<AfterLine, LineFault>
+    fn read_spelled(&mut self, found: &mut Tokens, line: &[u8]) -> Result<AfterLine, LineFault>
         requires { IsAtStage self.old }
         ensures reads { Reads (draft_of self.old) self.new result (reading.if_tokens (draft_of self.old) line.now (tokens_of line.now)) }
         ensures stage { IsStill self.new result }
     {
-        match spelled_line(alloc, line) {
+        match spelled_line(found, line) {
             Ok(spelled) => self.in_order(spelled),
             Err(fault) => Err(fault),
         }
     }
 
-    /// What comes of the bytes of a line. The reader is of no use after a fault.
-    pub fn read_line(&mut self, alloc: Global, line: &[u8]) -> Result<AfterLine, LineFault>
+    /// What comes of the bytes of a line. The list of tokens is filled anew for each line. The reader is of no use after a fault.
+    pub fn read_line(&mut self, found: &mut Tokens, line: &[u8]) -> Result<AfterLine, LineFault>
         requires { IsAtStage self.old }
         ensures reads { Reads (draft_of self.old) self.new result (reading.read_line (draft_of self.old) line.now) }
         ensures stage { IsStill self.new result }
@@ -88,6 +88,6 @@ impl Reader {
         if is_passed_over(line) {
             return Ok(AfterLine::Next);
         }
-        self.read_spelled(alloc, line)
+        self.read_spelled(found, line)
     }
 }

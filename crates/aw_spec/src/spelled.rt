@@ -9,15 +9,14 @@ ghost use Rattle.aw_spec.specs.Views.{line_seen};
 use crate::draft::LineFault;
 use crate::line::SpecLine;
 use crate::parse::parse_line;
-use aw_lex::tokens;
-use std::alloc::Global;
+use aw_lex::{Tokens, read_tokens};
 
-/// What bytes that are not passed over spell.
-pub fn spelled_line(alloc: Global, line: &[u8]) -> Result<SpecLine, LineFault>
+/// What bytes that are not passed over spell. Their tokens come in place of those that were found before.
+pub fn spelled_line(found: &mut Tokens, line: &[u8]) -> Result<SpecLine, LineFault>
     ensures spelled { (d : reading.Draft) → IsSpelledBy d result (reading.if_tokens d line.now (tokens_of line.now)) }
     ensures declared { IfOk result (λ spelled. IsDeclared (line_seen spelled)) }
 {
-    let tokens = tokens(alloc, line)?;
-    let spelled = parse_line(alloc, line, tokens.as_slice())?;
+    read_tokens(found, line)?;
+    let spelled = parse_line(found.allocator(), line, found.as_slice())?;
     Ok(spelled)
 }

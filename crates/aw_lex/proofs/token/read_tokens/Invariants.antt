@@ -1,7 +1,7 @@
 use Rattle.std.proofs.Common.{◌≡◌, ◌-◌, ◌≤◌, drop, length}
 use Rattle.aw_lex.specs.Tokens.{tokens_from, tokens_of}
 use Rattle.aw_lex.proofs.TokenSteps.{behind}
-use Rattle.aw_lex.proofs.token.tokens.Given as goal
+use Rattle.aw_lex.proofs.token.read_tokens.Given as goal
 
 abbrev pub invariant-loop-at : goal.invariant-loop-at
 invariant-loop-at l =

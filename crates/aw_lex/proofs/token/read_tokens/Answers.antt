@@ -5,7 +5,7 @@ use Rattle.aw_lex.specs.declared.front.Front.{Front}
 use Rattle.aw_lex.specs.Tokens.{tokens_from, front_of, with_token}
 use Rattle.aw_lex.proofs.TokenSteps.{behind, blank_step, token_step, behind_one, none_left}
 use Rattle.aw_lex.proofs.Slices.{tokens_are_slices}
-use Rattle.aw_lex.proofs.token.tokens.Goals as goal
+use Rattle.aw_lex.proofs.token.read_tokens.Goals as goal
 
 -- the front of what is left
 front_left : (line rest : List ℕ) (at : ℕ) (f : Front) → rest ≡ drop at line → f ≡ front_of rest → front_of (drop at line) ≡ f
