@@ -1,7 +1,7 @@
 -- Lists of written terms, separated by commas, up to a closing mark.
 use Rattle.std.specs.Prelude.{ℕ, List, [], ◌∷◌, ◌++◌, Option, None, Some, nat_eq, if◌then◌else◌, option_map, option_and_then}
 use Rattle.aw_term.specs.Trees as P
-use Rattle.aw_grammar.specs.Written.{Written, Word, Apply, Literal, Writtens, Empty, Then, side_by_side}
+use Rattle.aw_grammar.specs.Written.{Written, bare_name, Word, Apply, Literal, Writtens, Empty, Then, side_by_side}
 use Rattle.aw_form.specs.Lexemes.{Lexeme, Name, Number, Node, Quoted, Mark}
 
 -- a number or a text; a constructor is not spelled so
@@ -119,12 +119,7 @@ terms_up_to close ls = read_terms close (nothing_read TermOrEnd) ls
 abbrev pub some_terms_up_to : ℕ → List Lexeme → Option (List Written × List Lexeme)
 some_terms_up_to close ls = read_terms close (nothing_read TermOnly) ls
 
--- names alone
-abbrev pub name_of : Written → Option (List ℕ)
-name_of (Word name) = Some name
-name_of _ = None
-
 -- the names, where each of these terms is a bare name
 abbrev pub names_of : List Written → Option (List (List ℕ))
 names_of [] = Some []
-names_of (t ∷ ts) = option_and_then (λ name. option_map (λ names. name ∷ names) (names_of ts)) (name_of t)
+names_of (t ∷ ts) = option_and_then (λ name. option_map (λ names. name ∷ names) (names_of ts)) (bare_name t)

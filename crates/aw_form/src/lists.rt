@@ -1,6 +1,6 @@
 //! Readers of lists of terms and of names between marks.
 ghost use Rattle.std.specs.Prelude.{map};
-ghost use Rattle.aw_grammar.specs.Written.{written_of};
+ghost use Rattle.aw_grammar.specs.Written.{bare_name, written_of};
 ghost use Rattle.aw_form.specs.Lexemes.{lexemes};
 ghost use Rattle.aw_form.specs.Terms as list;
 ghost use Rattle.aw_form.specs.Forms as form;
@@ -40,23 +40,22 @@ pub fn terms_between<'a>(
     terms_up_to(alloc, close, line, inside)
 }
 
-fn name_of(alloc: Global, term: &RawTerm) -> Result<Text, Unread>
-    ensures { Gives (λ x. x) result (list.name_of (written_of term.now)) }
+/// The name that a term is, handed on.
+fn name_of(term: RawTerm) -> Result<Text, Unread>
+    ensures { Gives (λ x. x) result (bare_name (written_of term)) }
 {
-    match term {
-        RawTerm::Word(name) => Ok(Text::from_bytes(alloc, name.as_slice())?),
-        RawTerm::Apply(_, _) | RawTerm::Lit(_) => Err(Unread::Form),
+    match term.into_name() {
+        Some(name) => Ok(name),
+        None => Err(Unread::Form),
     }
 }
 
-fn names_of(alloc: Global, terms: &[RawTerm]) -> Result<Names, Unread>
-    ensures { Gives (λ x. x) result (list.names_of (map written_of terms.now)) }
+fn names_of(alloc: Global, terms: RawTerms) -> Result<Names, Unread>
+    ensures { Gives (λ x. x) result (list.names_of (map written_of terms)) }
 {
     let mut names = Names::new(alloc);
-    let mut rest = terms;
-    while let [term, behind @ ..] = rest {
-        names.push(name_of(alloc, term)?)?;
-        rest = behind;
+    for term in terms.into_vec() {
+        names.push(name_of(term)?)?;
     }
     Ok(names)
 }
@@ -72,7 +71,7 @@ pub fn names_between<'a>(
     ensures { Gives (λ x. (x.0, lexemes line.now x.1.now)) result (form.names_between start close (lexemes line.now tokens.entry.now)) }
 {
     let (terms, rest) = terms_between(alloc, start, close, line, tokens)?;
-    let names = names_of(alloc, terms.as_slice())?;
+    let names = names_of(alloc, terms)?;
     Ok((names, rest))
 }
 
@@ -105,6 +104,6 @@ pub fn names_in_braces<'a>(
     ensures { Gives (λ x. (x.0, lexemes line.now x.1.now)) result (form.names_in_braces (lexemes line.now tokens.entry.now)) }
 {
     let (terms, rest) = terms_in_braces(alloc, line, tokens)?;
-    let names = names_of(alloc, terms.as_slice())?;
+    let names = names_of(alloc, terms)?;
     Ok((names, rest))
 }

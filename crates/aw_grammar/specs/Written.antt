@@ -1,5 +1,5 @@
 -- Terms as they are written, before names are looked up.
-use Rattle.std.specs.Prelude.{ℕ, List, [], ◌∷◌, map}
+use Rattle.std.specs.Prelude.{ℕ, List, [], ◌∷◌, map, Option, None, Some}
 use Rattle.aw_term.specs.Trees.{Head}
 use Rattle.aw_term.specs.Views.{head_of}
 use Rattle.aw_grammar.specs.declared.raw.RawTerm.{RawTerm, Row_of-RawTerm, end_of-RawTerm, more_of-RawTerm}
@@ -33,6 +33,12 @@ abbrev mutual
   pub written_row : {m : _} → Row_of-RawTerm m → Writtens
   written_row end_of-RawTerm = Empty
   written_row (more_of-RawTerm t rest) = Then (written_of t) (written_row rest)
+
+-- the name that a term is, where it is a bare one
+abbrev pub bare_name : Written → Option (List ℕ)
+bare_name (Word name) = Some name
+bare_name (Apply name parts) = None
+bare_name (Literal h) = None
 
 -- a written subtask
 pub record WrittenChild : Type 0 where

@@ -38,6 +38,21 @@ pub enum RawTerm {
     Lit(Lit),
 }
 
+impl RawTerm {
+    ghost use Rattle.std.specs.Prelude.{◌≡◌};
+    ghost use Rattle.aw_grammar.specs.Written.{bare_name};
+
+    /// The name that the term is, handed on; `None` where it is no bare name.
+    pub fn into_name(self) -> Option<Text>
+        ensures { result ≡ bare_name (written_of self) }
+    {
+        match self {
+            RawTerm::Word(name) => Some(name),
+            RawTerm::Apply(_, _) | RawTerm::Lit(_) => None,
+        }
+    }
+}
+
 /// The list to be emptied next: these parts, which have room for one more, with the rest of the list that was open hung in
 /// front of them as a term. What is empty never hangs, so each list is turned once.
 fn hang_rest(name: Text, mut parts: Vec<RawTerm>, rest: Vec<RawTerm>) -> Vec<RawTerm>
