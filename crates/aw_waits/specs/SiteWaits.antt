@@ -1,21 +1,17 @@
 -- Waiting at a workspace, which knows some of the equations of the taken choices.
-use Rattle.std.specs.Prelude.{◌≡◌, ℕ, List, [], Some, None}
+use Rattle.std.specs.Prelude.{◌≡◌, ℕ, List, [], Some}
 use Rattle.aw_list.specs.Members.{Member}
 use Rattle.aw_term.specs.Trees.{Never}
-use Rattle.aw_term.specs.Names.{Node, Ref, result}
-use Rattle.aw_term.specs.Rules.{Term, Ground, Rule, Grammar}
+use Rattle.aw_term.specs.Names.{Node, result}
+use Rattle.aw_term.specs.Rules.{Ground, Rule, Grammar}
 use Rattle.aw_term.specs.Matching.{Waits}
 use Rattle.aw_term.specs.Configs.{Pending, Config}
 use Rattle.aw_term.specs.Choices.{Choice, Develop, undivided}
-use Rattle.aw_store.specs.Equations.{Map, find}
+use Rattle.aw_store.specs.Equations.{Map}
 use Rattle.aw_apply.specs.Guard.{guard_all}
 use Rattle.aw_joint.specs.Joint.{Held, Joint, empty_joint, joint_run}
 use Rattle.aw_joint.specs.Laws.{IsSubmap}
 use Rattle.aw_wait.specs.Waiting.{WaitsFor}
-
--- a guard that waits over the one waits for the same reference over the other, so long as that has no equation there
-abbrev pub WaitsStays : Map → Map → Type 0
-WaitsStays k l = (ps : List Term) (rs : List Ref) (r : Ref) → find l r ≡ None → guard_all k 1 ps rs ≡ Waits r → guard_all l 1 ps rs ≡ Waits r
 
 -- none of the choices develops the node
 abbrev pub IsUntaken : List Choice → Node → Type 0

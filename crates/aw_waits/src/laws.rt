@@ -2,8 +2,8 @@
 ghost use Rattle.aw_term.specs.Artifacts.{Words};
 ghost use Rattle.aw_term.specs.Rules as P;
 ghost use Rattle.aw_store.specs.Equations.{Map};
-ghost use Rattle.aw_joint.specs.Laws.{IsAccepted, IsSubmap};
-ghost use Rattle.aw_waits.specs.SiteWaits.{WaitsStays, WaitsThereToo};
+ghost use Rattle.aw_joint.specs.Laws.{IsAccepted, IsSubmap, WaitsStays};
+ghost use Rattle.aw_waits.specs.SiteWaits.{WaitsThereToo};
 
 /// A guard that waits over the equations of a workspace for a result of a node on which no choice was taken waits for it
 /// over all equations (`stays`), and so the one node waits for the other in the undivided configuration (`there_too`).
