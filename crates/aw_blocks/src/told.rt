@@ -1,9 +1,9 @@
 //! What is told of an entry.
 ghost use Rattle.std.specs.Prelude.{◌≡◌, ◌≤◌, IfOk, length};
 ghost use Rattle.aw_grammar.specs.GrammarOf.{grammar_of};
-ghost use Rattle.aw_replay.specs.Telling.{plain_of};
 ghost use Rattle.aw_sched.specs.Answers.{MayCome};
 ghost use Rattle.aw_term.specs.WellFormed.{Each};
+ghost use Rattle.aw_world.specs.WorldView.{plain_of};
 
 use crate::fault::EntryFault;
 use aw_accept::{Accepted, Refused, accept};

@@ -8,8 +8,9 @@ use Rattle.aw_react.specs.Worlds.{World, Move, Delivers, run, settle, deliver, u
 use Rattle.aw_world.specs.declared.workspace.Workspace.{Ghosts}
 use Rattle.aw_world.specs.declared.world.World as made
 use Rattle.aw_world.specs.Shown.{Shows}
+use Rattle.aw_world.specs.WorldView.{plain_of}
 use Rattle.aw_choice.specs.Events as E
-use Rattle.aw_replay.specs.Telling.{plain_of, StepsOrNot, SettlesSome, DoesSome}
+use Rattle.aw_replay.specs.Telling.{StepsOrNot, SettlesSome, DoesSome}
 
 -- made or not: none of it, or all
 pub some_step : {W : Type 0} (f : Ghosts W) (old new : made.World W f) (e : Move) → StepsOrNot f old new e → (v : World) → Shows f old v → (n : ℕ) × Shows f new (run (plain_of old) v (take n (e ∷ [])))

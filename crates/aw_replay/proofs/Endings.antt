@@ -17,8 +17,9 @@ use Rattle.aw_world.specs.declared.workspace.Workspace.{Ghosts}
 use Rattle.aw_world.specs.declared.world.World.{World}
 use Rattle.aw_world.specs.Marks.{marks}
 use Rattle.aw_world.specs.Shown.{first_open}
+use Rattle.aw_world.specs.WorldView.{plain_of, named_by}
 use Rattle.aw_world.proofs.WorldFacts.{reached_configured}
-use Rattle.aw_replay.specs.Telling.{plain_of, named_by, undelivered_line, artifacts_line, PrintsEnding, PrintsQuiet}
+use Rattle.aw_replay.specs.Telling.{undelivered_line, artifacts_line, PrintsEnding, PrintsQuiet}
 
 pub artifacts_split : (w : Words) (c : Config) (n : ℕ) → n ≡ length c → artifacts w c ≡ artifacts_line n ++ artifact_text w c
 artifacts_split w c n e =

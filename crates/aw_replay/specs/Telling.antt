@@ -2,7 +2,6 @@
 use Rattle.std.specs.Prelude.{◌≡◌, ◌≤◌, ℕ, Bool, List, [], ◌∷◌, ◌++◌, map, drop, take, codes, Some, ◌⊎◌}
 use Rattle.std.specs.Fmt.{decimal}
 use Rattle.std.specs.declared.result.Result.{Result}
-use Rattle.aw_term.specs.Artifacts.{Words}
 use Rattle.aw_term.specs.Choices.{undivided}
 use Rattle.aw_term.specs.Configs.{Config}
 use Rattle.aw_term.specs.Runs.{artifacts}
@@ -22,6 +21,7 @@ use Rattle.aw_react.specs.Worlds as V
 use Rattle.aw_world.specs.declared.workspace.Workspace.{Ghosts}
 use Rattle.aw_world.specs.declared.world.World.{World}
 use Rattle.aw_world.specs.Shown.{Shows}
+use Rattle.aw_world.specs.WorldView.{plain_of, named_by}
 
 -- the lines of the messages of the program from a number on
 abbrev pub sent_after : made.Grammar → ℕ → List Message → List ℕ
@@ -39,14 +39,6 @@ artifacts_line n = codes "artifacts " ++ (decimal n ++ codes "\n")
 abbrev pub SettlingEnds : Grammar → Bool → List Event → Type 0
 SettlingEnds g loads es =
     (before later : List Event) → es ≡ before ++ Settles ∷ later → V.IsQuiet (settled g (after_events g (V.empty_world g loads) before))
-
--- the grammar of a world, and its words
-abbrev pub plain_of : {W : Type 0} {f : Ghosts W} → World W f → Grammar
-plain_of w = grammar_of w.accepted.now.grammar
-
--- the names that the grammar of a world declares
-abbrev pub named_by : {W : Type 0} {f : Ghosts W} → World W f → Words
-named_by w = words_of w.accepted.now.grammar
 
 module _ {W : Type 0} (f : Ghosts W) where
   -- ---- one choice or delivery: whatever plain world is seen before, the one behind it is seen after

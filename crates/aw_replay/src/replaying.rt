@@ -5,7 +5,8 @@ ghost use Rattle.aw_out.specs.Report.{Prints};
 ghost use Rattle.aw_react.specs.Outputs.{output_of};
 ghost use Rattle.aw_sched.specs.Answers.{event_seen, MayCome};
 ghost use Rattle.aw_term.specs.WellFormed.{Each};
-ghost use Rattle.aw_replay.specs.Telling.{plain_of, named_by, Does, DoesSome, PrintsEvent, DoesAll, DoesFirst, PrintsAll, IsNew, SettlingEnds};
+ghost use Rattle.aw_world.specs.WorldView.{plain_of, named_by};
+ghost use Rattle.aw_replay.specs.Telling.{Does, DoesSome, PrintsEvent, DoesAll, DoesFirst, PrintsAll, IsNew, SettlingEnds};
 
 use crate::ending::print_ending;
 use crate::telling::tell;

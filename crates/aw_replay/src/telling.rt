@@ -5,7 +5,8 @@ ghost use Rattle.aw_choice.specs.ChoiceView.{choice_of};
 ghost use Rattle.aw_choice.specs.Events as E;
 ghost use Rattle.aw_react.specs.Worlds as V;
 ghost use Rattle.aw_sched.specs.Answers.{event_seen, MayCome};
-ghost use Rattle.aw_replay.specs.Telling.{plain_of, Steps, AddsStep, StepsOrNot, IsSettled, AddsSettling, SettlesSome, Does, Tells, DoesSome};
+ghost use Rattle.aw_world.specs.WorldView.{plain_of};
+ghost use Rattle.aw_replay.specs.Telling.{Steps, AddsStep, StepsOrNot, IsSettled, AddsSettling, SettlesSome, Does, Tells, DoesSome};
 
 use crate::lines::{push_chosen, push_delivery, push_settled};
 use aw_base::{push_item_lines, role_name};

@@ -20,11 +20,12 @@ use Rattle.aw_react.specs.Bounds.{settled}
 use Rattle.aw_world.specs.declared.workspace.Workspace.{Ghosts}
 use Rattle.aw_world.specs.declared.world.World.{World}
 use Rattle.aw_world.specs.Shown.{Shows}
+use Rattle.aw_world.specs.WorldView.{plain_of, named_by}
 use Rattle.aw_world.proofs.WorldFacts.{reached_configured}
 use Rattle.aw_trial.specs.declared.tally.Tally.{Tally}
 use Rattle.aw_trial.specs.declared.summary.Summary.{Summary}
 use Rattle.aw_trial.specs.Turns.{turns}
-use Rattle.aw_trial.specs.Comes.{Does, plain_of, named_by}
+use Rattle.aw_trial.specs.Comes.{Does}
 use Rattle.aw_trial.specs.Counts.{tally_from, config_of, counted, counted_after, trial_in}
 use Rattle.aw_trial.specs.Specification.{trial_grammar, trial_words}
 use Rattle.aw_trial.specs.Told.{CountsLines, Tells, most_bytes}

@@ -15,10 +15,11 @@ use Rattle.aw_world.specs.declared.world.World.{World}
 use Rattle.aw_world.specs.declared.moves.Reply.{Reply}
 use Rattle.aw_world.specs.MoveView.{reply_of}
 use Rattle.aw_world.specs.Shown.{Shows, ShowsStep}
+use Rattle.aw_world.specs.WorldView.{plain_of}
 use Rattle.aw_world.proofs.WorldFacts.{got_site}
 use Rattle.aw_trial.specs.declared.tally.Tally.{Tally}
 use Rattle.aw_trial.specs.Draws.{next_below, drew}
-use Rattle.aw_trial.specs.Comes.{Comes, Does, AreUpTo, AddsOne, plain_of}
+use Rattle.aw_trial.specs.Comes.{Comes, Does, AreUpTo, AddsOne}
 use Rattle.aw_trial.specs.Turns.{State, one_if, replies_taken, replies_again, start_case, make_choice, argument_for, drew_argument, params_of, develop, among_rules, at_node, among_nodes, rules_for, choose_some, delivered, among_messages, deliver_some, turn, turn_on, turns}
 
 module _ {W : Type 0} (f : Ghosts W) (old new : World W f) (t u : Tally) where

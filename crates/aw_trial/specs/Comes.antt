@@ -1,8 +1,5 @@
 -- What a part of a trial does to a world of the program and to a tally.
 use Rattle.std.specs.Prelude.{◌≡◌, ℕ, suc, ◌≤◌, List}
-use Rattle.aw_term.specs.Rules.{Grammar}
-use Rattle.aw_term.specs.Artifacts.{Words}
-use Rattle.aw_grammar.specs.GrammarOf.{grammar_of, words_of}
 use Rattle.aw_choice.specs.Events.{Event}
 use Rattle.aw_react.specs.Worlds as V
 use Rattle.aw_world.specs.declared.workspace.Workspace.{Ghosts}
@@ -30,11 +27,3 @@ pub record AreUpTo (n : ℕ) (t : Tally) : Type 0 where
 -- no count grows by more than one
 abbrev pub AddsOne : Tally → Tally → Type 0
 AddsOne t u = (n : ℕ) → AreUpTo n t → AreUpTo (suc n) u
-
--- the grammar of a world, and its words
-abbrev pub plain_of : {W : Type 0} {f : Ghosts W} → World W f → Grammar
-plain_of w = grammar_of w.accepted.now.grammar
-
--- the names that the grammar of a world declares
-abbrev pub named_by : {W : Type 0} {f : Ghosts W} → World W f → Words
-named_by w = words_of w.accepted.now.grammar

@@ -5,7 +5,8 @@ ghost use Rattle.aw_choice.specs.ChoiceView.{choice_of};
 ghost use Rattle.aw_term.specs.Rules.{Grammar as PlainGrammar, sort_of};
 ghost use Rattle.aw_term.specs.Views.{ground_of};
 ghost use Rattle.aw_world.specs.MoveView.{reply_of};
-ghost use Rattle.aw_trial.specs.Comes.{plain_of, Does, AddsOne, AreUpTo};
+ghost use Rattle.aw_world.specs.WorldView.{plain_of};
+ghost use Rattle.aw_trial.specs.Comes.{Does, AddsOne, AreUpTo};
 ghost use Rattle.aw_trial.specs.Turns.{replies_taken, make_choice, argument_for, drew_argument, develop, among_rules, at_node, among_nodes, choose_some};
 
 use crate::drawing::draw;

@@ -6,7 +6,8 @@ ghost use Rattle.aw_choice.specs.ChoiceView.{choice_of};
 ghost use Rattle.aw_grammar.specs.GrammarOf.{grammar_of, words_of};
 ghost use Rattle.aw_react.specs.Worlds as V;
 ghost use Rattle.aw_world.specs.Shown.{Shows, first_open};
-ghost use Rattle.aw_trial.specs.Comes.{plain_of, named_by, AreUpTo};
+ghost use Rattle.aw_world.specs.WorldView.{plain_of, named_by};
+ghost use Rattle.aw_trial.specs.Comes.{AreUpTo};
 ghost use Rattle.aw_trial.specs.Counts.{counted, counted_from, trial_in, trial};
 ghost use Rattle.aw_trial.specs.Told.{CountsLines, Tells};
 

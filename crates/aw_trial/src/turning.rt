@@ -2,7 +2,8 @@
 ghost use Rattle.std.specs.Prelude.{◌≡◌, ◌<◌, ◌≤◌, true, OnOk, slice_get};
 ghost use Rattle.aw_base.specs.NodeNames.{is_start};
 ghost use Rattle.aw_world.specs.MoveView.{reply_of};
-ghost use Rattle.aw_trial.specs.Comes.{plain_of, Does, AddsOne, AreUpTo};
+ghost use Rattle.aw_world.specs.WorldView.{plain_of};
+ghost use Rattle.aw_trial.specs.Comes.{Does, AddsOne, AreUpTo};
 ghost use Rattle.aw_trial.specs.Turns.{replies_again, start_case, deliver_some, turn_on, turn, turns};
 
 use crate::choosing::choose_some;

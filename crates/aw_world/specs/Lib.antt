@@ -10,4 +10,5 @@ pub mod Merged
 pub mod Staying
 pub mod Opened
 pub mod Shown
+pub mod WorldView
 pub mod SpotRows

@@ -1,8 +1,8 @@
 use Rattle.std.proofs.Common.{Some, ap, sym, ◌∙◌}
 use Rattle.std.proofs.lemmas.Option.{slice_get-get_or}
 use Rattle.std.proofs.lemmas.Result.{on_ok_weaker}
+use Rattle.aw_world.specs.WorldView.{plain_of}
 use Rattle.aw_trial.specs.Turns.{at_node, among_nodes}
-use Rattle.aw_trial.specs.Comes.{plain_of}
 use Rattle.aw_trial.proofs.Steps.{drawn_before, node_drawn}
 use Rattle.aw_trial.proofs.choosing.among_nodes.Goals as goal
 

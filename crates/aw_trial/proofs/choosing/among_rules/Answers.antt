@@ -1,7 +1,7 @@
 use Rattle.std.proofs.lemmas.Option.{slice_get-get_or}
 use Rattle.std.proofs.lemmas.Result.{on_ok_weaker}
+use Rattle.aw_world.specs.WorldView.{plain_of}
 use Rattle.aw_trial.specs.Turns.{develop, among_rules}
-use Rattle.aw_trial.specs.Comes.{plain_of}
 use Rattle.aw_trial.proofs.Steps.{drawn_before, rule_drawn}
 use Rattle.aw_trial.proofs.choosing.among_rules.Goals as goal
 

@@ -4,7 +4,8 @@ use Rattle.aw_accept.specs.declared.accepted.Accepted.{Accepted}
 use Rattle.aw_grammar.specs.GrammarOf.{grammar_of}
 use Rattle.aw_kept.specs.Records.{rules_of}
 use Rattle.aw_term.specs.Rules.{sort_of}
-use Rattle.aw_trial.specs.Comes.{plain_of, Comes}
+use Rattle.aw_world.specs.WorldView.{plain_of}
+use Rattle.aw_trial.specs.Comes.{Comes}
 use Rattle.aw_trial.proofs.Steps.{nothing, no_sort, of_sort, same_thing, rules_declared}
 use Rattle.aw_trial.proofs.choosing.at_node.Goals as goal
 

@@ -1,6 +1,6 @@
 use Rattle.std.proofs.Common.{rules, map, length, ap, refl, subst}
 use Rattle.aw_choice.specs.ChoiceView.{choice_of}
-use Rattle.aw_trial.specs.Comes.{plain_of, named_by}
+use Rattle.aw_world.specs.WorldView.{plain_of, named_by}
 use Rattle.aw_trial.specs.Told.{CountsLines}
 use Rattle.aw_trial.proofs.Ends.{told_ok, told_failed}
 use Rattle.aw_trial.proofs.trials.count_all.Goals as goal

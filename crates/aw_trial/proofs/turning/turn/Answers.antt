@@ -1,8 +1,8 @@
 use Rattle.std.proofs.Common.{ap}
 use Rattle.std.proofs.lemmas.Result.{on_ok_weaker}
+use Rattle.aw_world.specs.WorldView.{plain_of}
 use Rattle.aw_trial.specs.Turns.{turn_on, turn}
 use Rattle.aw_trial.specs.Draws.{drew}
-use Rattle.aw_trial.specs.Comes.{plain_of}
 use Rattle.aw_trial.proofs.Steps.{drawn_before}
 use Rattle.aw_trial.proofs.turning.turn.Goals as goal
 

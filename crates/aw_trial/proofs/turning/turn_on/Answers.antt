@@ -1,7 +1,7 @@
 use Rattle.std.proofs.Common.{rules, ◌≡◌, nat_eq, true, false}
 use Rattle.std.specs.Prelude.{nat_le}
 use Rattle.std.proofs.lemmas.Result.{on_ok_weaker}
-use Rattle.aw_trial.specs.Comes.{plain_of}
+use Rattle.aw_world.specs.WorldView.{plain_of}
 use Rattle.aw_trial.proofs.Steps.{same_thing, turn_starts, turn_chooses, turn_delivers}
 use Rattle.aw_trial.proofs.turning.turn_on.Goals as goal
 

@@ -1,6 +1,7 @@
 use Rattle.std.proofs.Common.{◌≡◌}
+use Rattle.aw_world.specs.WorldView.{plain_of}
 use Rattle.aw_trial.specs.Turns.{turns}
-use Rattle.aw_trial.specs.Comes.{plain_of, Does, AreUpTo}
+use Rattle.aw_trial.specs.Comes.{Does, AreUpTo}
 use Rattle.aw_trial.proofs.turning.turns.Given as goal
 
 -- so many turns were made, and no count is more
