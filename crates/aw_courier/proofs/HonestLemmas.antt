@@ -29,6 +29,7 @@ use Rattle.aw_session.specs.Frames.{joined}
 use Rattle.aw_nodes.specs.Couriers as C
 use Rattle.aw_nodes.specs.Couriers.{Heard, Gave, Had, hear, flat, IsPrefix, IsHonestWire, choice_frames, session_frames, visit_frames, turn_room, ChoicesOk, IsQuietCall, QuietMeansQuiet}
 use Rattle.aw_nodes.specs.Nodes.{Frame, Pull as PullFrame, happenings, ReadAs, Response, WasNew, WasHeld, Contradicts, NotForMe, NotValid, Answers, Sends, Shows, Ended, sites_after, all_replies}
+use Rattle.aw_nodes.specs.Told.{told}
 use Rattle.aw_nodes.proofs.ListParts.{cons-inj}
 use Rattle.aw_nodes.proofs.HeardBytes.{cancel}
 use Rattle.aw_out.specs.Wires.{Content}
@@ -37,7 +38,7 @@ use Rattle.aw_courier.specs.declared.carrying.Carried.{Carried}
 use Rattle.aw_courier.specs.declared.carrying.Carried.TheVariants.{Quiet, RoundsSpent}
 use Rattle.aw_courier.specs.declared.carrying.CarryFault.{CarryFault}
 use Rattle.aw_courier.specs.Frames.{size}
-use Rattle.aw_courier.specs.Honest.{told, reply_bytes, HasBytes, Visit, turn_of, visit_of, IsHonest, QuietOverHonest, MeansQuiet}
+use Rattle.aw_courier.specs.Honest.{reply_bytes, HasBytes, Visit, turn_of, visit_of, IsHonest, QuietOverHonest, MeansQuiet}
 use Rattle.aw_courier.specs.Replies.{may_have, fits_length, gave, heard_in, known, payload_at, reply, request_of}
 use Rattle.aw_courier.specs.Turns.{Turn, AreHeard, IsHeard}
 use Rattle.aw_courier.specs.declared.replies.Request.{Request}

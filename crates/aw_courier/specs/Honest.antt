@@ -11,29 +11,17 @@ use Rattle.aw_merge.specs.Laws.{MayCome, world_after}
 use Rattle.aw_msg.specs.Messages.{MessageSized, MessageInRange}
 use Rattle.aw_msg.specs.MessageView.{message_of}
 use Rattle.aw_msg.specs.Replies.{spelled_reply, reply_payload}
-use Rattle.aw_msg.specs.Responses as R
 use Rattle.aw_msg.specs.declared.message.Message.{Message}
 use Rattle.aw_session.specs.Frames.{joined}
 use Rattle.aw_nodes.specs.Couriers as C
 use Rattle.aw_nodes.specs.Couriers.{flat, IsPrefix, choice_frames, session_frames, visit_frames, NoneLater, ChoicesOk}
 use Rattle.aw_nodes.specs.Nodes.{Response, WasNew, WasHeld, Contradicts, NotForMe, NotValid, Answers, Sends, Shows, Ended, sites_after, all_replies, happenings, ReadAs}
+use Rattle.aw_nodes.specs.Told.{told}
 use Rattle.aw_out.specs.Wires.{Content}
 use Rattle.aw_courier.specs.Carrying.{IsQuiet}
 use Rattle.aw_courier.specs.Turns.{Turn}
 use Rattle.aw_courier.specs.declared.carrying.Carried.{Carried}
 use Rattle.aw_courier.specs.declared.carrying.Carried.TheVariants.{Quiet, RoundsSpent}
-
--- a reply of a site among those that have bytes
-abbrev pub told : Response → R.Response
-told WasNew = R.WasNew
-told WasHeld = R.WasHeld
-told (Contradicts kept came) = R.Contradicts kept came
-told NotForMe = R.NotForMe
-told NotValid = R.NotValid
-told (Answers answer) = R.Answers answer
-told (Sends message) = R.Sends message
-told (Shows item) = R.Shows item
-told (Ended count) = R.Ended count
 
 -- the bytes of a site's reply
 abbrev pub reply_bytes : Words → Response → List ℕ

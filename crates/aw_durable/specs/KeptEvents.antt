@@ -5,7 +5,8 @@ use Rattle.aw_react.specs.Sites.{Site}
 use Rattle.aw_msg.specs.Frames as F
 use Rattle.aw_msg.specs.Responses as R
 use Rattle.aw_journal.specs.Events.{Event, Took, Got}
-use Rattle.aw_node.specs.TypedNodes.{Rules, told, handle}
+use Rattle.aw_nodes.specs.Told.{told}
+use Rattle.aw_node.specs.TypedNodes.{Rules, handle}
 
 -- whether a reply tells of an event: a message was new, or a choice was taken
 abbrev pub is_news : R.Response → Bool

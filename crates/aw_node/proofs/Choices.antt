@@ -14,7 +14,8 @@ use Rattle.aw_react.specs.Worlds.{node_of}
 use Rattle.aw_nodes.specs.Nodes as N
 use Rattle.aw_msg.specs.Frames as F
 use Rattle.aw_msg.specs.Responses as R
-use Rattle.aw_node.specs.TypedNodes.{Rules, told, handle}
+use Rattle.aw_nodes.specs.Told.{told}
+use Rattle.aw_node.specs.TypedNodes.{Rules, handle}
 
 same-number : (n : ℕ) → nat_eq n n ≡ true
 same-number n = grind (arith, nat_tests)

@@ -21,7 +21,7 @@ use Rattle.aw_react.specs.Sites.{Site, Reaction}
 use Rattle.aw_space.specs.Spaces.{is_home}
 use Rattle.aw_site.specs.Seen.{role_in, IsShown}
 use Rattle.aw_site.specs.declared.site.Site as program
-use Rattle.aw_node.specs.TypedNodes.{told}
+use Rattle.aw_nodes.specs.Told.{told}
 
 -- ---- messages
 

@@ -11,6 +11,7 @@ use Rattle.aw_typed.specs.Typing.{types_of}
 use Rattle.aw_typed.specs.declared.data.Typed.{Typed}
 use Rattle.aw_react.specs.Sites.{Site}
 use Rattle.aw_nodes.specs.Nodes as N
+use Rattle.aw_nodes.specs.Told.{told}
 use Rattle.aw_msg.specs.Frames as F
 use Rattle.aw_msg.specs.MessageView.{message_of}
 use Rattle.aw_msg.specs.declared.message.Message.{Message}
@@ -26,18 +27,6 @@ pub record Rules : Type 0 where
 -- those of a grammar of the program and its types
 abbrev pub rules_of : declared.Grammar → Typed → Rules
 rules_of g t = record { words = words_of g; types = types_of t.types; grammar = grammar_of g }
-
--- a reply of a site among those that have bytes
-abbrev pub told : N.Response → R.Response
-told N.WasNew = R.WasNew
-told N.WasHeld = R.WasHeld
-told (N.Contradicts kept came) = R.Contradicts kept came
-told N.NotForMe = R.NotForMe
-told N.NotValid = R.NotValid
-told (N.Answers answer) = R.Answers answer
-told (N.Sends message) = R.Sends message
-told (N.Shows item) = R.Shows item
-told (N.Ended count) = R.Ended count
 
 -- One frame asked of a site. A choice that does not fit the grammar or its types is not valid and changes nothing; all else is as a site answers.
 abbrev pub handle : Rules → Site → F.Frame → N.Handled

@@ -9,10 +9,10 @@ ghost use Rattle.aw_msg.specs.Messages.{MessageInRange};
 ghost use Rattle.aw_msg.specs.ReplyRanges.{ReplyInRange};
 ghost use Rattle.aw_msg.specs.ResponseView.{response_of};
 ghost use Rattle.aw_nodes.specs.Nodes as N;
+ghost use Rattle.aw_nodes.specs.Told.{told};
 ghost use Rattle.aw_react.specs.Sites as S;
 ghost use Rattle.aw_site.specs.Answers.{IsReceived};
 ghost use Rattle.aw_site.specs.Seen.{IsShown};
-ghost use Rattle.aw_node.specs.TypedNodes.{told};
 
 use crate::workspace::Workspace;
 use aw_accept::Accepted;
