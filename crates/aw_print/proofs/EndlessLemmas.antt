@@ -1,6 +1,8 @@
 -- A value that a circle through constructors makes endless has no draft to its end.
 use Rattle.std.proofs.Common.{◌≡◌, ℕ, zero, suc, Bool, true, false, List, [], ◌∷◌, ◌++◌, map, codes, refl, sym, ap, subst, inl, inr, rules}
 use Rattle.std.specs.Prelude.{Result, Ok, Err, IsErr, ◌||◌, ◌⊎◌}
+use Rattle.aw_list.specs.Members.{Member}
+use Rattle.aw_list.proofs.Members.{member_split}
 use Rattle.aw_term.specs.Trees.{Head}
 use Rattle.aw_term.specs.Names.{Ref}
 use Rattle.aw_term.specs.Artifacts.{Words, head_text}
@@ -9,7 +11,7 @@ use Rattle.aw_store.proofs.Ends.{At_body, Ends, stands, follows}
 use Rattle.aw_out.specs.Report.{Bounded}
 use Rattle.aw_out.specs.declared.error.PrintFault.{PrintFault}
 use Rattle.aw_print.specs.Drafts.{Draft, Whole, Front, then, following, listed, with_parts, draft_on, draft}
-use Rattle.aw_print.specs.Rows.{Member, Reaches, here, same, part, IsEndless, values_draft}
+use Rattle.aw_print.specs.Rows.{Reaches, here, same, part, IsEndless, values_draft}
 use Rattle.aw_print.specs.Growing.{Ended}
 use Rattle.aw_store.proofs.ChaseEnds.{ends-chase}
 
@@ -69,16 +71,11 @@ endless-front (suc n) w k r (s, b, p, q) =
     subst (λ x. IsFront (draft_on w (draft n w k) r x)) (sym (ends-chase k (At_body o.head o.parts) o.ends))
     (parts-front (head_text w o.head) (draft n w k) o.parts o.next o.among (endless-front n w k o.next (s, o.passes, o.way, q)))
 
-among_both : (r : Ref) (rs ss : List Ref) → Member r (rs ++ ss) → Member r rs ⊎ Member r ss
-among_both r [] ss m = inr m
-among_both r (x ∷ rs) ss (inl e) = inl (inl e)
-among_both r (x ∷ rs) ss (inr m) = elim (among_both r rs ss m) [ inl p ↦ inl (inr p) | inr p ↦ inr p ]
-
 values-front : (n : ℕ) (w : Words) (k : Map) (ins outs : List Ref) (r : Ref) → Member r ins ⊎ Member r outs → IsEndless k r → IsFront (values_draft n w k ins outs)
 values-front n w k ins outs r (inl m) e = front-then (listed (map (draft n w k) ins)) _ (listed-front (draft n w k) ins r m (endless-front n w k r e))
 values-front n w k ins outs r (inr m) e = then-front (listed (map (draft n w k) ins)) _ (then-front (Whole (codes ") <")) _ (front-then (listed (map (draft n w k) outs)) _ (listed-front (draft n w k) outs r m (endless-front n w k r e))))
 
 -- a line with such a value is never printed whole
 pub never_ends : (w : Words) (k : Map) (opening : List ℕ) (ins outs : List Ref) (r : Ref) → Member r (ins ++ outs) → IsEndless k r → (old new : Bounded) (result : Result Unit PrintFault) → Ended (λ n. then (Whole opening) (values_draft n w k ins outs)) old new result → IsErr result
-never_ends w k opening ins outs r m e old new (Ok done) (n, t, is, _) = let f = then-front (Whole opening) _ (values-front n w k ins outs r (among_both r ins outs m) e) in absurd (cc (f.1, is))
+never_ends w k opening ins outs r m e old new (Ok done) (n, t, is, _) = let f = then-front (Whole opening) _ (values-front n w k ins outs r (member_split r ins outs m) e) in absurd (cc (f.1, is))
 never_ends w k opening ins outs r m e old new (Err fault) s = search rules

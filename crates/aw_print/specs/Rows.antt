@@ -1,6 +1,7 @@
 -- What is printed of a node whose values stand in equations, and what its values can be.
-use Rattle.std.specs.Prelude.{◌≡◌, ℕ, Bool, true, false, List, [], ◌∷◌, ◌++◌, map, codes, Option, None, Some, Result, ◌⊎◌, slice_get, option_and_then}
-use Rattle.aw_term.specs.Trees.{Never, Head}
+use Rattle.std.specs.Prelude.{◌≡◌, ℕ, Bool, true, false, List, [], ◌∷◌, ◌++◌, map, codes, Option, None, Some, Result, slice_get, option_and_then}
+use Rattle.aw_list.specs.Members.{Never, Member}
+use Rattle.aw_term.specs.Trees.{Head}
 use Rattle.aw_term.specs.Names.{Node, Ref, result}
 use Rattle.aw_term.specs.Rules.{Value, Grammar, upto, sort_of}
 use Rattle.aw_term.specs.Choices.{gives_of}
@@ -66,11 +67,6 @@ AllUnfold k _ _ = Never
 abbrev pub PrintsLine : made.Grammar → Map → Node → Option Choice → List Ref → Bounded → Bounded → Result Unit PrintFault → Type 0
 PrintsLine g k node done inherited old new result =
     (ins outs : List Value) → AllUnfold k inherited ins → AllUnfold k (result_refs (grammar_of g) node) outs → Prints (line_text (words_of g) node (state_of done) ins outs) old new result
-
--- one of a list
-abbrev pub Member : Ref → List Ref → Type 0
-Member r [] = Never
-Member r (s ∷ ss) = (r ≡ s) ⊎ Member r ss
 
 -- From the one reference the other is reached through bodies; `true` says that a constructor was among them.
 pub data Reaches (k : Map) : Bool → Ref → Ref → Type 0 where
