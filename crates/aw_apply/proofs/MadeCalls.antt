@@ -1,14 +1,14 @@
--- The children of a taken rule: their names by position, their sorts, and how much they inherit.
+-- The children of a taken rule: their names by position, and their sorts.
 use Rattle.std.proofs.Common.{◌≡◌, ℕ, suc, ◌+◌, ◌≤◌, Bool, true, false, cond, List, [], ◌∷◌, ◌++◌, map, length, Option, Some, None, slice_get, refl, ap, ◌∙◌, eq-eqb, arith}
 use Rattle.std.specs.Prelude.{nat_eq, option_map, option_and_then}
 use Rattle.std.proofs.lemmas.List.{same_from_push}
 use Rattle.std.proofs.lemmas.Option.{same_Some}
-use Rattle.aw_term.specs.Trees.{Never, Tree}
+use Rattle.aw_term.specs.Trees.{Never}
 use Rattle.aw_term.specs.Names.{Step, Node, Ref, below}
 use Rattle.aw_term.specs.Rules.{Ground, Child, Rule, Sort, Grammar, get, upto, child_at, sort_of_step, sort_after, sort_of}
-use Rattle.aw_term.specs.WellFormed.{Each, Later, ChildFits, RuleFits, takes_of, variables}
+use Rattle.aw_term.specs.WellFormed.{Each, Later}
 use Rattle.aw_term.proofs.Eaches.{each_map}
-use Rattle.aw_apply.specs.Made.{Call, lay, lay_list, lay_children, child_refs, no_ref, made}
+use Rattle.aw_apply.specs.Made.{Call, lay_list, lay_children, child_refs, no_ref, made}
 
 -- The sort of a node below another
 step_alone : (o : Option ℕ) → option_and_then (λ t. Some t) o ≡ o
@@ -76,14 +76,6 @@ module _ (n : Node) (r : ℕ) (f : ℕ → Ref) where
         children-differ cs (suc i) next,
       )
 
-  roots-length : (ts : List (Tree ℕ)) (k : ℕ) → length (lay_list n f k ts).roots ≡ length ts
-  roots-length [] k = refl
-  roots-length (t ∷ ts) k = ap suc (roots-length ts (lay n f k t).next)
-
-  children-take : (g : Grammar) (v : ℕ) (cs : List Child) (i k : ℕ) → Each (ChildFits g v) cs → Each (λ (c : Call). length c.inherited ≡ takes_of (slice_get g.sorts c.sort)) (lay_children n r f i k cs).roots
-  children-take g v [] i k fits = tt
-  children-take g v (c ∷ cs) i k fits = (roots-length c.args k ∙ fits.0.takes, children-take g v cs (suc i) (lay_list n f k c.args).next fits.1)
-
   children-sorts : (g : Grammar) (rule : Rule) → sort_of g n ≡ Some rule.sort → slice_get g.rules r ≡ Some rule → (cs : List Child) (i k : ℕ)
       → ((j : ℕ) (c : Child) → slice_get cs j ≡ Some c → slice_get rule.children (i + j) ≡ Some c) → Each (λ (c : Call). sort_of g c.node ≡ Some c.sort) (lay_children n r f (suc i) k cs).roots
   children-sorts g rule s e [] i k at = tt
@@ -109,9 +101,6 @@ module _ (n : Node) (ri : ℕ) (r : Rule) (args : List Ground) (bound : List Ref
 
   pub made-differ : Later (λ (c d : Call). c.node ≡ d.node → Never) (made n ri r args bound).calls
   made-differ = children-differ n ri (get (no_ref n) refs) r.children 1 after
-
-  pub made-take : (g : Grammar) → RuleFits g r → Each (λ (c : Call). length c.inherited ≡ takes_of (slice_get g.sorts c.sort)) (made n ri r args bound).calls
-  made-take g fits = children-take n ri (get (no_ref n) refs) g (variables r) r.children 1 after fits.children
 
   pub made-sorts : (g : Grammar) → sort_of g n ≡ Some r.sort → slice_get g.rules ri ≡ Some r → Each (λ (c : Call). sort_of g c.node ≡ Some c.sort) (made n ri r args bound).calls
   made-sorts g s e = children-sorts n ri (get (no_ref n) refs) g r s e r.children 0 after (λ j c f. let z : 0 + j ≡ j = omega arith in ap (slice_get r.children) z ∙ f)
