@@ -1,11 +1,11 @@
 -- The children of a taken rule: their names by position, and their sorts.
-use Rattle.std.proofs.Common.{◌≡◌, ℕ, suc, ◌+◌, ◌≤◌, Bool, true, false, cond, List, [], ◌∷◌, ◌++◌, map, length, Option, Some, None, slice_get, refl, ap, ◌∙◌, eq-eqb, arith}
+use Rattle.std.proofs.Common.{◌≡◌, ℕ, suc, ◌+◌, ◌≤◌, Bool, true, false, cond, List, [], ◌∷◌, ◌++◌, length, Option, Some, None, slice_get, refl, ap, ◌∙◌, eq-eqb, arith}
 use Rattle.std.specs.Prelude.{nat_eq, option_map, option_and_then}
 use Rattle.std.proofs.lemmas.List.{same_from_push}
 use Rattle.std.proofs.lemmas.Option.{same_Some}
 use Rattle.aw_term.specs.Trees.{Never}
 use Rattle.aw_term.specs.Names.{Step, Node, Ref, below}
-use Rattle.aw_term.specs.Rules.{Ground, Child, Rule, Sort, Grammar, get, upto, child_at, sort_of_step, sort_after, sort_of}
+use Rattle.aw_term.specs.Rules.{Ground, Child, Rule, Sort, Grammar, get, child_at, sort_of_step, sort_after, sort_of}
 use Rattle.aw_term.specs.WellFormed.{Each, Later}
 use Rattle.aw_term.proofs.Eaches.{each_map}
 use Rattle.aw_apply.specs.Made.{Call, lay_list, lay_children, child_refs, no_ref, made}
@@ -54,10 +54,6 @@ abbrev pub IsBelow : Node → ℕ → ℕ → ℕ → Call → Type 0
 IsBelow n r i m c = (k : ℕ) × (i ≤ k) × (suc k ≤ m) × (c.node ≡ below n r k)
 
 module _ (n : Node) (r : ℕ) (f : ℕ → Ref) where
-  children-nodes : (cs : List Child) (i k : ℕ) → map (λ (c : Call). c.node) (lay_children n r f i k cs).roots ≡ map (below n r) (upto i (length cs))
-  children-nodes [] i k = refl
-  children-nodes (c ∷ cs) i k = ap (λ ns. below n r i ∷ ns) (children-nodes cs (suc i) (lay_list n f k c.args).next)
-
   children-below : (cs : List Child) (i k m : ℕ) → i + length cs ≤ m → Each (IsBelow n r i m) (lay_children n r f i k cs).roots
   children-below [] i k m le = tt
   children-below (c ∷ cs) i k m le =
@@ -92,9 +88,6 @@ module _ (n : Node) (ri : ℕ) (r : Rule) (args : List Ground) (bound : List Ref
 
   abbrev refs : List Ref
   refs = bound ++ ((lay_list n (λ (x : Never). elim x [ ]) 1 args).roots ++ child_refs n ri 1 r.children)
-
-  pub made-nodes : map (λ (c : Call). c.node) (made n ri r args bound).calls ≡ map (below n ri) (upto 1 (length r.children))
-  made-nodes = children-nodes n ri (get (no_ref n) refs) r.children 1 after
 
   pub made-below : Each (IsBelow n ri 1 (1 + length r.children)) (made n ri r args bound).calls
   made-below = children-below n ri (get (no_ref n) refs) r.children 1 after (1 + length r.children) (omega arith)

@@ -2,12 +2,11 @@
 use Rattle.std.proofs.Common.{◌≡◌, ℕ, zero, suc, ◌≤◌, List, [], ◌∷◌, ◌++◌, length, Ok, Option, None, Some, inl, refl, sym, ap, subst, ◌∙◌, append-nil, arith}
 use Rattle.std.specs.Prelude.{slice_get, slice_set}
 use Rattle.aw_msg.specs.Frames.{Frame, frame}
-use Rattle.aw_msg.specs.Pieces.{Yields, HasEnded, IsSound}
 use Rattle.aw_msg.specs.Streams.{Stream}
 use Rattle.aw_msg.proofs.Extensions.{yields_one}
 use Rattle.aw_session.specs.Frames.{joined}
 use Rattle.aw_session.proofs.Stretches.{answered-then, joined-append}
-use Rattle.aw_desks.specs.Asking.{AskedOf, AreAsked, IsAsked, IsStretch, IsStarved, IsAnswered}
+use Rattle.aw_desks.specs.Asking.{AskedOf, AreAsked, IsAsked, IsStretch, IsStarved}
 
 -- ---- places of a list
 
@@ -103,17 +102,3 @@ module _
     -- memory ran out before any was asked
     pub starved-none : (ds : List D) (bytes : List ℕ) → IsStarved answers role ds ds bytes
     starved-none ds bytes = record { frames = []; replies = []; rest = bytes; between = ds; yields = refl; asked = asked-none ds; last = inl refl }
-
-    -- no whole one is left
-    pub stretch-ends : (ds es us : List D) (from mid to : Stream) (text more : List ℕ) → IsStretch answers role ds es from mid text → to.bytes ≡ mid.bytes → (IsSound from → HasEnded to.failed to.bytes) → us ≡ es → more ≡ text →
-        IsAnswered answers role ds us from to more
-    stretch-ends ds es us from mid to text more old same ended desks texts = record {
-      stretch = record {
-        frames = old.frames;
-        replies = old.replies;
-        yields = subst (λ (b : List ℕ). Yields from.bytes old.frames b) (sym same) old.yields;
-        asked = subst (λ (zs : List D). AreAsked answers role ds zs old.frames old.replies) (sym desks) old.asked;
-        text_is = texts ∙ old.text_is;
-      };
-      ended = ended;
-    }

@@ -1,19 +1,17 @@
 -- What sessions of a wire were, one call after the other.
-use Rattle.std.proofs.Common.{◌≡◌, ℕ, List, [], ◌∷◌, ◌++◌, take, drop, map, true, false, Option, None, Some, refl, sym, ap, subst, ◌∙◌, append_assoc, append-nil}
+use Rattle.std.proofs.Common.{◌≡◌, ℕ, List, [], ◌∷◌, ◌++◌, map, true, false, Option, None, Some, refl, sym, ap, subst, ◌∙◌, append_assoc, append-nil}
 use Rattle.std.specs.Prelude.{is_some, option_to_list}
-use Rattle.std.proofs.lemmas.List.{map-append, take-append-drop}
+use Rattle.std.proofs.lemmas.List.{map-append}
 use Rattle.aw_msg.specs.Frames.{Frame}
 use Rattle.aw_msg.specs.Pieces.{HasEnded}
 use Rattle.aw_msg.specs.Streams.{Stream}
 use Rattle.aw_msg.proofs.Extensions.{yields_more, nothing_ended}
 use Rattle.aw_msg.proofs.PieceLemmas.{fed_sound}
 use Rattle.aw_out.specs.Wires.{Session}
-use Rattle.aw_out.specs.declared.edge.Got.{Got}
-use Rattle.aw_out.specs.declared.edge.Got.TheVariants.{Read, End, Failed}
 use Rattle.aw_session.specs.Frames.{joined}
 use Rattle.aw_session.proofs.Stretches.{joined-append, yields-then}
 use Rattle.aw_desks.specs.Asking.{IsAnswered}
-use Rattle.aw_desks.specs.Calls.{Call, Calls, session_of, role_in, no_calls, closed, opened, changed, has_read, has_written}
+use Rattle.aw_desks.specs.Calls.{Call, Calls, session_of, role_in, opened, changed, has_written}
 use Rattle.aw_desks.specs.Honest.{IsHonest, AreHonest, LastIs, WasHonest, IsWritten}
 use Rattle.aw_desks.proofs.AskLemmas.{asked-none, asked-then}
 
@@ -22,14 +20,6 @@ module _
     (answers : D → Frame → List ℕ → D → Type 0)
     (ds : List D)
   where
-    -- no session yet
-    pub honest-new : (kept : Stream) → WasHonest answers ds ds kept no_calls
-    honest-new kept = record { between = ds; over = refl; last = refl }
-
-    -- no session is open any more
-    pub honest-closed : (es : List D) (kept : Stream) (cs : Calls) → WasHonest answers ds es kept cs → WasHonest answers ds es kept (closed cs)
-    honest-closed es kept cs h = record { between = h.between; over = h.over; last = h.last }
-
     -- one session more
     one-more : (from ms es : List D) (xs : List Session) (x : Session) → AreHonest answers from ms xs → IsHonest answers ms es x → AreHonest answers from es (xs ++ x ∷ [])
     one-more from ms es [] x h k = (es, subst (λ (zs : List D). IsHonest answers zs es x) h k, refl)
@@ -58,20 +48,6 @@ module _
         read = refl;
       };
     }
-
-    -- what was read, and what is left
-    read-and-left : (answer : Got) (c : Call) → c.session.read ++ c.left ≡ (has_read answer c).session.read ++ (has_read answer c).left
-    read-and-left (Read n) c = ap (λ (t : List ℕ). c.session.read ++ t) (sym (take-append-drop n c.left)) ∙ sym (append_assoc c.session.read (take n c.left) (drop n c.left))
-    read-and-left End c = ap (λ (t : List ℕ). t ++ c.left) (sym (append-nil c.session.read))
-    read-and-left Failed c = ap (λ (t : List ℕ). t ++ c.left) (sym (append-nil c.session.read))
-
-    reads-last : (answer : Got) (ms es : List D) (kept : Stream) (last : Option Call) → LastIs answers ms es kept last → LastIs answers ms es kept (changed (has_read answer) (record { over = []; last = last; is_open = true })).last
-    reads-last answer ms es kept None h = h
-    reads-last answer ms es kept (Some c) h = record { frames = h.frames; replies = h.replies; yields = h.yields; ended = h.ended; asked = h.asked; read = h.read ∙ read-and-left answer c }
-
-    -- some of what is left was read
-    pub honest-read : (answer : Got) (es : List D) (kept : Stream) (cs : Calls) → WasHonest answers ds es kept cs → WasHonest answers ds es kept (changed (has_read answer) cs)
-    honest-read answer es kept cs h = record { between = h.between; over = h.over; last = reads-last answer h.between es kept cs.last h.last }
 
     -- bytes were written, and all whole frames were asked
     pub honest-written : (es us : List D) (kept to : Stream) (bytes : List ℕ) (cs new : Calls) → is_some cs.last ≡ true → WasHonest answers ds es kept cs → IsWritten answers es us kept to cs new bytes → WasHonest answers ds us to new

@@ -1,26 +1,23 @@
 -- How serving begins, and what it leaves.
-use Rattle.std.proofs.Common.{◌≡◌, ℕ, ◌+◌, ◌<◌, ◌≤◌, List, IsTrue, false, None, inl, inr, ⊎_elim, length, refl, sym, ap, ◌∙◌, subst}
-use Rattle.aw_out.specs.Causes.{Rose}
+use Rattle.std.proofs.Common.{◌≡◌, ℕ, ◌≤◌, List, IsTrue, None, inl, inr, ⊎_elim, refl, sym, ap, ◌∙◌, subst}
 use Rattle.aw_out.specs.declared.edge.Wire as wires
 use Rattle.aw_react.specs.Sites.{Site}
 use Rattle.aw_disk.specs.Disk.{LeavesOnly}
 use Rattle.aw_disk.specs.declared.edge.Disk as disks
 use Rattle.aw_journal.specs.Events.{Event}
 use Rattle.aw_journal.specs.EventView.{events_seen}
-use Rattle.aw_journal.specs.Format.{events_of, has_head}
+use Rattle.aw_journal.specs.Format.{events_of}
 use Rattle.aw_journal.specs.Journal.{Kept, IsSettled}
-use Rattle.aw_journal.specs.Opens.{IsForeign, IsOldOrSame}
+use Rattle.aw_journal.specs.Opens.{IsOldOrSame}
 use Rattle.aw_journal.specs.declared.journal.AppendFault.{AppendFault}
 use Rattle.aw_journal.specs.declared.journal.AppendFault.TheVariants as append
-use Rattle.aw_journal.specs.declared.reads.OpenFault.{OpenFault}
-use Rattle.aw_journal.specs.declared.reads.OpenFault.TheVariants as opening
 use Rattle.aw_journal.proofs.Moments.{weaker}
 use Rattle.aw_session.specs.declared.log.SessionLog.{SessionLog}
 use Rattle.aw_session.specs.declared.serving.Stopped.{Stopped}
 use Rattle.aw_session.specs.declared.serving.Stopped.TheVariants as stopped
 use Rattle.aw_node.specs.TypedNodes.{Rules}
 use Rattle.aw_durable.specs.Exits.{IsOldOrBetween, Origin, Stands}
-use Rattle.aw_durable.specs.Faults.{of_opening, of_append}
+use Rattle.aw_durable.specs.Faults.{of_append}
 use Rattle.aw_durable.specs.KeptSites.{KeptSite, reopened}
 use Rattle.aw_durable.specs.Redone.{RedoesAll, StopsRedoing}
 use Rattle.aw_durable.specs.Serving.{kept_limit, begun_at, IsReopened, IsKeptServing, IsKeptUnopened, IsKeptCutOff, IsNotBegun, StopsKept, GoesOn, StopsNode}
@@ -36,14 +33,6 @@ stands-here {D} {P} d o shows p q j k x y l site journal disk h =
     subst (λ (z : P). Stands d o (shows z) j x l) (sym site) (subst (λ (z : Kept). Stands d o (shows q) z x l) (sym journal) (subst (λ (z : D). Stands d o (shows q) k z l) (sym disk) h))
 
 module _ {W D : Type 0} (w : wires.Ghosts W) (d : disks.Ghosts D) (r : Rules) (role : ℕ) (text : List ℕ) (s : Site) (old : D) where
-  -- the journal was not opened
-  pub not-opened : (u : W) (new : D) (f : OpenFault) → IsNotBegun d u u old new → (f ≡ opening.DiskFault → Rose (d.faults old) (d.faults new)) → (f ≡ opening.BadHead → IsTrue (d.tells old) → IsForeign role text (d.seen old)) →
-      (f ≡ opening.Full → IsTrue (d.tells old) → (has_head (d.seen old) ≡ false) × (kept_limit < 12 + length text)) → StopsKept w d r role text s u u old new (of_opening f)
-  not-opened u new opening.DiskFault none rose foreign full = (rose refl, inl none)
-  not-opened u new opening.BadHead none rose foreign full = (none, foreign refl)
-  not-opened u new opening.Full none rose foreign full = inl (none, full refl)
-  not-opened u new opening.NoMemory none rose foreign full = inl none
-
   -- its events were not done again
   pub not-redone : (u : W) (new : D) (events : List Event) (fault : KeptFault) → StopsRedoing r s events fault → IsNotBegun d u u old new → IsReopened d role text old events → StopsKept w d r role text s u u old new fault
   not-redone u new events NetFault h none is = absurd h

@@ -45,9 +45,6 @@ module _ (g : Grammar) (number : ℕ) (rule : Rule) (here : slice_get g.rules nu
   pub leaves_few : length (leaves_of (map pattern_of rule.patterns)) ≤ 64
   leaves_few = ∥∥₁_elim g.well_formed le_prop (λ w. omega (arith, (rule_fits_at w).few_variables))
 
-  pub params_few : rule.params ≤ 8
-  params_few = ∥∥₁_elim g.well_formed le_prop (λ w. (rule_fits_at w).few_params)
-
   pub children_few : length rule.children ≤ 8
   children_few = ∥∥₁_elim g.well_formed le_prop (λ w. omega (arith, (rule_fits_at w).few_children, length-map rule.children (child_of g.sorts)))
 

@@ -55,10 +55,6 @@ by_node hs up = subst (IsOrderedBy at) (sym (map-id hs)) (λ k d low l. node_ord
 pub before_first : (hs : List Held) (n : Node) → IsInOrder hs → IsPartitionedBy (λ h. node_lt h.node n) hs
 before_first hs n up = by.before_first at self hs n (by_node hs up)
 
--- the nodes that a node is not before stand in front
-pub after_last : (hs : List Held) (n : Node) → IsInOrder hs → IsPartitionedBy (λ h. not (node_lt n h.node)) hs
-after_last hs n up = by.after_last at self hs n (by_node hs up)
-
 -- a node goes between those that it is not before and those that it is before
 pub inserted_at : (hs : List Held) (n : Node) (i : ℕ) → i ≤ length hs → AllWithin (λ h. not (node_lt n h.node) ≡ true) hs 0 i →
     AllWithin (λ h. not (node_lt n h.node) ≡ false) hs i (length hs) → (h : Held) → h.node ≡ n → insert_in h hs ≡ insert hs i h

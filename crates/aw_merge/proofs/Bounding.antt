@@ -9,16 +9,13 @@ use Rattle.aw_term.specs.Names.{Node, Part, Ref, Result, Slot, below, result}
 use Rattle.aw_term.specs.Rules.{Grammar, upto}
 use Rattle.aw_term.specs.Trees.{Never}
 use Rattle.aw_term.specs.Held.{Held}
-use Rattle.aw_iograph.specs.Dependence.{HasNoCircle, IO}
-use Rattle.aw_accept.specs.Acyclic.{IsGivenGrammar, gives}
+use Rattle.aw_accept.specs.Acyclic.{gives}
 use Rattle.aw_accept.proofs.ConfigLemmas.{Member-upto, length-upto}
-use Rattle.aw_accept.proofs.Fitting.{given_of}
 use Rattle.aw_accept.proofs.Pigeonholes.{pigeon}
 use Rattle.aw_store.specs.Equations.{Equation, Map}
 use Rattle.aw_apply.specs.Messages.{Asks, Calls, Kind, Message, Tells}
 use Rattle.aw_joint.specs.Joint.{Joint, called_held}
 use Rattle.aw_joint.specs.Laws.{IsAccepted}
-use Rattle.aw_joint.proofs.Entering.{VariablesEnter, variables_enter}
 use Rattle.aw_joint.proofs.Lists.{each_of}
 use Rattle.aw_react.specs.Bounds.{bound, child_results, created, is_called, part_lefts, part_on}
 use Rattle.aw_react.specs.Homes.{has_steps, home, parent}
@@ -114,15 +111,6 @@ no_more : (n m : ℕ) → (m < n → Never) → n ≤ m
 no_more n m f = elim (cases_lt m n) [ inl a ↦ never (f a) | inr a ↦ a ]
 
 module _ (words : Words) (g : Grammar) (accepted : IsAccepted words g) (loads : Bool) where
-  abbrev fit : IsGivenGrammar g
-  fit = given_of words g accepted.0
-
-  abbrev enter : VariablesEnter g
-  enter = variables_enter words g accepted.0
-
-  abbrev ok : HasNoCircle g (IO g)
-  ok = accepted.1
-
   abbrev Good : World → Joint → Type 0
   Good w x = IsWorld words g accepted loads w x
 

@@ -30,7 +30,7 @@ use Rattle.aw_joint.proofs.Guarding.{EndOf, end_of}
 use Rattle.aw_joint.proofs.Lists.{each_of}
 use Rattle.aw_joint.proofs.Lockstep.{flat_is_substitution}
 use Rattle.aw_joint.proofs.Ordering.{Before, IsInOrder}
-use Rattle.aw_joint.proofs.SameConfigs.{fit_of, held_for, row_for}
+use Rattle.aw_joint.proofs.SameConfigs.{fit_of, row_for}
 use Rattle.aw_react.specs.Homes.{home}
 use Rattle.aw_react.specs.Sites.{Site}
 use Rattle.aw_react.specs.Worlds.{IsQuiet, World, first_false, gather, site_at}
@@ -157,17 +157,6 @@ module _ (words : Words) (g : Grammar) (accepted : IsAccepted words g) (loads : 
   -- the undivided configuration of what was taken is defined, at every moment
   pub is_undivided : IsUndivided (undivided g [] w.taken)
   is_undivided = undivided_on (joint_run g empty_joint w.taken) (undivided g [] w.taken) W.whole (flat_is_substitution g fit enter ok w.taken)
-
-  -- Quiet
-  pub quiet_law : IsQuiet w → (c : Config) × (undivided g [] w.taken ≡ Some c) × ((q : Row) → Member q c → (h : Held) × Member h (S (home g q.node)).held × Agree (S (home g q.node)).equations h q)
-  quiet_law quiet =
-      let (c, e, A) = is_undivided in (
-        c,
-        e,
-        λ q m.
-            let (h, i, B) = held_for g fit enter ok x.equations x.held c A q m in
-            (h, subst (λ n. Member h (S (home g n)).held) B.node (at_home quiet h i), subst (λ n. Agree (S (home g n)).equations h q) B.node (agrees quiet h q i B)),
-      )
 
   pairs_ordered : (k : Map) (hs : List Held) (c : Config) → Pairs (λ h q. Agree k h q) hs c → IsInOrder c → Later HeldBefore hs
   pairs_ordered k [] c p o = tt

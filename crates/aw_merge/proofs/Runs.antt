@@ -6,9 +6,8 @@ use Rattle.aw_list.specs.Members.{Member}
 use Rattle.aw_list.proofs.Members.{member_got, member_unmap, never}
 use Rattle.aw_term.specs.Artifacts.{Words}
 use Rattle.aw_term.specs.Choices.{Choice, Develop, Outcome, Refused, Start, Starts, Takes}
-use Rattle.aw_term.specs.Matching.{Yes}
 use Rattle.aw_term.specs.Names.{Ref, root}
-use Rattle.aw_term.specs.Rules.{Grammar, Term, get, sort_of, upto}
+use Rattle.aw_term.specs.Rules.{Grammar, get, sort_of, upto}
 use Rattle.aw_term.specs.Trees.{Never}
 use Rattle.aw_term.specs.WellFormed.{Each, Later}
 use Rattle.aw_term.specs.Held.{Held, held_of}
@@ -16,13 +15,11 @@ use Rattle.aw_base.specs.ChoiceFits.{choice_ok, ref_ok, slot_ok}
 use Rattle.aw_iograph.specs.Dependence.{HasNoCircle, IO}
 use Rattle.aw_accept.specs.Acyclic.{IsGivenGrammar}
 use Rattle.aw_accept.proofs.Fitting.{given_of}
-use Rattle.aw_store.specs.Equations.{Body, Equation, find}
-use Rattle.aw_apply.specs.Guard.{guard_all}
+use Rattle.aw_store.specs.Equations.{Equation, find}
 use Rattle.aw_apply.specs.Messages.{Asks, Calls, Kind, Message, Tells}
 use Rattle.aw_joint.specs.Joint.{Joint, by_root, called_held, empty_joint, joint_outcome, joint_run, joint_taken}
 use Rattle.aw_joint.specs.Laws.{IsAccepted}
 use Rattle.aw_joint.proofs.Entering.{VariablesEnter, variables_enter}
-use Rattle.aw_joint.proofs.Guarding.{Final, guard_all-keeps}
 use Rattle.aw_joint.proofs.SameConfigs.{Fit, fit_empty, fit_of, keep}
 use Rattle.aw_react.specs.Choosing.{choose_on, outcome}
 use Rattle.aw_react.specs.Homes.{home}
@@ -277,14 +274,7 @@ module _ (words : Words) (g : Grammar) (accepted : IsAccepted words g) (loads : 
   pub step-kept : (w : World) (x : Joint) → IsWorld w x → (e : Move) → MayCome g e → (y : Joint) × IsWorld (step g w e).world y
   step-kept w x W e k = let z = step-both w x W e k in (z.0, z.1)
 
-  -- a guard that is Yes stays Yes with the same bound references; its node stays as it is, or is developed
-  pub guard-stays : (w : World) (x : Joint) → IsWorld w x → (e : Move) → MayCome g e → (a n : ℕ) (ps : List Term) (rs bound : List Ref) → guard_all (site_at w a).equations n ps rs ≡ Yes bound → guard_all (site_at (step g w e).world a).equations n ps rs ≡ Yes bound
-  guard-stays w x W e k a n ps rs bound f =
-      guard_all-keeps (site_at w a).equations (site_at (step g w e).world a).equations ((step-both w x W e k).2.equations a) n ps rs (subst (Final (site_at (step g w e).world a).equations) (sym f) tt) ∙ f
-
-  pub equations-stay : (w : World) (x : Joint) → IsWorld w x → (e : Move) → MayCome g e → (a : ℕ) (r : Ref) (b : Body) → find (site_at w a).equations r ≡ Some b → find (site_at (step g w e).world a).equations r ≡ Some b
-  equations-stay w x W e k = (step-both w x W e k).2.equations
-
+  -- a node stays as it is, or is developed
   pub node-stays : (w : World) (x : Joint) → IsWorld w x → (e : Move) → MayCome g e → (a : ℕ) (h : Held) → Member h (site_at w a).held
       → StaysIn h (site_at (step g w e).world a).held
   node-stays w x W e k = (step-both w x W e k).2.held

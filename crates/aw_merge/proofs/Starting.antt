@@ -17,7 +17,7 @@ use Rattle.aw_apply.specs.Messages.{Asks, Calls, Kind, Message, Tells}
 use Rattle.aw_joint.specs.Joint.{Joint, called_held, root_held}
 use Rattle.aw_joint.proofs.AnyOrders.{Member-insert_held, Member-inserted_held}
 use Rattle.aw_joint.proofs.Entering.{VariablesEnter}
-use Rattle.aw_joint.proofs.SameConfigs.{Fit, fit_of}
+use Rattle.aw_joint.proofs.SameConfigs.{Fit}
 use Rattle.aw_react.specs.Homes.{home}
 use Rattle.aw_react.specs.Sites.{Site}
 use Rattle.aw_merge.proofs.Changes.{Change}
@@ -32,9 +32,6 @@ pub record IsHomed (g : Grammar) : Type 0 where
   pub within : (n : Node) → is_some (sort_of g n) ≡ true → home g n < g.roles
 
 module _ (g : Grammar) (fit : IsGivenGrammar g) (enter : VariablesEnter g) (ok : HasNoCircle g (IO g)) (roles : IsHomed g) (loads : Bool) (S : ℕ → Site) (M : List Message) (D : ℕ → Type 0) (x : Joint) (I : Inv g loads S M D x) (F : Fit g fit enter ok x) (keyed : Keyed x.equations) where
-  one : (h h' : Held) → Member h x.held → Member h' x.held → h.node ≡ h'.node → h ≡ h'
-  one = (fit_of g fit enter ok x F).apart
-
   -- a node that a site has been called to has steps
   pub called_below : (m : Message) (q : Kind) (c : Call) → Member m M → m.kind ≡ q → KindKin q (Calls c []) → (h : Held) × Member h x.held × (h.node ≡ c.node) × ((p : Node) × (r : ℕ) × (k : ℕ) × (c.node ≡ below p r k))
   called_below m (Asks r b) c i e z = never z

@@ -112,9 +112,6 @@ pub own_of_part : (role : ℕ) (g h : Grammar) → h ≡ some_rules (is_at g.sor
 own_of_part role g h is = subst (HasOwnRules role) (sym is) (λ r m. eqb-true (role_of g.sorts r.sort) role (filter_member (is_at g.sorts role) g.rules r m))
 
 -- where all rules are, those of the role are all
-pub part_of_own : (role : ℕ) (g : Grammar) → HasOwnRules role g → some_rules (is_at g.sorts role) g ≡ g
-part_of_own role g own = ap (λ rs. record g { rules = rs }) (filter_all (is_at g.sorts role) g.rules (λ r m. eq-eqb (role_of g.sorts r.sort) role (own r m)))
-
 pub rules_of_own : (role : ℕ) (g : GrammarValue) → HasOwnRules role (grammar_of g) → rules_at g.sorts role g.rules ≡ g.rules
 rules_of_own role g own = filter_all (λ r. is_at (sorts_of g.sorts) role (rule_of g.sorts r)) g.rules (λ r m. eq-eqb (role_of (sorts_of g.sorts) r.sort) role (own (rule_of g.sorts r) (member_map (rule_of g.sorts) r g.rules m)))
 

@@ -2,12 +2,10 @@
 use Rattle.std.proofs.Common.{◌≡◌, ℕ, zero, suc, ◌<◌, List, [], ◌∷◌, length, Some, inl, inr, refl, sym, ap, ◌∙◌, subst}
 use Rattle.std.specs.Prelude.{Option, ◌⊎◌, slice_get}
 use Rattle.std.proofs.lemmas.Option.{slice_get_within}
-use Rattle.aw_term.specs.Trees as T
 use Rattle.aw_term.specs.Names.{Ref}
 use Rattle.aw_store.specs.Equations.{Same, Map, find}
 use Rattle.aw_store.specs.Chase.{Chased, Found, Missing, Round, chase_on, chase_in, chase}
 use Rattle.aw_store.specs.ChaseView.{IsChasedTo}
-use Rattle.aw_store.specs.declared.facts.Kind.TheVariants as kind
 use Rattle.aw_store.specs.declared.facts.Chase.{Chase}
 use Rattle.aw_store.specs.declared.facts.Chase.TheVariants as answer
 use Rattle.aw_store.proofs.Ends.{At_body, At_missing, follows}

@@ -5,7 +5,6 @@ use Rattle.std.specs.Prelude.{ℕ}
 use Rattle.aw_term.specs.Names.{Node}
 use Rattle.aw_term.specs.Rules.{sort_of}
 use Rattle.aw_term.specs.Artifacts.{node_text}
-use Rattle.aw_grammar.specs.GrammarView as view
 use Rattle.aw_grammar.specs.GrammarOf.{grammar_of, words_of}
 use Rattle.aw_base.specs.NodeNames.{Named, node_read}
 use Rattle.aw_grammar.specs.declared.grammar.Grammar.{Grammar}

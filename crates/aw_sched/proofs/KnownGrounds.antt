@@ -5,7 +5,7 @@ use Rattle.std.proofs.lemmas.Bool.{le-ltb}
 use Rattle.std.proofs.lemmas.Bool.Decides.{nat_tests}
 use Rattle.std.proofs.lemmas.List.{length-map}
 use Rattle.aw_term.specs.Trees as P
-use Rattle.aw_term.specs.Trees.{Made, Trees, Nil, More, join}
+use Rattle.aw_term.specs.Trees.{Made, Nil, More, join}
 use Rattle.aw_term.specs.Rules as R
 use Rattle.aw_term.specs.Views.{ground_of}
 use Rattle.aw_term.proofs.ViewLemmas.{ground_con}

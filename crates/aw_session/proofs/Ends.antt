@@ -1,13 +1,12 @@
--- How a session ends where nothing more is read.
-use Rattle.std.proofs.Common.{◌≡◌, ◌≢◌, ℕ, ◌≤◌, List, [], ◌++◌, length, Bool, true, false, Option, refl, ap, sym, subst, arith, append-nil}
+-- How a session ends where a read failed, and how it goes on where bytes were read.
+use Rattle.std.proofs.Common.{ℕ, ◌≤◌, List, [], ◌++◌, length, Bool, true, false, Option, refl, subst, arith, append-nil}
 use Rattle.aw_out.specs.Wires.{Content}
 use Rattle.aw_msg.specs.Frames.{Frame}
-use Rattle.aw_msg.specs.Pieces.{Yields}
 use Rattle.aw_msg.specs.Streams.{Stream}
 use Rattle.aw_session.specs.Course.{IsGoing, IsDone}
 use Rattle.aw_session.specs.Frames.{joined}
-use Rattle.aw_session.specs.Served.{limit, Reading, LeavesNone}
-use Rattle.aw_session.specs.declared.log.How.TheVariants.{End, Cut, Fault}
+use Rattle.aw_session.specs.Served.{limit, Reading}
+use Rattle.aw_session.specs.declared.log.How.TheVariants.{Fault}
 use Rattle.aw_session.proofs.Courses.{Adds-up}
 
 module _
@@ -31,9 +30,6 @@ module _
     limited : length going.read ≤ limit
     limited = omega (arith, going.sized, going.within)
 
-    all-written : joined going.replies ≡ joined (going.replies ++ [])
-    all-written = ap joined (sym (append-nil going.replies))
-
     -- a read failed
     pub going-failed : talks v v' [] [] true → IsDone answers talks content s t u v' (record { frames = count; how = Fault })
     going-failed h = record {
@@ -43,40 +39,6 @@ module _
       talked = still true h;
       served = record { frames = going.frames; replies = going.replies; answered = going.answered; counted = going.counted; ends = (refl, Reading kept.bytes going.yields going.short limited refl) };
       left = tt;
-    }
-
-    -- the input ended between two frames
-    pub going-ended : kept.bytes ≡ [] → talks v v' [] [] false → LeavesNone End (content v') → IsDone answers talks content s t u v' (record { frames = count; how = End })
-    going-ended none h left = record {
-      read = going.read;
-      written = joined going.replies;
-      failed = false;
-      talked = still false h;
-      served = record {
-        frames = going.frames;
-        replies = going.replies;
-        answered = going.answered;
-        counted = going.counted;
-        ends = (refl, (subst (λ (b : List ℕ). Yields going.read going.frames b) none going.yields, limited), all-written);
-      };
-      left = left;
-    }
-
-    -- within a frame
-    pub going-cut : kept.bytes ≢ [] → talks v v' [] [] false → LeavesNone Cut (content v') → IsDone answers talks content s t u v' (record { frames = count; how = Cut })
-    going-cut some h left = record {
-      read = going.read;
-      written = joined going.replies;
-      failed = false;
-      talked = still false h;
-      served = record {
-        frames = going.frames;
-        replies = going.replies;
-        answered = going.answered;
-        counted = going.counted;
-        ends = (refl, (kept.bytes, going.yields, some, going.short, limited), all-written);
-      };
-      left = left;
     }
 
     -- some bytes were read

@@ -2,7 +2,6 @@
 use Rattle.std.proofs.Common.{◌≡◌, ℕ, Bool, true, List, [], ◌++◌, map, Option, option_map, length, ap, sym, ◌∙◌, subst}
 use Rattle.std.proofs.lemmas.Bool.{and_parts}
 use Rattle.std.proofs.lemmas.List.{length-map, map-append}
-use Rattle.aw_term.specs.Names.{Ref}
 use Rattle.aw_term.specs.Rules.{Grammar}
 use Rattle.aw_held.specs.declared.held.Held.{Held as Node}
 use Rattle.aw_grammar.specs.declared.grammar.Grammar as program
@@ -67,20 +66,6 @@ of_role g role m ok =
     let (a, b) = and_parts _ _ ok in
     let (names, c) = and_parts _ _ b in
     asks_of_role g m.kind names
-
--- ---- what stays as it was
-
-module _ {F : Type 0} (f : Ghosts F) (old new : Space F f) (old_subs new_subs : Subs) (loads : Bool)
-    (grammar : new.accepted.now.grammar ≡ old.accepted.now.grammar) (role : new.role ≡ old.role) (space : space_seen f new ≡ space_seen f old)
-    (asked : (rs : List Ref) → ShowsAsked old_subs rs → ShowsAsked new_subs rs) (s : Site) where
-  still_seen : HoldsAs f old old_subs loads s → ShowsWatchers new_subs s.watchers → HoldsAs f new new_subs loads s
-  still_seen h w = record { role = h.role ∙ sym role; flag = h.flag; holds = h.holds ∙ sym space; asked = asked s.asked h.asked; watchers = w }
-
-  pub still_shown : (old_outbox new_outbox : List Message) → new_outbox ≡ old_outbox → Shows f old old_subs old_outbox loads s → ShowsWatchers new_subs s.watchers → Shows f new new_subs new_outbox loads s
-  still_shown old_outbox new_outbox e h w = record {
-    holds = still_seen h.holds w;
-    sent = h.sent ∙ (λ i. map (message_of (grammar_of (sym grammar i))) (sym e i));
-  }
 
 -- ---- what was planned is done
 

@@ -4,7 +4,6 @@ use Rattle.std.specs.Prelude.{option_map}
 use Rattle.std.proofs.lemmas.Bool.{and_parts}
 use Rattle.std.proofs.lemmas.List.Elements.{All-nil, All-cons}
 use Rattle.aw_term.specs.Rules.{Grammar, sort_of}
-use Rattle.aw_term.specs.Held as P
 use Rattle.aw_apply.specs.declared.making.MadeChild.{MadeChild}
 use Rattle.aw_store.specs.Equations.{Equation, find}
 use Rattle.aw_held.specs.declared.held.Held.{Held}

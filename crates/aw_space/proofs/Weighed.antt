@@ -3,10 +3,8 @@ use Rattle.std.proofs.Common.{◌≡◌, ℕ, List, Some, None, slice_get, ap, s
 use Rattle.std.specs.Prelude.{option_map}
 use Rattle.std.proofs.lemmas.Option.{slice_get-map}
 use Rattle.aw_term.specs.Names.{Ref}
-use Rattle.aw_term.specs.Rules as P
 use Rattle.aw_term.specs.Rules.{sort_of}
 use Rattle.aw_term.specs.Choices as Q
-use Rattle.aw_term.specs.Held as H
 use Rattle.aw_term.specs.Runs.{refusal_of as plain_refusal}
 use Rattle.aw_choice.specs.declared.choice.Standing.{Standing}
 use Rattle.aw_choice.specs.declared.choice.Answer.{Answer}
@@ -15,7 +13,6 @@ use Rattle.aw_grammar.specs.declared.rule.Rule.{Rule}
 use Rattle.aw_grammar.specs.GrammarOf.{grammar_of}
 use Rattle.aw_grammar.specs.GrammarView.{rule_of}
 use Rattle.aw_store.specs.Equations.{Map}
-use Rattle.aw_apply.specs.declared.telling.Weighed.{Weighed}
 use Rattle.aw_apply.specs.declared.telling.Weighed.TheVariants as weighed
 use Rattle.aw_held.specs.declared.held.Held.{Held}
 use Rattle.aw_held.specs.HeldView.{sort_or}

@@ -1,5 +1,5 @@
 -- The test of grammars is exact.
-use Rattle.std.proofs.Common.{◌≡◌, Bool, true, false, List, [], ◌∷◌, Decides, refl, ap, eq-eqb, subst}
+use Rattle.std.proofs.Common.{◌≡◌, Bool, true, false, List, [], ◌∷◌, refl, ap, eq-eqb}
 use Rattle.std.specs.Prelude.{◌&&◌, nat_eq}
 use Rattle.std.proofs.lemmas.Bool.{eqb-true, and_parts, and_from}
 use Rattle.aw_term.specs.Trees.{Leaf, Made, Trees, Nil, More, nats_eq, head_eq}
@@ -129,6 +129,3 @@ grammar_is_itself a =
     and_from (nat_eq a.roles a.roles) _ (eq-eqb a.roles a.roles refl)
     (and_from (nats_eq a.arities a.arities) _ ((nats_Decides a.arities a.arities).1 refl)
     (and_from (all_eq sort_eq a.sorts a.sorts) _ (all_self sort_eq sort_self a.sorts) (all_self rule_eq rule_self a.rules)))
-
-pub same_grammar_Decides : (a b : Grammar) → Decides (same_grammar a b) (a ≡ b)
-same_grammar_Decides a b = (grammars_are_one a b, λ e. subst (λ g. same_grammar a g ≡ true) e (grammar_is_itself a))

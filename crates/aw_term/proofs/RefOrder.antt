@@ -1,7 +1,6 @@
 -- The order of references: it is the one that the program compares by, and of any two references one comes first, or they are one.
 use Rattle.std.proofs.Common.{◌≡◌, ℕ, true, false, refl, ap, sym, ◌∙◌, subst, inl, inr, arith}
 use Rattle.std.specs.Prelude.{◌⊎◌, ◌&&◌, ◌||◌, nat_lt}
-use Rattle.std.specs.Cmp.{IsStrictWeakOrder}
 use Rattle.std.specs.Ordering.{nat_cmp, is_lt}
 use Rattle.std.proofs.lemmas.Bool.{and_from, and_parts, cases_lt, lt-ltb, ltb-true, or_cases, or_left, or_right}
 use Rattle.std.proofs.lemmas.Bool.Decides.{nat_tests}
@@ -11,7 +10,7 @@ use Rattle.aw_term.specs.Names.{Slot, Result, Part, Ref, node_eq, node_lt, slot_
 use Rattle.aw_name.specs.SameNodes.{node_is, node_self}
 use Rattle.aw_term.proofs.NumbersFirst.{in_turn}
 use Rattle.aw_term.proofs.NodeOrder.{node_before, node_alike, node-no, node-trans, node-tri}
-use Rattle.aw_term.proofs.StrictOrders.{strict_order, tied_by}
+use Rattle.aw_term.proofs.StrictOrders.{tied_by}
 
 slot_before : (a b : Slot) → is_lt (slot_cmp a b) ≡ slot_lt a b
 slot_before (Result i) (Result j) = alone i j
@@ -89,9 +88,6 @@ ref-tri a b =
         | inr y ↦ inr (inr (or_left _ _ y))
       ]
     ]
-
-pub ref_order : IsStrictWeakOrder ref_lt
-ref_order = strict_order ref_lt ref-no ref-trans ref-tri
 
 -- where neither comes before the other, they are one
 pub ref_tied : (a b : Ref) → ref_lt a b ≡ false → ref_lt b a ≡ false → a ≡ b

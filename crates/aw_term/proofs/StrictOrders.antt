@@ -1,5 +1,5 @@
--- What follows of a test in whose order any two values compare, and how such a test is made.
-use Rattle.std.proofs.Common.{◌≡◌, Bool, true, false, inl, inr, refl, subst}
+-- What follows of a test in whose order any two values compare.
+use Rattle.std.proofs.Common.{◌≡◌, Bool, true, false, inl, inr, refl}
 use Rattle.std.specs.Prelude.{◌⊎◌}
 use Rattle.std.specs.Cmp.{IsStrictWeakOrder}
 use Rattle.aw_term.specs.Trees.{Never}
@@ -32,27 +32,6 @@ module _ {A : Type 0} (lt : A → A → Bool) (order : IsStrictWeakOrder lt) whe
       cases false false e f = inr (inl (tied a b e f))
 
 module _ {A : Type 0} (lt : A → A → Bool) (no : (a : A) → lt a a ≡ true → Never) (trans : (a b c : A) → lt a b ≡ true → lt b c ≡ true → lt a c ≡ true) (tri : (a b : A) → (lt a b ≡ true) ⊎ ((a ≡ b) ⊎ (lt b a ≡ true))) where
-  never_both : (a b : A) (x : Bool) → lt b a ≡ x → lt a b ≡ true → x ≡ false
-  never_both a b true f e = elim (no a (trans a b a e f)) [ ]
-  never_both a b false f e = refl
-
-  chain_cases : (a b c : A) (x : Bool) → lt a c ≡ x → lt a b ≡ false → lt b c ≡ false → x ≡ false
-  chain_cases a b c false g e f = refl
-  chain_cases a b c true g e f = elim (tri a b) [
-    | inl l ↦ absurd cc
-    | inr w ↦ elim w [
-      | inl s ↦ (let z = subst (λ d. lt d c ≡ true) s g in absurd cc)
-      | inr l ↦ (let z = trans b a c l g in absurd cc)
-    ]
-  ]
-
-  -- a test that is of no value and itself, goes on, and leaves no two values apart
-  pub strict_order : IsStrictWeakOrder lt
-  strict_order = record {
-    one_way = λ a b e. never_both a b (lt b a) refl e;
-    chain = λ a b c e f. chain_cases a b c (lt a c) refl e f;
-  }
-
   pub tied_by : (a b : A) → lt a b ≡ false → lt b a ≡ false → a ≡ b
   tied_by a b e f = elim (tri a b) [
     | inl l ↦ absurd cc

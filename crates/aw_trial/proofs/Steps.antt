@@ -1,5 +1,5 @@
--- What one choice or delivery of a trial does, and what is drawn.
-use Rattle.std.proofs.Common.{◌≡◌, ℕ, zero, suc, ◌+◌, ◌<◌, ◌≤◌, Bool, true, false, cond, List, [], ◌∷◌, length, Some, None, refl, ap, sym, ◌∙◌, subst, arith}
+-- What is drawn in a trial, and each part of a turn within the next.
+use Rattle.std.proofs.Common.{◌≡◌, ℕ, zero, suc, ◌+◌, ◌<◌, ◌≤◌, true, false, cond, List, [], ◌∷◌, length, Some, None, refl, ap, sym, ◌∙◌, subst, arith}
 use Rattle.std.specs.Prelude.{slice_get, Option, is_some, nat_eq, nat_le}
 use Rattle.aw_term.specs.Names.{Node}
 use Rattle.aw_term.specs.Rules.{Ground, Rule, Grammar, get, sort_of}
@@ -12,38 +12,12 @@ use Rattle.aw_kept.proofs.MarkLemmas.{rule_listed}
 use Rattle.aw_react.specs.Worlds as V
 use Rattle.aw_world.specs.declared.workspace.Workspace.{Ghosts}
 use Rattle.aw_world.specs.declared.world.World.{World}
-use Rattle.aw_world.specs.declared.moves.Reply.{Reply}
-use Rattle.aw_world.specs.MoveView.{reply_of}
-use Rattle.aw_world.specs.Shown.{Shows, ShowsStep}
 use Rattle.aw_world.specs.WorldView.{plain_of}
 use Rattle.aw_world.proofs.WorldFacts.{got_site}
 use Rattle.aw_trial.specs.declared.tally.Tally.{Tally}
 use Rattle.aw_trial.specs.Draws.{next_below, drew}
 use Rattle.aw_trial.specs.Comes.{Comes, Does, AreUpTo, AddsOne}
-use Rattle.aw_trial.specs.Turns.{State, one_if, replies_taken, replies_again, start_case, make_choice, argument_for, drew_argument, params_of, develop, among_rules, at_node, among_nodes, rules_for, choose_some, delivered, among_messages, deliver_some, turn, turn_on, turns}
-
-module _ {W : Type 0} (f : Ghosts W) (old new : World W f) (t u : Tally) where
-  -- a choice, and its counts
-  pub chose : (c : P.Choice) (r : Reply) (b : Bool) → ((v : V.World) → Shows f old v → ShowsStep f new (V.step (plain_of old) v (V.Chooses c)) r)
-      → b ≡ replies_taken (reply_of r) → u ≡ record t { choices = suc t.choices; taken = t.taken + one_if b } → Does f old t new u (make_choice (plain_of old) c)
-  chose c r b steps is made v es S =
-      let x = steps v S in
-      record { world = x.world; tally = made ∙ ap (λ y. record t { choices = suc t.choices; taken = t.taken + one_if y }) (is ∙ ap replies_taken x.reply) }
-
-  -- a start
-  pub started : (r : Reply) → ((v : V.World) → Shows f old v → ShowsStep f new (V.step (plain_of old) v (V.Chooses (P.Start 0 t.starts))) r)
-      → u ≡ record t { starts = suc t.starts } → Does f old t new u (start_case (plain_of old))
-  started r steps made v es S = record { world = (steps v S).world; tally = made }
-
-  -- a delivery
-  pub delivers : (m k : ℕ) (r : Reply) (b : Bool) → ((v : V.World) → Shows f old v → ShowsStep f new (V.step (plain_of old) v (V.Delivers k)) r)
-      → k ≡ next_below (suc m) t → b ≡ replies_again (reply_of r) → u ≡ record (drew t) { repeats = t.repeats + one_if b }
-      → Does f old t new u (among_messages (plain_of old) (suc m))
-  delivers m k r b steps at is made v es S =
-      let g = plain_of old in
-      let x = steps v S in
-      subst (λ j. Comes f new u (delivered (record { world = v; tally = t; events = es }) j (V.step g v (V.Delivers j)))) at
-      (record { world = x.world; tally = made ∙ ap (λ y. record (drew t) { repeats = t.repeats + one_if y }) (is ∙ ap replies_again x.reply) })
+use Rattle.aw_trial.specs.Turns.{State, start_case, make_choice, argument_for, drew_argument, params_of, develop, among_rules, at_node, among_nodes, rules_for, choose_some, deliver_some, turn, turn_on, turns}
 
 -- nothing is done
 pub nothing : {W : Type 0} (f : Ghosts W) (w : World W f) (t : Tally) → Does f w t w t (λ s. s)

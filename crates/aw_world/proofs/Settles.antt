@@ -21,9 +21,6 @@ use Rattle.aw_merge.proofs.Nearing.{nearer, count_bounded}
 use Rattle.aw_merge.proofs.Settling.{settle_more, settle_done, settle_taken, deliver_taken}
 
 module _ {W : Type 0} (f : Ghosts W) (w : World W f) where
-  abbrev plain : V.World → Type 0
-  plain v = Shows f w v
-
   -- a bound that holds of the plain world that events lead to
   at_reached : (m n : ℕ) → ((es : List V.Move) → Each (MayCome (grammar_of w.accepted.now.grammar)) es → Shows f w (world_after (grammar_of w.accepted.now.grammar) w.loads es) → IsAccepted (words_of w.accepted.now.grammar) (grammar_of w.accepted.now.grammar) → m ≤ n) → m ≤ n
   at_reached m n go = ∥∥₁_elim w.accepted.now.grammar.well_formed le_prop (λ formed. ∥∥₁_elim w.accepted.now.sound le_prop (λ sound. ∥∥₁_elim w.reached le_prop (λ r. go r.0 r.1 r.2 (formed, sound))))
