@@ -11,6 +11,18 @@ use std::alloc::Global;
 /// The most equations of a load.
 pub const MOST_OF_LOAD: u8 = 64;
 
+/// The kind of a body that is a reference.
+pub const SAME_KIND: u8 = 0;
+
+/// The kind of a body that is a constructor with its references.
+pub const CON_KIND: u8 = 1;
+
+/// The kind of a body that is a number.
+pub const NUM_KIND: u8 = 2;
+
+/// The kind of a body that is a text.
+pub const TEXT_KIND: u8 = 3;
+
 /// What a reference stands for.
 #[tactic(auto, unfolding(crate::specs::Messages::body))]
 pub fn body_at(alloc: Global, bytes: &[u8]) -> Result<(Body, &[u8]), Unread>
@@ -18,20 +30,20 @@ pub fn body_at(alloc: Global, bytes: &[u8]) -> Result<(Body, &[u8]), Unread>
 {
     match bytes {
         [] => Err(Unread::Short),
-        [0, rest @ ..] => {
+        [SAME_KIND, rest @ ..] => {
             let (reference, rest) = ref_at(alloc, rest)?;
             Ok((Body::Same(reference), rest))
         }
-        [1, rest @ ..] => {
+        [CON_KIND, rest @ ..] => {
             let (con, rest) = u16_at(rest)?;
             let (parts, rest) = refs_at(alloc, rest)?;
             Ok((Body::Con(con, parts), rest))
         }
-        [2, rest @ ..] => {
+        [NUM_KIND, rest @ ..] => {
             let (number, rest) = u64_at(rest)?;
             Ok((Body::Num(number), rest))
         }
-        [3, rest @ ..] => {
+        [TEXT_KIND, rest @ ..] => {
             let (text, rest) = text_at(alloc, rest)?;
             Ok((Body::Text(text), rest))
         }

@@ -20,6 +20,9 @@ use std::alloc::{AllocError, Global};
 /// The most bytes of a payload.
 pub const MOST_OF_PAYLOAD: u32 = 1048576;
 
+/// How many bytes the payload has that is a place.
+const PLACE_BYTES: u32 = 8;
+
 /// The kind of a frame that brings a message.
 pub const PUSH_KIND: u8 = 1;
 
@@ -94,7 +97,7 @@ fn has_length(kind: u8, length: u32) -> bool
     if kind <= CHOOSE_KIND {
         length <= MOST_OF_PAYLOAD
     } else {
-        length == 8
+        length == PLACE_BYTES
     }
 }
 

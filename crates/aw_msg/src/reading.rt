@@ -9,6 +9,21 @@ use aw_wire::items::{byte_at, u16_at};
 use aw_wire::{Unread, node_at, ref_at, refs_at};
 use std::alloc::Global;
 
+/// The version of a message without a load.
+pub const BARE: u8 = 1;
+
+/// The version of a message that has a load.
+pub const LOADED: u8 = 2;
+
+/// The kind of a message that calls a node.
+pub const CALL_KIND: u8 = 0;
+
+/// The kind of a message that asks for what a reference stands for.
+pub const ASK_KIND: u8 = 1;
+
+/// The kind of a message that tells an equation.
+pub const TELL_KIND: u8 = 2;
+
 /// A question, which has no load; `loaded` tells whether the message has one.
 #[tactic(auto, unfolding(crate::specs::Messages::ask))]
 fn ask_at(alloc: Global, loaded: bool, bytes: &[u8]) -> Result<(MsgKind, &[u8]), Unread>
@@ -31,7 +46,7 @@ fn kind_at(alloc: Global, loaded: bool, bytes: &[u8]) -> Result<(MsgKind, &[u8])
 {
     match bytes {
         [] => Err(Unread::Short),
-        [0, rest @ ..] => {
+        [CALL_KIND, rest @ ..] => {
             let (node, rest) = node_at(alloc, rest)?;
             let (inherited, rest) = refs_at(alloc, rest)?;
             let (load, rest) = load_at(alloc, loaded, rest)?;
@@ -44,8 +59,8 @@ fn kind_at(alloc: Global, loaded: bool, bytes: &[u8]) -> Result<(MsgKind, &[u8])
                 rest,
             ))
         }
-        [1, rest @ ..] => ask_at(alloc, loaded, rest),
-        [2, rest @ ..] => {
+        [ASK_KIND, rest @ ..] => ask_at(alloc, loaded, rest),
+        [TELL_KIND, rest @ ..] => {
             let (equation, rest) = equation_at(alloc, rest)?;
             let (load, rest) = load_at(alloc, loaded, rest)?;
             Ok((MsgKind::Tell { equation, load }, rest))
@@ -54,12 +69,12 @@ fn kind_at(alloc: Global, loaded: bool, bytes: &[u8]) -> Result<(MsgKind, &[u8])
     }
 }
 
-/// The version, 1 or 2, and the bytes behind it.
+/// The version, which tells whether there is a load, and the bytes behind it.
 fn version_at(bytes: &[u8]) -> Result<(u8, &[u8]), Unread>
     ensures { Gives (λ x. (x.0, x.1.now)) result (such_that spec.is_version byte bytes.now) }
 {
     let (version, rest) = byte_at(bytes)?;
-    if version == 1 || version == 2 {
+    if version == BARE || version == LOADED {
         Ok((version, rest))
     } else {
         Err(Unread::Bad { left: bytes.len() })
@@ -73,6 +88,6 @@ pub fn message_at(alloc: Global, bytes: &[u8]) -> Result<(Message, &[u8]), Unrea
 {
     let (version, rest) = version_at(bytes)?;
     let (to, rest) = u16_at(rest)?;
-    let (kind, rest) = kind_at(alloc, version == 2, rest)?;
+    let (kind, rest) = kind_at(alloc, version == LOADED, rest)?;
     Ok((Message::new(alloc, to, kind)?, rest))
 }

@@ -8,7 +8,9 @@ ghost use Rattle.aw_msg.specs.MessageRanges.{BodySized, BodyInRange, EquationSiz
 ghost use Rattle.aw_msg.specs.MessageView.{plain_kind};
 ghost use Rattle.aw_msg.specs.Messages.{spelled_message, MessageSized, MessageInRange};
 
+use crate::equations::{CON_KIND, NUM_KIND, SAME_KIND, TEXT_KIND};
 use crate::message::{Message, MsgKind};
+use crate::reading::{ASK_KIND, BARE, CALL_KIND, LOADED, TELL_KIND};
 use aw_list::Text;
 use aw_store::{Body, Equation, Equations};
 use aw_wire::writing::{add_byte, add_u16, add_u64};
@@ -23,20 +25,20 @@ fn add_body(text: &mut Text, body: &Body) -> Result<(), AllocError>
 {
     match body {
         Body::Same(reference) => {
-            add_byte(text, 0)?;
+            add_byte(text, SAME_KIND)?;
             add_ref(text, reference)
         }
         Body::Con(con, parts) => {
-            add_byte(text, 1)?;
+            add_byte(text, CON_KIND)?;
             add_u16(text, *con)?;
             add_refs(text, parts.as_slice())
         }
         Body::Num(number) => {
-            add_byte(text, 2)?;
+            add_byte(text, NUM_KIND)?;
             add_u64(text, *number)
         }
         Body::Text(content) => {
-            add_byte(text, 3)?;
+            add_byte(text, TEXT_KIND)?;
             add_text(text, content.as_slice())
         }
     }
@@ -90,18 +92,18 @@ fn add_kind(text: &mut Text, kind: &MsgKind) -> Result<(), AllocError>
             inherited,
             load,
         } => {
-            add_byte(text, 0)?;
+            add_byte(text, CALL_KIND)?;
             add_node(text, node)?;
             add_refs(text, inherited.as_slice())?;
             add_load(text, load)
         }
         MsgKind::Ask { reference, from } => {
-            add_byte(text, 1)?;
+            add_byte(text, ASK_KIND)?;
             add_ref(text, reference)?;
             add_u16(text, *from)
         }
         MsgKind::Tell { equation, load } => {
-            add_byte(text, 2)?;
+            add_byte(text, TELL_KIND)?;
             add_equation(text, equation)?;
             add_load(text, load)
         }
@@ -127,7 +129,7 @@ pub fn add_message(text: &mut Text, m: &Message) -> Result<(), AllocError>
     ensures err { OnErr result (StartsWith text.new text.old) }
     ensures sized { OnOk result (MessageSized m.now) }
 {
-    add_byte(text, if has_load(m.kind.get()) { 2 } else { 1 })?;
+    add_byte(text, if has_load(m.kind.get()) { LOADED } else { BARE })?;
     add_u16(text, m.to)?;
     add_kind(text, m.kind.get())
 }
