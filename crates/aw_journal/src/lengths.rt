@@ -22,26 +22,65 @@ use aw_name::{Node, Ref};
 use aw_store::{Body, Equation};
 use aw_term::Ground;
 
+/// How many bytes the kind of an item has.
+const KIND_BYTES: u64 = 1;
+
+/// How many bytes the number of items has that stands before them.
+const COUNT_BYTES: u64 = 1;
+
+/// How many bytes the number of a role, a sort, a rule, a constructor, a result or a part has.
+const CODE_BYTES: u64 = 2;
+
+/// How many bytes the length of a text has.
+const TEXT_LENGTH_BYTES: u64 = 2;
+
+/// How many bytes a case or a number has.
+const NUMBER_BYTES: u64 = 8;
+
+/// How many bytes a step has: a rule, and a child of one byte.
+const STEP_BYTES: u64 = CODE_BYTES + 1;
+
+/// How many bytes stand before the steps of a node: a sort, a case and the number of steps.
+const NODE_FRONT_BYTES: u64 = CODE_BYTES + NUMBER_BYTES + COUNT_BYTES;
+
+/// How many bytes a kind and the number of a role, a constructor, a result or a part have together.
+const KIND_AND_CODE_BYTES: u64 = KIND_BYTES + CODE_BYTES;
+
+/// How many bytes a body or a ground term has that is a number.
+const KIND_AND_NUMBER_BYTES: u64 = KIND_BYTES + NUMBER_BYTES;
+
+/// How many bytes stand before the parts of a ground term: its kind, a constructor and the number of parts.
+const GROUND_FRONT_BYTES: u64 = KIND_AND_CODE_BYTES + COUNT_BYTES;
+
+/// How many bytes a message has beside what it says: its version, of one byte, and a role.
+const MESSAGE_FRONT_BYTES: u64 = 1 + CODE_BYTES;
+
+/// How many bytes the choice of a start has: its kind, a sort and a case.
+const START_BYTES: u64 = KIND_AND_CODE_BYTES + NUMBER_BYTES;
+
+/// How many bytes the choice of a rule has beside its node and its arguments: its kind, the rule and the number of arguments.
+const DEVELOP_FRONT_BYTES: u64 = KIND_AND_CODE_BYTES + COUNT_BYTES;
+
 #[tactic(auto, using(crate::proofs::Counts::node_length))]
 fn node_len(node: &Node) -> u64
     ensures { result ≡ capped (length (spelled_node node.now)) }
 {
     (node.steps.len() as u64)
-        .saturating_mul(3)
-        .saturating_add(11)
+        .saturating_mul(STEP_BYTES)
+        .saturating_add(NODE_FRONT_BYTES)
 }
 
 #[tactic(auto, using(crate::proofs::Counts::ref_length))]
 fn ref_len(reference: &Ref) -> u64
     ensures { result ≡ capped (length (spelled_ref reference.now)) }
 {
-    node_len(&reference.node).saturating_add(3)
+    node_len(&reference.node).saturating_add(KIND_AND_CODE_BYTES)
 }
 
 fn refs_len(refs: &[Ref]) -> u64
     ensures { result ≡ capped (length (spelled_refs refs.now)) }
 {
-    let mut count: u64 = 1;
+    let mut count: u64 = COUNT_BYTES;
     for reference in refs {
         count = count.saturating_add(ref_len(reference));
     }
@@ -52,17 +91,17 @@ fn refs_len(refs: &[Ref]) -> u64
 fn text_len(content: &[u8]) -> u64
     ensures { result ≡ capped (length (spelled_text content.now)) }
 {
-    (content.len() as u64).saturating_add(2)
+    (content.len() as u64).saturating_add(TEXT_LENGTH_BYTES)
 }
 
 fn body_len(body: &Body) -> u64
     ensures { result ≡ capped (length (spelled_body (body_of body.now))) }
 {
     match body {
-        Body::Same(reference) => ref_len(reference).saturating_add(1),
-        Body::Con(_, parts) => refs_len(parts.as_slice()).saturating_add(3),
-        Body::Num(_) => 9,
-        Body::Text(content) => text_len(content.as_slice()).saturating_add(1),
+        Body::Same(reference) => ref_len(reference).saturating_add(KIND_BYTES),
+        Body::Con(_, parts) => refs_len(parts.as_slice()).saturating_add(KIND_AND_CODE_BYTES),
+        Body::Num(_) => KIND_AND_NUMBER_BYTES,
+        Body::Text(content) => text_len(content.as_slice()).saturating_add(KIND_BYTES),
     }
 }
 
@@ -90,7 +129,7 @@ fn load_len(load: &[Equation]) -> u64
     if load.is_empty() {
         return 0;
     }
-    equations_len(load).saturating_add(1)
+    equations_len(load).saturating_add(COUNT_BYTES)
 }
 
 #[tactic(auto, using(crate::proofs::Counts::call_length, crate::proofs::Counts::ask_length, crate::proofs::Counts::tell_length))]
@@ -105,11 +144,11 @@ fn kind_len(kind: &MsgKind) -> u64
         } => node_len(node)
             .saturating_add(refs_len(inherited.as_slice()))
             .saturating_add(load_len(load.as_slice()))
-            .saturating_add(1),
-        MsgKind::Ask { reference, .. } => ref_len(reference).saturating_add(3),
+            .saturating_add(KIND_BYTES),
+        MsgKind::Ask { reference, .. } => ref_len(reference).saturating_add(KIND_AND_CODE_BYTES),
         MsgKind::Tell { equation, load } => equation_len(equation)
             .saturating_add(load_len(load.as_slice()))
-            .saturating_add(1),
+            .saturating_add(KIND_BYTES),
     }
 }
 
@@ -117,7 +156,7 @@ fn kind_len(kind: &MsgKind) -> u64
 fn message_len(m: &Message) -> u64
     ensures { result ≡ capped (length (spelled_message m.now)) }
 {
-    kind_len(m.kind.get()).saturating_add(3)
+    kind_len(m.kind.get()).saturating_add(MESSAGE_FRONT_BYTES)
 }
 
 #[cycle(counting)]
@@ -125,9 +164,9 @@ fn ground_len(ground: &Ground) -> u64
     ensures { result ≡ capped (length (spelled_ground (ground_of ground.now))) }
 {
     match ground {
-        Ground::Con(_, parts) => each_len(parts.as_slice()).saturating_add(4),
-        Ground::Num(_) => 9,
-        Ground::Text(content) => text_len(content.as_slice()).saturating_add(1),
+        Ground::Con(_, parts) => each_len(parts.as_slice()).saturating_add(GROUND_FRONT_BYTES),
+        Ground::Num(_) => KIND_AND_NUMBER_BYTES,
+        Ground::Text(content) => text_len(content.as_slice()).saturating_add(KIND_BYTES),
     }
 }
 
@@ -147,10 +186,10 @@ fn choice_len(choice: &Choice) -> u64
     ensures { result ≡ capped (length (spelled_choice (choice_of choice.now))) }
 {
     match choice {
-        Choice::Start { .. } => 11,
+        Choice::Start { .. } => START_BYTES,
         Choice::Develop { node, args, .. } => node_len(node)
             .saturating_add(each_len(args.as_slice()))
-            .saturating_add(4),
+            .saturating_add(DEVELOP_FRONT_BYTES),
     }
 }
 
@@ -161,7 +200,7 @@ pub(crate) fn payload_len(event: &NodeEvent) -> u64
     ensures { result ≡ length (payload_of (event_of event.now)) }
 {
     match event {
-        NodeEvent::Took(choice) => choice_len(choice).saturating_add(1),
-        NodeEvent::Got(message) => message_len(message).saturating_add(1),
+        NodeEvent::Took(choice) => choice_len(choice).saturating_add(KIND_BYTES),
+        NodeEvent::Got(message) => message_len(message).saturating_add(KIND_BYTES),
     }
 }
