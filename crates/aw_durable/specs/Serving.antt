@@ -1,5 +1,5 @@
 -- What serving a kept workspace leaves at each exit.
-use Rattle.std.specs.Prelude.{◌≡◌, ◌⊎◌, ℕ, ◌+◌, ◌<◌, ◌≤◌, List, IsTrue, false, length}
+use Rattle.std.specs.Prelude.{◌≡◌, ◌⊎◌, ℕ, ◌<◌, ◌≤◌, List, IsTrue, false, length}
 use Rattle.aw_out.specs.Causes.{Rose}
 use Rattle.aw_out.specs.declared.edge.Wire as wires
 use Rattle.aw_react.specs.Sites.{Site}
@@ -9,7 +9,7 @@ use Rattle.aw_session.specs.declared.log.SessionLog.{SessionLog}
 use Rattle.aw_disk.specs.Disk.{LeavesOnly}
 use Rattle.aw_disk.specs.declared.edge.Disk as disks
 use Rattle.aw_journal.specs.Events.{Event}
-use Rattle.aw_journal.specs.Format.{events_of, has_head}
+use Rattle.aw_journal.specs.Format.{events_of, has_head, end_of_head}
 use Rattle.aw_journal.specs.Opens.{IsForeign, IsOldOrSame, AllOldOrAllSame}
 use Rattle.aw_journal.specs.declared.journal.AppendFault.{AppendFault}
 use Rattle.aw_journal.specs.declared.journal.AppendFault.TheVariants as append
@@ -37,7 +37,7 @@ begun_at {D} r s role text events old = record { rules = r; start = s; role = ro
 pub record IsReopened {D : Type 0} (d : disks.Ghosts D) (role : ℕ) (text : List ℕ) (old : D) (events : List Event) : Type 0 where
   pub are_read : IsTrue (d.tells old) → events ≡ events_of (d.seen old)
   pub own_head : IsTrue (d.tells old) → IsForeign role text (d.seen old) → ⊥
-  pub head_fits : IsTrue (d.tells old) → has_head (d.seen old) ≡ false → 12 + length text ≤ kept_limit
+  pub head_fits : IsTrue (d.tells old) → has_head (d.seen old) ≡ false → end_of_head (length text) ≤ kept_limit
 
 -- The events of the journal made a site of the first one, each of them one when it came; from there the sessions of the log were served, and the disk has
 -- the events of the site that they left.
@@ -86,7 +86,7 @@ pub record IsBadEvent {D : Type 0} (d : disks.Ghosts D) (r : Rules) (role : ℕ)
 
 -- A head that is to be written has no room.
 abbrev pub HasNoRoom : {D : Type 0} → disks.Ghosts D → List ℕ → D → Type 0
-HasNoRoom {D} d text old = IsTrue (d.tells old) → (has_head (d.seen old) ≡ false) × (kept_limit < 12 + length text)
+HasNoRoom {D} d text old = IsTrue (d.tells old) → (has_head (d.seen old) ≡ false) × (kept_limit < end_of_head (length text))
 
 -- why no further session was served
 abbrev pub StopsKept : {W D : Type 0} → wires.Ghosts W → disks.Ghosts D → Rules → ℕ → List ℕ → Site → W → W → D → D → KeptFault → Type 0

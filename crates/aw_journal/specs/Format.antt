@@ -54,6 +54,10 @@ events_of file = if has_head file then events_from (11 + u64_in (drop 3 file)) f
 abbrev pub head : ℕ → List ℕ → List ℕ
 head role text = u16_bytes role ++ (u64_bytes (length text) ++ text)
 
+-- where an open head ends whose text has this length, with the gate behind it: a gate, the role in two bytes, the length in eight, the text and a gate
+abbrev pub end_of_head : ℕ → ℕ
+end_of_head n = 12 + n
+
 -- what a record holds behind its gate: the length of a payload, and the payload
 abbrev pub framed : List ℕ → List ℕ
 framed payload = u64_bytes (length payload) ++ payload

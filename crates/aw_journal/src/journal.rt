@@ -3,7 +3,7 @@ ghost use Rattle.std.specs.Prelude.{◌≡◌, ◌≢◌, ◌≤◌, ◌<◌, �
 ghost use Rattle.aw_out.specs.Causes.{Rose};
 ghost use Rattle.aw_disk.specs.Disk.{LeavesOnly};
 ghost use Rattle.aw_journal.specs.declared.journal.AppendFault.TheVariants.{NoMemory};
-ghost use Rattle.aw_journal.specs.Format.{u64_bytes, u16_bytes, head, front, has_head, events_of};
+ghost use Rattle.aw_journal.specs.Format.{u64_bytes, u16_bytes, head, front, has_head, events_of, end_of_head};
 ghost use Rattle.aw_journal.specs.Journal.{IsSettled, IsBeforeOrAfter, StandsAt, IsAround, IsAll, StartsClosed, behind_gate, end_after};
 ghost use Rattle.aw_journal.specs.Events.{AllEvents, EventInRange};
 ghost use Rattle.aw_journal.specs.EventView.{event_of, events_seen};
@@ -12,7 +12,7 @@ ghost use Rattle.aw_journal.specs.Opens.{HasThisHead, IsForeign, IsOldOrSame, Al
 use crate::lengths::payload_len;
 use crate::payload::{NodeEvent, record_bytes};
 use crate::reads::{OpenFault, read_file, settle};
-use crate::scan::scan;
+use crate::scan::{RECORD_FRONT, scan};
 use crate::steps::{end_at, write_synced};
 use aw_disk::{Did, Disk};
 use aw_list::Text;
@@ -24,9 +24,6 @@ const HEAD_FRONT: u64 = 11;
 
 /// How many bytes a head has beside its text, with its gate and the one behind it.
 const HEAD_AND_GATES: u64 = 12;
-
-/// How many bytes stand before the payload of a record: a gate and the length of the payload.
-const RECORD_FRONT: u64 = 9;
 
 #[derive(Clone, Copy, Debug, PartialEq, Eq)]
 pub enum AppendFault {
@@ -111,8 +108,8 @@ impl Journal {
         ensures reads_same { IsTrue (D.tells disk.old) → events_of (D.seen disk.new) ≡ events_of (D.seen disk.old) }
         ensures bad_head { IsErrOf result OpenFault.BadHead → IsTrue (D.tells disk.old) → IsForeign role text.now (D.seen disk.old) × (D.seen disk.new ≡ D.seen disk.old) }
         ensures good_head { OnOk result (IsTrue (D.tells disk.old) → IsForeign role text.now (D.seen disk.old) → ⊥) }
-        ensures full { IsErrOf result OpenFault.Full → IsTrue (D.tells disk.old) → (has_head (D.seen disk.old) ≡ false) × (limit < 12 + length text.now) × (D.seen disk.new ≡ D.seen disk.old) }
-        ensures not_full { OnOk result (IsTrue (D.tells disk.old) → has_head (D.seen disk.old) ≡ false → 12 + length text.now ≤ limit) }
+        ensures full { IsErrOf result OpenFault.Full → IsTrue (D.tells disk.old) → (has_head (D.seen disk.old) ≡ false) × (limit < end_of_head (length text.now)) × (D.seen disk.new ≡ D.seen disk.old) }
+        ensures not_full { OnOk result (IsTrue (D.tells disk.old) → has_head (D.seen disk.old) ≡ false → end_of_head (length text.now) ≤ limit) }
         ensures tells { D.tells disk.new ≡ D.tells disk.old }
         ensures never_falls { D.faults disk.old ≤ D.faults disk.new }
         ensures fault { IsErrOf result OpenFault.DiskFault → Rose (D.faults disk.old) (D.faults disk.new) }
@@ -182,7 +179,7 @@ impl Journal {
 fn next_gate(gate: u64, len: u64, limit: u64) -> Option<u64>
     ensures { MatchOption result (limit < gate + len + 10) (λ next. (next ≡ gate + len + 9) × (next < limit)) }
 {
-    let next = gate.checked_add(RECORD_FRONT)?.checked_add(len)?;
+    let next = gate.checked_add(RECORD_FRONT as u64)?.checked_add(len)?;
     if next < limit { Some(next) } else { None }
 }
 
@@ -221,7 +218,7 @@ fn stands(bytes: &[u8]) -> bool
 
 /// Whether a head of a text of this length and the gate behind it stand within the limit.
 fn has_place(len: usize, limit: u64) -> bool
-    ensures { IsTrue result ↔ 12 + len ≤ limit }
+    ensures { IsTrue result ↔ end_of_head len ≤ limit }
 {
     match (len as u64).checked_add(HEAD_AND_GATES) {
         Some(end) => end <= limit,
@@ -300,9 +297,9 @@ fn start<D: Disk>(
     ensures any_moment { IsTrue (D.tells disk.old) → LeavesOnly D.moment D.left_since disk.old disk.new (λ c. events_of c ≡ []) }
     ensures reads { IsTrue (D.tells disk.old) → events_of (D.seen disk.new) ≡ [] }
     ensures not_bad { IsErrOf result OpenFault.BadHead → ⊥ }
-    ensures full { IsErrOf result OpenFault.Full → (limit < 12 + length text.now) × (disk.new ≡ disk.old) }
-    ensures full_always { limit < 12 + length text.now → IsErrOf result OpenFault.Full }
-    ensures not_full { OnOk result (12 + length text.now ≤ limit) }
+    ensures full { IsErrOf result OpenFault.Full → (limit < end_of_head (length text.now)) × (disk.new ≡ disk.old) }
+    ensures full_always { limit < end_of_head (length text.now) → IsErrOf result OpenFault.Full }
+    ensures not_full { OnOk result (end_of_head (length text.now) ≤ limit) }
     ensures tells { D.tells disk.new ≡ D.tells disk.old }
     ensures never_falls { D.faults disk.old ≤ D.faults disk.new }
     ensures fault { IsErrOf result OpenFault.DiskFault → Rose (D.faults disk.old) (D.faults disk.new) }

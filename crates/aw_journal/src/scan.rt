@@ -11,7 +11,7 @@ use std::alloc::{AllocError, Global};
 const LENGTH: usize = 8;
 
 /// How many bytes stand before the payload of a record: a gate and the length of the payload.
-const FRONT: usize = 9;
+pub(crate) const RECORD_FRONT: usize = 9;
 
 /// Some events, and the gate behind them.
 #[derive(Drop)]
@@ -47,7 +47,7 @@ fn next_event(
         Some(next) => next,
         None => return Ok(None),
     };
-    match event_in(alloc, &bytes[gate + FRONT..next])? {
+    match event_in(alloc, &bytes[gate + RECORD_FRONT..next])? {
         Some(event) => Ok(Some((event, next))),
         None => Ok(None),
     }
@@ -63,7 +63,7 @@ fn record_end(bytes: &[u8], gate: usize) -> Option<usize>
     }
     let (_, rest) = bytes.split_at(gate + 1);
     match payload_len(rest) {
-        Some(n) => Some(gate + FRONT + n),
+        Some(n) => Some(gate + RECORD_FRONT + n),
         None => None,
     }
 }
