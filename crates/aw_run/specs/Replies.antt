@@ -119,25 +119,40 @@ carries (Some (Serves sessions)) = false
 carries (Some (Keeps sessions)) = false
 carries (Some (Carries rounds)) = true
 
--- Which counts of the wire rose where a command tells that the net failed, of openings that failed or of all its faults: a node tells that the next session could not be opened,
--- a courier that any call failed.
-abbrev pub NetFailed : Option Command → (openings_before : ℕ) → (openings_after : ℕ) → (faults_before : ℕ) → (faults_after : ℕ) → Type 0
-NetFailed None openings_before openings_after faults_before faults_after = ⊥
-NetFailed (Some (Reads job)) openings_before openings_after faults_before faults_after = ⊥
-NetFailed (Some (Tries number)) openings_before openings_after faults_before faults_after = ⊥
-NetFailed (Some (Serves sessions)) openings_before openings_after faults_before faults_after = Rose openings_before openings_after
-NetFailed (Some (Keeps sessions)) openings_before openings_after faults_before faults_after = Rose openings_before openings_after
-NetFailed (Some (Carries rounds)) openings_before openings_after faults_before faults_after = Rose faults_before faults_after
+-- more openings of a session failed
+abbrev pub OpeningFailed : Wired → Type 0
+OpeningFailed x = Rose (x.wire.failed_openings x.before) (x.wire.failed_openings x.after)
 
--- Which counts of the wire stayed where a command tells no such failure: of a node that of openings that failed, of a courier that of all its faults, and
--- of a command that does not use the wire both.
-abbrev pub NetKept : Option Command → (openings_before : ℕ) → (openings_after : ℕ) → (faults_before : ℕ) → (faults_after : ℕ) → Type 0
-NetKept None openings_before openings_after faults_before faults_after = (openings_after ≡ openings_before) × (faults_after ≡ faults_before)
-NetKept (Some (Reads job)) openings_before openings_after faults_before faults_after = (openings_after ≡ openings_before) × (faults_after ≡ faults_before)
-NetKept (Some (Tries number)) openings_before openings_after faults_before faults_after = (openings_after ≡ openings_before) × (faults_after ≡ faults_before)
-NetKept (Some (Serves sessions)) openings_before openings_after faults_before faults_after = openings_after ≡ openings_before
-NetKept (Some (Keeps sessions)) openings_before openings_after faults_before faults_after = openings_after ≡ openings_before
-NetKept (Some (Carries rounds)) openings_before openings_after faults_before faults_after = faults_after ≡ faults_before
+-- more calls of the wire failed
+abbrev pub CallFailed : Wired → Type 0
+CallFailed x = Rose (x.wire.faults x.before) (x.wire.faults x.after)
+
+-- no further opening of a session failed
+abbrev pub OpeningsKept : Wired → Type 0
+OpeningsKept x = x.wire.failed_openings x.after ≡ x.wire.failed_openings x.before
+
+-- no further call of the wire failed
+abbrev pub CallsKept : Wired → Type 0
+CallsKept x = x.wire.faults x.after ≡ x.wire.faults x.before
+
+-- What failed of the wire where a command tells that the net failed: a node tells that the next session could not be opened, a courier that any call failed.
+abbrev pub NetFailed : Option Command → Wired → Type 0
+NetFailed None x = ⊥
+NetFailed (Some (Reads job)) x = ⊥
+NetFailed (Some (Tries number)) x = ⊥
+NetFailed (Some (Serves sessions)) x = OpeningFailed x
+NetFailed (Some (Keeps sessions)) x = OpeningFailed x
+NetFailed (Some (Carries rounds)) x = CallFailed x
+
+-- What did not fail of the wire where a command tells no such failure: with a node no opening, with a courier no call, and with a command that does not use
+-- the wire neither.
+abbrev pub NetKept : Option Command → Wired → Type 0
+NetKept None x = OpeningsKept x × CallsKept x
+NetKept (Some (Reads job)) x = OpeningsKept x × CallsKept x
+NetKept (Some (Tries number)) x = OpeningsKept x × CallsKept x
+NetKept (Some (Serves sessions)) x = OpeningsKept x
+NetKept (Some (Keeps sessions)) x = OpeningsKept x
+NetKept (Some (Carries rounds)) x = CallsKept x
 
 -- A command with a good input is done, unless memory runs out, the source fails or the sink does, or the wire or the disk of a command that uses it, or
 -- what a courier hears is no reply.

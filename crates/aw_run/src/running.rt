@@ -43,8 +43,8 @@ fn prepare<S: Source, W: Wire, D: Disk>(
     ensures kept { result ≢ Err Stop.ReadFault → S.faults src.new ≡ S.faults src.old }
     ensures read_before { result ≡ Err Stop.ReadFault → GivesSome (S.left src.old) (S.left src.new) (λ bytes. length bytes ≤ INPUT_LIMIT) }
     ensures read_command { result ≡ Err Stop.ReadFault → reads (command_of words.now) ≡ true }
-    ensures net_cause { result ≡ Err Stop.NetFault → NetFailed (command_of words.now) (W.failed_openings wire.old) (W.failed_openings wire.new) (W.faults wire.old) (W.faults wire.new) }
-    ensures net_kept { result ≢ Err Stop.NetFault → NetKept (command_of words.now) (W.failed_openings wire.old) (W.failed_openings wire.new) (W.faults wire.old) (W.faults wire.new) }
+    ensures net_cause { result ≡ Err Stop.NetFault → NetFailed (command_of words.now) (wired ⟦<W as Wire>⟧ wire.old wire.new) }
+    ensures net_kept { result ≢ Err Stop.NetFault → NetKept (command_of words.now) (wired ⟦<W as Wire>⟧ wire.old wire.new) }
     ensures net_command { result ≡ Err Stop.NetFault → uses_wire (command_of words.now) ≡ true }
     ensures no_disk { uses_disk (command_of words.now) ≡ false → disk.new ≡ disk.old }
     ensures disk_cause { result ≡ Err Stop.DiskFault → Rose (D.faults disk.old) (D.faults disk.new) }
@@ -177,7 +177,7 @@ pub fn run<S: Source, K: Sink, W: Wire, D: Disk>(
 
     // Only a command that uses the wire touches it.
     ensures no_wire { uses_wire (command_of words.now) ≡ false → wire.new ≡ wire.old }
-    ensures net_fault { result ≡ Status.NetFault → NetFailed (command_of words.now) (W.failed_openings wire.old) (W.failed_openings wire.new) (W.faults wire.old) (W.faults wire.new) }
+    ensures net_fault { result ≡ Status.NetFault → NetFailed (command_of words.now) (wired ⟦<W as Wire>⟧ wire.old wire.new) }
     ensures net_command { result ≡ Status.NetFault → uses_wire (command_of words.now) ≡ true }
 
     // Only a command that uses the disk touches it, and what is refused leaves the wire and the disk as they were.
@@ -191,7 +191,7 @@ pub fn run<S: Source, K: Sink, W: Wire, D: Disk>(
     ensures source_kept { result ≢ Status.ReadFault → S.faults src.new ≡ S.faults src.old }
     ensures sink_kept { result ≢ Status.WriteFault → K.faults out.new ≡ K.faults out.old }
     ensures disk_kept { result ≢ Status.DiskFault → D.faults disk.new ≡ D.faults disk.old }
-    ensures net_kept { result ≢ Status.NetFault → NetKept (command_of words.now) (W.failed_openings wire.old) (W.failed_openings wire.new) (W.faults wire.old) (W.faults wire.new) }
+    ensures net_kept { result ≢ Status.NetFault → NetKept (command_of words.now) (wired ⟦<W as Wire>⟧ wire.old wire.new) }
     ensures source_count { S.faults src.old ≤ S.faults src.new }
     ensures sink_count { K.faults out.old ≤ K.faults out.new }
 {
