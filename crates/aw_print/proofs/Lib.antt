@@ -3,6 +3,7 @@ pub mod LeadLemmas
 pub mod GrowingLemmas
 pub mod StackLemmas
 pub mod BeginLemmas
+pub mod PieceLemmas
 pub mod CopyLemmas
 pub mod TableLemmas
 pub mod EndsLemmas

@@ -2,7 +2,7 @@ use Rattle.std.proofs.Common.{◌++◌, ◌∷◌, [], Err, ap, ◌∙◌, refl,
 use Rattle.std.proofs.lemmas.List.{nil_from_length}
 use Rattle.aw_print.specs.Stacks.{origin, desk, stack_draft}
 use Rattle.aw_print.proofs.StackLemmas.{popped, emptied}
-use Rattle.aw_print.proofs.BeginLemmas.{made_flushed, sound_same}
+use Rattle.aw_print.proofs.PieceLemmas.{made_flushed, sound_same}
 use Rattle.aw_print.proofs.GrowingLemmas.{flushed, not_flushed, goes_on, stops_later, hands_on}
 use Rattle.aw_print.proofs.value.print_pieces.Goals as goal
 
