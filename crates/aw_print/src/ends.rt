@@ -17,7 +17,7 @@ enum Step {
 /// Where the chases from slots of one store end, as far as that is kept.
 #[derive(Drop)]
 pub struct Ends {
-    pub kept: Vec<Option<Chase>>,
+    kept: Vec<Option<Chase>>,
 }
 
 /// The end of a chase, told of a slot on its way: a chase that goes round names the slot where it started.
