@@ -72,14 +72,6 @@ pub frames-none : (ws : List Message) → pushed_frames ws ≡ [] → ws ≡ []
 frames-none [] e = refl
 frames-none (m ∷ ms) e = absurd cc
 
-pub rest-waits : (r : ℕ) (ws ms : List Message) (m : Message) → for_role r ws ≡ m ∷ ms → for_role r (without r ws) ≡ ms
-rest-waits r [] ms m e = absurd cc
-rest-waits r (w ∷ ws) ms m e = go (nat_eq w.to r) refl e (rest-waits r ws ms m)
-  where
-    go : (b : Bool) → nat_eq w.to r ≡ b → cond b (w ∷ for_role r ws) (for_role r ws) ≡ m ∷ ms → (for_role r ws ≡ m ∷ ms → for_role r (without r ws) ≡ ms) → for_role r (cond b ws (w ∷ without r ws)) ≡ ms
-    go true d e f = (cons-inj e).1
-    go false d e f = ap (λ b. cond b (w ∷ for_role r (without r ws)) (for_role r (without r ws))) d ∙ f e
-
 -- what waits for other roles still does
 pub others-wait : (r b : ℕ) (ws : List Message) → (r ≡ b → Never) → for_role b (without r ws) ≡ for_role b ws
 others-wait r b [] n = refl

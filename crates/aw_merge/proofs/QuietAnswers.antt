@@ -10,7 +10,7 @@ use Rattle.aw_term.specs.Choices.{Answer, Arguments, Choice, Develop, NotItsRule
 use Rattle.aw_term.specs.Configs.{Config, Done, Pending, Row, State, row_of}
 use Rattle.aw_term.specs.Matching.{Circle, Differs, Matched, Waits, Yes}
 use Rattle.aw_term.specs.Names.{Node, Ref, root}
-use Rattle.aw_term.specs.Rules.{Grammar, Ground, Rule, Sort, Value, sort_of}
+use Rattle.aw_term.specs.Rules.{Grammar, Ground, Rule, Sort, sort_of}
 use Rattle.aw_term.specs.Trees.{Never}
 use Rattle.aw_term.specs.Held.{Held, held_of}
 use Rattle.aw_iograph.specs.Dependence.{HasNoCircle, IO}
@@ -22,9 +22,10 @@ use Rattle.aw_apply.specs.Guard.{guard_all}
 use Rattle.aw_apply.specs.Messages.{Asks, Calls, Kind, Message, Tells}
 use Rattle.aw_joint.specs.Joint.{Joint, by_held, by_root, by_rule, by_state}
 use Rattle.aw_joint.specs.Laws.{Agree, IsAccepted}
+use Rattle.aw_joint.proofs.Agreement.{same_answer}
 use Rattle.aw_joint.proofs.AnyOrders.{held_of-found}
 use Rattle.aw_joint.proofs.Entering.{VariablesEnter, variables_enter}
-use Rattle.aw_joint.proofs.OutcomesAlike.{OutLike, held_like, node_same, start_like}
+use Rattle.aw_joint.proofs.OutcomesAlike.{held_like, node_same, start_like}
 use Rattle.aw_joint.proofs.SameConfigs.{held_for, row_for}
 use Rattle.aw_joint.proofs.SideBySide.{LikeOption}
 use Rattle.aw_react.specs.Choosing.{answer_to, choose, choose_on, outcome}
@@ -77,17 +78,6 @@ answer-on g s (Start st k) Starts e = refl
 answer-on g s (Develop n ri args) Starts e = never (held-no-start (held_of n s.held) g s.equations n ri args e)
 answer-on g s (Start st k) (Takes rule xs) e = never (root-no-rule (held_of (root st k) s.held) rule xs e)
 answer-on g s (Develop n ri args) (Takes rule xs) e = refl
-
-same_answer : (k : Map) (o : Outcome Ref Ref) (p : Outcome Value Ref) → OutLike k o p → answer_of o ≡ answer_of p
-same_answer k (Refused a) (Refused b) l = l
-same_answer k Starts Starts l = refl
-same_answer k (Takes r xs) (Takes r' ts) l = refl
-same_answer k (Refused a) Starts l = never l
-same_answer k (Refused a) (Takes r ts) l = never l
-same_answer k Starts (Refused b) l = never l
-same_answer k Starts (Takes r ts) l = never l
-same_answer k (Takes r xs) (Refused b) l = never l
-same_answer k (Takes r xs) Starts l = never l
 
 module _ (words : Words) (g : Grammar) (accepted : IsAccepted words g) (loads : Bool) (w : World) (x : Joint) (W : IsWorld words g accepted loads w x) where
   abbrev fit : IsGivenGrammar g

@@ -23,17 +23,17 @@ whole_is {A} (Ok y) x e =
     ap (λ z. Ok (z, y.1)) known ∙ ap (λ (rest : List ℕ). Ok (x, rest)) (nil_from_length y.1 (eqb-true (length y.1) 0 h))
 whole_is (Err f) x e = absurd cc
 
-whole_taken : {A : Type 0} {r : Reader A} {s : A → List ℕ} {S R : A → Type 0} (law : Law r s S R) (bytes : List ℕ) (x : A) → AreBytes bytes → whole r bytes ≡ Some x → (bytes ≡ s x) × S x × R x
+pub whole_taken : {A : Type 0} {r : Reader A} {s : A → List ℕ} {S R : A → Type 0} (law : Law r s S R) (bytes : List ℕ) (x : A) → AreBytes bytes → whole r bytes ≡ Some x → (bytes ≡ s x) × S x × R x
 whole_taken {A} {r} {s} law bytes x fits e =
     let t = law.taken bytes x [] fits (whole_is (r bytes) x e) in
     (t.0.parts ∙ append-nil (s x), t.1, t.2)
 
-whole_again : {A : Type 0} {r : Reader A} {s : A → List ℕ} {S R : A → Type 0} (law : Law r s S R) (x : A) → S x → R x → whole r (s x) ≡ Some x
+pub whole_again : {A : Type 0} {r : Reader A} {s : A → List ℕ} {S R : A → Type 0} (law : Law r s S R) (x : A) → S x → R x → whole r (s x) ≡ Some x
 whole_again {A} {r} {s} law x sized range = ap all_of (ap r (sym (append-nil (s x))) ∙ law.again x [] sized range)
 
 -- ---- payloads
 
-mapped_is : {A B : Type 0} (f : A → B) (o : Option A) (y : B) → option_map f o ≡ Some y → (x : A) × (o ≡ Some x) × (f x ≡ y)
+pub mapped_is : {A B : Type 0} (f : A → B) (o : Option A) (y : B) → option_map f o ≡ Some y → (x : A) × (o ≡ Some x) × (f x ≡ y)
 mapped_is f None y e = absurd cc
 mapped_is f (Some x) y e = (x, refl, same_Some (f x) y e)
 
