@@ -60,12 +60,16 @@ impl<T> Shared<T> {
 }
 
 impl<T: Drop> Shared<T> {
-    /// The same items, taken over with their memory.
+    /// The same items, taken over with their memory. None take no memory.
     pub fn from_vec(items: Vec<T>) -> Result<Shared<T>, AllocError>
         ensures { IfOk result (λ s. s ≡ items.items) }
     {
+        let alloc = *items.allocator();
+        if items.is_empty() {
+            return Ok(Shared::new(alloc));
+        }
         Ok(Shared {
-            alloc: *items.allocator(),
+            alloc,
             items: Some(RcSlice::from_vec(items)?),
         })
     }

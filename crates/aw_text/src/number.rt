@@ -38,13 +38,24 @@ pub fn number_value(b: &[u8]) -> Option<u64>
     Some(value)
 }
 
-/// Adds the number. An error changes nothing.
-pub fn push_number(text: &mut Text, n: u64) -> Result<(), AllocError>
+/// Adds a number of several digits. An error changes nothing.
+fn push_digits(text: &mut Text, n: u64) -> Result<(), AllocError>
     ensures ok { OnOk result (text.new ≡ text.old ++ decimal n) }
     ensures err { OnErr result (text.new ≡ text.old) }
 {
     let mut buffer = Buffer::new();
     text.push_bytes(buffer.format(n).as_bytes())
+}
+
+/// Adds the number. An error changes nothing. One digit, as most numbers are, goes a shorter way.
+pub fn push_number(text: &mut Text, n: u64) -> Result<(), AllocError>
+    ensures ok { OnOk result (text.new ≡ text.old ++ decimal n) }
+    ensures err { OnErr result (text.new ≡ text.old) }
+{
+    if n < 10 {
+        return text.push_bytes(&[b'0' + n as u8]);
+    }
+    push_digits(text, n)
 }
 
 /// A number that is printed is read again.
