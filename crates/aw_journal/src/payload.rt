@@ -1,9 +1,5 @@
 //! Events of a node as bytes: exactly one choice, or one message.
 ghost use Rattle.std.specs.Prelude.{◌≡◌, ◌++◌, ◌∷◌, [], length, option_map, IfOk, OnOk};
-ghost use Rattle.aw_choice.specs.ChoiceView.{choice_of};
-ghost use Rattle.aw_wire.specs.Choices.{choice};
-ghost use Rattle.aw_msg.specs.Messages.{message};
-ghost use Rattle.aw_msg.specs.Frames.{whole};
 ghost use Rattle.aw_journal.specs.Events as spec;
 ghost use Rattle.aw_journal.specs.EventView.{event_of};
 ghost use Rattle.aw_journal.specs.Format.{record_of};
@@ -11,10 +7,10 @@ ghost use Rattle.aw_journal.specs.Format.{record_of};
 use aw_choice::Choice;
 use aw_list::Text;
 use aw_msg::Message;
-use aw_msg::reading::message_at;
+use aw_msg::frame_reading::{whole_choice, whole_message};
 use aw_msg::writing::add_message;
+use aw_wire::add_choice;
 use aw_wire::writing::{add_byte, add_u64};
-use aw_wire::{Unread, add_choice, choice_at};
 use std::alloc::{AllocError, Global};
 
 /// What a node did: it took a choice, or got a message.
@@ -22,28 +18,6 @@ use std::alloc::{AllocError, Global};
 pub enum NodeEvent {
     Took(Choice),
     Got(Message),
-}
-
-/// The choice that all of the bytes are.
-fn whole_choice(alloc: Global, bytes: &[u8]) -> Result<Option<Choice>, AllocError>
-    ensures { IfOk result (λ found. whole choice bytes.now ≡ option_map choice_of found) }
-{
-    match choice_at(alloc, bytes) {
-        Ok((choice, [])) => Ok(Some(choice)),
-        Err(Unread::NoMemory) => Err(AllocError),
-        Ok(_) | Err(Unread::Short) | Err(Unread::Bad { .. }) => Ok(None),
-    }
-}
-
-/// The message that all of the bytes are.
-fn whole_message(alloc: Global, bytes: &[u8]) -> Result<Option<Message>, AllocError>
-    ensures { IfOk result (λ found. whole message bytes.now ≡ found) }
-{
-    match message_at(alloc, bytes) {
-        Ok((message, [])) => Ok(Some(message)),
-        Err(Unread::NoMemory) => Err(AllocError),
-        Ok(_) | Err(Unread::Short) | Err(Unread::Bad { .. }) => Ok(None),
-    }
 }
 
 /// The event that a payload exactly is.

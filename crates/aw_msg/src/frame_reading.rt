@@ -35,7 +35,8 @@ pub const PULL_KIND: u8 = 3;
 /// The kind of a frame that asks for the item at a place. It is the last one.
 pub const LIST_KIND: u8 = 4;
 
-fn whole_message(alloc: Global, bytes: &[u8]) -> Result<Option<Message>, AllocError>
+/// The message that all of the bytes are, where they are one.
+pub fn whole_message(alloc: Global, bytes: &[u8]) -> Result<Option<Message>, AllocError>
     ensures { IfOk result (λ found. spec.whole message bytes.now ≡ found) }
 {
     match message_at(alloc, bytes) {
@@ -45,7 +46,8 @@ fn whole_message(alloc: Global, bytes: &[u8]) -> Result<Option<Message>, AllocEr
     }
 }
 
-fn whole_choice(alloc: Global, bytes: &[u8]) -> Result<Option<Choice>, AllocError>
+/// The choice that all of the bytes are, where they are one.
+pub fn whole_choice(alloc: Global, bytes: &[u8]) -> Result<Option<Choice>, AllocError>
     ensures { IfOk result (λ found. spec.whole choice bytes.now ≡ option_map choice_of found) }
 {
     match choice_at(alloc, bytes) {
