@@ -1,3 +1,4 @@
+pub mod ReadForms
 pub mod ReaderLemmas
 pub mod ReadsSpelled
 pub mod SomeTerms

@@ -7,43 +7,12 @@ use Rattle.aw_grammar.specs.Written.{Written, side_by_side}
 use Rattle.aw_form.specs.Lexemes.{Lexeme, Name, Number, Node, Quoted, Mark}
 use Rattle.aw_form.specs.Terms.{spellings, some_terms_up_to}
 use Rattle.aw_form.specs.Forms.{name, number, node, end, only, terms_in_braces}
+use Rattle.aw_form.proofs.ReadForms.{name_is, node_is, number_is, end_is}
 use Rattle.aw_form.proofs.SpelledIfRead.{some_spelled_if_read}
 use Rattle.aw_form.proofs.SomeTerms.{some_terms}
 use Rattle.aw_form.proofs.Steps.{bound}
 use Rattle.aw_sched.specs.LineSpelling.{args_spelling, line_spelling}
 use Rattle.aw_sched.specs.Lines.{Line, StartLine, ChooseLine, DeliverLine, SettleLine, ListLine, start_line, choose_line, deliver_line, list_line, by_word, line_of}
-
--- text that was read, and what is left
-abbrev TextRead : Type 0
-TextRead = List ℕ × List Lexeme
-
-name_is : (ls : List Lexeme) (x : TextRead) → name ls ≡ Some x → ls ≡ Name x.0 ∷ x.1
-name_is [] x e = cc
-name_is (Name n ∷ ls) x e = ap (λ (p : TextRead). Name p.0 ∷ p.1) (same_Some (n, ls) x e)
-name_is (Number n ∷ ls) x e = cc
-name_is (Node n ∷ ls) x e = cc
-name_is (Quoted n ∷ ls) x e = cc
-name_is (Mark n ∷ ls) x e = cc
-
-node_is : (ls : List Lexeme) (x : TextRead) → node ls ≡ Some x → ls ≡ Node x.0 ∷ x.1
-node_is [] x e = cc
-node_is (Node n ∷ ls) x e = ap (λ (p : TextRead). Node p.0 ∷ p.1) (same_Some (n, ls) x e)
-node_is (Name n ∷ ls) x e = cc
-node_is (Number n ∷ ls) x e = cc
-node_is (Quoted n ∷ ls) x e = cc
-node_is (Mark n ∷ ls) x e = cc
-
-number_is : (ls : List Lexeme) (x : ℕ × List Lexeme) → number ls ≡ Some x → ls ≡ Number x.0 ∷ x.1
-number_is [] x e = cc
-number_is (Number n ∷ ls) x e = ap (λ (p : ℕ × List Lexeme). Number p.0 ∷ p.1) (same_Some (n, ls) x e)
-number_is (Name n ∷ ls) x e = cc
-number_is (Node n ∷ ls) x e = cc
-number_is (Quoted n ∷ ls) x e = cc
-number_is (Mark n ∷ ls) x e = cc
-
-end_is : (ls : List Lexeme) (u : Unit {0}) → end ls ≡ Some u → ls ≡ []
-end_is [] u e = refl
-end_is (l ∷ ls) u e = cc
 
 -- terms that were read, and what is left
 abbrev TermsRead : Type 0

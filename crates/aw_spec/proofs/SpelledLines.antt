@@ -7,43 +7,12 @@ use Rattle.aw_grammar.specs.Written.{Written, Word, Apply, Literal, WrittenChild
 use Rattle.aw_form.specs.Lexemes.{Lexeme, Name, Number, Node, Quoted, Mark}
 use Rattle.aw_form.specs.Terms.{spellings, terms_up_to, some_terms_up_to, names_of}
 use Rattle.aw_form.specs.Forms.{◌>>=◌, name, number, mark, end, only, terms_between, names_between, terms_in_braces, names_in_braces}
+use Rattle.aw_form.proofs.ReadForms.{name_is, number_is, mark_is, end_is}
 use Rattle.aw_form.proofs.SpelledIfRead.{spelled_if_read, some_spelled_if_read}
 use Rattle.aw_form.proofs.SomeTerms.{IsNonempty, some_terms}
 use Rattle.aw_form.proofs.Steps.{bound}
 use Rattle.aw_spec.specs.Lines.{Line, RoleLine, ConLine, SortLine, StartLine, OfferLine, UseLine, TypeLine, ShapeLine, CarryLine, DependsLine, FreeLine, RuleLine, ScheduleLine, as_words, in_parentheses, in_angles, params_spelling, child_spelling, behind_child, children_spelling, line_spelling}
 use Rattle.aw_spec.specs.ReadLine.{child_of, is_semicolon, in_front, pieces, children_of, rest_of_rule, role_line, con_line, sort_line, start_line, offer_line, use_line, type_line, shape_line, carry_line, depends_line, rule_line, versioned, schedule_line, by_word, line_of}
-
-name_is : (ls : List Lexeme) (x : List ℕ × List Lexeme) → name ls ≡ Some x → ls ≡ Name x.0 ∷ x.1
-name_is [] x e = cc
-name_is (Name n ∷ ls) x e = ap (λ (p : List ℕ × List Lexeme). Name p.0 ∷ p.1) (same_Some (n, ls) x e)
-name_is (Number n ∷ ls) x e = cc
-name_is (Node n ∷ ls) x e = cc
-name_is (Quoted n ∷ ls) x e = cc
-name_is (Mark n ∷ ls) x e = cc
-
-number_is : (ls : List Lexeme) (x : ℕ × List Lexeme) → number ls ≡ Some x → ls ≡ Number x.0 ∷ x.1
-number_is [] x e = cc
-number_is (Number n ∷ ls) x e = ap (λ (p : ℕ × List Lexeme). Number p.0 ∷ p.1) (same_Some (n, ls) x e)
-number_is (Name n ∷ ls) x e = cc
-number_is (Node n ∷ ls) x e = cc
-number_is (Quoted n ∷ ls) x e = cc
-number_is (Mark n ∷ ls) x e = cc
-
-marked : (byte b : ℕ) (ls rest : List Lexeme) (t : Bool) → nat_eq b byte ≡ t → cond t (Some ls) None ≡ Some rest → Mark b ∷ ls ≡ Mark byte ∷ rest
-marked byte b ls rest true h e = let same : ls ≡ rest = cc in ap (λ m. Mark m ∷ ls) (eqb-true b byte h) ∙ ap (λ k. Mark byte ∷ k) same
-marked byte b ls rest false h e = cc
-
-mark_is : (byte : ℕ) (ls rest : List Lexeme) → mark byte ls ≡ Some rest → ls ≡ Mark byte ∷ rest
-mark_is byte [] rest e = cc
-mark_is byte (Mark b ∷ ls) rest e = marked byte b ls rest (nat_eq b byte) refl e
-mark_is byte (Name n ∷ ls) rest e = cc
-mark_is byte (Number n ∷ ls) rest e = cc
-mark_is byte (Node n ∷ ls) rest e = cc
-mark_is byte (Quoted n ∷ ls) rest e = cc
-
-end_is : (ls : List Lexeme) (u : Unit {0}) → end ls ≡ Some u → ls ≡ []
-end_is [] u e = refl
-end_is (l ∷ ls) u e = cc
 
 between_is : (start close : ℕ) (ls : List Lexeme) (x : List Written × List Lexeme) → terms_between start close ls ≡ Some x → ls ≡ Mark start ∷ (spellings (side_by_side x.0) ++ Mark close ∷ x.1)
 between_is start close ls x e =
