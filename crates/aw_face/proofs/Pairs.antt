@@ -6,7 +6,7 @@ use Rattle.aw_face.specs.declared.faces.Using.{Using}
 use Rattle.aw_face.specs.Faces.{is_used, same_use}
 
 -- numbers are compared the same both ways round
-turned : (a b : ℕ) → nat_eq a b ≡ nat_eq b a
+pub turned : (a b : ℕ) → nat_eq a b ≡ nat_eq b a
 turned a b = both_tests (nat_eq a b) (nat_eq b a) (λ e. eq-eqb b a (sym (eqb-true a b e))) (λ e. eq-eqb a b (sym (eqb-true b a e)))
   where
     both_tests : (b c : Bool) → (b ≡ true → c ≡ true) → (c ≡ true → b ≡ true) → b ≡ c

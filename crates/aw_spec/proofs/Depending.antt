@@ -1,21 +1,12 @@
 -- A dependence is found among those that are named where it is declared.
-use Rattle.std.proofs.Common.{◌≡◌, ℕ, Bool, true, false, cond, List, [], ◌∷◌, ◌++◌, map, ◌&&◌, ◌||◌, Some, nat_eq, refl, sym, ap, ◌∙◌, eq-eqb}
-use Rattle.std.proofs.lemmas.Bool.{eqb-true}
+use Rattle.std.proofs.Common.{◌≡◌, Bool, false, cond, List, [], ◌∷◌, ◌++◌, map, ◌&&◌, ◌||◌, Some, nat_eq, refl, sym, ap, ◌∙◌}
 use Rattle.std.proofs.lemmas.List.{map-append}
 use Rattle.std.specs.List.{list_any}
+use Rattle.aw_face.proofs.Pairs.{turned}
 use Rattle.aw_base.specs.declared.declared.Triple.{Triple}
 use Rattle.aw_spec.specs.declared.dependences.Dependence.{Dependence}
 use Rattle.aw_spec.specs.Named.{named_by}
 use Rattle.aw_spec.specs.TypeLines.{is_dependence}
-
--- numbers are compared the same both ways round
-turned : (a b : ℕ) → nat_eq a b ≡ nat_eq b a
-turned a b = both_tests (nat_eq a b) (nat_eq b a) (λ e. eq-eqb b a (sym (eqb-true a b e))) (λ e. eq-eqb a b (sym (eqb-true b a e)))
-  where
-    both_tests : (b c : Bool) → (b ≡ true → c ≡ true) → (c ≡ true → b ≡ true) → b ≡ c
-    both_tests true c f g = sym (f refl)
-    both_tests false true f g = g refl
-    both_tests false false f g = refl
 
 -- two lines name the same dependence
 abbrev same : Dependence → Dependence → Bool
