@@ -1,10 +1,10 @@
 -- Stacks and rows of a reader of terms, seen through their views.
-use Rattle.std.specs.Prelude.{◌≡◌, ℕ, List, [], ◌∷◌, ◌++◌, map, reverse, true, cond, nat_eq, Option, None, Some, option_map, option_and_then}
-use Rattle.std.proofs.Common.{refl, sym, ap, append_assoc, ◌∙◌}
+use Rattle.std.specs.Prelude.{◌≡◌, ℕ, List, [], ◌∷◌, ◌++◌, map, reverse, true, cond, nat_eq, Option, option_map}
+use Rattle.std.proofs.Common.{sym, ap, ◌∙◌}
 use Rattle.std.proofs.lemmas.List.{reverse-append}
 use Rattle.aw_grammar.specs.declared.raw.RawTerm.{RawTerm}
 use Rattle.aw_grammar.specs.declared.raw.RawTerm as raw
-use Rattle.aw_grammar.specs.Written.{Written, Apply, bare_name, side_by_side, written_of}
+use Rattle.aw_grammar.specs.Written.{Apply, side_by_side, written_of}
 use Rattle.aw_grammar.proofs.WrittenLemmas.{written_apply}
 use Rattle.aw_form.specs.declared.reader.Opened.{Opened}
 use Rattle.aw_form.specs.Terms as T
@@ -29,25 +29,3 @@ closes_last close mark all os o terms expected after e h f =
 -- names that were read before, and those that are left
 abbrev pub behind : List (List ℕ) → Option (List (List ℕ)) → Option (List (List ℕ))
 behind names rest = option_map (λ more. names ++ more) rest
-
--- a name more was read
-behind_name : (names : List (List ℕ)) (name : List ℕ) (rest : Option (List (List ℕ))) → behind (names ++ name ∷ []) rest ≡ behind names (option_map (λ more. name ∷ more) rest)
-behind_name names name None = refl
-behind_name names name (Some more) = ap Some (append_assoc names (name ∷ []) more)
-
--- what is left begins with a term whose name may be read
-led_by : (name : Option (List ℕ)) (names : List (List ℕ)) (t : Written) (ts left : List Written) → left ≡ t ∷ ts → bare_name t ≡ name →
-    behind names (T.names_of left) ≡ behind names (option_and_then (λ n. option_map (λ more. n ∷ more) (T.names_of ts)) name)
-led_by name names t ts left next h =
-    ap (λ ws. behind names (T.names_of ws)) next ∙ ap (λ o. behind names (option_and_then (λ n. option_map (λ more. n ∷ more) (T.names_of ts)) o)) h
-
--- it is a name, which was added to those that were read before
-pub one_more : (names new : List (List ℕ)) (name : List ℕ) (t : Written) (ts left : List Written) → left ≡ t ∷ ts → bare_name t ≡ Some name → new ≡ names ++ name ∷ [] →
-    behind new (T.names_of ts) ≡ behind names (T.names_of left)
-one_more names new name t ts left next h e =
-    ap (λ ns. behind ns (T.names_of ts)) e ∙ behind_name names name (T.names_of ts) ∙ sym (led_by (Some name) names t ts left next h)
-
--- it is none, and so there are no names to be read
-pub no_more : (names : List (List ℕ)) (whole : Option (List (List ℕ))) (t : Written) (ts left : List Written) → left ≡ t ∷ ts → bare_name t ≡ None →
-    behind names (T.names_of left) ≡ whole → whole ≡ None
-no_more names whole t ts left next h so = sym so ∙ led_by None names t ts left next h
