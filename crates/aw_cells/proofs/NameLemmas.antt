@@ -1,6 +1,6 @@
 -- Looking names up.
 use Rattle.std.proofs.Common.{◌≡◌, ℕ, suc, ◌+◌, ◌≤◌, Bool, true, false, cond, List, [], ◌∷◌, ◌++◌, length, Option, Some, None, refl, ap, sym, ◌∙◌, subst, arith, MatchOption, position}
-use Rattle.std.specs.Prelude.{slice_get, ◌||◌}
+use Rattle.std.specs.Prelude.{slice_get, ◌||◌, is_some, IsSome}
 use Rattle.std.specs.List.{position_from, list_any}
 use Rattle.std.proofs.lemmas.Iterator.Adapters.{position_from-zero}
 use Rattle.std.proofs.lemmas.Bool.{and_parts, both_ways}
@@ -69,3 +69,10 @@ find-unnamed ns (e ∷ k) r w f = by (ref_eq r e.left) refl (find-unnamed ns k r
     by : (t : Bool) → ref_eq r e.left ≡ t → find k r ≡ None → cond t (Some e.body) (find k r) ≡ None
     by true g h = absurd (both_ways (is_named ns r) f (ap (is_named ns) (ref_eq-true r e.left g) ∙ (and_parts (is_named ns e.left) _ (and_parts (has_names_of ns e) _ w).0).0))
     by false g h = h
+
+pub named-found : (ns : List Ref) (k : Map) (r : Ref) → has_names ns k ≡ true → IsSome (find k r) → is_named ns r ≡ true
+named-found ns k r w s = by (is_named ns r) refl
+  where
+    by : (t : Bool) → is_named ns r ≡ t → is_named ns r ≡ true
+    by true e = e
+    by false e = absurd (both_ways (is_some (find k r)) (ap is_some (find-unnamed ns k r w e)) s)
