@@ -1,5 +1,5 @@
 -- The children of a taken rule, one after the other.
-use Rattle.std.proofs.Common.{◌≡◌, ℕ, suc, ◌+◌, ◌<◌, ◌≤◌, List, [], ◌∷◌, ◌++◌, length, map, drop, get_or, refl, ap, sym, ◌∙◌, arith, append_assoc}
+use Rattle.std.proofs.Common.{◌≡◌, ℕ, zero, suc, ◌+◌, ◌<◌, ◌≤◌, List, [], ◌∷◌, ◌++◌, length, map, drop, get_or, refl, ap, sym, ◌∙◌, arith, append_assoc}
 use Rattle.std.proofs.lemmas.List.{at_drop_more, map-append}
 use Rattle.aw_term.specs.Names.{Node, Ref, below, result}
 use Rattle.aw_term.specs.Rules.{upto}
@@ -11,7 +11,7 @@ use Rattle.aw_grammar.specs.declared.rule.Sort.{Sort}
 use Rattle.aw_grammar.specs.declared.rule.Child.{Child}
 use Rattle.aw_grammar.specs.GrammarView.{child_of}
 use Rattle.aw_store.specs.Equations.{Equation}
-use Rattle.aw_apply.specs.Made.{Laid, lay_list, lay_children}
+use Rattle.aw_apply.specs.Made.{Laid, lay_list, lay_children, child_refs}
 use Rattle.aw_apply.specs.MadeView.{with_one, as_children, laid_behind}
 use Rattle.aw_apply.specs.declared.making.MadeChild.{MadeChild}
 use Rattle.aw_apply.proofs.LayLemmas.{joined, before, joined-one, lay_list-next}
@@ -24,6 +24,47 @@ results_more n old base j e =
     ap (λ xs. xs ++ result n (j + 1) ∷ []) e
     ∙ append_assoc base (map (result n) (upto 1 j)) (result n (j + 1) ∷ [])
     ∙ ap (λ xs. base ++ xs) (ap (λ m. map (result n) (upto 1 j) ++ result n m ∷ []) (sym last) ∙ sym (map-append (result n) (upto 1 j) ((1 + j) ∷ [])) ∙ ap (map (result n)) (sym (upto_end 1 j) ∙ ap (upto 1) (sym step)))
+
+-- The nodes of a rule's children: one node more
+pub nodes_more : (n : Node) (r j : ℕ) (xs : List Node) → xs ≡ map (below n r) (upto 1 j) → xs ++ below n r (j + 1) ∷ [] ≡ map (below n r) (upto 1 (j + 1))
+nodes_more n r j xs e =
+    let step : j + 1 ≡ suc j = omega arith in
+    let last : 1 + j ≡ j + 1 = omega arith in
+    ap (λ ys. ys ++ below n r (j + 1) ∷ []) e
+    ∙ ap (λ m. map (below n r) (upto 1 j) ++ below n r m ∷ []) (sym last)
+    ∙ sym (map-append (below n r) (upto 1 j) ((1 + j) ∷ []))
+    ∙ ap (map (below n r)) (sym (upto_end 1 j) ∙ ap (upto 1) (sym step))
+
+node_from : (n : Node) (r m k i : ℕ) (x : Node) → i < k → x ≡ get_or (map (below n r) (upto m k)) i x → x ≡ below n r (m + i)
+node_from n r m zero i x l e = absurd (omega (arith, l))
+node_from n r m (suc k) zero x l e = e ∙ ap (below n r) (omega arith)
+node_from n r m (suc k) (suc i) x l e = node_from n r (suc m) k i x (omega (arith, l)) e ∙ ap (below n r) (omega arith)
+
+nodes_from-length : (n : Node) (r m k : ℕ) → length (map (below n r) (upto m k)) ≡ k
+nodes_from-length n r m zero = refl
+nodes_from-length n r m (suc k) = ap suc (nodes_from-length n r (suc m) k)
+
+-- the node of a child, by its place
+pub node_at : (n : Node) (r k i : ℕ) (x : Node) (nodes : List Node) → nodes ≡ map (below n r) (upto 1 k) → i < k → x ≡ get_or nodes i x → x ≡ below n r (i + 1)
+node_at n r k i x nodes w l e = node_from n r 1 k i x l (e ∙ ap (λ ys. get_or ys i x) w) ∙ ap (below n r) (omega arith)
+
+pub within_nodes : (n : Node) (r k i : ℕ) (nodes : List Node) → nodes ≡ map (below n r) (upto 1 k) → i < k → i < length nodes
+within_nodes n r k i nodes w l = omega (arith, l, ap length w, nodes_from-length n r 1 k)
+
+-- the results of one child more
+pub refs_more : (n : Node) (r : ℕ) (sorts : List Sort) (cs : List Child) (i : ℕ) (x : Child) (at : Node) (old new base : List Ref) → i < length cs → x ≡ get_or cs i x → at ≡ below n r (i + 1) →
+    new ≡ old ++ map (result at) (upto 1 (child_of sorts x).outs) →
+    old ++ child_refs n r (i + 1) (map (child_of sorts) (drop i cs)) ≡ base →
+    new ++ child_refs n r (i + 1 + 1) (map (child_of sorts) (drop (i + 1) cs)) ≡ base
+refs_more n r sorts cs i x at old new base l e f g w =
+    let step : i + 1 + 1 ≡ suc (i + 1) = omega arith in
+    let rest = map (child_of sorts) (drop (i + 1) cs) in
+    let outs = (child_of sorts x).outs in
+    ap (λ m. new ++ child_refs n r m rest) step
+    ∙ ap (λ ys. ys ++ child_refs n r (suc (i + 1)) rest) (g ∙ ap (λ z. old ++ map (result z) (upto 1 outs)) f)
+    ∙ append_assoc old (map (result (below n r (i + 1))) (upto 1 outs)) (child_refs n r (suc (i + 1)) rest)
+    ∙ ap (λ ys. old ++ child_refs n r (i + 1) (map (child_of sorts) ys)) (sym (at_drop_more (λ ys. ys) cs i x l ∙ ap (λ y. y ∷ drop (i + 1) cs) (sym e)))
+    ∙ w
 
 -- the symbols of the children from a place on
 pub child_more : (sorts : List Sort) (cs : List Child) (i : ℕ) (x : Child) → i < length cs → x ≡ get_or cs i x → child_symbols (map (child_of sorts) (drop i cs)) ≡ symbols_of (map term_of x.args) + child_symbols (map (child_of sorts) (drop (i + 1) cs))

@@ -28,36 +28,50 @@ fn push_results(refs: &mut Vec<Ref>, node: &Node, results: u8) -> Result<(), All
     Ok(())
 }
 
-/// Adds the results of a child.
+/// The nodes of so many children of a rule, in order.
+pub fn child_nodes(
+    alloc: Global,
+    node: &Node,
+    rule: u16,
+    count: usize,
+) -> Result<Vec<Node>, AllocError>
+    requires few { count ≤ 8 }
+    requires room { 0 < count → length node.now.steps < 250 }
+    ensures { IfOk result (λ nodes. nodes.items ≡ map (below node.now rule) (upto 1 count)) }
+{
+    let mut nodes = Vec::with_capacity(alloc, count)?;
+    for i in 0..count {
+        nodes.push(child_node(node, rule, i as u8 + 1)?)?;
+    }
+    Ok(nodes)
+}
+
+/// Adds the results of a child at a node.
 fn push_child_results(
     refs: &mut Vec<Ref>,
     g: &Grammar,
     node: &Node,
-    rule: u16,
-    k: u8,
     child: &Child,
 ) -> Result<(), AllocError>
-    requires { length node.now.steps < 250 }
-    ensures { OnOk result (refs.new.items ≡ refs.old.items ++ map (result_ref (below node.now rule k)) (upto 1 (child_of g.now.sorts child.now).outs)) }
+    ensures { OnOk result (refs.new.items ≡ refs.old.items ++ map (result_ref node.now) (upto 1 (child_of g.now.sorts child.now).outs)) }
 {
-    let below = child_node(node, rule, k)?;
-    push_results(refs, &below, g.gives(child.sort))
+    push_results(refs, node, g.gives(child.sort))
 }
 
-/// Adds the results of a rule's children, in order.
+/// Adds the results of a rule's children, in order. These are their nodes.
 pub fn push_children_results(
     refs: &mut Vec<Ref>,
     g: &Grammar,
     node: &Node,
     rule: u16,
+    nodes: &[Node],
     children: &[Child],
 ) -> Result<(), AllocError>
-    requires few { length children.now ≤ 8 }
-    requires room { 0 < length children.now → length node.now.steps < 250 }
+    requires { nodes.now ≡ map (below node.now rule) (upto 1 (length children.now)) }
     ensures { OnOk result (refs.new.items ≡ refs.old.items ++ plain_refs node.now rule 1 (map (child_of g.now.sorts) children.now)) }
 {
     for i in 0..children.len() {
-        push_child_results(refs, g, node, rule, i as u8 + 1, &children[i])?;
+        push_child_results(refs, g, &nodes[i], &children[i])?;
     }
     Ok(())
 }
@@ -94,7 +108,7 @@ impl Called {
     }
 }
 
-/// The children of a rule with their inherited references, from part k on.
+/// The children of a rule with their inherited references, from part k on. These are their nodes.
 pub fn lay_children(
     alloc: Global,
     equations: &mut Vec<Equation>,
@@ -102,16 +116,16 @@ pub fn lay_children(
     rule: u16,
     refs: &[Ref],
     k: u16,
+    nodes: &[Node],
     children: &[Child],
 ) -> Result<Called, AllocError>
-    requires few { length children.now ≤ 8 }
-    requires room { 0 < length children.now → length node.now.steps < 250 }
+    requires nodes { nodes.now ≡ map (below node.now rule) (upto 1 (length children.now)) }
     requires parts { (sorts : List SortValue) → k + child_symbols (map (child_of sorts) children.now) ≤ 65535 }
     ensures { IfOk result (λ c. (sorts : List SortValue) → AreCalled equations.old.items equations.new.items c (all_children node.now rule refs.now k (map (child_of sorts) children.now))) }
 {
     let mut called = Called::new(alloc, k);
     for i in 0..children.len() {
-        let below = child_node(node, rule, i as u8 + 1)?;
+        let below = copy_node(&nodes[i])?;
         let next = called.next;
         let args = children[i].args.as_slice();
         let inherited = lay_terms(alloc, equations, node, refs, next, args)?;

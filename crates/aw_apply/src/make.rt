@@ -1,7 +1,7 @@
 //! What a taken rule makes: by three groups of equations, with parts numbered from 1 over all of them.
 ghost use Rattle.std.specs.Prelude.{◌≡◌, ◌<◌, ◌≤◌, ◌+◌, ◌++◌, Some, IfOk, OnOk, IsSome, length, map, slice_get};
-ghost use Rattle.aw_term.specs.Names.{result as result_ref};
-ghost use Rattle.aw_term.specs.Rules.{get};
+ghost use Rattle.aw_term.specs.Names.{below, result as result_ref};
+ghost use Rattle.aw_term.specs.Rules.{get, upto};
 ghost use Rattle.aw_term.specs.WellFormed.{symbols, symbols_of, child_symbols};
 ghost use Rattle.aw_term.specs.Views.{ground_of, term_of};
 ghost use Rattle.aw_grammar.specs.declared.rule.Rule.{Rule as RuleValue};
@@ -11,7 +11,7 @@ ghost use Rattle.aw_store.specs.EquationView.{equation_of};
 ghost use Rattle.aw_apply.specs.Made.{lay_results as plain_results, child_refs, no_ref, made as plain_made};
 ghost use Rattle.aw_apply.specs.MadeView.{as_child, result_laid, OfRule};
 
-use crate::children::{Called, lay_children, push_children_results};
+use crate::children::{Called, child_nodes, lay_children, push_children_results};
 use crate::laid::{
     LaidAll, add_equation, add_place, lay_grounds, lay_terms, lit_body, ref_at, write_con,
 };
@@ -88,32 +88,37 @@ fn lay_results(
     Ok(())
 }
 
-/// The references of a rule's variables by number: bound by its patterns, entered, and results of its children.
+/// The references of a rule's variables by number: bound by its patterns, entered, and results of its children, whose nodes are
+/// these.
 fn variables(
     alloc: Global,
     g: &Grammar,
     node: &Node,
     number: u16,
     rule: &Rule,
+    nodes: &[Node],
     bound: &[Ref],
     entered: Vec<Ref>,
 ) -> Result<Vec<Ref>, AllocError>
-    requires few { length rule.now.children ≤ 8 }
-    requires room { 0 < length rule.now.children → length node.now.steps < 250 }
+    requires { nodes.now ≡ map (below node.now number) (upto 1 (length rule.now.children)) }
     ensures { IfOk result (λ refs. refs.items ≡ bound.now ++ (entered.items ++ child_refs node.now number 1 (rule_of g.now.sorts rule.now).children)) }
 {
     let mut refs = copy_refs(alloc, bound)?;
     let mut entered = entered;
     refs.append(&mut entered)?;
-    push_children_results(&mut refs, g, node, number, rule.children.as_slice())?;
+    let children = rule.children.as_slice();
+    push_children_results(&mut refs, g, node, number, nodes, children)?;
     Ok(refs)
 }
 
-/// Copies of references.
+/// The variables of most rules are no more.
+const USUAL: usize = 16;
+
+/// Copies of references, with room for those of a usual rule.
 fn copy_refs(alloc: Global, refs: &[Ref]) -> Result<Vec<Ref>, AllocError>
     ensures { IfOk result (λ copies. copies.items ≡ refs.now) }
 {
-    let mut copies = Vec::new(alloc);
+    let mut copies = Vec::with_capacity(alloc, USUAL)?;
     for r in refs {
         copies.push(copy_ref(r)?)?;
     }
@@ -141,7 +146,9 @@ fn made_by(
     let mut equations = Vec::new(alloc);
     let entered = lay_grounds(alloc, &mut equations, node, 1, args.as_slice())?;
     let LaidAll { roots, next } = entered;
-    let refs = variables(alloc, g, node, number, rule, bound.as_slice(), roots)?;
+    let made_nodes = child_nodes(alloc, node, number, rule.children.len())?;
+    let nodes = made_nodes.as_slice();
+    let refs = variables(alloc, g, node, number, rule, nodes, bound.as_slice(), roots)?;
     let called = lay_children(
         alloc,
         &mut equations,
@@ -149,6 +156,7 @@ fn made_by(
         number,
         refs.as_slice(),
         next,
+        nodes,
         rule.children.as_slice(),
     )?;
     let Called { children, next } = called;

@@ -9,8 +9,11 @@ use Rattle.aw_store.specs.EquationView.{equation_of}
 use Rattle.aw_apply.specs.Made.{lay_list, lay_children, no_ref}
 use Rattle.aw_apply.specs.MadeView.{called_of, as_children, laid_behind}
 use Rattle.aw_apply.proofs.LayLemmas.{joined}
-use Rattle.aw_apply.proofs.ChildLemmas.{child_more, child_at, one_called, called_more, called_next}
+use Rattle.aw_apply.proofs.ChildLemmas.{child_more, child_at, one_called, called_more, called_next, node_at, within_nodes}
 use Rattle.aw_apply.proofs.children.lay_children.Goals as goal
+
+pub bounds-nodes-i : goal.bounds-nodes-i
+bounds-nodes-i c = within_nodes c.args.node.now c.args.rule (length c.args.children.now) c.loop-i.i c.args.nodes.now c.requires.nodes c.loop-i-test.true
 
 pub lay_terms-requires : goal.lay_terms-requires
 lay_terms-requires c =
@@ -32,8 +35,9 @@ loop-i-preserved c =
     let laid = lay_list n f a.next (map term_of x.args) in
     let inherited = c.in_ok-inherited.inherited in
     let is_laid = c.in_ok-inherited.ensures ∙ ap (λ ts. laid_behind old (lay_list n f a.next (map term_of ts))) (c.as_slice-args.ensures ∙ ap (λ (z : Child). z.args) (sym c.index-children-i.is)) in
+    let at = node_at n r (length cs) i c.index-nodes-i.result c.args.nodes.now c.requires.nodes lt c.index-nodes-i.is in
     let is_one = one_called old new c.loop-i.called.children.items c.add.new.self.children.items a.next b.next c.in_ok-below.below (below n r (i + 1)) inherited.roots.items inherited.next laid
-    c.in_ok-below.ensures is_laid c.in_ok-add.ensures.children c.in_ok-add.ensures.next in
+    (c.in_ok-below.ensures ∙ at) is_laid c.in_ok-add.ensures.children c.in_ok-add.ensures.next in
     let next : i + 1 + 1 ≡ suc (i + 1) = omega arith in (
       λ sorts.
           ap (λ m. joined b (as_children (lay_children n r f m b.next (map (child_of sorts) (drop (i + 1) cs))))) next

@@ -1,6 +1,6 @@
-use Rattle.std.proofs.Common.{◌≡◌, ◌++◌, map, refl, ap, ◌∙◌, arith, List}
-use Rattle.aw_term.specs.Names.{Ref}
-use Rattle.aw_term.specs.Rules.{get}
+use Rattle.std.proofs.Common.{◌≡◌, ◌++◌, length, map, refl, ap, sym, ◌∙◌, arith, List}
+use Rattle.aw_term.specs.Names.{Ref, below}
+use Rattle.aw_term.specs.Rules.{get, upto}
 use Rattle.aw_term.specs.WellFormed.{symbols_of, child_symbols}
 use Rattle.aw_term.specs.Views.{ground_of, term_of}
 use Rattle.aw_grammar.specs.GrammarView.{child_of, rule_of}
@@ -13,6 +13,15 @@ use Rattle.aw_apply.proofs.ChildLemmas.{symbols_apart, children-next}
 use Rattle.aw_apply.proofs.MakeLemmas.{made_equations, made_children}
 use Rattle.aw_apply.proofs.make.made_by.Goals as goal
 use Rattle.aw_apply.proofs.make.made_by.Goals.{In_ok-called}
+
+pub variables-requires : goal.variables-requires
+variables-requires c =
+    c.as_slice-nodes.ensures.value ∙ c.in_ok-made_nodes.ensures ∙ ap (λ k. map (below c.args.node.now c.args.number) (upto 1 k)) c.len.ensures
+
+pub lay_children-requires-clause-nodes : goal.lay_children-requires-clause-nodes
+lay_children-requires-clause-nodes c =
+    c.as_slice-nodes.ensures.value ∙ c.in_ok-made_nodes.ensures
+    ∙ ap (λ k. map (below c.args.node.now c.args.number) (upto 1 k)) (c.len.ensures ∙ ap length (sym c.as_slice-4.ensures))
 
 pub lay_children-requires-clause-parts : goal.lay_children-requires-clause-parts
 lay_children-requires-clause-parts c = λ sorts.
