@@ -11,7 +11,7 @@ use Rattle.aw_held.specs.HeldView.{held_of, all_of}
 use Rattle.aw_held.specs.InOrder.{place_in}
 use Rattle.aw_held.proofs.HeldViews.{held_nowhere, held_here}
 use Rattle.aw_react.specs.Receiving.{refs_eq, call_clash}
-use Rattle.aw_site.specs.Views.{call_of}
+use Rattle.aw_space.specs.Spaces.{call_of}
 
 held_cases : (g : Grammar) (n : Node) (hs : List Held) (o : Option ℕ) → place_in n hs ≡ o → is_some o ≡ is_some (P.held_of n (all_of g hs))
 held_cases g n hs None e = sym (ap is_some (held_nowhere g n hs e))

@@ -1,17 +1,12 @@
 -- The program's messages, children and clashes as plain ones.
-use Rattle.std.specs.Prelude.{List}
-use Rattle.aw_term.specs.Names.{Node, Ref}
 use Rattle.aw_term.specs.Rules.{Grammar}
 use Rattle.aw_apply.specs.Made.{Call}
 use Rattle.aw_apply.specs.Messages as P
 use Rattle.aw_apply.specs.declared.making.MadeChild.{MadeChild}
 use Rattle.aw_msg.specs.MessageView.{kind_with, content_of, sort_or_zero}
 use Rattle.aw_msg.specs.declared.message.MsgKind.{MsgKind}
+use Rattle.aw_space.specs.Spaces.{call_of}
 use Rattle.aw_site.specs.declared.clashes.Clash.{Clash}
-
--- the call of a node with these references, with the sort that the grammar gives its name
-abbrev pub call_of : Grammar → Node → List Ref → Call
-call_of g n rs = record { node = n; sort = sort_or_zero g n; inherited = rs }
 
 -- a child that was made, as a call
 abbrev pub child_call : Grammar → MadeChild → Call

@@ -7,7 +7,8 @@ ghost use Rattle.aw_held.specs.HeldView.{all_of};
 ghost use Rattle.aw_store.specs.Equations.{find};
 ghost use Rattle.aw_store.specs.EquationView.{body_of, equation_of};
 ghost use Rattle.aw_react.specs.Receiving.{refs_eq, clash_on, first_clash, call_clash};
-ghost use Rattle.aw_site.specs.Views.{call_of, clash_of};
+ghost use Rattle.aw_site.specs.Views.{clash_of};
+ghost use Rattle.aw_space.specs.Spaces.{call_of};
 
 use crate::finding::body_in_both;
 use aw_held::{Holding, find_held};
