@@ -41,6 +41,28 @@ name_pushed f x k keys new names same listed none inserted =
     ∙ ap (λ z. map f keys ++ z ∷ []) same
     ∙ ap (λ ns. ns ++ x ∷ []) listed
 
+any_stands_in : {K : Type 0} (f : K → List ℕ) (x : List ℕ) (ks : List K) → list_any (λ k. is_same x (f k)) ks ≡ stands x (map f ks)
+any_stands_in f x [] = refl
+any_stands_in f x (k ∷ ks) = ap (λ b. is_same x (f k) || b) (any_stands_in f x ks)
+
+-- a name stands where a key of that name does
+pub stands_by_keys : {K : Type 0} (f : K → List ℕ) (x : List ℕ) (k : K) (keys : List K) (names : List (List ℕ)) → f k ≡ x → map f keys ≡ names → list_any (λ y. is_same (f k) (f y)) keys ≡ stands x names
+stands_by_keys f x k keys names same listed =
+    any_stands_in f (f k) keys ∙ ap (stands (f k)) listed ∙ ap (λ z. stands z names) same
+
+mapped_case : {K : Type 0} (f : K → List ℕ) (k : K) (keys : List K) (b : Bool) → map f (cond b keys (keys ++ k ∷ [])) ≡ cond b (map f keys) (map f keys ++ f k ∷ [])
+mapped_case f k keys true = refl
+mapped_case f k keys false = map-append f keys (k ∷ [])
+
+-- a key that is inserted goes last where its name does not stand, and else changes nothing
+pub name_inserted : {K : Type 0} (f : K → List ℕ) (x : List ℕ) (k : K) (keys new : List K) (names : List (List ℕ)) → f k ≡ x → map f keys ≡ names → new ≡ cond (list_any (λ y. is_same (f k) (f y)) keys) keys (keys ++ k ∷ []) → map f new ≡ cond (stands x names) names (names ++ x ∷ [])
+name_inserted f x k keys new names same listed inserted =
+    ap (λ ks. map f ks) inserted
+    ∙ mapped_case f k keys (list_any (λ y. is_same (f k) (f y)) keys)
+    ∙ ap (λ b. cond b (map f keys) (map f keys ++ f k ∷ [])) (stands_by_keys f x k keys names same listed)
+    ∙ ap (λ ns. cond (stands x names) ns (ns ++ f k ∷ [])) listed
+    ∙ ap (λ z. cond (stands x names) names (names ++ z ∷ [])) same
+
 stands_case : (b : Bool) (more : Bool) (later : Option ℕ) → is_some later ≡ more → is_some (cond b (Some 0) (option_map (λ k. suc k) later)) ≡ (b || more)
 stands_case true more later h = refl
 stands_case false more None h = h

@@ -1,4 +1,4 @@
-ghost use Rattle.std.specs.Prelude.{◌≡◌, ◌++◌, ◌∷◌, [], true, false, OnOk, OnErr, IfOk, IfSome, MatchOption, ◌<◌, ◌≤◌, length};
+ghost use Rattle.std.specs.Prelude.{◌≡◌, ◌++◌, ◌∷◌, [], true, false, not, if◌then◌else◌, OnOk, OnErr, IfOk, IfSome, MatchOption, ◌<◌, ◌≤◌, length};
 ghost use Rattle.aw_index.specs.Places.{place_of, stands, number_of, any_stands, all_stand, has_double};
 
 use aw_list::Text;
@@ -29,6 +29,15 @@ impl NameIndex {
         NameIndex {
             names: IndexSet::new(alloc),
         }
+    }
+
+    /// An index of no names, with room for this many.
+    pub fn with_capacity(alloc: Global, n: usize) -> Result<NameIndex, AllocError>
+        ensures { IfOk result (λ index. index ≡ []) }
+    {
+        Ok(NameIndex {
+            names: IndexSet::with_capacity(alloc, n)?,
+        })
     }
 
     /// Where a name stands, counted from 0.
@@ -76,6 +85,16 @@ impl NameIndex {
         Ok(())
     }
 
+    /// Adds a name at the end where it does not stand yet, and tells whether it is new. An error changes nothing.
+    pub fn insert(&mut self, name: &[u8]) -> Result<bool, AllocError>
+        ensures told { IfOk result (λ new. new ≡ not (stands name.now self.old)) }
+        ensures ok { OnOk result (self.new ≡ (if stands name.now self.old then self.old else self.old ++ name.now ∷ [])) }
+        ensures err { OnErr result (self.new ≡ self.old) }
+    {
+        let new = self.names.insert(name.to_vec(*self.names.allocator())?)?;
+        Ok(new)
+    }
+
     /// Whether one of these names stands in the list.
     pub fn contains_any(&self, names: &[Text]) -> bool
         ensures { result ≡ any_stands names.now self.now }
@@ -104,12 +123,11 @@ impl NameIndex {
     pub fn of_names(alloc: Global, names: &[Text]) -> Result<Option<NameIndex>, AllocError>
         ensures { IfOk result (λ found. MatchOption found (has_double names.now ≡ true) (λ index. (has_double names.now ≡ false) × (index ≡ names.now))) }
     {
-        let mut index = NameIndex::new(alloc);
+        let mut index = NameIndex::with_capacity(alloc, names.len())?;
         for name in names {
-            if index.contains(name.as_slice()) {
+            if !index.insert(name.as_slice())? {
                 return Ok(None);
             }
-            index.push(name.as_slice())?;
         }
         Ok(Some(index))
     }
