@@ -5,6 +5,8 @@ pub mod Counted
 pub mod Declared
 pub mod Emptying
 pub mod Entries
+pub mod FaultlessRule
+pub mod FaultlessTerms
 pub mod Fits
 pub mod FitsRule
 pub mod GoodRule

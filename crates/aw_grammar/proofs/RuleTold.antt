@@ -26,13 +26,22 @@ pub later_tests : (past : Bool) (before after : List (Bool × DeclKind)) → pas
 later_tests past before after fits none =
     ap (λ b. cond b (Some Limit) (first_told (before ++ after))) fits ∙ first_append before after ∙ ap (λ o. or_kind o (first_told after)) (sym none)
 
-pub terms_told : (past : Bool) (names terms variables : List (Bool × DeclKind)) (kind : DeclKind) → past ≡ false → None ≡ first_told names → Some kind ≡ first_told terms → first_told ((past, Limit) ∷ (names ++ (terms ++ variables))) ≡ Some kind
-terms_told past names terms variables kind fits none told =
-    later_tests past names (terms ++ variables) fits none ∙ first_append terms variables ∙ ap (λ o. or_kind o (first_told variables)) (sym told)
+-- what these tests tell, or else this last kind
+pub told_before : (terms : List (Bool × DeclKind)) (last kind : DeclKind) → Some kind ≡ first_told terms → Some kind ≡ first_told (terms ++ (true, last) ∷ [])
+told_before terms last kind told = sym (first_append terms ((true, last) ∷ []) ∙ ap (λ o. or_kind o (Some last)) (sym told))
 
-pub variables_told : (past : Bool) (names terms variables : List (Bool × DeclKind)) → past ≡ false → None ≡ first_told names → None ≡ first_told terms → first_told ((past, Limit) ∷ (names ++ (terms ++ variables))) ≡ first_told variables
-variables_told past names terms variables fits none nothing =
-    later_tests past names (terms ++ variables) fits none ∙ first_append terms variables ∙ ap (λ o. or_kind o (first_told variables)) (sym nothing)
+pub told_last : (terms : List (Bool × DeclKind)) (last : DeclKind) → None ≡ first_told terms → Some last ≡ first_told (terms ++ (true, last) ∷ [])
+told_last terms last none = sym (first_append terms ((true, last) ∷ []) ∙ ap (λ o. or_kind o (Some last)) (sym none))
+
+late_case : (terms variables : Option DeclKind) (last kind : DeclKind) → Some kind ≡ or_kind terms (Some last) → (terms ≡ None → variables ≡ Some last) → or_kind terms variables ≡ Some kind
+late_case None variables last kind told later = later refl ∙ sym told
+late_case (Some k) variables last kind told later = sym told
+
+-- the last kind is the first fault of the variables where no test of terms holds
+pub late_told : (past : Bool) (names terms variables : List (Bool × DeclKind)) (last kind : DeclKind) → past ≡ false → None ≡ first_told names → (first_told terms ≡ None → first_told variables ≡ Some last) → Some kind ≡ first_told (terms ++ (true, last) ∷ []) → first_told ((past, Limit) ∷ (names ++ (terms ++ variables))) ≡ Some kind
+late_told past names terms variables last kind fits none later told =
+    later_tests past names (terms ++ variables) fits none ∙ first_append terms variables
+    ∙ late_case (first_told terms) (first_told variables) last kind (told ∙ first_append terms ((true, last) ∷ [])) later
 
 pub never_told : (double enter : Bool) → double ≡ false → enter ≡ false → first_told ((double, Twice) ∷ (not enter, Never) ∷ []) ≡ Some Never
 never_told double enter h k = ap (λ b. cond b (Some Twice) (cond (not enter) (Some Never) None)) h ∙ ap (λ b. cond (not b) (Some Never) None) k

@@ -53,7 +53,7 @@ pub pushed_apply : {E : Type 0} (cons : List (List ℕ)) (t : RawTerm) (name : L
 pushed_apply cons t name parts e old new (Err x) h = tt
 pushed_apply cons t name parts e old new (Ok u) h = h ∙ ap (λ xs. old ++ xs) (sym (ap (λ w. leaves (resolved cons (written_of w))) e ∙ leaves_apply cons name parts))
 
-count_side : (ts : List Written) → count_parts (side_by_side ts) ≡ length ts
+pub count_side : (ts : List Written) → count_parts (side_by_side ts) ≡ length ts
 count_side [] = refl
 count_side (t ∷ ts) = ap (λ n. suc n) (count_side ts)
 

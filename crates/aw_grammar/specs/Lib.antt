@@ -1,5 +1,6 @@
 pub mod Build
 pub mod Declarations
+pub mod Faultless
 pub mod GrammarOf
 pub mod GrammarView
 pub mod Kinds

@@ -1,10 +1,8 @@
 //! Walks over the written subtasks of a rule.
 ghost use Rattle.std.specs.Prelude.{◌≡◌, ◌+◌, ◌++◌, map, length, OnOk};
 ghost use Rattle.aw_index.specs.Places.{any_stands, all_stand};
-ghost use Rattle.aw_term.specs.WellFormed.{leaves_of};
 ghost use Rattle.aw_grammar.specs.Written.{child_of_raw};
 ghost use Rattle.aw_grammar.specs.Terms.{args_of, results_of, depth_of_all, symbols_in_all, IsLeftOf};
-ghost use Rattle.aw_grammar.specs.Resolved.{all_resolved};
 ghost use Rattle.aw_grammar.specs.Kinds.{child_sorts, all_known, all_have_arities, children_fit, takes_and_gives, sort_called};
 
 use crate::grammar::Grammar;
@@ -12,7 +10,7 @@ use crate::limits::MOST_LEVELS;
 use crate::raw::{RawChild, RawChildren};
 use crate::resolve::have_arities;
 use crate::rule::Names;
-use crate::terms::{are_known, push_all_variables, room_after_all};
+use crate::terms::{are_known, room_after_all};
 use aw_index::NameIndex;
 use aw_list::Text;
 use std::alloc::AllocError;
@@ -44,20 +42,6 @@ pub(crate) fn push_results(children: &RawChildren, names: &mut Names) -> Result<
 {
     for child in children.as_slice() {
         push_names(names, child.results.as_slice())?;
-    }
-    Ok(())
-}
-
-/// Adds the names of the variables in arguments.
-pub(crate) fn push_arg_variables(
-    cons: &NameIndex,
-    children: &RawChildren,
-    names: &mut Names,
-) -> Result<(), AllocError>
-    ensures { OnOk result (names.new ≡ names.old ++ leaves_of (all_resolved cons.now (args_of (map child_of_raw children.now)))) }
-{
-    for child in children.as_slice() {
-        push_all_variables(cons, &child.args, names)?;
     }
     Ok(())
 }

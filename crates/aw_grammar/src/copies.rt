@@ -13,7 +13,7 @@ use std::alloc::{AllocError, Global};
 pub(crate) fn copy_names(names: &Names) -> Result<Names, AllocError>
     ensures { IfOk result (λ copy. copy ≡ names.now) }
 {
-    let mut copies = Items::new(names.allocator());
+    let mut copies = Items::from_vec(Vec::with_capacity(names.allocator(), names.len())?);
     push_names(&mut copies, names.as_slice())?;
     Ok(copies)
 }
@@ -28,7 +28,7 @@ fn copy_con(con: &Con) -> Result<Con, AllocError>
 pub(crate) fn copy_cons(cons: &Cons) -> Result<Cons, AllocError>
     ensures { IfOk result (λ copy. copy ≡ cons.now) }
 {
-    let mut copies = Items::new(cons.allocator());
+    let mut copies = Items::from_vec(Vec::with_capacity(cons.allocator(), cons.len())?);
     for con in cons.as_slice() {
         copies.push(copy_con(con)?)?;
     }
@@ -45,7 +45,7 @@ fn copy_sort(sort: &Sort) -> Result<Sort, AllocError>
 pub(crate) fn copy_sorts(sorts: &Sorts) -> Result<Sorts, AllocError>
     ensures { IfOk result (λ copy. copy ≡ sorts.now) }
 {
-    let mut copies = Items::new(sorts.allocator());
+    let mut copies = Items::from_vec(Vec::with_capacity(sorts.allocator(), sorts.len())?);
     for sort in sorts.as_slice() {
         copies.push(copy_sort(sort)?)?;
     }
@@ -64,7 +64,7 @@ pub(crate) fn index_of<T: Named>(alloc: Global, items: &[T]) -> Result<NameIndex
     requires { has_double (map T.called items.now) ≡ false }
     ensures { IfOk result (λ index. index ≡ map T.called items.now) }
 {
-    let mut index = NameIndex::new(alloc);
+    let mut index = NameIndex::with_capacity(alloc, items.len())?;
     for item in items {
         index.push(item.name())?;
     }

@@ -84,10 +84,10 @@ impl Grammar {
         self.cons.get(place)
     }
 
-    /// The number of a constructor, or past the last where none of that name is declared.
-    pub(crate) fn con_number(&self, name: &[u8]) -> u16
-        ensures { result ≡ number_of name.now (words_of self.now).cons }
+    /// The number of a sort, or past the last where none of that name is declared.
+    pub(crate) fn sort_number(&self, name: &[u8]) -> u16
+        ensures { result ≡ number_of name.now (words_of self.now).sorts }
     {
-        self.con_index.number(name) as u16
+        self.sort_index.number(name) as u16
     }
 }

@@ -1,68 +1,86 @@
 //! The rule that a written rule stands for.
-ghost use Rattle.std.specs.Prelude.{◌≡◌, ◌≤◌, length, map, true, IfOk};
-ghost use Rattle.aw_grammar.specs.Written.{child_of_raw, rule_of_raw};
-ghost use Rattle.aw_grammar.specs.Resolved.{entering, child_numbered, children_numbered};
+ghost use Rattle.std.specs.Prelude.{◌≡◌, ◌≤◌, length, map, true, false, IfOk};
+ghost use Rattle.aw_index.specs.Places.{any_stands};
+ghost use Rattle.aw_term.specs.Views.{pattern_of, term_of};
+ghost use Rattle.aw_grammar.specs.Written.{written_of, child_of_raw, rule_of_raw};
+ghost use Rattle.aw_grammar.specs.Terms.{args_of, terms_of};
+ghost use Rattle.aw_grammar.specs.Resolved.{entering, numbered, child_numbered, children_numbered};
 ghost use Rattle.aw_grammar.specs.Declarations.{entry_of};
 ghost use Rattle.aw_grammar.specs.Kinds.{rule_kind, children_fit, takes_and_gives, sort_called};
+ghost use Rattle.aw_grammar.specs.Faultless.{all_faultless, is_faultless_rule, IsMade};
 ghost use Rattle.aw_grammar.specs.GrammarView.{child_of};
 ghost use Rattle.aw_grammar.specs.GrammarOf.{declarations_of, words_of, entry};
 ghost use Rattle.aw_grammar.specs.Build.{Checked};
 
+use crate::children::children_fit;
 use crate::fault::{AddFault, DeclKind};
 use crate::grammar::Grammar;
 use crate::raw::{RawChild, RawChildren, RawRule};
 use crate::resolve::{to_patterns, to_terms};
 use crate::rule::{Child, Children, Names, Rule};
 use crate::rule_kinds::{
-    entering, is_past_counts, is_past_terms, kind_of_names, kind_of_terms, used,
+    entering, head_fits, is_past_counts, is_past_terms, kind_of_names, late_kind,
 };
 use crate::variables::Variables;
 use aw_list::Items;
+use aw_term::{Patterns, Terms};
 use std::alloc::AllocError;
 
-fn to_child(grammar: &Grammar, variables: &Variables, child: &RawChild) -> Result<Child, AllocError>
-    requires { takes_and_gives (sort_called child.now.sort grammar.now.sorts) (length (child_of_raw child.now).args) (length child.now.results) ≡ true }
-    ensures { IfOk result (λ c. child_of grammar.now.sorts c ≡ child_numbered (words_of grammar.now).cons (words_of grammar.now).sorts variables.now.names (child_of_raw child.now)) }
+fn to_child(
+    grammar: &Grammar,
+    variables: &Variables,
+    child: &RawChild,
+) -> Result<Option<Child>, AllocError>
+    requires fits { takes_and_gives (sort_called child.now.sort grammar.now.sorts) (length (child_of_raw child.now).args) (length child.now.results) ≡ true }
+    requires free { any_stands variables.now.names (words_of grammar.now).cons ≡ false }
+    ensures { IfOk result (IsMade (all_faultless grammar.now.cons variables.now.names (child_of_raw child.now).args) (λ c. child_of grammar.now.sorts c ≡ child_numbered (words_of grammar.now).cons (words_of grammar.now).sorts variables.now.names (child_of_raw child.now))) }
 {
-    let sort = grammar.sort_index.number(child.sort.as_slice()) as u16;
-    let args = to_terms(grammar, variables, &child.args)?;
-    Ok(Child { sort, args })
+    let sort = grammar.sort_number(child.sort.as_slice());
+    let Some(args) = to_terms(grammar, variables, &child.args)? else {
+        return Ok(None);
+    };
+    Ok(Some(Child { sort, args }))
 }
 
+/// The children of written children, or `None` where an argument is at fault.
 fn to_children(
     grammar: &Grammar,
     variables: &Variables,
     children: &RawChildren,
-) -> Result<Children, AllocError>
-    requires { children_fit grammar.now.sorts (map child_of_raw children.now) ≡ true }
-    ensures { IfOk result (λ cs. map (child_of grammar.now.sorts) cs ≡ children_numbered (words_of grammar.now) variables.now.names (map child_of_raw children.now)) }
+) -> Result<Option<Children>, AllocError>
+    requires fit { children_fit grammar.now.sorts (map child_of_raw children.now) ≡ true }
+    requires free { any_stands variables.now.names (words_of grammar.now).cons ≡ false }
+    ensures { IfOk result (IsMade (all_faultless grammar.now.cons variables.now.names (args_of (map child_of_raw children.now))) (λ cs. map (child_of grammar.now.sorts) cs ≡ children_numbered (words_of grammar.now) variables.now.names (map child_of_raw children.now))) }
 {
-    let mut made = Items::new(children.allocator());
+    let mut made = Items::from_vec(Vec::with_capacity(children.allocator(), children.len())?);
     for child in children.as_slice() {
-        made.push(to_child(grammar, variables, child)?)?;
+        let Some(one) = to_child(grammar, variables, child)? else {
+            return Ok(None);
+        };
+        made.push(one)?;
     }
-    Ok(made)
+    Ok(Some(made))
 }
 
-/// The rule of a written rule in which nothing is wrong.
-fn to_rule(
+/// The rule of a written rule with what its terms and children stand for.
+fn made_rule(
     grammar: &Grammar,
     rule: &RawRule,
     names: Names,
-    variables: &Variables,
+    patterns: Patterns,
+    results: Terms,
+    children: Children,
 ) -> Result<Rule, AllocError>
     requires few { length rule.now.params ≤ 8 }
-    requires children { children_fit grammar.now.sorts (map child_of_raw rule.now.children) ≡ true }
     requires names { names ≡ entering (words_of grammar.now).cons (rule_of_raw rule.now) }
-    requires variables { variables.now.names ≡ names }
+    requires patterns { map pattern_of patterns ≡ map (numbered (words_of grammar.now).cons names) (map written_of rule.now.patterns) }
+    requires results { map term_of results ≡ map (numbered (words_of grammar.now).cons names) (map written_of rule.now.results) }
+    requires children { map (child_of grammar.now.sorts) children ≡ children_numbered (words_of grammar.now) names (map child_of_raw rule.now.children) }
     ensures { IfOk result (λ r. entry grammar.now.sorts r ≡ entry_of (declarations_of grammar.now) (rule_of_raw rule.now)) }
 {
-    let patterns = to_patterns(grammar, variables, &rule.patterns)?;
-    let results = to_terms(grammar, variables, &rule.results)?;
-    let children = to_children(grammar, variables, &rule.children)?;
     Ok(Rule {
         name: rule.name.clone()?,
-        sort: grammar.sort_index.number(rule.sort.as_slice()) as u16,
+        sort: grammar.sort_number(rule.sort.as_slice()),
         params: rule.params.len() as u8,
         vars: names,
         patterns,
@@ -71,7 +89,56 @@ fn to_rule(
     })
 }
 
-/// The rule of a written rule, or the first kind of fault in it.
+/// The rule of a written rule whose sizes, names and sorts are right, or `None` where a word in its terms is at fault.
+fn to_rule(
+    grammar: &Grammar,
+    rule: &RawRule,
+    names: Names,
+    variables: &Variables,
+) -> Result<Option<Rule>, AllocError>
+    requires few { length rule.now.params ≤ 8 }
+    requires children { children_fit grammar.now.sorts (map child_of_raw rule.now.children) ≡ true }
+    requires names { names ≡ entering (words_of grammar.now).cons (rule_of_raw rule.now) }
+    requires variables { variables.now.names ≡ names }
+    requires free { any_stands variables.now.names (words_of grammar.now).cons ≡ false }
+    ensures { IfOk result (IsMade (all_faultless grammar.now.cons names (terms_of (rule_of_raw rule.now))) (λ r. entry grammar.now.sorts r ≡ entry_of (declarations_of grammar.now) (rule_of_raw rule.now))) }
+{
+    let Some(patterns) = to_patterns(grammar, variables, &rule.patterns)? else {
+        return Ok(None);
+    };
+    let Some(children) = to_children(grammar, variables, &rule.children)? else {
+        return Ok(None);
+    };
+    let Some(results) = to_terms(grammar, variables, &rule.results)? else {
+        return Ok(None);
+    };
+    Ok(Some(made_rule(grammar, rule, names, patterns, results, children)?))
+}
+
+/// The rule of a written rule whose sizes and names are right, or `None` where a sort or a word in its terms is at fault.
+fn faultless_rule(
+    grammar: &Grammar,
+    rule: &RawRule,
+    names: Names,
+    variables: &Variables,
+) -> Result<Option<Rule>, AllocError>
+    requires few { length rule.now.params ≤ 8 }
+    requires names { names ≡ entering (words_of grammar.now).cons (rule_of_raw rule.now) }
+    requires variables { variables.now.names ≡ names }
+    requires free { any_stands variables.now.names (words_of grammar.now).cons ≡ false }
+    ensures { IfOk result (IsMade (is_faultless_rule (declarations_of grammar.now) (rule_of_raw rule.now)) (λ r. entry grammar.now.sorts r ≡ entry_of (declarations_of grammar.now) (rule_of_raw rule.now))) }
+{
+    if !head_fits(grammar, rule) {
+        return Ok(None);
+    }
+    if !children_fit(grammar, &rule.children) {
+        return Ok(None);
+    }
+    to_rule(grammar, rule, names, variables)
+}
+
+/// The rule of a written rule, or the first kind of fault in it. A rule without fault is looked through once; which fault it
+/// is that stands in another is found by a walk for each kind, in their order.
 pub(crate) fn checked_rule(grammar: &Grammar, rule: &RawRule) -> Result<Rule, AddFault>
     ensures { Checked (rule_kind (declarations_of grammar.now) (rule_of_raw rule.now)) (entry_of (declarations_of grammar.now) (rule_of_raw rule.now)) grammar.now.sorts result }
 {
@@ -82,15 +149,11 @@ pub(crate) fn checked_rule(grammar: &Grammar, rule: &RawRule) -> Result<Rule, Ad
     if let Some(kind) = kind_of_names(grammar, rule, &names) {
         return Err(AddFault::Bad(kind));
     }
-    if let Some(kind) = kind_of_terms(grammar, rule) {
-        return Err(AddFault::Bad(kind));
-    }
     let Some(variables) = Variables::of_names(names.allocator(), names.as_slice())? else {
-        return Err(AddFault::Bad(DeclKind::Twice));
+        return Err(AddFault::Bad(late_kind(grammar, rule, DeclKind::Twice)));
     };
-    let uses = used(grammar, rule)?;
-    if !variables.names.contains_all(uses.as_slice()) {
-        return Err(AddFault::Bad(DeclKind::Never));
+    match faultless_rule(grammar, rule, names, &variables)? {
+        Some(made) => Ok(made),
+        None => Err(AddFault::Bad(late_kind(grammar, rule, DeclKind::Never))),
     }
-    Ok(to_rule(grammar, rule, names, &variables)?)
 }

@@ -1,16 +1,18 @@
 //! The terms that written terms stand for, and whether constructors have as many parts as they are declared with.
-ghost use Rattle.std.specs.Prelude.{◌≡◌, map, IfOk};
+ghost use Rattle.std.specs.Prelude.{◌≡◌, map, Some, false, IfOk};
+ghost use Rattle.aw_index.specs.Places.{place_of, any_stands};
 ghost use Rattle.aw_term.specs.Views.{pattern_of, term_of};
 ghost use Rattle.aw_grammar.specs.Written.{Word, written_of};
 ghost use Rattle.aw_grammar.specs.Resolved.{numbered};
 ghost use Rattle.aw_grammar.specs.Kinds.{con_called, has_arity, has_arities, all_have_arities};
+ghost use Rattle.aw_grammar.specs.Faultless.{is_declared, is_faultless, all_faultless, IsMade};
 ghost use Rattle.aw_grammar.specs.GrammarOf.{words_of};
 
 use crate::grammar::Grammar;
 use crate::raw::{RawTerm, RawTerms};
 use crate::variables::Variables;
 use aw_list::{Items, Text};
-use aw_term::{Expr, Pattern, Patterns, Terms};
+use aw_term::{Expr, Lit, Pattern, Patterns, Terms};
 use std::alloc::AllocError;
 
 /// Whether a name that is a constructor's is declared with this number of parts.
@@ -49,88 +51,135 @@ pub(crate) fn have_arities(grammar: &Grammar, terms: &RawTerms) -> bool
     true
 }
 
-fn word_pattern(grammar: &Grammar, variables: &Variables, name: &Text) -> Pattern
-    ensures { pattern_of result ≡ numbered (words_of grammar.now).cons variables.now.names (Word name.now) }
+/// A copy of a number or a text.
+fn copy_lit(lit: &Lit) -> Result<Lit, AllocError>
+    ensures { IfOk result (λ copy. copy ≡ lit.now) }
 {
-    match grammar.con_index.find(name.as_slice()) {
-        Some(con) => Pattern::Con(con as u16, Items::new(name.allocator())),
-        None => Pattern::Var(variables.number(name.as_slice())),
-    }
+    lit.clone()
 }
 
-/// The pattern that a written term stands for.
+/// The number of the constructor of a name, where it is declared with this number of parts.
+fn con_of(grammar: &Grammar, name: &Text, count: usize) -> Option<u16>
+    ensures { IsMade (is_declared count (con_called name.now grammar.now.cons)) (λ number. Some number ≡ place_of name.now (words_of grammar.now).cons) result }
+{
+    let place = grammar.con_index.find(name.as_slice())?;
+    let con = grammar.cons.get(place)?;
+    if usize::from(con.arity) != count {
+        return None;
+    }
+    Some(place as u16)
+}
+
+/// The pattern that a bare word stands for, or `None` where it is neither a variable nor a constructor without parts.
+fn word_pattern(grammar: &Grammar, variables: &Variables, name: &Text) -> Option<Pattern>
+    requires { any_stands variables.now.names (words_of grammar.now).cons ≡ false }
+    ensures { IsMade (is_faultless grammar.now.cons variables.now.names (Word name.now)) (λ made. pattern_of made ≡ numbered (words_of grammar.now).cons variables.now.names (Word name.now)) result }
+{
+    if let Some(variable) = variables.find(name.as_slice()) {
+        return Some(Pattern::Var(variable));
+    }
+    let con = con_of(grammar, name, 0)?;
+    Some(Pattern::Con(con, Items::new(name.allocator())))
+}
+
+/// The pattern that a written term stands for, or `None` where a word in it is at fault.
 #[cycle(patterns)]
 pub(crate) fn to_pattern(
     grammar: &Grammar,
     variables: &Variables,
     term: &RawTerm,
-) -> Result<Pattern, AllocError>
-    ensures { IfOk result (λ p. pattern_of p ≡ numbered (words_of grammar.now).cons variables.now.names (written_of term.now)) }
+) -> Result<Option<Pattern>, AllocError>
+    requires { any_stands variables.now.names (words_of grammar.now).cons ≡ false }
+    ensures { IfOk result (IsMade (is_faultless grammar.now.cons variables.now.names (written_of term.now)) (λ made. pattern_of made ≡ numbered (words_of grammar.now).cons variables.now.names (written_of term.now))) }
 {
     match term {
         RawTerm::Word(name) => Ok(word_pattern(grammar, variables, name)),
-        RawTerm::Lit(lit) => Ok(Pattern::Lit(lit.clone()?)),
+        RawTerm::Lit(lit) => Ok(Some(Pattern::Lit(copy_lit(lit)?))),
         RawTerm::Apply(name, parts) => {
-            let parts = to_patterns(grammar, variables, parts)?;
-            Ok(Pattern::Con(grammar.con_number(name.as_slice()), parts))
+            let Some(con) = con_of(grammar, name, parts.len()) else {
+                return Ok(None);
+            };
+            let Some(made) = to_patterns(grammar, variables, parts)? else {
+                return Ok(None);
+            };
+            Ok(Some(Pattern::Con(con, made)))
         }
     }
 }
 
+/// What these written terms stand for, or `None` where a word in one is at fault.
 #[cycle(patterns)]
 pub(crate) fn to_patterns(
     grammar: &Grammar,
     variables: &Variables,
     terms: &RawTerms,
-) -> Result<Patterns, AllocError>
-    ensures { IfOk result (λ ps. map pattern_of ps ≡ map (numbered (words_of grammar.now).cons variables.now.names) (map written_of terms.now)) }
+) -> Result<Option<Patterns>, AllocError>
+    requires { any_stands variables.now.names (words_of grammar.now).cons ≡ false }
+    ensures { IfOk result (IsMade (all_faultless grammar.now.cons variables.now.names (map written_of terms.now)) (λ made. map pattern_of made ≡ map (numbered (words_of grammar.now).cons variables.now.names) (map written_of terms.now))) }
 {
-    let mut patterns = Items::new(terms.allocator());
+    let mut made = Items::from_vec(Vec::with_capacity(terms.allocator(), terms.len())?);
     for term in terms.as_slice() {
-        patterns.push(to_pattern(grammar, variables, term)?)?;
+        let Some(one) = to_pattern(grammar, variables, term)? else {
+            return Ok(None);
+        };
+        made.push(one)?;
     }
-    Ok(patterns)
+    Ok(Some(made))
 }
 
-fn word_term(grammar: &Grammar, variables: &Variables, name: &Text) -> Expr
-    ensures { term_of result ≡ numbered (words_of grammar.now).cons variables.now.names (Word name.now) }
+/// The expression that a bare word stands for, or `None` where it is neither a variable nor a constructor without parts.
+fn word_term(grammar: &Grammar, variables: &Variables, name: &Text) -> Option<Expr>
+    requires { any_stands variables.now.names (words_of grammar.now).cons ≡ false }
+    ensures { IsMade (is_faultless grammar.now.cons variables.now.names (Word name.now)) (λ made. term_of made ≡ numbered (words_of grammar.now).cons variables.now.names (Word name.now)) result }
 {
-    match grammar.con_index.find(name.as_slice()) {
-        Some(con) => Expr::Con(con as u16, Items::new(name.allocator())),
-        None => Expr::Var(variables.number(name.as_slice())),
+    if let Some(variable) = variables.find(name.as_slice()) {
+        return Some(Expr::Var(variable));
     }
+    let number = con_of(grammar, name, 0)?;
+    Some(Expr::Con(number, Items::new(name.allocator())))
 }
 
-/// The expression that a written term stands for.
+/// The expression that a written term stands for, or `None` where a word in it is at fault.
 #[cycle(terms)]
 pub(crate) fn to_term(
     grammar: &Grammar,
     variables: &Variables,
     term: &RawTerm,
-) -> Result<Expr, AllocError>
-    ensures { IfOk result (λ e. term_of e ≡ numbered (words_of grammar.now).cons variables.now.names (written_of term.now)) }
+) -> Result<Option<Expr>, AllocError>
+    requires { any_stands variables.now.names (words_of grammar.now).cons ≡ false }
+    ensures { IfOk result (IsMade (is_faultless grammar.now.cons variables.now.names (written_of term.now)) (λ made. term_of made ≡ numbered (words_of grammar.now).cons variables.now.names (written_of term.now))) }
 {
     match term {
         RawTerm::Word(name) => Ok(word_term(grammar, variables, name)),
-        RawTerm::Lit(lit) => Ok(Expr::Lit(lit.clone()?)),
+        RawTerm::Lit(lit) => Ok(Some(Expr::Lit(copy_lit(lit)?))),
         RawTerm::Apply(name, parts) => {
-            let parts = to_terms(grammar, variables, parts)?;
-            Ok(Expr::Con(grammar.con_number(name.as_slice()), parts))
+            let Some(con) = con_of(grammar, name, parts.len()) else {
+                return Ok(None);
+            };
+            let Some(made) = to_terms(grammar, variables, parts)? else {
+                return Ok(None);
+            };
+            Ok(Some(Expr::Con(con, made)))
         }
     }
 }
 
+/// What these written terms stand for, or `None` where a word in one is at fault.
 #[cycle(terms)]
 pub(crate) fn to_terms(
     grammar: &Grammar,
     variables: &Variables,
     terms: &RawTerms,
-) -> Result<Terms, AllocError>
-    ensures { IfOk result (λ es. map term_of es ≡ map (numbered (words_of grammar.now).cons variables.now.names) (map written_of terms.now)) }
+) -> Result<Option<Terms>, AllocError>
+    requires { any_stands variables.now.names (words_of grammar.now).cons ≡ false }
+    ensures { IfOk result (IsMade (all_faultless grammar.now.cons variables.now.names (map written_of terms.now)) (λ made. map term_of made ≡ map (numbered (words_of grammar.now).cons variables.now.names) (map written_of terms.now))) }
 {
-    let mut exprs = Items::new(terms.allocator());
+    let mut made = Items::from_vec(Vec::with_capacity(terms.allocator(), terms.len())?);
     for term in terms.as_slice() {
-        exprs.push(to_term(grammar, variables, term)?)?;
+        let Some(one) = to_term(grammar, variables, term)? else {
+            return Ok(None);
+        };
+        made.push(one)?;
     }
-    Ok(exprs)
+    Ok(Some(made))
 }

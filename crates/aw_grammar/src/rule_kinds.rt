@@ -1,16 +1,15 @@
 //! What is wrong with a rule.
-ghost use Rattle.std.specs.Prelude.{◌≡◌, ◌+◌, ◌++◌, length, IfOk};
+ghost use Rattle.std.specs.Prelude.{◌≡◌, ◌+◌, ◌++◌, ◌∷◌, [], true, Some, length, IfOk};
 ghost use Rattle.aw_index.specs.Places.{any_stands, first_told};
-ghost use Rattle.aw_term.specs.WellFormed.{leaves_of};
 ghost use Rattle.aw_grammar.specs.Written.{rule_of_raw};
-ghost use Rattle.aw_grammar.specs.Terms.{results_of, uses_of, terms_of, depth_of_all, symbols_in_all, IsLeftOf};
-ghost use Rattle.aw_grammar.specs.Resolved.{all_resolved, entering};
+ghost use Rattle.aw_grammar.specs.Terms.{results_of, terms_of, depth_of_all, symbols_in_all, IsLeftOf};
+ghost use Rattle.aw_grammar.specs.Resolved.{entering};
 ghost use Rattle.aw_grammar.specs.Kinds.{is_past_counts, is_past_terms, all_known, all_have_arities, takes_and_gives, sort_called, names_unknown, arity_differs, name_tests, term_tests};
 ghost use Rattle.aw_grammar.specs.GrammarOf.{declarations_of, words_of};
 
 use crate::children::{
-    any_result_stands, args_are_known, args_have_arities, children_fit, push_arg_variables,
-    push_names, push_results, room_after_args, sorts_stand, takes_and_gives,
+    any_result_stands, args_are_known, args_have_arities, children_fit, push_names, push_results,
+    room_after_args, sorts_stand, takes_and_gives,
 };
 use crate::fault::DeclKind;
 use crate::grammar::Grammar;
@@ -60,16 +59,6 @@ pub(crate) fn entering(grammar: &Grammar, rule: &RawRule) -> Result<Names, Alloc
     Ok(names)
 }
 
-/// The names of the variables in a rule's arguments and results.
-pub(crate) fn used(grammar: &Grammar, rule: &RawRule) -> Result<Names, AllocError>
-    ensures { IfOk result (λ names. names ≡ leaves_of (all_resolved (words_of grammar.now).cons (uses_of (rule_of_raw rule.now)))) }
-{
-    let mut names = Items::new(rule.name.allocator());
-    push_arg_variables(&grammar.con_index, &rule.children, &mut names)?;
-    push_all_variables(&grammar.con_index, &rule.results, &mut names)?;
-    Ok(names)
-}
-
 /// Whether a parameter or a child's result has the name of a constructor.
 fn clashes(grammar: &Grammar, rule: &RawRule) -> bool
     ensures { result ≡ any_stands ((rule_of_raw rule.now).params ++ results_of (rule_of_raw rule.now).children) (words_of grammar.now).cons }
@@ -113,7 +102,8 @@ fn terms_have_arities(grammar: &Grammar, rule: &RawRule) -> bool
     have_arities(grammar, &rule.results)
 }
 
-fn head_fits(grammar: &Grammar, rule: &RawRule) -> bool
+/// Whether the rule takes and gives as many values as its sort.
+pub(crate) fn head_fits(grammar: &Grammar, rule: &RawRule) -> bool
     ensures { result ≡ takes_and_gives (sort_called rule.now.sort grammar.now.sorts) (length (rule_of_raw rule.now).patterns) (length (rule_of_raw rule.now).results) }
 {
     takes_and_gives(grammar, &rule.sort, rule.patterns.len(), rule.results.len())
@@ -146,7 +136,7 @@ pub(crate) fn kind_of_names(grammar: &Grammar, rule: &RawRule, names: &Names) ->
 }
 
 /// The first kind that the names and numbers in a rule's terms tell.
-pub(crate) fn kind_of_terms(grammar: &Grammar, rule: &RawRule) -> Option<DeclKind>
+fn kind_of_terms(grammar: &Grammar, rule: &RawRule) -> Option<DeclKind>
     ensures { result ≡ first_told (term_tests (declarations_of grammar.now) (rule_of_raw rule.now)) }
 {
     if names_unknown(grammar, rule) {
@@ -156,4 +146,14 @@ pub(crate) fn kind_of_terms(grammar: &Grammar, rule: &RawRule) -> Option<DeclKin
         return Some(DeclKind::Arity);
     }
     None
+}
+
+/// The first kind that a rule's terms tell, or else this last one.
+pub(crate) fn late_kind(grammar: &Grammar, rule: &RawRule, last: DeclKind) -> DeclKind
+    ensures { Some result ≡ first_told (term_tests (declarations_of grammar.now) (rule_of_raw rule.now) ++ (true, last) ∷ []) }
+{
+    match kind_of_terms(grammar, rule) {
+        Some(kind) => kind,
+        None => last,
+    }
 }

@@ -1,6 +1,6 @@
 //! The variables of a rule by name.
 ghost use Rattle.std.specs.Prelude.{◌≡◌, ◌≤◌, length, true, false, IfOk, MatchOption};
-ghost use Rattle.aw_index.specs.Places.{number_of, has_double};
+ghost use Rattle.aw_index.specs.Places.{place_of, has_double};
 
 use aw_index::NameIndex;
 use aw_list::Text;
@@ -14,11 +14,14 @@ pub(crate) struct Variables {
 }
 
 impl Variables {
-    /// The number of a variable.
-    pub(crate) fn number(&self, name: &[u8]) -> u8
-        ensures { result ≡ number_of name.now self.now.names }
+    /// The number of the variable of a name, where one has it.
+    pub(crate) fn find(&self, name: &[u8]) -> Option<u8>
+        ensures { result ≡ place_of name.now self.now.names }
     {
-        self.names.number(name) as u8
+        match self.names.find(name) {
+            Some(place) => Some(place as u8),
+            None => None,
+        }
     }
 
     /// The variables of these names, or `None` where a name stands twice.
