@@ -1,30 +1,65 @@
--- Arcs that are added for pairs of a child's sort.
-use Rattle.std.proofs.Common.{◌≡◌, ℕ, suc, ◌+◌, ◌-◌, ◌*◌, ◌/◌, ◌%◌, ◌<◌, ◌≤◌, List, [], ◌∷◌, ◌++◌, Some, slice_get, sym, ap, ◌∙◌, subst, inl, inr, arith}
+-- Arcs that are added for flows and for pairs of a child's sort.
+use Rattle.std.proofs.Common.{◌≡◌, ℕ, suc, ◌+◌, ◌-◌, ◌*◌, ◌/◌, ◌%◌, ◌<◌, ◌≤◌, false, List, [], ◌∷◌, ◌++◌, map, take, Option, Some, slice_get, refl, sym, ap, ◌∙◌, subst, inl, inr, arith}
 use Rattle.std.specs.Prelude.{◌⊎◌}
 use Rattle.aw_list.specs.Members.{Member}
-use Rattle.aw_list.proofs.Members.{never, member_left, member_right, member_split, below_or_at}
+use Rattle.aw_list.proofs.Members.{never, member_left, member_right, member_split, member_map, member_unmap, below_or_at}
+use Rattle.aw_term.specs.Views.{term_of}
 use Rattle.aw_grammar.specs.declared.rule.Child.{Child}
 use Rattle.aw_iograph.specs.declared.reach.Arc.{Arc}
+use Rattle.aw_iograph.specs.declared.occ.Occ.{Occ}
+use Rattle.aw_iograph.specs.declared.occ.Flow.{Flow}
 use Rattle.aw_iograph.specs.declared.io.Io.{Io}
+use Rattle.aw_iograph.specs.Occurrences.{term_flows}
 use Rattle.aw_iograph.specs.Pairs.{Has, IsNumber}
-use Rattle.aw_iograph.specs.Arcs.{call_arc, Gains, GainsAll}
+use Rattle.aw_iograph.specs.Arcs.{arc_of, call_arc, Gains, IsFlow, IsCallOf, IsCall, IsOfChild, IsOfChildren}
 
-pub gain_one : (io : Io) (s k i l : ℕ) (old new : List Arc) (a : Arc) → Has io s i l → a ≡ call_arc k i l → new ≡ old ++ a ∷ [] → Gains io s k (λ i' l'. (i' ≡ i) × (l' ≡ l)) old new
-gain_one io s k i l old new a has arc step = record {
-  kept = λ b m. subst (λ (bs : List Arc). Member b bs) (sym step) (member_left b old (a ∷ []) m);
-  there = λ i' l' p h. subst (λ (bs : List Arc). Member (call_arc k i' l') bs) (sym step) (member_right (call_arc k i' l') old (a ∷ []) (inl (ap (λ x. call_arc k x l') p.0 ∙ ap (λ y. call_arc k i y) p.1 ∙ sym arc)));
-  only = λ b m. elim (member_split b old (a ∷ []) (subst (λ (bs : List Arc). Member b bs) step m)) [
-    | inl was ↦ inl was
-    | inr now ↦ inr (i, l, has, elim now [ inl e ↦ e ∙ arc | inr n ↦ never n ])
+-- no arc is of the kind
+pub gain_none : (P : Arc → Type 0) (arcs : List Arc) → ((a : Arc) → P a → ⊥) → Gains P arcs arcs
+gain_none P arcs none = record { kept = λ a m. m; there = λ a p. absurd (none a p); only = λ a m. inl m }
+
+-- the added arcs are those of the kind
+pub gain_added : (P : Arc → Type 0) (old new added : List Arc) → new ≡ old ++ added → ((a : Arc) → P a → Member a added) → ((a : Arc) → Member a added → P a) → Gains P old new
+gain_added P old new added step there only = record {
+  kept = λ a m. subst (λ (bs : List Arc). Member a bs) (sym step) (member_left a old added m);
+  there = λ a p. subst (λ (bs : List Arc). Member a bs) (sym step) (member_right a old added (there a p));
+  only = λ a m. elim (member_split a old added (subst (λ (bs : List Arc). Member a bs) step m)) [ inl was ↦ inl was | inr now ↦ inr (only a now) ];
+}
+
+-- first one kind, and then another
+pub gain_both : (P Q R : Arc → Type 0) (a b c : List Arc) → Gains P a b → Gains Q b c → ((x : Arc) → R x → P x ⊎ Q x) → ((x : Arc) → P x → R x) → ((x : Arc) → Q x → R x) → Gains R a c
+gain_both P Q R a b c first then split left right = record {
+  kept = λ x m. then.kept x (first.kept x m);
+  there = λ x r. elim (split x r) [ inl p ↦ then.kept x (first.there x p) | inr q ↦ then.there x q ];
+  only = λ x m. elim (then.only x m) [
+    | inl was ↦ elim (first.only x was) [ inl old ↦ inl old | inr p ↦ inr (left x p) ]
+    | inr q ↦ inr (right x q)
   ];
 }
 
-pub gain_both : (io : Io) (s k : ℕ) (P Q R : ℕ → ℕ → Type 0) (a b c : List Arc) → Gains io s k P a b → Gains io s k Q b c → ((i l : ℕ) → R i l → P i l ⊎ Q i l) → Gains io s k R a c
-gain_both io s k P Q R a b c first then split = record {
-  kept = λ x m. then.kept x (first.kept x m);
-  there = λ i l r h. elim (split i l r) [ inl p ↦ then.kept _ (first.there i l p h) | inr q ↦ then.there i l q h ];
-  only = λ x m. elim (then.only x m) [ inl was ↦ first.only x was | inr now ↦ inr now ];
-}
+-- the arc of one pair
+pub gain_one : (io : Io) (s k i l : ℕ) (old new : List Arc) (a : Arc) → Has io s i l → a ≡ call_arc k i l → new ≡ old ++ a ∷ [] → Gains (IsCallOf io s k i l) old new
+gain_one io s k i l old new a has arc step = gain_added (IsCallOf io s k i l) old new (a ∷ []) step (λ x p. inl (p.1 ∙ sym arc)) (λ x m. elim m [ inl e ↦ (has, e ∙ arc) | inr n ↦ never n ])
+
+-- the arc of a pair by its number
+pub pair_arc : (m k n : ℕ) → m ≡ k → record { from = m * 16 + n / 8; to = m * 16 + 8 + n % 8 } ≡ call_arc k (n / 8 + 1) (n % 8 + 1)
+pair_arc m k n same =
+    let from : m * 16 + n / 8 ≡ k * 16 + (0 + (n / 8 + 1 - 1)) = omega arith in
+    let to : m * 16 + 8 + n % 8 ≡ k * 16 + (8 + (n % 8 + 1 - 1)) = omega arith in
+    ap (λ (x : ℕ). record { from = x; to = m * 16 + 8 + n % 8 }) from ∙ ap (λ (x : ℕ). record { from = k * 16 + (0 + (n / 8 + 1 - 1)); to = x }) to
+
+take_none : {A : Type 0} (xs : List A) → take 0 xs ≡ []
+take_none [] = refl
+take_none (x ∷ xs) = refl
+
+-- a list that was emptied has just what was then appended
+pub refilled : {A : Type 0} (old empty new added : List A) → empty ≡ take 0 old → new ≡ empty ++ added → new ≡ added
+refilled old empty new added cut step = step ∙ ap (λ xs. xs ++ added) (cut ∙ take_none old)
+
+-- the arcs of flows
+pub gain_flows : (flows : List Flow) (old new : List Arc) → new ≡ old ++ map arc_of flows → Gains (IsFlow flows) old new
+gain_flows flows old new step = gain_added (IsFlow flows) old new (map arc_of flows) step
+    (λ a (f, m, e). subst (λ (x : Arc). Member x (map arc_of flows)) (sym e) (member_map arc_of f flows m))
+    (λ a m. member_unmap arc_of a flows m)
 
 -- two numbers from 1 to 8 whose pair, by its number, comes before the n-th
 pub record IsBefore (n i l : ℕ) : Type 0 where
@@ -38,32 +73,70 @@ before_more n i l p = elim (below_or_at ((i - 1) * 8 + (l - 1)) n p.before) [
   | inr at ↦ (let a = p.inherited.counted in let b = p.result.counted in let c = p.result.few in inr (omega arith, omega arith))
 ]
 
+-- at child k, an arc of a pair that comes before the n-th
+abbrev pub IsEarly : Io → ℕ → ℕ → ℕ → Arc → Type 0
+IsEarly io s k n a = (i : ℕ) × (l : ℕ) × IsBefore n i l × IsCallOf io s k i l a
+
 -- before the first there is none
-pub gain_none : (io : Io) (s k : ℕ) (arcs : List Arc) → Gains io s k (IsBefore 0) arcs arcs
-gain_none io s k arcs = record { kept = λ a m. m; there = λ i l p has. (let none = p.before in absurd (omega arith)); only = λ a m. inl m }
+pub none_early : (io : Io) (s k : ℕ) (arcs : List Arc) → Gains (IsEarly io s k 0) arcs arcs
+none_early io s k arcs = gain_none (IsEarly io s k 0) arcs (λ a (i, l, p, q). let none = p.before in omega arith)
+
+-- one more pair
+pub gain_pair : (io : Io) (s k n : ℕ) (a b c : List Arc) → Gains (IsEarly io s k n) a b → Gains (IsCallOf io s k (n / 8 + 1) (n % 8 + 1)) b c → Gains (IsEarly io s k (n + 1)) a c
+gain_pair io s k n a b c first then = gain_both (IsEarly io s k n) (IsCallOf io s k (n / 8 + 1) (n % 8 + 1)) (IsEarly io s k (n + 1)) a b c first then split left right
+  where
+    split : (x : Arc) → IsEarly io s k (n + 1) x → IsEarly io s k n x ⊎ IsCallOf io s k (n / 8 + 1) (n % 8 + 1) x
+    split x (i, l, p, q) = elim (before_more n i l p) [
+      | inl less ↦ inl (i, l, less, q)
+      | inr at ↦ inr (subst (λ j. IsCallOf io s k j (n % 8 + 1) x) at.0 (subst (λ j. IsCallOf io s k i j x) at.1 q))
+    ]
+
+    left : (x : Arc) → IsEarly io s k n x → IsEarly io s k (n + 1) x
+    left x (i, l, p, q) = let less = p.before in (i, l, record { inherited = p.inherited; result = p.result; before = omega arith }, q)
+
+    right : (x : Arc) → IsCallOf io s k (n / 8 + 1) (n % 8 + 1) x → IsEarly io s k (n + 1) x
+    right x q = (n / 8 + 1, n % 8 + 1, record { inherited = q.0.inherited; result = q.0.result; before = omega arith }, q)
 
 -- each pair comes before the last
-pub gain_row : (io : Io) (s k n : ℕ) (old new : List Arc) → 64 ≤ n → Gains io s k (IsBefore n) old new → Gains io s k (λ i l. i < 9) old new
-gain_row io s k n old new le all = record {
+pub gain_calls : (io : Io) (s k n : ℕ) (old new : List Arc) → 64 ≤ n → Gains (IsEarly io s k n) old new → Gains (IsCall io s k) old new
+gain_calls io s k n old new le all = record {
   kept = all.kept;
-  there = λ i l e has. (let a = has.inherited.few in let b = has.result.few in
+  there = λ x (i, l, q). (let a = q.0.inherited.few in let b = q.0.result.few in
       let less : (i - 1) * 8 + (l - 1) < n = omega arith in
-      all.there i l (record { inherited = has.inherited; result = has.result; before = less }) has);
-  only = all.only;
+      all.there x (i, l, record { inherited = q.0.inherited; result = q.0.result; before = less }, q));
+  only = λ x m. elim (all.only x m) [ inl was ↦ inl was | inr (i, l, p, q) ↦ inr (i, l, q) ];
 }
 
-pub gain_child : (io : Io) (cs : List Child) (n : ℕ) (c : Child) (a b d : List Arc) → slice_get cs n ≡ Some c → GainsAll io cs n a b → Gains io c.sort (n + 1) (λ i l. i < 9) b d → GainsAll io cs (n + 1) a d
-gain_child io cs n c a b d here first then = record {
-  kept = λ x m. then.kept x (first.kept x m);
-  there = λ k i l e lt got has. elim (below_or_at k n lt) [
-    | inl less ↦ then.kept _ (first.there k i l e less got has)
-    | inr same ↦ (let what : Some e ≡ Some c = sym got ∙ ap (slice_get cs) same ∙ here in
-        let child : e ≡ c = cc in let few : i < 9 = omega (arith, has.inherited.few) in
-        let at : n + 1 ≡ suc k = omega arith in
-        subst (λ m. Member (call_arc m i l) d) at (then.there i l few (subst (λ (x : Child). Has io x.sort i l) child has)))
-  ];
-  only = λ x m. elim (then.only x m) [
-    | inl was ↦ first.only x was
-    | inr now ↦ (let (i, l, has, e) = now in let at : n + 1 ≡ suc n = omega arith in inr (n, i, l, c, here, has, e ∙ ap (λ m. call_arc m i l) at))
-  ];
-}
+-- the arcs of one child
+pub gain_child : (es : List (Option Occ)) (io : Io) (k : ℕ) (c : Child) (flows : List Flow) (old mid new : List Arc) → flows ≡ term_flows es k false 1 (map term_of c.args) → mid ≡ old ++ map arc_of flows →
+    Gains (IsCall io c.sort k) mid new → Gains (IsOfChild es io k c) old new
+gain_child es io k c flows old mid new e step then =
+    gain_both (IsFlow flows) (IsCall io c.sort k) (IsOfChild es io k c) old mid new (gain_flows flows old mid step) then
+    (λ x r. elim r [ inl p ↦ inl (subst (λ (fs : List Flow). IsFlow fs x) (sym e) p) | inr q ↦ inr q ])
+    (λ x p. inl (subst (λ (fs : List Flow). IsFlow fs x) e p))
+    (λ x q. inr q)
+
+-- before the first child there is none
+pub none_child : (es : List (Option Occ)) (io : Io) (cs : List Child) (arcs : List Arc) → Gains (IsOfChildren es io cs 0) arcs arcs
+none_child es io cs arcs = gain_none (IsOfChildren es io cs 0) arcs (λ a (k, c, lt, got, q). omega arith)
+
+-- one more child
+pub gain_children : (es : List (Option Occ)) (io : Io) (cs : List Child) (n : ℕ) (c : Child) (a b d : List Arc) → slice_get cs n ≡ Some c → Gains (IsOfChildren es io cs n) a b → Gains (IsOfChild es io (n + 1) c) b d → Gains (IsOfChildren es io cs (n + 1)) a d
+gain_children es io cs n c a b d here first then = gain_both (IsOfChildren es io cs n) (IsOfChild es io (n + 1) c) (IsOfChildren es io cs (n + 1)) a b d first then split left right
+  where
+    at : n + 1 ≡ suc n
+    at = omega arith
+
+    split : (x : Arc) → IsOfChildren es io cs (n + 1) x → IsOfChildren es io cs n x ⊎ IsOfChild es io (n + 1) c x
+    split x (k, e, lt, got, q) = elim (below_or_at k n lt) [
+      | inl less ↦ inl (k, e, less, got, q)
+      | inr same ↦ (let what : Some e ≡ Some c = sym got ∙ ap (slice_get cs) same ∙ here in
+          let child : e ≡ c = cc in let number : suc k ≡ n + 1 = omega arith in
+          inr (subst (λ m. IsOfChild es io m c x) number (subst (λ (y : Child). IsOfChild es io (suc k) y x) child q)))
+    ]
+
+    left : (x : Arc) → IsOfChildren es io cs n x → IsOfChildren es io cs (n + 1) x
+    left x (k, e, lt, got, q) = (k, e, omega arith, got, q)
+
+    right : (x : Arc) → IsOfChild es io (n + 1) c x → IsOfChildren es io cs (n + 1) x
+    right x q = (n, c, omega arith, here, subst (λ m. IsOfChild es io m c x) at q)

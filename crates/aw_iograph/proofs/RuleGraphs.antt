@@ -1,22 +1,25 @@
 -- The arcs of a rule are its steps.
-use Rattle.std.proofs.Common.{◌≡◌, ℕ, zero, suc, ◌<◌, ◌≤◌, List, map, length, Some, slice_get, refl, sym, ap, ◌∙◌, subst, inl, inr, arith}
+use Rattle.std.proofs.Common.{◌≡◌, ℕ, zero, suc, ◌+◌, ◌<◌, ◌≤◌, true, false, List, [], ◌++◌, map, length, Option, Some, slice_get, refl, sym, ap, ◌∙◌, subst, inl, inr, arith}
+use Rattle.std.specs.Prelude.{◌⊎◌}
 use Rattle.std.proofs.lemmas.Option.{slice_get_within}
 use Rattle.aw_list.specs.Members.{Member}
-use Rattle.aw_list.proofs.Members.{member_map, member_unmap, got_map, got_unmap}
+use Rattle.aw_list.proofs.Members.{never, member_left, member_right, member_split, member_map, member_unmap, got_map, got_unmap}
 use Rattle.aw_term.specs.Rules as P
+use Rattle.aw_term.specs.Views.{term_of}
 use Rattle.aw_grammar.specs.declared.rule.Rule.{Rule}
 use Rattle.aw_grammar.specs.declared.rule.Sort.{Sort}
 use Rattle.aw_grammar.specs.GrammarView.{rule_of, child_of}
 use Rattle.aw_iograph.specs.declared.reach.Arc.{Arc}
 use Rattle.aw_iograph.specs.declared.occ.Occ.{Occ}
+use Rattle.aw_iograph.specs.declared.occ.Flow.{Flow}
 use Rattle.aw_iograph.specs.declared.io.Io.{Io}
 use Rattle.aw_iograph.specs.Graphs.{Plus, step, more, Arrow, IsWithin}
-use Rattle.aw_iograph.specs.Occurrences.{inherited, given, text_flows, IsPlace, place_of}
+use Rattle.aw_iograph.specs.Occurrences.{inherited, given, entries, term_flows, child_flows, text_flows, IsPlace, place_of}
 use Rattle.aw_iograph.specs.Dependence.{Edge, text, call}
 use Rattle.aw_iograph.specs.Pairs.{Has}
 use Rattle.aw_iograph.specs.Small.{HasFew}
-use Rattle.aw_iograph.specs.Arcs.{arc_of, call_arc, GainsAll, IsGraphOf}
-use Rattle.aw_iograph.proofs.TextFlows.{flows_all, flows_only}
+use Rattle.aw_iograph.specs.Arcs.{arc_of, call_arc, Gains, IsOfChildren, IsGraphOf}
+use Rattle.aw_iograph.proofs.TextFlows.{child_there, child_only, flows_all, flows_only}
 use Rattle.aw_iograph.proofs.Placing.{entry_place, term_place, place_below, place_one}
 
 pub child_got : (r : P.Rule) (k : ℕ) (c : P.Child) → P.child_at r.children k ≡ Some c → (j : ℕ) × (k ≡ suc j) × (slice_get r.children j ≡ Some c)
@@ -30,27 +33,66 @@ edge_places r io o u few (call k i l c e h) =
     let small : k ≤ 8 = omega (arith, few.children) in
     (record { child = small; counted = h.inherited.counted; number = h.inherited.few }, record { child = small; counted = h.result.counted; number = h.result.few })
 
-pub graph_of : (sorts : List Sort) (r : Rule) (io : Io) (start arcs : List Arc) → HasFew (rule_of sorts r) → start ≡ map arc_of (text_flows (rule_of sorts r)) → GainsAll io r.children (length r.children) start arcs → IsGraphOf (rule_of sorts r) (Has io) arcs
-graph_of sorts r io start arcs few first gained = record { there = there; only = only; places = λ o u e. edge_places (rule_of sorts r) io o u few e }
+pub graph_of : (sorts : List Sort) (r : Rule) (io : Io) (arcs mid start : List Arc) → HasFew (rule_of sorts r) → start ≡ [] → Gains (IsOfChildren (entries (rule_of sorts r)) io r.children (length r.children)) start mid →
+    arcs ≡ mid ++ map arc_of (term_flows (entries (rule_of sorts r)) 0 true 1 (rule_of sorts r).results) → IsGraphOf (rule_of sorts r) (Has io) arcs
+graph_of sorts r io arcs mid start few none children results = record { there = there; only = only; places = λ o u e. edge_places (rule_of sorts r) io o u few e }
   where
+    es : List (Option Occ)
+    es = entries (rule_of sorts r)
+
+    last : List Flow
+    last = term_flows es 0 true 1 (rule_of sorts r).results
+
+    flow_there : (f : Flow) → Member f (text_flows (rule_of sorts r)) → Member (arc_of f) mid ⊎ Member (arc_of f) (map arc_of last)
+    flow_there f m = elim (member_split f (child_flows es 1 (rule_of sorts r).children) last m) [
+      | inl a ↦ (let (k, c, got, w) = child_only es (rule_of sorts r).children 1 f a in
+          let (d, here, same) = got_unmap (child_of sorts) r.children k c got in let at : 1 + k ≡ suc k = omega arith in
+          let flow : Member f (term_flows es (suc k) false 1 (map term_of d.args)) = subst (λ n. Member f (term_flows es n false 1 (map term_of d.args))) at (subst (λ (x : P.Child). Member f (term_flows es (1 + k) false 1 x.args)) same w) in
+          inl (children.there (arc_of f) (k, d, slice_get_within r.children k d here, here, inl (f, flow, refl))))
+      | inr b ↦ inr (member_map arc_of f last b)
+    ]
+
+    put : (a : Arc) → Member a mid ⊎ Member a (map arc_of last) → Member a arcs
+    put a m = subst (λ (as' : List Arc). Member a as') (sym results) (elim m [ inl x ↦ member_left a mid (map arc_of last) x | inr y ↦ member_right a mid (map arc_of last) y ])
+
     there : (o u : Occ) → Edge (rule_of sorts r) (Has io) o u → Member (arc_of (record { from = o; to = u })) arcs
-    there o u (text v t e f x) =
-        gained.kept _ (subst (λ (as' : List Arc). Member (arc_of (record { from = o; to = u })) as') (sym first) (member_map arc_of (record { from = o; to = u }) (text_flows (rule_of sorts r)) (flows_all (rule_of sorts r) o u v t e f x)))
+    there o u (text v t e f x) = put _ (flow_there (record { from = o; to = u }) (flows_all (rule_of sorts r) o u v t e f x))
     there o u (call k i l c e h) =
         let (j, at, got) = child_got (rule_of sorts r) k c e in
         let (d, here, same) = got_unmap (child_of sorts) r.children j c got in
-        subst (λ (n : ℕ). Member (call_arc n i l) arcs) (sym at) (gained.there j i l d (slice_get_within r.children j d here) here (subst (λ (x : P.Child). Has io x.sort i l) same h))
+        put _ (inl (subst (λ (n : ℕ). Member (call_arc n i l) mid) (sym at)
+        (children.there (call_arc (suc j) i l) (j, d, slice_get_within r.children j d here, here, inr (i, l, (subst (λ (x : P.Child). Has io x.sort i l) same h, refl))))))
+
+    flow_only : (a : Arc) (f : Flow) → Member f (text_flows (rule_of sorts r)) → a ≡ arc_of f → (o : Occ) × (u : Occ) × IsPlace o × IsPlace u × Edge (rule_of sorts r) (Has io) o u × (a ≡ arc_of (record { from = o; to = u }))
+    flow_only a f m e =
+        let (v, t, g, h, x) = flows_only (rule_of sorts r) f m in
+        (f.from, f.to, entry_place (rule_of sorts r) v f.from few g, term_place (rule_of sorts r) t f.to few h, text v t g h x, e)
+
+    child_arc : (a : Arc) → IsOfChildren es io r.children (length r.children) a → (o : Occ) × (u : Occ) × IsPlace o × IsPlace u × Edge (rule_of sorts r) (Has io) o u × (a ≡ arc_of (record { from = o; to = u }))
+    child_arc a (k, c, lt, got, inl (f, m, e)) =
+        let at : suc k ≡ 1 + k = omega arith in
+        flow_only a f
+        (member_left f (child_flows es 1 (rule_of sorts r).children) last
+        (child_there es f (rule_of sorts r).children 1 k (child_of sorts c) (got_map (child_of sorts) r.children k c got) (subst (λ n. Member f (term_flows es n false 1 (map term_of c.args))) at m)))
+        e
+    child_arc a (k, c, lt, got, inr (i, l, q)) =
+        let edge : Edge (rule_of sorts r) (Has io) (inherited (suc k) i) (given (suc k) l) = call (suc k) i l (child_of sorts c) (got_map (child_of sorts) r.children k c got) q.0 in
+        let (from, to) = edge_places (rule_of sorts r) io (inherited (suc k) i) (given (suc k) l) few edge in
+        (inherited (suc k) i, given (suc k) l, from, to, edge, q.1)
 
     only : (a : Arc) → Member a arcs → (o : Occ) × (u : Occ) × IsPlace o × IsPlace u × Edge (rule_of sorts r) (Has io) o u × (a ≡ arc_of (record { from = o; to = u }))
-    only a m = elim (gained.only a m) [
-      | inl was ↦ (let (f, w, e) = member_unmap arc_of a (text_flows (rule_of sorts r)) (subst (λ (as' : List Arc). Member a as') first was) in
-          let (v, t, g, h, x) = flows_only (rule_of sorts r) f w in
-          (f.from, f.to, entry_place (rule_of sorts r) v f.from few g, term_place (rule_of sorts r) t f.to few h, text v t g h x, e))
-      | inr now ↦ (let (k, i, l, c, got, h, e) = now in
-          let edge : Edge (rule_of sorts r) (Has io) (inherited (suc k) i) (given (suc k) l) = call (suc k) i l (child_of sorts c) (got_map (child_of sorts) r.children k c got) h in
-          let (p, q) = edge_places (rule_of sorts r) io (inherited (suc k) i) (given (suc k) l) few edge in
-          (inherited (suc k) i, given (suc k) l, p, q, edge, e))
+    only a m = elim (member_split a mid (map arc_of last) (subst (λ (as' : List Arc). Member a as') results m)) [
+      | inl x ↦ elim (children.only a x) [ inl was ↦ never (subst (λ (as' : List Arc). Member a as') none was) | inr now ↦ child_arc a now ]
+      | inr y ↦ (let (f, w, e) = member_unmap arc_of a last y in flow_only a f (member_right f (child_flows es 1 (rule_of sorts r).children) last w) e)
     ]
+
+-- the same where the entries are given by an equation
+pub graph_from : (sorts : List Sort) (r : Rule) (io : Io) (es : List (Option Occ)) (arcs mid start : List Arc) → HasFew (rule_of sorts r) → es ≡ entries (rule_of sorts r) → start ≡ [] → Gains (IsOfChildren es io r.children (length r.children)) start mid →
+    arcs ≡ mid ++ map arc_of (term_flows es 0 true 1 (rule_of sorts r).results) → IsGraphOf (rule_of sorts r) (Has io) arcs
+graph_from sorts r io es arcs mid start few e none children results =
+    graph_of sorts r io arcs mid start few none
+    (subst (λ (x : List (Option Occ)). Gains (IsOfChildren x io r.children (length r.children)) start mid) e children)
+    (results ∙ ap (λ (x : List (Option Occ)). mid ++ map arc_of (term_flows x 0 true 1 (rule_of sorts r).results)) e)
 
 pub graph_within : (r : P.Rule) (rel : ℕ → ℕ → ℕ → Type 0) (arcs : List Arc) → IsGraphOf r rel arcs → IsWithin 144 arcs
 graph_within r rel arcs g a m =

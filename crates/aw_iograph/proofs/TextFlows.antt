@@ -48,7 +48,7 @@ term_there es f k b (x ∷ xs) n (suc i) t e m =
     member_right f (flows_to es (record { child = k; result = b; number = n }) (leaves x)) (term_flows es k b (suc n) xs)
     (term_there es f k b xs (suc n) i t e (subst (λ (z : ℕ). Member f (flows_to es (record { child = k; result = b; number = z }) (leaves t))) at m))
 
-child_there : (es : List (Option Occ)) (f : Flow) (cs : List Child) (n k : ℕ) (c : Child) → slice_get cs k ≡ Some c → Member f (term_flows es (n + k) false 1 c.args) → Member f (child_flows es n cs)
+pub child_there : (es : List (Option Occ)) (f : Flow) (cs : List Child) (n k : ℕ) (c : Child) → slice_get cs k ≡ Some c → Member f (term_flows es (n + k) false 1 c.args) → Member f (child_flows es n cs)
 child_there es f [] n k c e m = absurd cc
 child_there es f (x ∷ xs) n zero c e m =
     let same : c ≡ x = cc in let at : n + 0 ≡ n = omega arith in
@@ -129,7 +129,7 @@ term_only es k b (x ∷ xs) n f m = elim (member_split f (flows_to es (record { 
       let z : suc n + i ≡ n + suc i = omega arith in (suc i, t, v, g, w, e, p ∙ ap (λ (y : ℕ). record { child = k; result = b; number = y }) z))
 ]
 
-child_only : (es : List (Option Occ)) (cs : List Child) (n : ℕ) (f : Flow) → Member f (child_flows es n cs) → (k : ℕ) × (c : Child) × (slice_get cs k ≡ Some c) × Member f (term_flows es (n + k) false 1 c.args)
+pub child_only : (es : List (Option Occ)) (cs : List Child) (n : ℕ) (f : Flow) → Member f (child_flows es n cs) → (k : ℕ) × (c : Child) × (slice_get cs k ≡ Some c) × Member f (term_flows es (n + k) false 1 c.args)
 child_only es [] n f m = never m
 child_only es (x ∷ xs) n f m = elim (member_split f (term_flows es n false 1 x.args) (child_flows es (suc n) xs) m) [
   | inl a ↦ (let z : n ≡ n + 0 = omega arith in (0, x, refl, subst (λ (y : ℕ). Member f (term_flows es y false 1 x.args)) z a))

@@ -1,13 +1,14 @@
 -- Steps within a rule as arcs between the places of its occurrences.
-use Rattle.std.specs.Prelude.{◌≡◌, ℕ, suc, ◌<◌, ◌⊎◌, List, Some, slice_get}
+use Rattle.std.specs.Prelude.{◌≡◌, ℕ, suc, ◌<◌, false, ◌⊎◌, List, map, Option, Some, slice_get}
 use Rattle.aw_list.specs.Members.{Member}
 use Rattle.aw_term.specs.Rules.{Rule}
+use Rattle.aw_term.specs.Views.{term_of}
 use Rattle.aw_grammar.specs.declared.rule.Child.{Child}
 use Rattle.aw_iograph.specs.declared.reach.Arc.{Arc}
 use Rattle.aw_iograph.specs.declared.occ.Occ.{Occ}
 use Rattle.aw_iograph.specs.declared.occ.Flow.{Flow}
 use Rattle.aw_iograph.specs.declared.io.Io.{Io}
-use Rattle.aw_iograph.specs.Occurrences.{inherited, given, IsPlace, place_of}
+use Rattle.aw_iograph.specs.Occurrences.{inherited, given, IsPlace, place_of, term_flows}
 use Rattle.aw_iograph.specs.Dependence.{Edge}
 use Rattle.aw_iograph.specs.Pairs.{Has}
 
@@ -19,17 +20,31 @@ arc_of f = record { from = place_of f.from; to = place_of f.to }
 abbrev pub call_arc : ℕ → ℕ → ℕ → Arc
 call_arc k i l = arc_of (record { from = inherited k i; to = given k l })
 
--- a list gains the arcs of those pairs of a sort for which P holds, at child k
-pub record Gains (io : Io) (s k : ℕ) (P : ℕ → ℕ → Type 0) (old new : List Arc) : Type 0 where
+-- a list gains the arcs of a kind, and no other
+pub record Gains (P : Arc → Type 0) (old new : List Arc) : Type 0 where
   pub kept : (a : Arc) → Member a old → Member a new
-  pub there : (i l : ℕ) → P i l → Has io s i l → Member (call_arc k i l) new
-  pub only : (a : Arc) → Member a new → Member a old ⊎ ((i : ℕ) × (l : ℕ) × Has io s i l × (a ≡ call_arc k i l))
+  pub there : (a : Arc) → P a → Member a new
+  pub only : (a : Arc) → Member a new → Member a old ⊎ P a
 
--- a list gains the arcs of the first n children
-pub record GainsAll (io : Io) (children : List Child) (n : ℕ) (old new : List Arc) : Type 0 where
-  pub kept : (a : Arc) → Member a old → Member a new
-  pub there : (k i l : ℕ) (c : Child) → k < n → slice_get children k ≡ Some c → Has io c.sort i l → Member (call_arc (suc k) i l) new
-  pub only : (a : Arc) → Member a new → Member a old ⊎ ((k : ℕ) × (i : ℕ) × (l : ℕ) × (c : Child) × (slice_get children k ≡ Some c) × Has io c.sort i l × (a ≡ call_arc (suc k) i l))
+-- an arc of one of these flows
+abbrev pub IsFlow : List Flow → Arc → Type 0
+IsFlow flows a = (f : Flow) × Member f flows × (a ≡ arc_of f)
+
+-- at child k, the arc of this pair of its sort, where the relation has it
+abbrev pub IsCallOf : Io → ℕ → ℕ → ℕ → ℕ → Arc → Type 0
+IsCallOf io s k i l a = Has io s i l × (a ≡ call_arc k i l)
+
+-- at child k, an arc of a pair of its sort
+abbrev pub IsCall : Io → ℕ → ℕ → Arc → Type 0
+IsCall io s k a = (i : ℕ) × (l : ℕ) × IsCallOf io s k i l a
+
+-- an arc to an argument of child k, or of a pair of its sort
+abbrev pub IsOfChild : List (Option Occ) → Io → ℕ → Child → Arc → Type 0
+IsOfChild es io k c a = IsFlow (term_flows es k false 1 (map term_of c.args)) a ⊎ IsCall io c.sort k a
+
+-- such an arc of one of the first n children
+abbrev pub IsOfChildren : List (Option Occ) → Io → List Child → ℕ → Arc → Type 0
+IsOfChildren es io children n a = (k : ℕ) × (c : Child) × (k < n) × (slice_get children k ≡ Some c) × IsOfChild es io (suc k) c a
 
 -- the arcs are the steps of the rule, each between places
 pub record IsGraphOf (r : Rule) (rel : ℕ → ℕ → ℕ → Type 0) (arcs : List Arc) : Type 0 where

@@ -21,7 +21,7 @@ use std::alloc::{AllocError, Global};
 pub type RuleGraph = Items<Flow>;
 
 /// Where the variables of a rule enter, by their numbers. A parameter enters at no occurrence.
-type Entries = Items<Option<Occ>>;
+pub(crate) type Entries = Items<Option<Occ>>;
 
 /// The variables of a pattern enter at an occurrence.
 fn enter_pattern(pattern: &Pattern, at: Occ, entries: &mut Entries) -> Result<(), AllocError>
@@ -93,7 +93,7 @@ fn enter_children(g: &Grammar, children: &Children, entries: &mut Entries) -> Re
 }
 
 /// Where each variable of a rule enters.
-fn entries(alloc: Global, g: &Grammar, rule: &Rule) -> Result<Entries, AllocError>
+pub(crate) fn entries(alloc: Global, g: &Grammar, rule: &Rule) -> Result<Entries, AllocError>
     requires { IsSmall rule.now }
     ensures { IfOk result (λ es. es ≡ entries (rule_of g.now.sorts rule.now)) }
 {
@@ -149,7 +149,7 @@ fn flow_term(
 }
 
 /// To the inherited values or the results of a child, or of the left side, which have these terms.
-fn flow_terms(
+pub(crate) fn flow_terms(
     entries: &Entries,
     terms: &Terms,
     child: u8,

@@ -1,7 +1,7 @@
-use Rattle.std.proofs.Common.{map, ap, ◌∙◌}
-use Rattle.aw_iograph.specs.Arcs.{arc_of}
-use Rattle.aw_iograph.proofs.RuleGraphs.{graph_of}
+use Rattle.aw_iograph.proofs.RuleGraphs.{graph_from}
 use Rattle.aw_iograph.proofs.arcs.arcs_of.Goals as goal
 
 pub returns : goal.returns
-returns c = graph_of c.args.g.now.sorts c.args.rule.now c.args.io.now _ _ c.requires.few (c.in_ok-arcs.ensures ∙ ap (map arc_of) c.in_ok-graph.ensures) c.in_ok-add_all_calls.ensures
+returns c =
+    graph_from c.args.g.now.sorts c.args.rule.now c.args.io.now c.in_ok-entries.entries _ _ _ c.requires.few c.in_ok-entries.ensures c.in_ok-arcs.ensures.items
+    c.in_ok-add_children.ensures c.in_ok-add_results.ensures
