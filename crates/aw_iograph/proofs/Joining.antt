@@ -1,5 +1,5 @@
 -- Rows of bits that are joined over arcs.
-use Rattle.std.proofs.Common.{◌≡◌, ◌≢◌, ℕ, zero, suc, ◌+◌, ◌^◌, ◌<◌, max, Bool, true, false, List, [], ◌∷◌, length, Some, slice_get, slice_set, slice_index, refl, sym, ap, ◌∙◌, subst, inl, inr, get_or, arith}
+use Rattle.std.proofs.Common.{◌≡◌, ◌≢◌, ℕ, zero, suc, ◌+◌, ◌^◌, ◌<◌, ◌≤◌, max, Bool, true, false, List, [], ◌∷◌, length, Some, slice_get, slice_set, slice_index, refl, sym, ap, ◌∙◌, subst, inl, inr, get_or, arith}
 use Rattle.std.specs.Prelude.{◌⊎◌, ◌||◌, ◌*◌, ◌%◌, bit_or, bit_and, nat_eq, IsTrue, replicate, not}
 use Rattle.std.specs.Int.{bit_at}
 use Rattle.std.proofs.lemmas.Bool.{or_parts}
@@ -8,10 +8,12 @@ use Rattle.std.proofs.lemmas.Nat.{le_or_l, or_lt, one_shl, pow_pos}
 use Rattle.std.proofs.lemmas.Grind.{get_or_default_zero}
 use Rattle.std.proofs.lemmas.List.{get_or-set_same, get_or-set_other, length-set}
 use Rattle.aw_list.specs.Members.{Member}
-use Rattle.aw_list.proofs.Members.{member_at, member_place, each_more}
+use Rattle.aw_list.proofs.Members.{member_got, member_place, below_or_at}
 use Rattle.aw_iograph.specs.declared.reach.Arc.{Arc}
 use Rattle.aw_iograph.specs.Graphs.{Plus, step, more, Arrow}
-use Rattle.aw_iograph.specs.Rows.{HasBit, IsIn, HaveGrown, AreLed, IsJoined, AreJoined, room}
+use Rattle.aw_iograph.specs.Growth.{Marked}
+use Rattle.aw_iograph.specs.Rows.{HasBit, IsIn, ArrowOf, LeadsBy, AreLed, IsJoined, Joins, room}
+use Rattle.aw_iograph.proofs.Marking.{set_length, set_kept}
 use Rattle.aw_iograph.proofs.Reaching.{join}
 
 -- a bit of two numbers that are joined is one of the first or of the second
@@ -65,13 +67,8 @@ module _ (rows : List ℕ) (at row other : ℕ) (within : at < length rows) (her
   pub row_there : (i : ℕ) → HasBit other i → IsIn (slice_set rows at (bit_or row other)) at i
   row_there i e = subst (λ n. HasBit n i) (sym joined_here) (or_right row other i e)
 
-  pub row_grown : row < 256 → other < 256 → bit_or row other ≢ row → HaveGrown rows (slice_set rows at (bit_or row other)) true
-  row_grown few small apart = record {
-    size = length-set rows at (bit_or row other);
-    kept = row_kept;
-    same = λ off. cc;
-    less = λ on. room_less rows at (bit_or row other) within (let le = le_or_l row other in omega arith) (or_lt 8 row other few small);
-  }
+  pub row_less : row < 256 → other < 256 → bit_or row other ≢ row → room (slice_set rows at (bit_or row other)) < room rows
+  row_less few small apart = room_less rows at (bit_or row other) within (let le = le_or_l row other in omega arith) (or_lt 8 row other few small)
 
 -- the test `row & 1 << place`
 bit_by : (x d p : ℕ) → d < 2 → 0 < p → x ≡ d * p → (IsTrue (not (nat_eq x 0)) → d ≡ 1) × (d ≡ 1 → IsTrue (not (nat_eq x 0)))
@@ -148,49 +145,170 @@ module _ (rows : List ℕ) (from at row other : ℕ) (from_in : from < length ro
     | inr new ↦ row_there rows at row other at_in row_at i (subst (λ n. HasBit n i) (sym other_at) new.1)
   ]
 
-  pub joined_grown : row < 256 → other < 256 → bit_or row other ≢ row → HaveGrown rows (slice_set rows at (bit_or row other)) true
-  joined_grown few small apart = row_grown rows at row other at_in row_at few small apart
+  pub joined_kept : (v i : ℕ) → IsIn rows v i → IsIn (slice_set rows at (bit_or row other)) v i
+  joined_kept = row_kept rows at row other at_in row_at
 
--- where each bit is an old one or was joined over an arc, each is of a place that leads there
-pub led_more : (arcs : List Arc) (rows next : List ℕ) (arc : Arc) → Member arc arcs → AreLed arcs rows →
-    ((v i : ℕ) → IsIn next v i → IsIn rows v i ⊎ ((v ≡ arc.to) × IsIn rows arc.from i)) → AreLed arcs next
-led_more arcs rows next arc m led only v i on = elim (only v i on) [
-  | inl was ↦ led v i was
-  | inr how ↦ inr (subst (λ u. Plus (Arrow arcs) i u) (sym how.0) (elim (led arc.from i how.1) [
-    | inl first ↦ subst (λ u. Plus (Arrow arcs) u arc.to) (sym first) (step m)
-    | inr was ↦ join was (step m)
-  ]))
-]
+  pub joined_less : row < 256 → other < 256 → bit_or row other ≢ row → room (slice_set rows at (bit_or row other)) < room rows
+  joined_less few small apart = row_less rows at row other at_in row_at few small apart
 
-pub grown_twice : (a b c : List ℕ) (x y z : Bool) → z ≡ (y || x) → HaveGrown a b x → HaveGrown b c y → HaveGrown a c z
-grown_twice a b c true true z e p q = record { size = q.size ∙ p.size; kept = λ v i m. q.kept v i (p.kept v i m); same = λ off. cc; less = λ on. let one = p.less refl in let two = q.less refl in omega arith }
-grown_twice a b c true false z e p q = record { size = q.size ∙ p.size; kept = λ v i m. q.kept v i (p.kept v i m); same = λ off. cc; less = λ on. subst (λ (m : List ℕ). room m < room a) (sym (q.same refl)) (p.less refl) }
-grown_twice a b c false true z e p q = record { size = q.size ∙ p.size; kept = λ v i m. q.kept v i (p.kept v i m); same = λ off. cc; less = λ on. subst (λ (m : List ℕ). room c < room m) (p.same refl) (q.less refl) }
-grown_twice a b c false false z e p q = record { size = q.size ∙ p.size; kept = λ v i m. q.kept v i (p.kept v i m); same = λ off. q.same refl ∙ p.same refl; less = λ on. cc }
+plus_by : (P Q : Arc → Type 0) → ((x : Arc) → P x → Q x) → {a b : ℕ} → Plus (ArrowOf P) a b → Plus (ArrowOf Q) a b
+plus_by P Q f (step e) = step (f _ e)
+plus_by P Q f (more e w) = more (f _ e) (plus_by P Q f w)
 
--- rows were joined over the first arcs
-pub record Joined (arcs : List Arc) (start rows : List ℕ) (changed : Bool) (n : ℕ) : Type 0 where
-  pub grown : HaveGrown start rows changed
-  pub led : AreLed arcs rows
-  pub joined : changed ≡ false → (k : ℕ) → k < n → (arc : Arc) → slice_get arcs k ≡ Some arc → IsJoined rows arc
+leads_by : (P Q : Arc → Type 0) → ((x : Arc) → P x → Q x) → (u v : ℕ) → LeadsBy P u v → LeadsBy Q u v
+leads_by P Q f u v leads = elim leads [ inl same ↦ inl same | inr w ↦ inr (plus_by P Q f w) ]
 
-pub join_step : (arcs : List Arc) (n : ℕ) (d : Arc) (start rows next : List ℕ) (before one both : Bool) → n < length arcs → both ≡ (one || before) →
-    Joined arcs start rows before n → HaveGrown rows next one → IsJoined next (get_or arcs n d) →
-    ((v i : ℕ) → IsIn next v i → IsIn rows v i ⊎ ((v ≡ (get_or arcs n d).to) × IsIn rows (get_or arcs n d).from i)) →
-    Joined arcs start next both (n + 1)
-join_step arcs n d start rows next before one both lt e s grown here only = record {
-  grown = grown_twice start rows next before one both e s.grown grown;
-  led = led_more arcs rows next (get_or arcs n d) (member_at arcs n d lt) s.led only;
-  joined = λ off.
-      let (calm, first) = or_parts one before (sym e ∙ off) in
-      each_more (IsJoined next) arcs n d
-      (subst (λ (rs : List ℕ). (k : ℕ) → k < n → (arc : Arc) → slice_get arcs k ≡ Some arc → IsJoined rs arc) (sym (grown.same calm)) (s.joined first)) here;
+leads_on : (P : Arc → Type 0) (u v w : ℕ) → LeadsBy P u v → LeadsBy P v w → LeadsBy P u w
+leads_on P u v w (inl e) leads = subst (λ n. LeadsBy P n w) (sym e) leads
+leads_on P u v w (inr a) (inl e) = inr (subst (λ n. Plus (ArrowOf P) u n) e a)
+leads_on P u v w (inr a) (inr b) = inr (join a b)
+
+-- no arc is of the kind
+pub joins_none : (P : Arc → Type 0) (rows : List ℕ) (marks : List Bool) → ((a : Arc) → P a → ⊥) → Joins P rows rows marks marks false
+joins_none P rows marks none = record {
+  size = refl;
+  places = refl;
+  kept = λ v i on. on;
+  read = λ v on. on;
+  most = omega arith;
+  less = λ on. cc;
+  still = λ off a j m. j;
+  joined = λ off a p. absurd (none a p);
+  only = λ v i on. (v, on, inl refl);
 }
 
-pub join_all : (arcs : List Arc) (n : ℕ) (rows : List ℕ) → length arcs ≡ n → ((k : ℕ) → k < n → (arc : Arc) → slice_get arcs k ≡ Some arc → IsJoined rows arc) → AreJoined arcs rows
-join_all arcs n rows e all arc m = let (k, lt, got) = member_place arcs arc m in all k (subst (λ m. k < m) e lt) arc got
+-- first one kind, and then another
+pub joins_both : (P Q R : Arc → Type 0) (a b c : List ℕ) (x y z : List Bool) (one two both : Bool) → both ≡ (two || one) → Joins P a b x y one → Joins Q b c y z two →
+    ((e : Arc) → R e → P e ⊎ Q e) → ((e : Arc) → P e → R e) → ((e : Arc) → Q e → R e) → Joins R a c x z both
+joins_both P Q R a b c x y z one two both e first then split left right = record {
+  size = then.size ∙ first.size;
+  places = then.places ∙ first.places;
+  kept = λ v i on. then.kept v i (first.kept v i on);
+  read = λ v on. then.read v (first.read v on);
+  most = (let m = first.most in let n = then.most in omega arith);
+  less = λ on. fewer one two (sym e ∙ on) first.less then.less;
+  still = λ off arc j m. (let (calm, before) = or_parts two one (sym e ∙ off) in then.still calm arc (first.still before arc j m) (first.read arc.from m));
+  joined = λ off arc r.
+      let (calm, before) = or_parts two one (sym e ∙ off) in
+      elim (split arc r) [
+        | inl p ↦ (let (j, m) = first.joined before arc p in (then.still calm arc j m, then.read arc.from m))
+        | inr q ↦ then.joined calm arc q
+      ];
+  only = λ v i on.
+      let (u, was, leads) = then.only v i on in
+      let (w, start, leads') = first.only u i was in
+      (w, start, leads_on R w u v (leads_by P R left w u leads') (leads_by Q R right u v leads));
+}
+  where
+    fewer : (one' two' : Bool) → (two' || one') ≡ true → (one' ≡ true → room b < room a) → (two' ≡ true → room c < room b) → room c < room a
+    fewer true true on f g = let m = f refl in let n = then.most in omega arith
+    fewer true false on f g = let m = f refl in let n = then.most in omega arith
+    fewer false true on f g = let m = g refl in let n = first.most in omega arith
+    fewer false false on f g = cc
+
+-- the same kind in other words
+pub joins_as : (P Q : Arc → Type 0) (a b : List ℕ) (x y : List Bool) (again : Bool) → ((e : Arc) → P e → Q e) → ((e : Arc) → Q e → P e) → Joins P a b x y again → Joins Q a b x y again
+joins_as P Q a b x y again to from all = record {
+  size = all.size;
+  places = all.places;
+  kept = all.kept;
+  read = all.read;
+  most = all.most;
+  less = all.less;
+  still = all.still;
+  joined = λ off arc q. all.joined off arc (from arc q);
+  only = λ v i on. (let (u, was, leads) = all.only v i on in (u, was, leads_by P Q to u v leads));
+}
+
+marked_here : (marks : List Bool) (at : ℕ) → at < length marks → Marked (slice_set marks at true) at
+marked_here [] at lt = absurd (omega arith)
+marked_here (m ∷ ms) zero lt = refl
+marked_here (m ∷ ms) (suc at) lt = let below : at < length ms = omega arith in marked_here ms at below
+
+marked_got : (marks : List Bool) (at : ℕ) (d : Bool) → Marked marks at → get_or marks at d ≡ true
+marked_got [] at d e = absurd cc
+marked_got (m ∷ ms) zero d e = let same : m ≡ true = cc in same
+marked_got (m ∷ ms) (suc at) d e = marked_got ms at d e
+
+-- an arc that is joined already
+pub joins_same : (rows : List ℕ) (marks : List Bool) (arc : Arc) → arc.from < length marks → IsJoined rows arc → Joins (λ a. a ≡ arc) rows rows marks (slice_set marks arc.from true) false
+joins_same rows marks arc lt j = record {
+  size = refl;
+  places = set_length marks arc.from;
+  kept = λ v i on. on;
+  read = λ v on. set_kept marks arc.from v on;
+  most = omega arith;
+  less = λ on. cc;
+  still = λ off a k m. k;
+  joined = λ off a e. (subst (λ (x : Arc). IsJoined rows x) (sym e) j, subst (λ (x : Arc). Marked (slice_set marks arc.from true) x.from) (sym e) (marked_here marks arc.from lt));
+  only = λ v i on. (v, on, inl refl);
+}
+
+-- an arc over which a row grew
+pub joins_grown : (rows next : List ℕ) (marks : List Bool) (arc : Arc) (again : Bool) → arc.from < length marks → length next ≡ length rows → again ≡ get_or (slice_set marks arc.from true) arc.to again →
+    ((v i : ℕ) → IsIn rows v i → IsIn next v i) → room next < room rows → IsJoined next arc →
+    ((v i : ℕ) → IsIn next v i → IsIn rows v i ⊎ ((v ≡ arc.to) × IsIn rows arc.from i)) → Joins (λ a. a ≡ arc) rows next marks (slice_set marks arc.from true) again
+joins_grown rows next marks arc again lt size here kept less j only = record {
+  size = size;
+  places = set_length marks arc.from;
+  kept = kept;
+  read = λ v on. set_kept marks arc.from v on;
+  most = omega arith;
+  less = λ on. less;
+  still = λ off a k m i on. elim (only a.from i on) [
+    | inl was ↦ kept a.to i (k i was)
+    | inr how ↦ (let seen : again ≡ true = here ∙ marked_got (slice_set marks arc.from true) arc.to again (subst (λ n. Marked (slice_set marks arc.from true) n) how.0 (set_kept marks arc.from a.from m)) in
+        let never' : true ≡ false = sym seen ∙ off in absurd cc)
+  ];
+  joined = λ off a e. (subst (λ (x : Arc). IsJoined next x) (sym e) j, subst (λ (x : Arc). Marked (slice_set marks arc.from true) x.from) (sym e) (marked_here marks arc.from lt));
+  only = λ v i on. elim (only v i on) [
+    | inl was ↦ (v, was, inl refl)
+    | inr how ↦ (arc.from, how.1, inr (subst (λ n. Plus (ArrowOf (λ a. a ≡ arc)) arc.from n) (sym how.0) (step refl)))
+  ];
+}
+
+-- an arc that stands among the first n
+abbrev pub IsAmong : List Arc → ℕ → Arc → Type 0
+IsAmong arcs n a = (k : ℕ) × (k < n) × (slice_get arcs k ≡ Some a)
+
+-- before the first there is none
+pub none_among : (arcs : List Arc) (rows : List ℕ) (marks : List Bool) → Joins (IsAmong arcs 0) rows rows marks marks false
+none_among arcs rows marks = joins_none (IsAmong arcs 0) rows marks (λ a (k, lt, got). omega arith)
+
+got_at : (xs : List Arc) (n : ℕ) (d : Arc) → n < length xs → slice_get xs n ≡ Some (get_or xs n d)
+got_at [] n d lt = absurd (omega arith)
+got_at (x ∷ xs) zero d lt = refl
+got_at (x ∷ xs) (suc n) d lt = let below : n < length xs = omega arith in got_at xs n d below
+
+-- one more arc
+pub joins_next : (arcs : List Arc) (n : ℕ) (d : Arc) (a b c : List ℕ) (x y z : List Bool) (one two both : Bool) → n < length arcs → both ≡ (two || one) → Joins (IsAmong arcs n) a b x y one → Joins (λ e. e ≡ get_or arcs n d) b c y z two → Joins (IsAmong arcs (n + 1)) a c x z both
+joins_next arcs n d a b c x y z one two both lt e first then = joins_both (IsAmong arcs n) (λ e. e ≡ get_or arcs n d) (IsAmong arcs (n + 1)) a b c x y z one two both e first then split left right
+  where
+    here : slice_get arcs n ≡ Some (get_or arcs n d)
+    here = got_at arcs n d lt
+
+    split : (e : Arc) → IsAmong arcs (n + 1) e → IsAmong arcs n e ⊎ (e ≡ get_or arcs n d)
+    split e (k, below, got) = elim (below_or_at k n below) [
+      | inl less ↦ inl (k, less, got)
+      | inr same ↦ (let what : Some e ≡ Some (get_or arcs n d) = sym got ∙ ap (slice_get arcs) same ∙ here in let one' : e ≡ get_or arcs n d = cc in inr one')
+    ]
+
+    left : (e : Arc) → IsAmong arcs n e → IsAmong arcs (n + 1) e
+    left e (k, below, got) = (k, omega arith, got)
+
+    right : (e : Arc) → e ≡ get_or arcs n d → IsAmong arcs (n + 1) e
+    right e same = (n, omega arith, here ∙ ap Some (sym same))
+
+-- each arc stands among all
+pub joins_all : (arcs : List Arc) (n : ℕ) (a b : List ℕ) (x y : List Bool) (again : Bool) → length arcs ≤ n → Joins (IsAmong arcs n) a b x y again → Joins (λ e. Member e arcs) a b x y again
+joins_all arcs n a b x y again le all = joins_as (IsAmong arcs n) (λ e. Member e arcs) a b x y again (λ e (k, lt, got). member_got arcs k e got) (λ e m. let (k, lt, got) = member_place arcs e m in (k, omega arith, got)) all
+
+-- rows that are led still are once they were joined
+pub led_next : (arcs : List Arc) (rows next : List ℕ) (x y : List Bool) (again : Bool) → AreLed arcs rows → Joins (λ e. Member e arcs) rows next x y again → AreLed arcs next
+led_next arcs rows next x y again led all v i on =
+    let (u, was, leads) = all.only v i on in leads_on (λ e. Member e arcs) i u v (led u i was) leads
 
 -- rows that are joined over each arc have all that leads to them
-pub all_led : (arcs : List Arc) (rows : List ℕ) → AreJoined arcs rows → (i : ℕ) → {a b : ℕ} → IsIn rows a i → Plus (Arrow arcs) a b → IsIn rows b i
+pub all_led : (arcs : List Arc) (rows : List ℕ) → ((a : Arc) → Member a arcs → IsJoined rows a) → (i : ℕ) → {a b : ℕ} → IsIn rows a i → Plus (Arrow arcs) a b → IsIn rows b i
 all_led arcs rows joined i on (step e) = joined _ e i on
 all_led arcs rows joined i on (more e w) = all_led arcs rows joined i (joined _ e i on) w

@@ -1,9 +1,9 @@
 -- Rows of bits: at each place of a rule, which of the first eight places reach it. Those are the inherited values of the left side.
-use Rattle.std.specs.Prelude.{◌≡◌, ℕ, ◌+◌, ◌-◌, ◌<◌, Bool, true, false, List, [], ◌∷◌, ◌⊎◌, length, slice_index}
+use Rattle.std.specs.Prelude.{◌≡◌, ℕ, ◌+◌, ◌-◌, ◌<◌, ◌≤◌, Bool, true, false, List, [], ◌∷◌, ◌⊎◌, length, slice_index}
 use Rattle.std.specs.Int.{bit_at}
-use Rattle.aw_list.specs.Members.{Member}
 use Rattle.aw_iograph.specs.declared.reach.Arc.{Arc}
 use Rattle.aw_iograph.specs.Graphs.{Plus, Arrow}
+use Rattle.aw_iograph.specs.Growth.{Marked}
 
 -- a row has the bit of place i
 abbrev pub HasBit : ℕ → ℕ → Type 0
@@ -18,12 +18,13 @@ abbrev pub room : List ℕ → ℕ
 room [] = 0
 room (row ∷ rows) = (255 - row) + room rows
 
--- each bit that was set is still set; where no row grew the rows are the same, and else there is less room
-pub record HaveGrown (old new : List ℕ) (changed : Bool) : Type 0 where
-  pub size : length new ≡ length old
-  pub kept : (v i : ℕ) → IsIn old v i → IsIn new v i
-  pub same : changed ≡ false → new ≡ old
-  pub less : changed ≡ true → room new < room old
+-- an arc of a kind
+abbrev pub ArrowOf : (Arc → Type 0) → ℕ → ℕ → Type 0
+ArrowOf P a b = P (record { from = a; to = b })
+
+-- one place is another, or reaches it over arcs of a kind
+abbrev pub LeadsBy : (Arc → Type 0) → ℕ → ℕ → Type 0
+LeadsBy P u v = (u ≡ v) ⊎ Plus (ArrowOf P) u v
 
 -- one place is another, or reaches it
 abbrev pub Leads : List Arc → ℕ → ℕ → Type 0
@@ -37,6 +38,16 @@ AreLed arcs rows = (v i : ℕ) → IsIn rows v i → Leads arcs i v
 abbrev pub IsJoined : List ℕ → Arc → Type 0
 IsJoined rows arc = (i : ℕ) → IsIn rows arc.from i → IsIn rows arc.to i
 
--- no arc leads out of the rows
-abbrev pub AreJoined : List Arc → List ℕ → Type 0
-AreJoined arcs rows = (arc : Arc) → Member arc arcs → IsJoined rows arc
+-- Rows were joined over the arcs of a kind, and the rows that were read are marked.
+-- No row lost a bit, and each bit that a row gained came over such arcs.
+-- Where it is not to be done again no row grew that had been read, so the arcs before and those of the kind are joined; else there is less room.
+pub record Joins (P : Arc → Type 0) (old new : List ℕ) (before after : List Bool) (again : Bool) : Type 0 where
+  pub size : length new ≡ length old
+  pub places : length after ≡ length before
+  pub kept : (v i : ℕ) → IsIn old v i → IsIn new v i
+  pub read : (v : ℕ) → Marked before v → Marked after v
+  pub most : room new ≤ room old
+  pub less : again ≡ true → room new < room old
+  pub still : again ≡ false → (a : Arc) → IsJoined old a → Marked before a.from → IsJoined new a
+  pub joined : again ≡ false → (a : Arc) → P a → IsJoined new a × Marked after a.from
+  pub only : (v i : ℕ) → IsIn new v i → (u : ℕ) × IsIn old u i × LeadsBy P u v

@@ -151,8 +151,8 @@ fn add_results(
 
 /// The arcs of a rule: of its text, and at each child those of the relation.
 ///
-/// They stand child by child, and those to the results come last. So where children take only what comes before them, a row
-/// is whole before an arc leads out of it, and rows are joined over all arcs once, and once more to see that none grew.
+/// They stand child by child, and those to the results come last. So where children take only what comes before them, no arc
+/// leads to a place from which an earlier one leads out.
 pub(crate) fn arcs_of(
     alloc: Global,
     g: &Grammar,

@@ -23,6 +23,9 @@ pub type RuleGraph = Items<Flow>;
 /// Where the variables of a rule enter, by their numbers. A parameter enters at no occurrence.
 pub(crate) type Entries = Items<Option<Occ>>;
 
+/// Memory is taken at once for so many variables of a rule, which is enough for most.
+const ENTRIES: usize = 64;
+
 /// The variables of a pattern enter at an occurrence.
 fn enter_pattern(pattern: &Pattern, at: Occ, entries: &mut Entries) -> Result<(), AllocError>
     ensures { OnOk result (entries.new ≡ entries.old ++ map (λ v. Some at) (leaves (pattern_of pattern.now))) }
@@ -97,7 +100,7 @@ pub(crate) fn entries(alloc: Global, g: &Grammar, rule: &Rule) -> Result<Entries
     requires { IsSmall rule.now }
     ensures { IfOk result (λ es. es ≡ entries (rule_of g.now.sorts rule.now)) }
 {
-    let mut entries = Items::new(alloc);
+    let mut entries = Items::from_vec(Vec::with_capacity(alloc, ENTRIES)?);
     enter_patterns(&rule.patterns, &mut entries)?;
     enter_params(rule.params, &mut entries)?;
     enter_children(g, &rule.children, &mut entries)?;

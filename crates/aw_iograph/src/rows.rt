@@ -1,7 +1,8 @@
 //! Which inherited values of a rule's left side reach each of its places, joined as rows of bits.
-ghost use Rattle.std.specs.Prelude.{◌≡◌, ◌<◌, ◌↔◌, ◌⊎◌, ℕ, length, false, IfOk, IsTrue};
+ghost use Rattle.std.specs.Prelude.{◌≡◌, ◌<◌, ◌↔◌, ℕ, length, IfOk, IsTrue};
+ghost use Rattle.aw_list.specs.Members.{Member};
 ghost use Rattle.aw_iograph.specs.Graphs.{IsWithin};
-ghost use Rattle.aw_iograph.specs.Rows.{HasBit, IsIn, HaveGrown, Leads, AreLed, IsJoined, AreJoined};
+ghost use Rattle.aw_iograph.specs.Rows.{HasBit, IsIn, Leads, AreLed, Joins};
 
 use crate::reach::Arc;
 use std::alloc::{AllocError, Global};
@@ -17,38 +18,36 @@ pub(crate) fn has_bit(row: u8, place: u8) -> bool
     row & (1 << place) != 0
 }
 
-/// Joins the row where an arc begins into the one where it ends, and says whether that one grew.
-fn join_row(arc: Arc, rows: &mut Vec<u8>) -> bool
+/// Joins the row where an arc begins into the one where it ends, and says whether that one grew after it had been read.
+fn join_row(arc: Arc, rows: &mut Vec<u8>, read: &mut Vec<bool>) -> bool
     requires from_in { arc.from < length rows.old.items }
     requires to_in { arc.to < length rows.old.items }
-    ensures grown { HaveGrown rows.old.items rows.new.items result }
-    ensures joined { IsJoined rows.new.items arc }
-    ensures only { (v i : ℕ) → IsIn rows.new.items v i → IsIn rows.old.items v i ⊎ ((v ≡ arc.to) × IsIn rows.old.items arc.from i) }
+    requires places { length read.old.items ≡ length rows.old.items }
+    ensures { Joins (λ a. a ≡ arc) rows.old.items rows.new.items read.old.items read.new.items result }
 {
+    read[arc.from] = true;
     let row = rows[arc.to];
     let joined = row | rows[arc.from];
     if joined == row {
         return false;
     }
     rows[arc.to] = joined;
-    true
+    read[arc.to]
 }
 
-/// Joins rows over each arc once, and says whether one grew.
-fn join_rows(arcs: &[Arc], rows: &mut Vec<u8>) -> bool
+/// Joins rows over each arc once, and says whether it is to be done again: whether a row grew after it had been read.
+fn join_rows(arcs: &[Arc], rows: &mut Vec<u8>, read: &mut Vec<bool>) -> bool
     requires within { IsWithin (length rows.old.items) arcs.now }
-    requires led { AreLed arcs.now rows.old.items }
-    ensures grown { HaveGrown rows.old.items rows.new.items result }
-    ensures led { AreLed arcs.now rows.new.items }
-    ensures joined { result ≡ false → AreJoined arcs.now rows.new.items }
+    requires places { length read.old.items ≡ length rows.old.items }
+    ensures { Joins (λ a. Member a arcs.now) rows.old.items rows.new.items read.old.items read.new.items result }
 {
-    let mut grown = false;
+    let mut again = false;
     for arc in arcs {
-        if join_row(*arc, rows) {
-            grown = true;
+        if join_row(*arc, rows, read) {
+            again = true;
         }
     }
-    grown
+    again
 }
 
 /// The rows in which each of the first eight places leads to itself alone.
@@ -65,6 +64,8 @@ fn first_rows(alloc: Global) -> Result<Vec<u8>, AllocError>
 }
 
 /// Which of the first eight places lead to each place over arcs.
+///
+/// Where no arc leads to a place from which an earlier one leads out, rows are joined over all arcs just once.
 pub(crate) fn rows_of(alloc: Global, arcs: &[Arc]) -> Result<Vec<u8>, AllocError>
     requires { IsWithin 144 arcs.now }
     ensures size { IfOk result (λ rows. length rows.items ≡ 144) }
@@ -72,6 +73,7 @@ pub(crate) fn rows_of(alloc: Global, arcs: &[Arc]) -> Result<Vec<u8>, AllocError
     ensures all { IfOk result (λ rows. (v i : ℕ) → i < 8 → Leads arcs.now i v → IsIn rows.items v i) }
 {
     let mut rows = first_rows(alloc)?;
-    while join_rows(arcs, &mut rows) {}
+    let mut read = vec![in alloc; false; PLACES]?;
+    while join_rows(arcs, &mut rows, &mut read) {}
     Ok(rows)
 }

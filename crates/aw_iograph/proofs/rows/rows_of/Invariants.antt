@@ -6,6 +6,7 @@ abbrev pub invariant-loop : goal.invariant-loop
 invariant-loop l =
     record {
       size : length l.rows.items ≡ 144;
+      places : length l.read.items ≡ 144;
       start : (i : ℕ) → i < 8 → IsIn l.rows.items i i;
       led : AreLed l.arcs l.rows.items;
     }
