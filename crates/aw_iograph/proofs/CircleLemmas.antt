@@ -20,16 +20,16 @@ pub rising_none : (arcs : List Arc) (ranks : List ℕ) → ((arc : Arc) → Memb
 rising_none arcs ranks all v w = let x : slice_index ranks v < slice_index ranks v = rises (Arrow arcs) (slice_index ranks) (λ a b m. all _ m) w in omega arith
 
 pub no_circle : (r : P.Rule) (rel : ℕ → ℕ → ℕ → Type 0) (arcs : List Arc) → IsGraphOf r rel arcs → FirstCircle arcs None → LeastOnCircle rel r None
-no_circle r rel arcs g none o w = absurd (none (place_of o) (place_below o (circle_place r rel arcs g w)) (walk_arcs r rel arcs g w))
+no_circle r rel arcs g none o w = absurd (none (place_of o) (place_below o (circle_place r rel (λ a. Member a arcs) g w)) (walk_arcs r rel (λ a. Member a arcs) g w))
 
 pub least_circle : (r : P.Rule) (rel : ℕ → ℕ → ℕ → Type 0) (arcs : List Arc) → IsGraphOf r rel arcs → (v : ℕ) (o : Occ) → place_of o ≡ v → IsPlace o → FirstCircle arcs (Some v) → LeastOnCircle rel r (Some o)
 least_circle r rel arcs g v o at p first = (
-  arcs_walk r rel arcs g o o p p (subst (λ x. Plus (Arrow arcs) x x) (sym at) first.1),
-  λ u w. let q = circle_place r rel arcs g w in place_order o u p q (not_before u w (cases_lt (place_of u) (place_of o))),
+  arcs_walk r rel (λ a. Member a arcs) g o o p p (subst (λ x. Plus (Arrow arcs) x x) (sym at) first.1),
+  λ u w. let q = circle_place r rel (λ a. Member a arcs) g w in place_order o u p q (not_before u w (cases_lt (place_of u) (place_of o))),
 )
   where
     not_before : (u : Occ) → IsOnCircle rel r u → (place_of u < place_of o) ⊎ (place_of o ≤ place_of u) → place_of o ≤ place_of u
-    not_before u w (inl less) = absurd (first.2 (place_of u) (subst (λ x. place_of u < x) at less) (walk_arcs r rel arcs g w))
+    not_before u w (inl less) = absurd (first.2 (place_of u) (subst (λ x. place_of u < x) at less) (walk_arcs r rel (λ a. Member a arcs) g w))
     not_before u w (inr le) = le
 
 -- the same where the arcs and the rule are given by equations

@@ -42,10 +42,10 @@ gain_one io s k i l old new a has arc step = gain_added (IsCallOf io s k i l) ol
 
 -- the arc of a pair by its number
 pub pair_arc : (m k n : ℕ) → m ≡ k → record { from = m * 16 + n / 8; to = m * 16 + 8 + n % 8 } ≡ call_arc k (n / 8 + 1) (n % 8 + 1)
-pair_arc m k n same =
-    let from : m * 16 + n / 8 ≡ k * 16 + (0 + (n / 8 + 1 - 1)) = omega arith in
-    let to : m * 16 + 8 + n % 8 ≡ k * 16 + (8 + (n % 8 + 1 - 1)) = omega arith in
-    ap (λ (x : ℕ). record { from = x; to = m * 16 + 8 + n % 8 }) from ∙ ap (λ (x : ℕ). record { from = k * 16 + (0 + (n / 8 + 1 - 1)); to = x }) to
+pair_arc m k n same = same_arc (m * 16 + n / 8) (k * 16 + (0 + (n / 8 + 1 - 1))) (m * 16 + 8 + n % 8) (k * 16 + (8 + (n % 8 + 1 - 1))) (omega arith) (omega arith)
+  where
+    same_arc : (a b c d : ℕ) → a ≡ b → c ≡ d → ◌≡◌ {A = Arc} (record { from = a; to = c }) (record { from = b; to = d })
+    same_arc a b c d e f = cc
 
 take_none : {A : Type 0} (xs : List A) → take 0 xs ≡ []
 take_none [] = refl
@@ -77,33 +77,42 @@ before_more n i l p = elim (below_or_at ((i - 1) * 8 + (l - 1)) n p.before) [
 abbrev pub IsEarly : Io → ℕ → ℕ → ℕ → Arc → Type 0
 IsEarly io s k n a = (i : ℕ) × (l : ℕ) × IsBefore n i l × IsCallOf io s k i l a
 
+-- a pair before the next one is that one, or comes before it
+pub early_split : (io : Io) (s k n : ℕ) (x : Arc) → IsEarly io s k (n + 1) x → IsEarly io s k n x ⊎ IsCallOf io s k (n / 8 + 1) (n % 8 + 1) x
+early_split io s k n x (i, l, p, q) = elim (before_more n i l p) [
+  | inl less ↦ inl (i, l, less, q)
+  | inr at ↦ inr (subst (λ j. IsCallOf io s k j (n % 8 + 1) x) at.0 (subst (λ j. IsCallOf io s k i j x) at.1 q))
+]
+
+pub early_left : (io : Io) (s k n : ℕ) (x : Arc) → IsEarly io s k n x → IsEarly io s k (n + 1) x
+early_left io s k n x (i, l, p, q) = let less = p.before in (i, l, record { inherited = p.inherited; result = p.result; before = omega arith }, q)
+
+pub early_right : (io : Io) (s k n : ℕ) (x : Arc) → IsCallOf io s k (n / 8 + 1) (n % 8 + 1) x → IsEarly io s k (n + 1) x
+early_right io s k n x q = (n / 8 + 1, n % 8 + 1, record { inherited = q.0.inherited; result = q.0.result; before = omega arith }, q)
+
+pub early_none : (io : Io) (s k : ℕ) (x : Arc) → IsEarly io s k 0 x → ⊥
+early_none io s k x (i, l, p, q) = let none = p.before in omega arith
+
 -- before the first there is none
 pub none_early : (io : Io) (s k : ℕ) (arcs : List Arc) → Gains (IsEarly io s k 0) arcs arcs
-none_early io s k arcs = gain_none (IsEarly io s k 0) arcs (λ a (i, l, p, q). let none = p.before in omega arith)
+none_early io s k arcs = gain_none (IsEarly io s k 0) arcs (early_none io s k)
+
+-- each pair comes before the last
+pub early_all : (io : Io) (s k n : ℕ) → 64 ≤ n → (x : Arc) → IsCall io s k x → IsEarly io s k n x
+early_all io s k n le x (i, l, q) =
+    let a = q.0.inherited.few in let b = q.0.result.few in
+    let less : (i - 1) * 8 + (l - 1) < n = omega arith in (i, l, record { inherited = q.0.inherited; result = q.0.result; before = less }, q)
 
 -- one more pair
 pub gain_pair : (io : Io) (s k n : ℕ) (a b c : List Arc) → Gains (IsEarly io s k n) a b → Gains (IsCallOf io s k (n / 8 + 1) (n % 8 + 1)) b c → Gains (IsEarly io s k (n + 1)) a c
-gain_pair io s k n a b c first then = gain_both (IsEarly io s k n) (IsCallOf io s k (n / 8 + 1) (n % 8 + 1)) (IsEarly io s k (n + 1)) a b c first then split left right
-  where
-    split : (x : Arc) → IsEarly io s k (n + 1) x → IsEarly io s k n x ⊎ IsCallOf io s k (n / 8 + 1) (n % 8 + 1) x
-    split x (i, l, p, q) = elim (before_more n i l p) [
-      | inl less ↦ inl (i, l, less, q)
-      | inr at ↦ inr (subst (λ j. IsCallOf io s k j (n % 8 + 1) x) at.0 (subst (λ j. IsCallOf io s k i j x) at.1 q))
-    ]
+gain_pair io s k n a b c first then =
+    gain_both (IsEarly io s k n) (IsCallOf io s k (n / 8 + 1) (n % 8 + 1)) (IsEarly io s k (n + 1)) a b c first then (early_split io s k n) (early_left io s k n) (early_right io s k n)
 
-    left : (x : Arc) → IsEarly io s k n x → IsEarly io s k (n + 1) x
-    left x (i, l, p, q) = let less = p.before in (i, l, record { inherited = p.inherited; result = p.result; before = omega arith }, q)
-
-    right : (x : Arc) → IsCallOf io s k (n / 8 + 1) (n % 8 + 1) x → IsEarly io s k (n + 1) x
-    right x q = (n / 8 + 1, n % 8 + 1, record { inherited = q.0.inherited; result = q.0.result; before = omega arith }, q)
-
--- each pair comes before the last
+-- all pairs
 pub gain_calls : (io : Io) (s k n : ℕ) (old new : List Arc) → 64 ≤ n → Gains (IsEarly io s k n) old new → Gains (IsCall io s k) old new
 gain_calls io s k n old new le all = record {
   kept = all.kept;
-  there = λ x (i, l, q). (let a = q.0.inherited.few in let b = q.0.result.few in
-      let less : (i - 1) * 8 + (l - 1) < n = omega arith in
-      all.there x (i, l, record { inherited = q.0.inherited; result = q.0.result; before = less }, q));
+  there = λ x q. all.there x (early_all io s k n le x q);
   only = λ x m. elim (all.only x m) [ inl was ↦ inl was | inr (i, l, p, q) ↦ inr (i, l, q) ];
 }
 
@@ -120,23 +129,22 @@ gain_child es io k c flows old mid new e step then =
 pub none_child : (es : List (Option Occ)) (io : Io) (cs : List Child) (arcs : List Arc) → Gains (IsOfChildren es io cs 0) arcs arcs
 none_child es io cs arcs = gain_none (IsOfChildren es io cs 0) arcs (λ a (k, c, lt, got, q). omega arith)
 
+-- an arc of the first children and the next one is of that one, or of those before
+pub child_split : (es : List (Option Occ)) (io : Io) (cs : List Child) (n : ℕ) (c : Child) → slice_get cs n ≡ Some c → (x : Arc) → IsOfChildren es io cs (n + 1) x → IsOfChildren es io cs n x ⊎ IsOfChild es io (n + 1) c x
+child_split es io cs n c here x (k, e, lt, got, q) = elim (below_or_at k n lt) [
+  | inl less ↦ inl (k, e, less, got, q)
+  | inr same ↦ (let what : Some e ≡ Some c = sym got ∙ ap (slice_get cs) same ∙ here in
+      let child : e ≡ c = cc in let number : suc k ≡ n + 1 = omega arith in
+      inr (subst (λ m. IsOfChild es io m c x) number (subst (λ (y : Child). IsOfChild es io (suc k) y x) child q)))
+]
+
+pub child_left : (es : List (Option Occ)) (io : Io) (cs : List Child) (n : ℕ) (x : Arc) → IsOfChildren es io cs n x → IsOfChildren es io cs (n + 1) x
+child_left es io cs n x (k, e, lt, got, q) = (k, e, omega arith, got, q)
+
+pub child_right : (es : List (Option Occ)) (io : Io) (cs : List Child) (n : ℕ) (c : Child) → slice_get cs n ≡ Some c → (x : Arc) → IsOfChild es io (n + 1) c x → IsOfChildren es io cs (n + 1) x
+child_right es io cs n c here x q = let at : n + 1 ≡ suc n = omega arith in (n, c, omega arith, here, subst (λ m. IsOfChild es io m c x) at q)
+
 -- one more child
 pub gain_children : (es : List (Option Occ)) (io : Io) (cs : List Child) (n : ℕ) (c : Child) (a b d : List Arc) → slice_get cs n ≡ Some c → Gains (IsOfChildren es io cs n) a b → Gains (IsOfChild es io (n + 1) c) b d → Gains (IsOfChildren es io cs (n + 1)) a d
-gain_children es io cs n c a b d here first then = gain_both (IsOfChildren es io cs n) (IsOfChild es io (n + 1) c) (IsOfChildren es io cs (n + 1)) a b d first then split left right
-  where
-    at : n + 1 ≡ suc n
-    at = omega arith
-
-    split : (x : Arc) → IsOfChildren es io cs (n + 1) x → IsOfChildren es io cs n x ⊎ IsOfChild es io (n + 1) c x
-    split x (k, e, lt, got, q) = elim (below_or_at k n lt) [
-      | inl less ↦ inl (k, e, less, got, q)
-      | inr same ↦ (let what : Some e ≡ Some c = sym got ∙ ap (slice_get cs) same ∙ here in
-          let child : e ≡ c = cc in let number : suc k ≡ n + 1 = omega arith in
-          inr (subst (λ m. IsOfChild es io m c x) number (subst (λ (y : Child). IsOfChild es io (suc k) y x) child q)))
-    ]
-
-    left : (x : Arc) → IsOfChildren es io cs n x → IsOfChildren es io cs (n + 1) x
-    left x (k, e, lt, got, q) = (k, e, omega arith, got, q)
-
-    right : (x : Arc) → IsOfChild es io (n + 1) c x → IsOfChildren es io cs (n + 1) x
-    right x q = (n, c, omega arith, here, subst (λ m. IsOfChild es io m c x) at q)
+gain_children es io cs n c a b d here first then =
+    gain_both (IsOfChildren es io cs n) (IsOfChild es io (n + 1) c) (IsOfChildren es io cs (n + 1)) a b d first then (child_split es io cs n c here) (child_left es io cs n) (child_right es io cs n c here)

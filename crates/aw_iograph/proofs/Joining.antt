@@ -10,7 +10,7 @@ use Rattle.std.proofs.lemmas.List.{get_or-set_same, get_or-set_other, length-set
 use Rattle.aw_list.specs.Members.{Member}
 use Rattle.aw_list.proofs.Members.{member_got, member_place, below_or_at}
 use Rattle.aw_iograph.specs.declared.reach.Arc.{Arc}
-use Rattle.aw_iograph.specs.Graphs.{Plus, step, more, Arrow}
+use Rattle.aw_iograph.specs.Graphs.{Plus, step, more}
 use Rattle.aw_iograph.specs.Growth.{Marked}
 use Rattle.aw_iograph.specs.Rows.{HasBit, IsIn, ArrowOf, LeadsBy, AreLed, IsJoined, Joins, room}
 use Rattle.aw_iograph.proofs.Marking.{set_length, set_kept}
@@ -275,28 +275,20 @@ IsAmong arcs n a = (k : ℕ) × (k < n) × (slice_get arcs k ≡ Some a)
 pub none_among : (arcs : List Arc) (rows : List ℕ) (marks : List Bool) → Joins (IsAmong arcs 0) rows rows marks marks false
 none_among arcs rows marks = joins_none (IsAmong arcs 0) rows marks (λ a (k, lt, got). omega arith)
 
-got_at : (xs : List Arc) (n : ℕ) (d : Arc) → n < length xs → slice_get xs n ≡ Some (get_or xs n d)
-got_at [] n d lt = absurd (omega arith)
-got_at (x ∷ xs) zero d lt = refl
-got_at (x ∷ xs) (suc n) d lt = let below : n < length xs = omega arith in got_at xs n d below
-
 -- one more arc
-pub joins_next : (arcs : List Arc) (n : ℕ) (d : Arc) (a b c : List ℕ) (x y z : List Bool) (one two both : Bool) → n < length arcs → both ≡ (two || one) → Joins (IsAmong arcs n) a b x y one → Joins (λ e. e ≡ get_or arcs n d) b c y z two → Joins (IsAmong arcs (n + 1)) a c x z both
-joins_next arcs n d a b c x y z one two both lt e first then = joins_both (IsAmong arcs n) (λ e. e ≡ get_or arcs n d) (IsAmong arcs (n + 1)) a b c x y z one two both e first then split left right
+pub joins_next : (arcs : List Arc) (n : ℕ) (arc : Arc) (a b c : List ℕ) (x y z : List Bool) (one two both : Bool) → slice_get arcs n ≡ Some arc → both ≡ (two || one) → Joins (IsAmong arcs n) a b x y one → Joins (λ e. e ≡ arc) b c y z two → Joins (IsAmong arcs (n + 1)) a c x z both
+joins_next arcs n arc a b c x y z one two both here e first then = joins_both (IsAmong arcs n) (λ e. e ≡ arc) (IsAmong arcs (n + 1)) a b c x y z one two both e first then split left right
   where
-    here : slice_get arcs n ≡ Some (get_or arcs n d)
-    here = got_at arcs n d lt
-
-    split : (e : Arc) → IsAmong arcs (n + 1) e → IsAmong arcs n e ⊎ (e ≡ get_or arcs n d)
+    split : (e : Arc) → IsAmong arcs (n + 1) e → IsAmong arcs n e ⊎ (e ≡ arc)
     split e (k, below, got) = elim (below_or_at k n below) [
       | inl less ↦ inl (k, less, got)
-      | inr same ↦ (let what : Some e ≡ Some (get_or arcs n d) = sym got ∙ ap (slice_get arcs) same ∙ here in let one' : e ≡ get_or arcs n d = cc in inr one')
+      | inr same ↦ (let what : Some e ≡ Some arc = sym got ∙ ap (slice_get arcs) same ∙ here in let one' : e ≡ arc = cc in inr one')
     ]
 
     left : (e : Arc) → IsAmong arcs n e → IsAmong arcs (n + 1) e
     left e (k, below, got) = (k, omega arith, got)
 
-    right : (e : Arc) → e ≡ get_or arcs n d → IsAmong arcs (n + 1) e
+    right : (e : Arc) → e ≡ arc → IsAmong arcs (n + 1) e
     right e same = (n, omega arith, here ∙ ap Some (sym same))
 
 -- each arc stands among all
@@ -304,11 +296,11 @@ pub joins_all : (arcs : List Arc) (n : ℕ) (a b : List ℕ) (x y : List Bool) (
 joins_all arcs n a b x y again le all = joins_as (IsAmong arcs n) (λ e. Member e arcs) a b x y again (λ e (k, lt, got). member_got arcs k e got) (λ e m. let (k, lt, got) = member_place arcs e m in (k, omega arith, got)) all
 
 -- rows that are led still are once they were joined
-pub led_next : (arcs : List Arc) (rows next : List ℕ) (x y : List Bool) (again : Bool) → AreLed arcs rows → Joins (λ e. Member e arcs) rows next x y again → AreLed arcs next
-led_next arcs rows next x y again led all v i on =
-    let (u, was, leads) = all.only v i on in leads_on (λ e. Member e arcs) i u v (led u i was) leads
+pub led_next : (P : Arc → Type 0) (rows next : List ℕ) (x y : List Bool) (again : Bool) → AreLed P rows → Joins P rows next x y again → AreLed P next
+led_next P rows next x y again led all v i on =
+    let (u, was, leads) = all.only v i on in leads_on P i u v (led u i was) leads
 
 -- rows that are joined over each arc have all that leads to them
-pub all_led : (arcs : List Arc) (rows : List ℕ) → ((a : Arc) → Member a arcs → IsJoined rows a) → (i : ℕ) → {a b : ℕ} → IsIn rows a i → Plus (Arrow arcs) a b → IsIn rows b i
-all_led arcs rows joined i on (step e) = joined _ e i on
-all_led arcs rows joined i on (more e w) = all_led arcs rows joined i (joined _ e i on) w
+pub all_led : (P : Arc → Type 0) (rows : List ℕ) → ((a : Arc) → P a → IsJoined rows a) → (i : ℕ) → {a b : ℕ} → IsIn rows a i → Plus (ArrowOf P) a b → IsIn rows b i
+all_led P rows joined i on (step e) = joined _ e i on
+all_led P rows joined i on (more e w) = all_led P rows joined i (joined _ e i on) w

@@ -9,6 +9,7 @@ pub mod Placing
 pub mod Reaching
 pub mod Relations
 pub mod RuleGraphs
+pub mod StepJoins
 pub mod Sweeps
 pub mod TextFlows
 pub mod Visiting

@@ -1,6 +1,5 @@
 -- The arcs of a rule are its steps.
 use Rattle.std.proofs.Common.{◌≡◌, ℕ, zero, suc, ◌+◌, ◌<◌, ◌≤◌, true, false, List, [], ◌++◌, map, length, Option, Some, slice_get, refl, sym, ap, ◌∙◌, subst, inl, inr, arith}
-use Rattle.std.specs.Prelude.{◌⊎◌}
 use Rattle.std.proofs.lemmas.Option.{slice_get_within}
 use Rattle.aw_list.specs.Members.{Member}
 use Rattle.aw_list.proofs.Members.{never, member_left, member_right, member_split, member_map, member_unmap, got_map, got_unmap}
@@ -13,12 +12,13 @@ use Rattle.aw_iograph.specs.declared.reach.Arc.{Arc}
 use Rattle.aw_iograph.specs.declared.occ.Occ.{Occ}
 use Rattle.aw_iograph.specs.declared.occ.Flow.{Flow}
 use Rattle.aw_iograph.specs.declared.io.Io.{Io}
-use Rattle.aw_iograph.specs.Graphs.{Plus, step, more, Arrow, IsWithin}
+use Rattle.aw_iograph.specs.Graphs.{Plus, step, more}
 use Rattle.aw_iograph.specs.Occurrences.{inherited, given, entries, term_flows, child_flows, text_flows, IsPlace, place_of}
 use Rattle.aw_iograph.specs.Dependence.{Edge, text, call}
 use Rattle.aw_iograph.specs.Pairs.{Has}
 use Rattle.aw_iograph.specs.Small.{HasFew}
-use Rattle.aw_iograph.specs.Arcs.{arc_of, call_arc, Gains, IsOfChildren, IsGraphOf}
+use Rattle.aw_iograph.specs.Arcs.{arc_of, call_arc, Gains, IsOfChildren, IsStep, ArePlaced, IsGraphBy, IsGraphOf}
+use Rattle.aw_iograph.specs.Rows.{ArrowOf}
 use Rattle.aw_iograph.proofs.TextFlows.{child_there, child_only, flows_all, flows_only}
 use Rattle.aw_iograph.proofs.Placing.{entry_place, term_place, place_below, place_one}
 
@@ -33,9 +33,9 @@ edge_places r io o u few (call k i l c e h) =
     let small : k ≤ 8 = omega (arith, few.children) in
     (record { child = small; counted = h.inherited.counted; number = h.inherited.few }, record { child = small; counted = h.result.counted; number = h.result.few })
 
-pub graph_of : (sorts : List Sort) (r : Rule) (io : Io) (arcs mid start : List Arc) → HasFew (rule_of sorts r) → start ≡ [] → Gains (IsOfChildren (entries (rule_of sorts r)) io r.children (length r.children)) start mid →
-    arcs ≡ mid ++ map arc_of (term_flows (entries (rule_of sorts r)) 0 true 1 (rule_of sorts r).results) → IsGraphOf (rule_of sorts r) (Has io) arcs
-graph_of sorts r io arcs mid start few none children results = record { there = there; only = only; places = λ o u e. edge_places (rule_of sorts r) io o u few e }
+-- the steps of a rule are the arcs of its children and to its results
+pub steps_of : (sorts : List Sort) (r : Rule) (io : Io) → HasFew (rule_of sorts r) → IsGraphBy (rule_of sorts r) (Has io) (IsStep (entries (rule_of sorts r)) io r.children r.results)
+steps_of sorts r io few = record { there = there; only = only; places = λ o u e. edge_places (rule_of sorts r) io o u few e }
   where
     es : List (Option Occ)
     es = entries (rule_of sorts r)
@@ -43,91 +43,98 @@ graph_of sorts r io arcs mid start few none children results = record { there = 
     last : List Flow
     last = term_flows es 0 true 1 (rule_of sorts r).results
 
-    flow_there : (f : Flow) → Member f (text_flows (rule_of sorts r)) → Member (arc_of f) mid ⊎ Member (arc_of f) (map arc_of last)
+    flow_there : (f : Flow) → Member f (text_flows (rule_of sorts r)) → IsStep es io r.children r.results (arc_of f)
     flow_there f m = elim (member_split f (child_flows es 1 (rule_of sorts r).children) last m) [
       | inl a ↦ (let (k, c, got, w) = child_only es (rule_of sorts r).children 1 f a in
           let (d, here, same) = got_unmap (child_of sorts) r.children k c got in let at : 1 + k ≡ suc k = omega arith in
           let flow : Member f (term_flows es (suc k) false 1 (map term_of d.args)) = subst (λ n. Member f (term_flows es n false 1 (map term_of d.args))) at (subst (λ (x : P.Child). Member f (term_flows es (1 + k) false 1 x.args)) same w) in
-          inl (children.there (arc_of f) (k, d, slice_get_within r.children k d here, here, inl (f, flow, refl))))
-      | inr b ↦ inr (member_map arc_of f last b)
+          inl (k, d, slice_get_within r.children k d here, here, inl (f, flow, refl)))
+      | inr b ↦ inr (f, b, refl)
     ]
 
-    put : (a : Arc) → Member a mid ⊎ Member a (map arc_of last) → Member a arcs
-    put a m = subst (λ (as' : List Arc). Member a as') (sym results) (elim m [ inl x ↦ member_left a mid (map arc_of last) x | inr y ↦ member_right a mid (map arc_of last) y ])
-
-    there : (o u : Occ) → Edge (rule_of sorts r) (Has io) o u → Member (arc_of (record { from = o; to = u })) arcs
-    there o u (text v t e f x) = put _ (flow_there (record { from = o; to = u }) (flows_all (rule_of sorts r) o u v t e f x))
+    there : (o u : Occ) → Edge (rule_of sorts r) (Has io) o u → IsStep es io r.children r.results (arc_of (record { from = o; to = u }))
+    there o u (text v t e f x) = flow_there (record { from = o; to = u }) (flows_all (rule_of sorts r) o u v t e f x)
     there o u (call k i l c e h) =
         let (j, at, got) = child_got (rule_of sorts r) k c e in
         let (d, here, same) = got_unmap (child_of sorts) r.children j c got in
-        put _ (inl (subst (λ (n : ℕ). Member (call_arc n i l) mid) (sym at)
-        (children.there (call_arc (suc j) i l) (j, d, slice_get_within r.children j d here, here, inr (i, l, (subst (λ (x : P.Child). Has io x.sort i l) same h, refl))))))
+        subst (λ (n : ℕ). IsStep es io r.children r.results (call_arc n i l)) (sym at)
+        (inl (j, d, slice_get_within r.children j d here, here, inr (i, l, (subst (λ (x : P.Child). Has io x.sort i l) same h, refl))))
 
     flow_only : (a : Arc) (f : Flow) → Member f (text_flows (rule_of sorts r)) → a ≡ arc_of f → (o : Occ) × (u : Occ) × IsPlace o × IsPlace u × Edge (rule_of sorts r) (Has io) o u × (a ≡ arc_of (record { from = o; to = u }))
     flow_only a f m e =
         let (v, t, g, h, x) = flows_only (rule_of sorts r) f m in
         (f.from, f.to, entry_place (rule_of sorts r) v f.from few g, term_place (rule_of sorts r) t f.to few h, text v t g h x, e)
 
-    child_arc : (a : Arc) → IsOfChildren es io r.children (length r.children) a → (o : Occ) × (u : Occ) × IsPlace o × IsPlace u × Edge (rule_of sorts r) (Has io) o u × (a ≡ arc_of (record { from = o; to = u }))
-    child_arc a (k, c, lt, got, inl (f, m, e)) =
+    only : (a : Arc) → IsStep es io r.children r.results a → (o : Occ) × (u : Occ) × IsPlace o × IsPlace u × Edge (rule_of sorts r) (Has io) o u × (a ≡ arc_of (record { from = o; to = u }))
+    only a (inl (k, c, lt, got, inl (f, m, e))) =
         let at : suc k ≡ 1 + k = omega arith in
         flow_only a f
         (member_left f (child_flows es 1 (rule_of sorts r).children) last
         (child_there es f (rule_of sorts r).children 1 k (child_of sorts c) (got_map (child_of sorts) r.children k c got) (subst (λ n. Member f (term_flows es n false 1 (map term_of c.args))) at m)))
         e
-    child_arc a (k, c, lt, got, inr (i, l, q)) =
+    only a (inl (k, c, lt, got, inr (i, l, q))) =
         let edge : Edge (rule_of sorts r) (Has io) (inherited (suc k) i) (given (suc k) l) = call (suc k) i l (child_of sorts c) (got_map (child_of sorts) r.children k c got) q.0 in
         let (from, to) = edge_places (rule_of sorts r) io (inherited (suc k) i) (given (suc k) l) few edge in
         (inherited (suc k) i, given (suc k) l, from, to, edge, q.1)
-
-    only : (a : Arc) → Member a arcs → (o : Occ) × (u : Occ) × IsPlace o × IsPlace u × Edge (rule_of sorts r) (Has io) o u × (a ≡ arc_of (record { from = o; to = u }))
-    only a m = elim (member_split a mid (map arc_of last) (subst (λ (as' : List Arc). Member a as') results m)) [
-      | inl x ↦ elim (children.only a x) [ inl was ↦ never (subst (λ (as' : List Arc). Member a as') none was) | inr now ↦ child_arc a now ]
-      | inr y ↦ (let (f, w, e) = member_unmap arc_of a last y in flow_only a f (member_right f (child_flows es 1 (rule_of sorts r).children) last w) e)
-    ]
+    only a (inr (f, m, e)) = flow_only a f (member_right f (child_flows es 1 (rule_of sorts r).children) last m) e
 
 -- the same where the entries are given by an equation
-pub graph_from : (sorts : List Sort) (r : Rule) (io : Io) (es : List (Option Occ)) (arcs mid start : List Arc) → HasFew (rule_of sorts r) → es ≡ entries (rule_of sorts r) → start ≡ [] → Gains (IsOfChildren es io r.children (length r.children)) start mid →
-    arcs ≡ mid ++ map arc_of (term_flows es 0 true 1 (rule_of sorts r).results) → IsGraphOf (rule_of sorts r) (Has io) arcs
-graph_from sorts r io es arcs mid start few e none children results =
-    graph_of sorts r io arcs mid start few none
-    (subst (λ (x : List (Option Occ)). Gains (IsOfChildren x io r.children (length r.children)) start mid) e children)
-    (results ∙ ap (λ (x : List (Option Occ)). mid ++ map arc_of (term_flows x 0 true 1 (rule_of sorts r).results)) e)
+pub steps_from : (sorts : List Sort) (r : Rule) (io : Io) (es : List (Option Occ)) → HasFew (rule_of sorts r) → es ≡ entries (rule_of sorts r) → IsGraphBy (rule_of sorts r) (Has io) (IsStep es io r.children r.results)
+steps_from sorts r io es few e = subst (λ (x : List (Option Occ)). IsGraphBy (rule_of sorts r) (Has io) (IsStep x io r.children r.results)) (sym e) (steps_of sorts r io few)
 
-pub graph_within : (r : P.Rule) (rel : ℕ → ℕ → ℕ → Type 0) (arcs : List Arc) → IsGraphOf r rel arcs → IsWithin 144 arcs
-graph_within r rel arcs g a m =
+-- a list that gained these steps has them
+pub graph_from : (sorts : List Sort) (r : Rule) (io : Io) (es : List (Option Occ)) (arcs mid start : List Arc) → HasFew (rule_of sorts r) → es ≡ entries (rule_of sorts r) → start ≡ [] → Gains (IsOfChildren es io r.children (length r.children)) start mid →
+    arcs ≡ mid ++ map arc_of (term_flows es 0 true 1 (map term_of r.results)) → IsGraphOf (rule_of sorts r) (Has io) arcs
+graph_from sorts r io es arcs mid start few e none children results = let g = steps_from sorts r io es few e in
+    record { there = λ o u x. put _ (g.there o u x); only = λ a m. g.only a (took a m); places = g.places }
+  where
+    last : List Arc
+    last = map arc_of (term_flows es 0 true 1 (map term_of r.results))
+
+    put : (a : Arc) → IsStep es io r.children r.results a → Member a arcs
+    put a (inl child) = subst (λ (as' : List Arc). Member a as') (sym results) (member_left a mid last (children.there a child))
+    put a (inr (f, m, e')) = subst (λ (as' : List Arc). Member a as') (sym results) (member_right a mid last (subst (λ (x : Arc). Member x last) (sym e') (member_map arc_of f (term_flows es 0 true 1 (map term_of r.results)) m)))
+
+    took : (a : Arc) → Member a arcs → IsStep es io r.children r.results a
+    took a m = elim (member_split a mid last (subst (λ (as' : List Arc). Member a as') results m)) [
+      | inl x ↦ elim (children.only a x) [ inl was ↦ never (subst (λ (as' : List Arc). Member a as') none was) | inr now ↦ inl now ]
+      | inr y ↦ inr (member_unmap arc_of a (term_flows es 0 true 1 (map term_of r.results)) y)
+    ]
+
+pub graph_within : (r : P.Rule) (rel : ℕ → ℕ → ℕ → Type 0) (kind : Arc → Type 0) → IsGraphBy r rel kind → ArePlaced kind
+graph_within r rel kind g a m =
     let (o, u, p, q, e, same) = g.only a m in
     (subst (λ (x : Arc). x.from < 144) (sym same) (place_below o p), subst (λ (x : Arc). x.to < 144) (sym same) (place_below u q))
 
 -- a walk of the rule is one over its arcs
-pub walk_arcs : (r : P.Rule) (rel : ℕ → ℕ → ℕ → Type 0) (arcs : List Arc) → IsGraphOf r rel arcs → {o u : Occ} → Plus (Edge r rel) o u → Plus (Arrow arcs) (place_of o) (place_of u)
-walk_arcs r rel arcs g (step e) = step (g.there _ _ e)
-walk_arcs r rel arcs g (more e w) = more (g.there _ _ e) (walk_arcs r rel arcs g w)
+pub walk_arcs : (r : P.Rule) (rel : ℕ → ℕ → ℕ → Type 0) (kind : Arc → Type 0) → IsGraphBy r rel kind → {o u : Occ} → Plus (Edge r rel) o u → Plus (ArrowOf kind) (place_of o) (place_of u)
+walk_arcs r rel kind g (step e) = step (g.there _ _ e)
+walk_arcs r rel kind g (more e w) = more (g.there _ _ e) (walk_arcs r rel kind g w)
 
-back_step : (r : P.Rule) (rel : ℕ → ℕ → ℕ → Type 0) (arcs : List Arc) → IsGraphOf r rel arcs → {a b : ℕ} → (o : Occ) → IsPlace o → a ≡ place_of o → Arrow arcs a b → (u : Occ) × IsPlace u × (b ≡ place_of u) × Edge r rel o u
-back_step r rel arcs g {a = a} {b = b} o p at m =
+back_step : (r : P.Rule) (rel : ℕ → ℕ → ℕ → Type 0) (kind : Arc → Type 0) → IsGraphBy r rel kind → {a b : ℕ} → (o : Occ) → IsPlace o → a ≡ place_of o → ArrowOf kind a b → (u : Occ) × IsPlace u × (b ≡ place_of u) × Edge r rel o u
+back_step r rel kind g {a = a} {b = b} o p at m =
     let (x, u, px, pu, e, same) = g.only (record { from = a; to = b }) m in
     let from : a ≡ place_of x = ap (λ (y : Arc). y.from) same in
     let one : x ≡ o = place_one x o px p (sym from ∙ at) in
     (u, pu, ap (λ (y : Arc). y.to) same, subst (λ (y : Occ). Edge r rel y u) one e)
 
-back_walk : (r : P.Rule) (rel : ℕ → ℕ → ℕ → Type 0) (arcs : List Arc) → IsGraphOf r rel arcs → {a b : ℕ} → (o : Occ) → IsPlace o → a ≡ place_of o → Plus (Arrow arcs) a b → (u : Occ) × IsPlace u × (b ≡ place_of u) × Plus (Edge r rel) o u
-back_walk r rel arcs g o p at (step m) = let (u, q, e, s) = back_step r rel arcs g o p at m in (u, q, e, step s)
-back_walk r rel arcs g o p at (more m w) =
-    let (v, q, e, s) = back_step r rel arcs g o p at m in
-    let (u, x, f, t) = back_walk r rel arcs g v q e w in (u, x, f, more s t)
+back_walk : (r : P.Rule) (rel : ℕ → ℕ → ℕ → Type 0) (kind : Arc → Type 0) → IsGraphBy r rel kind → {a b : ℕ} → (o : Occ) → IsPlace o → a ≡ place_of o → Plus (ArrowOf kind) a b → (u : Occ) × IsPlace u × (b ≡ place_of u) × Plus (Edge r rel) o u
+back_walk r rel kind g o p at (step m) = let (u, q, e, s) = back_step r rel kind g o p at m in (u, q, e, step s)
+back_walk r rel kind g o p at (more m w) =
+    let (v, q, e, s) = back_step r rel kind g o p at m in
+    let (u, x, f, t) = back_walk r rel kind g v q e w in (u, x, f, more s t)
 
 -- a walk over the arcs is one of the rule
-pub arcs_walk : (r : P.Rule) (rel : ℕ → ℕ → ℕ → Type 0) (arcs : List Arc) → IsGraphOf r rel arcs → (o u : Occ) → IsPlace o → IsPlace u → Plus (Arrow arcs) (place_of o) (place_of u) → Plus (Edge r rel) o u
-arcs_walk r rel arcs g o u p q w =
-    let (v, x, e, s) = back_walk r rel arcs g o p refl w in subst (λ (y : Occ). Plus (Edge r rel) o y) (place_one v u x q (sym e)) s
+pub arcs_walk : (r : P.Rule) (rel : ℕ → ℕ → ℕ → Type 0) (kind : Arc → Type 0) → IsGraphBy r rel kind → (o u : Occ) → IsPlace o → IsPlace u → Plus (ArrowOf kind) (place_of o) (place_of u) → Plus (Edge r rel) o u
+arcs_walk r rel kind g o u p q w =
+    let (v, x, e, s) = back_walk r rel kind g o p refl w in subst (λ (y : Occ). Plus (Edge r rel) o y) (place_one v u x q (sym e)) s
 
 -- an occurrence on a circle has a place
-pub circle_place : (r : P.Rule) (rel : ℕ → ℕ → ℕ → Type 0) (arcs : List Arc) → IsGraphOf r rel arcs → {o u : Occ} → Plus (Edge r rel) o u → IsPlace o
-circle_place r rel arcs g (step e) = let (p, q) = g.places _ _ e in p
-circle_place r rel arcs g (more e w) = let (p, q) = g.places _ _ e in p
+pub circle_place : (r : P.Rule) (rel : ℕ → ℕ → ℕ → Type 0) (kind : Arc → Type 0) → IsGraphBy r rel kind → {o u : Occ} → Plus (Edge r rel) o u → IsPlace o
+circle_place r rel kind g (step e) = let (p, q) = g.places _ _ e in p
+circle_place r rel kind g (more e w) = let (p, q) = g.places _ _ e in p
 
 -- and so has the end of a walk
-pub end_place : (r : P.Rule) (rel : ℕ → ℕ → ℕ → Type 0) (arcs : List Arc) → IsGraphOf r rel arcs → {o u : Occ} → Plus (Edge r rel) o u → IsPlace u
-end_place r rel arcs g (step e) = let (p, q) = g.places _ _ e in q
-end_place r rel arcs g (more e w) = end_place r rel arcs g w
+pub end_place : (r : P.Rule) (rel : ℕ → ℕ → ℕ → Type 0) (kind : Arc → Type 0) → IsGraphBy r rel kind → {o u : Occ} → Plus (Edge r rel) o u → IsPlace u
+end_place r rel kind g (step e) = let (p, q) = g.places _ _ e in q
+end_place r rel kind g (more e w) = end_place r rel kind g w

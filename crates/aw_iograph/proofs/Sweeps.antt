@@ -1,5 +1,5 @@
 -- Rules that are visited in turn.
-use Rattle.std.proofs.Common.{◌≡◌, ℕ, ◌+◌, ◌<◌, ◌≤◌, Bool, true, false, List, length, Some, slice_get, refl, sym, subst, inl, inr, arith, ◌∙◌}
+use Rattle.std.proofs.Common.{◌≡◌, ℕ, ◌+◌, ◌<◌, ◌≤◌, Bool, false, List, length, Some, slice_get, refl, sym, subst, inl, inr, arith, ◌∙◌}
 use Rattle.std.specs.Prelude.{◌⊎◌, ◌||◌}
 use Rattle.std.proofs.lemmas.Bool.{or_parts, cases_lt}
 use Rattle.std.proofs.lemmas.Option.{slice_get_within}
@@ -10,46 +10,36 @@ use Rattle.aw_grammar.specs.declared.rule.Sort.{Sort}
 use Rattle.aw_grammar.specs.declared.grammar.Grammar.{Grammar}
 use Rattle.aw_grammar.specs.GrammarView.{rule_of}
 use Rattle.aw_grammar.specs.GrammarOf.{grammar_of}
-use Rattle.aw_iograph.specs.declared.reach.Arc.{Arc}
 use Rattle.aw_iograph.specs.declared.io.Io.{Io}
-use Rattle.aw_iograph.specs.Graphs.{Plus, Arrow}
+use Rattle.aw_iograph.specs.Graphs.{Plus}
 use Rattle.aw_iograph.specs.Growth.{Grown}
 use Rattle.aw_iograph.specs.Occurrences.{inherited, given, place_of}
 use Rattle.aw_iograph.specs.Dependence.{Edge, Walk, Follows, IsKept, IsClosedUnder}
 use Rattle.aw_iograph.specs.Pairs.{Has, HasMark, IsNumber}
-use Rattle.aw_iograph.specs.Arcs.{IsGraphOf}
+use Rattle.aw_iograph.specs.Rows.{IsIn}
 use Rattle.aw_iograph.proofs.Marking.{grown_trans}
-use Rattle.aw_iograph.proofs.RuleGraphs.{walk_arcs, arcs_walk, circle_place, end_place}
-use Rattle.aw_iograph.proofs.Placing.{number_place}
 use Rattle.aw_iograph.proofs.Relations.{follows_walk}
 
 pub has_grown : (old new : Io) (b : Bool) → Grown old.marks.items new.marks.items b → (s i j : ℕ) → Has old s i j → Has new s i j
 has_grown old new b grown s i j has = record { inherited = has.inherited; result = has.result; marked = grown.kept _ has.marked }
 
 -- a walk of the rule gives a pair that was added
-pub visit_kept : (r s : Rule) (sorts : List Sort) (old new : Io) (arcs slice : List Arc) → r ≡ s → IsGraphOf (rule_of sorts r) (Has old) arcs → slice ≡ arcs →
-    ((i j : ℕ) → IsNumber i → IsNumber j → Plus (Arrow slice) (place_of (inherited 0 i)) (place_of (given 0 j)) → Has new r.sort i j) →
+pub visit_kept : (r s : Rule) (sorts : List Sort) (old new : Io) (rows slice : List ℕ) → r ≡ s → slice ≡ rows →
+    ((i j : ℕ) → Plus (Edge (rule_of sorts r) (Has old)) (inherited 0 i) (given 0 j) → IsNumber i × IsNumber j × IsIn rows (place_of (given 0 j)) (place_of (inherited 0 i))) →
+    ((i j : ℕ) → IsNumber i → IsNumber j → IsIn slice (place_of (given 0 j)) (place_of (inherited 0 i)) → Has new r.sort i j) →
     (i j : ℕ) → Plus (Edge (rule_of sorts s) (Has old)) (inherited 0 i) (given 0 j) → Has new s.sort i j
-visit_kept r s sorts old new arcs slice same g at there i j w =
+visit_kept r s sorts old new rows slice same at joined there i j w =
     let w' : Plus (Edge (rule_of sorts r) (Has old)) (inherited 0 i) (given 0 j) = subst (λ (x : Rule). Plus (Edge (rule_of sorts x) (Has old)) (inherited 0 i) (given 0 j)) (sym same) w in
-    let p = circle_place (rule_of sorts r) (Has old) arcs g w' in let q = end_place (rule_of sorts r) (Has old) arcs g w' in
-    subst (λ (x : Rule). Has new x.sort i j) same
-    (there i j (record { counted = p.counted; few = p.number }) (record { counted = q.counted; few = q.number })
-    (subst (λ (as' : List Arc). Plus (Arrow as') (place_of (inherited 0 i)) (place_of (given 0 j))) (sym at) (walk_arcs (rule_of sorts r) (Has old) arcs g w')))
+    let (a, b, on) = joined i j w' in subst (λ (x : Rule). Has new x.sort i j) same (there i j a b (subst (λ (rs : List ℕ). IsIn rs (place_of (given 0 j)) (place_of (inherited 0 i))) (sym at) on))
 
 -- a pair that was added has a walk of the rule
-pub visit_only : (g : Grammar) (n : ℕ) (r : Rule) (old new : Io) (arcs slice : List Arc) → slice_get g.rules n ≡ Some r → IsGraphOf (rule_of g.sorts r) (Has old) arcs → slice ≡ arcs →
-    ((s i j : ℕ) → Has new s i j → Has old s i j ⊎ ((s ≡ r.sort) × Plus (Arrow slice) (place_of (inherited 0 i)) (place_of (given 0 j)))) →
+pub visit_only : (g : Grammar) (n : ℕ) (r : Rule) (old new : Io) (rows slice : List ℕ) → slice_get g.rules n ≡ Some r → slice ≡ rows →
+    ((i j : ℕ) → IsNumber i → IsNumber j → IsIn rows (place_of (given 0 j)) (place_of (inherited 0 i)) → Plus (Edge (rule_of g.sorts r) (Has old)) (inherited 0 i) (given 0 j)) →
+    ((s i j : ℕ) → Has new s i j → Has old s i j ⊎ ((s ≡ r.sort) × IsIn slice (place_of (given 0 j)) (place_of (inherited 0 i)))) →
     (s i j : ℕ) → Has new s i j → Has old s i j ⊎ Walk (grammar_of g) (Has old) s i j
-visit_only g n r old new arcs slice here graph at only s i j has = elim (only s i j has) [
+visit_only g n r old new rows slice here at led only s i j has = elim (only s i j has) [
   | inl was ↦ inl was
-  | inr now ↦ inr (
-    rule_of g.sorts r,
-    member_map (rule_of g.sorts) r g.rules (member_got g.rules n r here),
-    sym now.0,
-    arcs_walk (rule_of g.sorts r) (Has old) arcs graph (inherited 0 i) (given 0 j) (number_place false i has.inherited.counted has.inherited.few) (number_place true j has.result.counted has.result.few)
-        (subst (λ (as' : List Arc). Plus (Arrow as') (place_of (inherited 0 i)) (place_of (given 0 j))) at now.1),
-  )
+  | inr now ↦ inr (rule_of g.sorts r, member_map (rule_of g.sorts) r g.rules (member_got g.rules n r here), sym now.0, led i j has.inherited has.result (subst (λ (rs : List ℕ). IsIn rs (place_of (given 0 j)) (place_of (inherited 0 i))) at now.1))
 ]
 
 -- the last n rules were looked at

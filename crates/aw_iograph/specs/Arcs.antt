@@ -1,8 +1,9 @@
 -- Steps within a rule as arcs between the places of its occurrences.
-use Rattle.std.specs.Prelude.{◌≡◌, ℕ, suc, ◌<◌, false, ◌⊎◌, List, map, Option, Some, slice_get}
+use Rattle.std.specs.Prelude.{◌≡◌, ℕ, suc, ◌<◌, true, false, ◌⊎◌, List, map, length, Option, Some, slice_get}
 use Rattle.aw_list.specs.Members.{Member}
 use Rattle.aw_term.specs.Rules.{Rule}
 use Rattle.aw_term.specs.Views.{term_of}
+use Rattle.aw_term.specs.declared.term.Expr.{Expr}
 use Rattle.aw_grammar.specs.declared.rule.Child.{Child}
 use Rattle.aw_iograph.specs.declared.reach.Arc.{Arc}
 use Rattle.aw_iograph.specs.declared.occ.Occ.{Occ}
@@ -46,8 +47,20 @@ IsOfChild es io k c a = IsFlow (term_flows es k false 1 (map term_of c.args)) a 
 abbrev pub IsOfChildren : List (Option Occ) → Io → List Child → ℕ → Arc → Type 0
 IsOfChildren es io children n a = (k : ℕ) × (c : Child) × (k < n) × (slice_get children k ≡ Some c) × IsOfChild es io (suc k) c a
 
--- the arcs are the steps of the rule, each between places
-pub record IsGraphOf (r : Rule) (rel : ℕ → ℕ → ℕ → Type 0) (arcs : List Arc) : Type 0 where
-  pub there : (o u : Occ) → Edge r rel o u → Member (arc_of (record { from = o; to = u })) arcs
-  pub only : (a : Arc) → Member a arcs → (o : Occ) × (u : Occ) × IsPlace o × IsPlace u × Edge r rel o u × (a ≡ arc_of (record { from = o; to = u }))
+-- an arc of a child, or to one of these results of the left side
+abbrev pub IsStep : List (Option Occ) → Io → List Child → List Expr → Arc → Type 0
+IsStep es io children results a = IsOfChildren es io children (length children) a ⊎ IsFlow (term_flows es 0 true 1 (map term_of results)) a
+
+-- each arc of a kind is between places
+abbrev pub ArePlaced : (Arc → Type 0) → Type 0
+ArePlaced P = (a : Arc) → P a → (a.from < 144) × (a.to < 144)
+
+-- the arcs of a kind are the steps of the rule, each between places
+pub record IsGraphBy (r : Rule) (rel : ℕ → ℕ → ℕ → Type 0) (P : Arc → Type 0) : Type 0 where
+  pub there : (o u : Occ) → Edge r rel o u → P (arc_of (record { from = o; to = u }))
+  pub only : (a : Arc) → P a → (o : Occ) × (u : Occ) × IsPlace o × IsPlace u × Edge r rel o u × (a ≡ arc_of (record { from = o; to = u }))
   pub places : (o u : Occ) → Edge r rel o u → IsPlace o × IsPlace u
+
+-- the same of a list of arcs
+abbrev pub IsGraphOf : Rule → (ℕ → ℕ → ℕ → Type 0) → List Arc → Type 0
+IsGraphOf r rel arcs = IsGraphBy r rel (λ a. Member a arcs)

@@ -2,7 +2,7 @@
 use Rattle.std.specs.Prelude.{◌≡◌, ℕ, ◌+◌, ◌-◌, ◌<◌, ◌≤◌, Bool, true, false, List, [], ◌∷◌, ◌⊎◌, length, slice_index}
 use Rattle.std.specs.Int.{bit_at}
 use Rattle.aw_iograph.specs.declared.reach.Arc.{Arc}
-use Rattle.aw_iograph.specs.Graphs.{Plus, Arrow}
+use Rattle.aw_iograph.specs.Graphs.{Plus}
 use Rattle.aw_iograph.specs.Growth.{Marked}
 
 -- a row has the bit of place i
@@ -26,13 +26,9 @@ ArrowOf P a b = P (record { from = a; to = b })
 abbrev pub LeadsBy : (Arc → Type 0) → ℕ → ℕ → Type 0
 LeadsBy P u v = (u ≡ v) ⊎ Plus (ArrowOf P) u v
 
--- one place is another, or reaches it
-abbrev pub Leads : List Arc → ℕ → ℕ → Type 0
-Leads arcs i v = (i ≡ v) ⊎ Plus (Arrow arcs) i v
-
--- each bit is of a place that leads there
-abbrev pub AreLed : List Arc → List ℕ → Type 0
-AreLed arcs rows = (v i : ℕ) → IsIn rows v i → Leads arcs i v
+-- each bit is of a place that leads there over arcs of a kind
+abbrev pub AreLed : (Arc → Type 0) → List ℕ → Type 0
+AreLed P rows = (v i : ℕ) → IsIn rows v i → LeadsBy P i v
 
 -- what is in the row where an arc begins is in the one where it ends
 abbrev pub IsJoined : List ℕ → Arc → Type 0

@@ -5,7 +5,7 @@ ghost use Rattle.aw_grammar.specs.GrammarView.{rule_of};
 ghost use Rattle.aw_iograph.specs.Occurrences.{IsPlace, place_of, term_flows};
 ghost use Rattle.aw_iograph.specs.Pairs.{Has};
 ghost use Rattle.aw_iograph.specs.Small.{IsSmall, HasFew, HasFewArgs};
-ghost use Rattle.aw_iograph.specs.Arcs.{arc_of, Gains, IsCallOf, IsCall, IsOfChild, IsOfChildren, IsGraphOf};
+ghost use Rattle.aw_iograph.specs.Arcs.{arc_of, call_arc, Gains, IsCallOf, IsCall, IsOfChild, IsOfChildren, IsGraphOf};
 
 use crate::graph::{Entries, RuleGraph, entries, flow_terms};
 use crate::io::{Io, PAIRS, RESULTS};
@@ -19,7 +19,7 @@ use std::alloc::{AllocError, Global};
 const CHILD_PLACES: usize = 16;
 
 /// Memory is taken at once for so many flows of a rule, which is enough for most.
-const FLOWS: usize = 64;
+pub(crate) const FLOWS: usize = 64;
 
 impl Occ {
     /// Its place in the order of occurrences, from 0.
@@ -45,7 +45,7 @@ impl Occ {
 }
 
 /// The arc of a flow.
-fn arc(flow: &Flow) -> Arc
+pub(crate) fn arc(flow: &Flow) -> Arc
     ensures { result ≡ arc_of flow.now }
 {
     Arc {
@@ -64,6 +64,17 @@ fn add_flows(flows: &RuleGraph, arcs: &mut Vec<Arc>) -> Result<(), AllocError>
     Ok(())
 }
 
+/// The arc of a pair at a child, by the number of the pair from 0.
+pub(crate) fn call(child: u8, pair: usize) -> Arc
+    requires { pair < 64 }
+    ensures { result ≡ call_arc child (pair / 8 + 1) (pair % 8 + 1) }
+{
+    let first = usize::from(child) * CHILD_PLACES;
+    let from = first + pair / RESULTS;
+    let to = first + RESULTS + pair % RESULTS;
+    Arc { from, to }
+}
+
 /// Adds the arc of a pair of a child's sort, where the relation has it.
 fn add_call(
     io: &Io,
@@ -76,10 +87,7 @@ fn add_call(
     ensures { OnOk result (Gains (IsCallOf io.now sort child (pair / 8 + 1) (pair % 8 + 1)) arcs.old.items arcs.new.items) }
 {
     if io.has_pair(sort, pair) {
-        let first = usize::from(child) * CHILD_PLACES;
-        let from = first + pair / RESULTS;
-        let to = first + RESULTS + pair % RESULTS;
-        arcs.push(Arc { from, to })?;
+        arcs.push(call(child, pair))?;
     }
     Ok(())
 }

@@ -5,6 +5,7 @@ pub mod arcs;
 pub mod circles;
 pub mod graph;
 pub mod io;
+pub mod joins;
 pub mod laws;
 pub mod occ;
 pub mod reach;

@@ -1,8 +1,6 @@
 //! Which inherited values of a rule's left side reach each of its places, joined as rows of bits.
 ghost use Rattle.std.specs.Prelude.{◌≡◌, ◌<◌, ◌↔◌, ℕ, length, IfOk, IsTrue};
-ghost use Rattle.aw_list.specs.Members.{Member};
-ghost use Rattle.aw_iograph.specs.Graphs.{IsWithin};
-ghost use Rattle.aw_iograph.specs.Rows.{HasBit, IsIn, Leads, AreLed, Joins};
+ghost use Rattle.aw_iograph.specs.Rows.{HasBit, IsIn, Joins};
 
 use crate::reach::Arc;
 use std::alloc::{AllocError, Global};
@@ -19,7 +17,7 @@ pub(crate) fn has_bit(row: u8, place: u8) -> bool
 }
 
 /// Joins the row where an arc begins into the one where it ends, and says whether that one grew after it had been read.
-fn join_row(arc: Arc, rows: &mut Vec<u8>, read: &mut Vec<bool>) -> bool
+pub(crate) fn join_row(arc: Arc, rows: &mut Vec<u8>, read: &mut Vec<bool>) -> bool
     requires from_in { arc.from < length rows.old.items }
     requires to_in { arc.to < length rows.old.items }
     requires places { length read.old.items ≡ length rows.old.items }
@@ -35,23 +33,8 @@ fn join_row(arc: Arc, rows: &mut Vec<u8>, read: &mut Vec<bool>) -> bool
     read[arc.to]
 }
 
-/// Joins rows over each arc once, and says whether it is to be done again: whether a row grew after it had been read.
-fn join_rows(arcs: &[Arc], rows: &mut Vec<u8>, read: &mut Vec<bool>) -> bool
-    requires within { IsWithin (length rows.old.items) arcs.now }
-    requires places { length read.old.items ≡ length rows.old.items }
-    ensures { Joins (λ a. Member a arcs.now) rows.old.items rows.new.items read.old.items read.new.items result }
-{
-    let mut again = false;
-    for arc in arcs {
-        if join_row(*arc, rows, read) {
-            again = true;
-        }
-    }
-    again
-}
-
 /// The rows in which each of the first eight places leads to itself alone.
-fn first_rows(alloc: Global) -> Result<Vec<u8>, AllocError>
+pub(crate) fn first_rows(alloc: Global) -> Result<Vec<u8>, AllocError>
     ensures size { IfOk result (λ rows. length rows.items ≡ 144) }
     ensures start { IfOk result (λ rows. (i : ℕ) → i < 8 → IsIn rows.items i i) }
     ensures only { IfOk result (λ rows. (v i : ℕ) → IsIn rows.items v i → i ≡ v) }
@@ -60,20 +43,5 @@ fn first_rows(alloc: Global) -> Result<Vec<u8>, AllocError>
     for place in 0..8 {
         rows[place] = 1 << place;
     }
-    Ok(rows)
-}
-
-/// Which of the first eight places lead to each place over arcs.
-///
-/// Where no arc leads to a place from which an earlier one leads out, rows are joined over all arcs just once.
-pub(crate) fn rows_of(alloc: Global, arcs: &[Arc]) -> Result<Vec<u8>, AllocError>
-    requires { IsWithin 144 arcs.now }
-    ensures size { IfOk result (λ rows. length rows.items ≡ 144) }
-    ensures led { IfOk result (λ rows. AreLed arcs.now rows.items) }
-    ensures all { IfOk result (λ rows. (v i : ℕ) → i < 8 → Leads arcs.now i v → IsIn rows.items v i) }
-{
-    let mut rows = first_rows(alloc)?;
-    let mut read = vec![in alloc; false; PLACES]?;
-    while join_rows(arcs, &mut rows, &mut read) {}
     Ok(rows)
 }

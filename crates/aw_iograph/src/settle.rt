@@ -2,7 +2,7 @@
 ghost use Rattle.std.specs.Prelude.{◌≡◌, ◌↔◌, ◌⊎◌, ◌-◌, ◌*◌, ◌<◌, ℕ, false, length, slice_get, Some, IfOk, OnOk};
 ghost use Rattle.aw_grammar.specs.GrammarView.{rule_of};
 ghost use Rattle.aw_grammar.specs.GrammarOf.{grammar_of};
-ghost use Rattle.aw_iograph.specs.Graphs.{Plus, Arrow, IsWithin};
+ghost use Rattle.aw_iograph.specs.Graphs.{Plus};
 ghost use Rattle.aw_iograph.specs.Growth.{Grown};
 ghost use Rattle.aw_iograph.specs.Rows.{HasBit, IsIn};
 ghost use Rattle.aw_iograph.specs.Occurrences.{inherited, given, place_of};
@@ -11,10 +11,9 @@ ghost use Rattle.aw_iograph.specs.Visiting.{AreVisited};
 ghost use Rattle.aw_iograph.specs.Widening.{IsWidened};
 ghost use Rattle.aw_iograph.specs.Pairs.{Has, HasSort, IsFor, IsNumber};
 
-use crate::arcs::arcs_of;
 use crate::io::Io;
-use crate::reach::Arc;
-use crate::rows::{has_bit, rows_of};
+use crate::joins::rule_rows;
+use crate::rows::has_bit;
 use crate::rules::small_rule;
 use crate::visits::Visits;
 use aw_grammar::{Grammar, Rule};
@@ -77,19 +76,6 @@ fn add_rows(io: &mut Io, sort: u16, rows: &[u8]) -> bool
     added
 }
 
-/// Adds the pairs of inherited values and results that are joined by a walk over arcs.
-fn relate_all(alloc: Global, arcs: &[Arc], sort: u16, io: &mut Io) -> Result<bool, AllocError>
-    requires within { IsWithin 144 arcs.now }
-    requires sort { HasSort io.old sort }
-    ensures grown { IfOk result (λ added. Grown io.old.marks.items io.new.marks.items added) }
-    ensures there { OnOk result ((i j : ℕ) → IsNumber i → IsNumber j → Plus (Arrow arcs.now) (place_of (inherited 0 i)) (place_of (given 0 j)) → Has io.new sort i j) }
-    ensures only { OnOk result ((s k l : ℕ) → Has io.new s k l →
-        Has io.old s k l ⊎ ((s ≡ sort) × Plus (Arrow arcs.now) (place_of (inherited 0 k)) (place_of (given 0 l)))) }
-{
-    let rows = rows_of(alloc, arcs)?;
-    Ok(add_rows(io, sort, rows.as_slice()))
-}
-
 /// Adds the pairs of a rule: those with a walk over its text and over the relations at its children.
 fn visit(alloc: Global, g: &Grammar, rule: usize, io: &mut Io) -> Result<bool, AllocError>
     requires rule { rule < length g.now.rules }
@@ -101,8 +87,8 @@ fn visit(alloc: Global, g: &Grammar, rule: usize, io: &mut Io) -> Result<bool, A
     ensures others { OnOk result ((r : Rule) → slice_get g.now.rules rule ≡ Some r → (s i j : ℕ) → Has io.new s i j → Has io.old s i j ⊎ (s ≡ r.sort)) }
 {
     let rule = small_rule(g, rule);
-    let arcs = arcs_of(alloc, g, io, rule)?;
-    let added = relate_all(alloc, arcs.as_slice(), rule.sort, io)?;
+    let rows = rule_rows(alloc, g, io, rule)?;
+    let added = add_rows(io, rule.sort, rows.as_slice());
     Ok(added)
 }
 

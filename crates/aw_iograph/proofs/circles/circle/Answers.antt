@@ -1,4 +1,5 @@
 use Rattle.std.proofs.Common.{List, sym, subst}
+use Rattle.aw_list.specs.Members.{Member}
 use Rattle.aw_grammar.specs.GrammarView.{rule_of}
 use Rattle.aw_iograph.specs.declared.reach.Arc.{Arc}
 use Rattle.aw_iograph.specs.Graphs.{IsWithin}
@@ -10,7 +11,7 @@ use Rattle.aw_iograph.proofs.circles.circle.Goals as goal
 pub find_circle-requires : goal.find_circle-requires
 find_circle-requires c =
     subst (λ (arcs : List Arc). IsWithin 144 arcs) (sym c.as_slice.ensures.value)
-    (graph_within (rule_of c.args.g.now.sorts c.small_rule-rule.result.now) (Has c.args.io.now) c.in_ok-arcs.arcs.items c.in_ok-arcs.ensures)
+    (graph_within (rule_of c.args.g.now.sorts c.small_rule-rule.result.now) (Has c.args.io.now) (λ a. Member a c.in_ok-arcs.arcs.items) c.in_ok-arcs.ensures)
 
 pub returns-in-Some : goal.returns-in-Some
 returns-in-Some c r e =

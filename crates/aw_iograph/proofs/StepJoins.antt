@@ -1,0 +1,125 @@
+-- Rows that are joined over the steps of a rule.
+use Rattle.std.proofs.Common.{◌≡◌, ℕ, zero, suc, ◌+◌, ◌/◌, ◌%◌, ◌<◌, ◌≤◌, Bool, true, false, List, [], ◌∷◌, map, length, get_or, Option, Some, slice_get, refl, sym, ap, ◌∙◌, subst, inl, inr, arith}
+use Rattle.std.specs.Prelude.{◌||◌}
+use Rattle.std.proofs.lemmas.List.{length-map}
+use Rattle.std.proofs.lemmas.Option.{slice_get_within}
+use Rattle.aw_list.specs.Members.{Member}
+use Rattle.aw_list.proofs.Members.{member_map, member_unmap, got_map}
+use Rattle.aw_term.specs.Views.{term_of}
+use Rattle.aw_term.specs.declared.term.Expr.{Expr}
+use Rattle.aw_grammar.specs.declared.rule.Child.{Child}
+use Rattle.aw_grammar.specs.declared.rule.Rule.{Rule}
+use Rattle.aw_grammar.specs.declared.rule.Sort.{Sort}
+use Rattle.aw_grammar.specs.GrammarView.{rule_of}
+use Rattle.aw_iograph.specs.declared.reach.Arc.{Arc}
+use Rattle.aw_iograph.specs.declared.occ.Occ.{Occ}
+use Rattle.aw_iograph.specs.declared.occ.Flow.{Flow}
+use Rattle.aw_iograph.specs.declared.io.Io.{Io}
+use Rattle.aw_iograph.specs.Graphs.{Plus}
+use Rattle.aw_iograph.specs.Occurrences.{inherited, given, term_flows, place_of}
+use Rattle.aw_iograph.specs.Dependence.{Edge}
+use Rattle.aw_iograph.specs.Pairs.{Has, IsNumber}
+use Rattle.aw_iograph.specs.Arcs.{arc_of, call_arc, IsFlow, IsCallOf, IsCall, IsOfChild, IsOfChildren, IsStep, IsGraphBy}
+use Rattle.aw_iograph.specs.Rows.{IsIn, AreLed, IsJoined, Joins}
+use Rattle.aw_iograph.proofs.Gaining.{IsEarly, early_none, early_split, early_left, early_right, early_all, child_split, child_left, child_right}
+use Rattle.aw_iograph.proofs.Joining.{IsAmong, joins_none, joins_both, joins_as, joins_next, joins_all, all_led}
+use Rattle.aw_iograph.proofs.Placing.{number_place}
+use Rattle.aw_iograph.proofs.RuleGraphs.{walk_arcs, arcs_walk, circle_place, end_place}
+
+pub got_at : {A : Type 0} (xs ys : List A) (n : ℕ) (d : A) → xs ≡ ys → n < length xs → slice_get ys n ≡ Some (get_or xs n d)
+got_at {A = A} xs ys n d same lt = ap (λ zs. slice_get zs n) (sym same) ∙ here xs n lt
+  where
+    here : (zs : List A) (m : ℕ) → m < length zs → slice_get zs m ≡ Some (get_or zs m d)
+    here [] m less = absurd (omega arith)
+    here (z ∷ zs) zero less = refl
+    here (z ∷ zs) (suc m) less = let below : m < length zs = omega arith in here zs m below
+
+-- whether one or the other, where the first is known
+pub or_true : (two one : Bool) → two ≡ true → two ≡ (two || one)
+or_true true one e = refl
+or_true false one e = absurd cc
+
+pub or_false : (two one : Bool) → two ≡ false → one ≡ (two || one)
+or_false true one e = absurd cc
+or_false false one e = refl
+
+-- an arc of a child is one of all children
+pub child_in : (es : List (Option Occ)) (io : Io) (cs : List Child) (n : ℕ) (c : Child) → slice_get cs n ≡ Some c → (x : Arc) → IsOfChild es io (n + 1) c x → IsOfChildren es io cs (length cs) x
+child_in es io cs n c here x q = let at : n + 1 ≡ suc n = omega arith in (n, c, slice_get_within cs n c here, here, subst (λ m. IsOfChild es io m c x) at q)
+
+-- one more flow
+pub joins_flow : (flows : List Flow) (n : ℕ) (f : Flow) (arc : Arc) (a b c : List ℕ) (x y z : List Bool) (one two both : Bool) → slice_get flows n ≡ Some f → arc ≡ arc_of f → both ≡ (two || one) → Joins (IsAmong (map arc_of flows) n) a b x y one → Joins (λ e. e ≡ arc) b c y z two → Joins (IsAmong (map arc_of flows) (n + 1)) a c x z both
+joins_flow flows n f arc a b c x y z one two both here same e first then =
+    joins_next (map arc_of flows) n arc a b c x y z one two both (got_map arc_of flows n f here ∙ ap Some (sym same)) e first then
+
+-- all flows
+pub joins_flows : (flows : List Flow) (n : ℕ) (a b : List ℕ) (x y : List Bool) (again : Bool) → length flows ≤ n → Joins (IsAmong (map arc_of flows) n) a b x y again → Joins (IsFlow flows) a b x y again
+joins_flows flows n a b x y again le all =
+    joins_as (λ e. Member e (map arc_of flows)) (IsFlow flows) a b x y again (λ e m. member_unmap arc_of e flows m)
+    (λ e (f, m, same). subst (λ (w : Arc). Member w (map arc_of flows)) (sym same) (member_map arc_of f flows m))
+    (joins_all (map arc_of flows) n a b x y again (subst (λ k. k ≤ n) (sym (length-map flows arc_of)) le) all)
+
+-- the arc of a pair that the relation has
+pub joins_call : (io : Io) (s k i l : ℕ) (arc : Arc) (a b : List ℕ) (x y : List Bool) (again : Bool) → Has io s i l → arc ≡ call_arc k i l → Joins (λ e. e ≡ arc) a b x y again → Joins (IsCallOf io s k i l) a b x y again
+joins_call io s k i l arc a b x y again has same all = joins_as (λ e. e ≡ arc) (IsCallOf io s k i l) a b x y again (λ e one. (has, one ∙ same)) (λ e q. q.1 ∙ sym same) all
+
+-- before the first pair there is none
+pub joins_no_pair : (io : Io) (s k : ℕ) (a : List ℕ) (x : List Bool) → Joins (IsEarly io s k 0) a a x x false
+joins_no_pair io s k a x = joins_none (IsEarly io s k 0) a x (early_none io s k)
+
+-- one more pair
+pub joins_pair : (io : Io) (s k n : ℕ) (a b c : List ℕ) (x y z : List Bool) (one two both : Bool) → both ≡ (two || one) → Joins (IsEarly io s k n) a b x y one → Joins (IsCallOf io s k (n / 8 + 1) (n % 8 + 1)) b c y z two → Joins (IsEarly io s k (n + 1)) a c x z both
+joins_pair io s k n a b c x y z one two both e first then =
+    joins_both (IsEarly io s k n) (IsCallOf io s k (n / 8 + 1) (n % 8 + 1)) (IsEarly io s k (n + 1)) a b c x y z one two both e first then (early_split io s k n) (early_left io s k n) (early_right io s k n)
+
+-- all pairs
+pub joins_calls : (io : Io) (s k n : ℕ) (a b : List ℕ) (x y : List Bool) (again : Bool) → 64 ≤ n → Joins (IsEarly io s k n) a b x y again → Joins (IsCall io s k) a b x y again
+joins_calls io s k n a b x y again le all = joins_as (IsEarly io s k n) (IsCall io s k) a b x y again (λ e (i, l, p, q). (i, l, q)) (early_all io s k n le) all
+
+-- one child
+pub joins_child : (es : List (Option Occ)) (io : Io) (k : ℕ) (child : Child) (flows : List Flow) (a b c : List ℕ) (x y z : List Bool) (one two both : Bool) → flows ≡ term_flows es k false 1 (map term_of child.args) → both ≡ (two || one) →
+    Joins (IsFlow flows) a b x y one → Joins (IsCall io child.sort k) b c y z two → Joins (IsOfChild es io k child) a c x z both
+joins_child es io k child flows a b c x y z one two both same e first then =
+    joins_both (IsFlow flows) (IsCall io child.sort k) (IsOfChild es io k child) a b c x y z one two both e first then
+    (λ w r. elim r [ inl p ↦ inl (subst (λ (fs : List Flow). IsFlow fs w) (sym same) p) | inr q ↦ inr q ])
+    (λ w p. inl (subst (λ (fs : List Flow). IsFlow fs w) same p))
+    (λ w q. inr q)
+
+-- before the first child there is none
+pub joins_no_child : (es : List (Option Occ)) (io : Io) (cs : List Child) (a : List ℕ) (x : List Bool) → Joins (IsOfChildren es io cs 0) a a x x false
+joins_no_child es io cs a x = joins_none (IsOfChildren es io cs 0) a x (λ e (k, c, lt, got, q). omega arith)
+
+-- one more child
+pub joins_children : (es : List (Option Occ)) (io : Io) (cs : List Child) (n : ℕ) (child : Child) (a b c : List ℕ) (x y z : List Bool) (one two both : Bool) → slice_get cs n ≡ Some child → both ≡ (two || one) →
+    Joins (IsOfChildren es io cs n) a b x y one → Joins (IsOfChild es io (n + 1) child) b c y z two → Joins (IsOfChildren es io cs (n + 1)) a c x z both
+joins_children es io cs n child a b c x y z one two both here e first then =
+    joins_both (IsOfChildren es io cs n) (IsOfChild es io (n + 1) child) (IsOfChildren es io cs (n + 1)) a b c x y z one two both e first then
+    (child_split es io cs n child here) (child_left es io cs n) (child_right es io cs n child here)
+
+-- the children, and then the results
+pub joins_steps : (es : List (Option Occ)) (io : Io) (cs : List Child) (results : List Expr) (flows : List Flow) (a b c : List ℕ) (x y z : List Bool) (one two both : Bool) → flows ≡ term_flows es 0 true 1 (map term_of results) → both ≡ (two || one) →
+    Joins (IsOfChildren es io cs (length cs)) a b x y one → Joins (IsFlow flows) b c y z two → Joins (IsStep es io cs results) a c x z both
+joins_steps es io cs results flows a b c x y z one two both same e first then =
+    joins_both (IsOfChildren es io cs (length cs)) (IsFlow flows) (IsStep es io cs results) a b c x y z one two both e first then
+    (λ w r. elim r [ inl p ↦ inl p | inr q ↦ inr (subst (λ (fs : List Flow). IsFlow fs w) (sym same) q) ])
+    (λ w p. inl p)
+    (λ w q. inr (subst (λ (fs : List Flow). IsFlow fs w) same q))
+
+-- rows that are joined over the steps of a rule have each walk from an inherited value to a result
+pub rows_there : (sorts : List Sort) (r : Rule) (io : Io) (P : Arc → Type 0) (rows : List ℕ) → IsGraphBy (rule_of sorts r) (Has io) P → ((a : Arc) → P a → IsJoined rows a) → ((i : ℕ) → i < 8 → IsIn rows i i) →
+    (i j : ℕ) → Plus (Edge (rule_of sorts r) (Has io)) (inherited 0 i) (given 0 j) → IsNumber i × IsNumber j × IsIn rows (place_of (given 0 j)) (place_of (inherited 0 i))
+rows_there sorts r io P rows g joined start i j w =
+    let p = circle_place (rule_of sorts r) (Has io) P g w in let q = end_place (rule_of sorts r) (Has io) P g w in
+    let few : place_of (inherited 0 i) < 8 = omega (arith, p.counted, p.number) in (
+      record { counted = p.counted; few = p.number },
+      record { counted = q.counted; few = q.number },
+      all_led P rows joined (place_of (inherited 0 i)) (start (place_of (inherited 0 i)) few) (walk_arcs (rule_of sorts r) (Has io) P g w),
+    )
+
+-- and rows that are led over them have no other
+pub rows_only : (sorts : List Sort) (r : Rule) (io : Io) (P : Arc → Type 0) (rows : List ℕ) → IsGraphBy (rule_of sorts r) (Has io) P → AreLed P rows →
+    (i j : ℕ) → IsNumber i → IsNumber j → IsIn rows (place_of (given 0 j)) (place_of (inherited 0 i)) → Plus (Edge (rule_of sorts r) (Has io)) (inherited 0 i) (given 0 j)
+rows_only sorts r io P rows g led i j a b on = elim (led (place_of (given 0 j)) (place_of (inherited 0 i)) on) [
+  | inl same ↦ absurd (omega (arith, a.few, a.counted, same))
+  | inr w ↦ arcs_walk (rule_of sorts r) (Has io) P g (inherited 0 i) (given 0 j) (number_place false i a.counted a.few) (number_place true j b.counted b.few) w
+]
