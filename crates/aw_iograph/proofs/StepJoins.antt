@@ -1,8 +1,8 @@
 -- Rows that are joined over the steps of a rule.
-use Rattle.std.proofs.Common.{◌≡◌, ℕ, zero, suc, ◌+◌, ◌/◌, ◌%◌, ◌<◌, ◌≤◌, Bool, true, false, List, [], ◌∷◌, map, length, get_or, Option, Some, slice_get, refl, sym, ap, ◌∙◌, subst, inl, inr, arith}
+use Rattle.std.proofs.Common.{◌≡◌, ℕ, zero, suc, ◌+◌, ◌*◌, ◌-◌, ◌/◌, ◌%◌, ◌<◌, ◌≤◌, Bool, true, false, List, [], ◌∷◌, map, length, get_or, Option, Some, slice_get, refl, sym, ap, ◌∙◌, subst, inl, inr, arith}
 use Rattle.std.specs.Prelude.{◌||◌}
 use Rattle.std.proofs.lemmas.List.{length-map}
-use Rattle.std.proofs.lemmas.Option.{slice_get_within}
+use Rattle.std.proofs.lemmas.Option.{same_Some, slice_get_within}
 use Rattle.aw_list.specs.Members.{Member}
 use Rattle.aw_list.proofs.Members.{member_map, member_unmap, got_map}
 use Rattle.aw_term.specs.Views.{term_of}
@@ -19,9 +19,9 @@ use Rattle.aw_iograph.specs.Graphs.{Plus}
 use Rattle.aw_iograph.specs.Occurrences.{inherited, given, term_flows, place_of}
 use Rattle.aw_iograph.specs.Dependence.{Edge}
 use Rattle.aw_iograph.specs.Pairs.{Has, IsNumber}
-use Rattle.aw_iograph.specs.Arcs.{arc_of, call_arc, IsFlow, IsCallOf, IsCall, IsOfChild, IsOfChildren, IsStep, IsGraphBy}
+use Rattle.aw_iograph.specs.Arcs.{arc_of, call_arc, IsFlow, IsCallOf, IsMarkedCall, IsCall, IsOfChild, IsOfChildren, IsStep, IsGraphBy}
 use Rattle.aw_iograph.specs.Rows.{IsIn, AreLed, IsJoined, Joins}
-use Rattle.aw_iograph.proofs.Gaining.{IsEarly, early_none, early_split, early_left, early_right, early_all, child_split, child_left, child_right}
+use Rattle.aw_iograph.proofs.Gaining.{IsEarly, early_none, early_split, early_left, early_right, child_split, child_left, child_right}
 use Rattle.aw_iograph.proofs.Joining.{IsAmong, joins_none, joins_both, joins_as, joins_next, joins_all, all_led}
 use Rattle.aw_iograph.proofs.Placing.{number_place}
 use Rattle.aw_iograph.proofs.RuleGraphs.{walk_arcs, arcs_walk, circle_place, end_place}
@@ -59,9 +59,9 @@ joins_flows flows n a b x y again le all =
     (λ e (f, m, same). subst (λ (w : Arc). Member w (map arc_of flows)) (sym same) (member_map arc_of f flows m))
     (joins_all (map arc_of flows) n a b x y again (subst (λ k. k ≤ n) (sym (length-map flows arc_of)) le) all)
 
--- the arc of a pair that the relation has
-pub joins_call : (io : Io) (s k i l : ℕ) (arc : Arc) (a b : List ℕ) (x y : List Bool) (again : Bool) → Has io s i l → arc ≡ call_arc k i l → Joins (λ e. e ≡ arc) a b x y again → Joins (IsCallOf io s k i l) a b x y again
-joins_call io s k i l arc a b x y again has same all = joins_as (λ e. e ≡ arc) (IsCallOf io s k i l) a b x y again (λ e one. (has, one ∙ same)) (λ e q. q.1 ∙ sym same) all
+-- the arc of a pair that is marked
+pub joins_call : (marked : Bool) (k i l : ℕ) (arc : Arc) (a b : List ℕ) (x y : List Bool) (again : Bool) → marked ≡ true → arc ≡ call_arc k i l → Joins (λ e. e ≡ arc) a b x y again → Joins (IsMarkedCall marked k i l) a b x y again
+joins_call marked k i l arc a b x y again on same all = joins_as (λ e. e ≡ arc) (IsMarkedCall marked k i l) a b x y again (λ e one. (on, one ∙ same)) (λ e q. q.1 ∙ sym same) all
 
 -- before the first pair there is none
 pub joins_no_pair : (io : Io) (s k : ℕ) (a : List ℕ) (x : List Bool) → Joins (IsEarly io s k 0) a a x x false
@@ -72,9 +72,38 @@ pub joins_pair : (io : Io) (s k n : ℕ) (a b c : List ℕ) (x y z : List Bool) 
 joins_pair io s k n a b c x y z one two both e first then =
     joins_both (IsEarly io s k n) (IsCallOf io s k (n / 8 + 1) (n % 8 + 1)) (IsEarly io s k (n + 1)) a b c x y z one two both e first then (early_split io s k n) (early_left io s k n) (early_right io s k n)
 
--- all pairs
-pub joins_calls : (io : Io) (s k n : ℕ) (a b : List ℕ) (x y : List Bool) (again : Bool) → 64 ≤ n → Joins (IsEarly io s k n) a b x y again → Joins (IsCall io s k) a b x y again
-joins_calls io s k n a b x y again le all = joins_as (IsEarly io s k n) (IsCall io s k) a b x y again (λ e (i, l, p, q). (i, l, q)) (early_all io s k n le) all
+-- the relation has a pair just where it is marked
+module _ (io : Io) (s : ℕ) (marks : List Bool) (here : (n : ℕ) → n < 64 → slice_get marks n ≡ slice_get io.marks.items (s * 64 + n)) where
+  pub marked_has : (n : ℕ) (m : Bool) → n < 64 → slice_get marks n ≡ Some m → m ≡ true → Has io s (n / 8 + 1) (n % 8 + 1)
+  marked_has n m lt got on =
+      let at : s * 64 + n ≡ s * 64 + ((n / 8 + 1 - 1) * 8 + (n % 8 + 1 - 1)) = omega arith in record {
+        inherited = record { counted = omega arith; few = omega arith };
+        result = record { counted = omega arith; few = omega arith };
+        marked = subst (λ p. slice_get io.marks.items p ≡ Some true) at (sym (here n lt) ∙ got ∙ ap Some on);
+      }
+
+  pub has_marked : (n : ℕ) (m : Bool) → n < 64 → slice_get marks n ≡ Some m → Has io s (n / 8 + 1) (n % 8 + 1) → m ≡ true
+  has_marked n m lt got has =
+      let at : s * 64 + ((n / 8 + 1 - 1) * 8 + (n % 8 + 1 - 1)) ≡ s * 64 + n = omega arith in
+      same_Some m true (sym got ∙ here n lt ∙ subst (λ p. slice_get io.marks.items p ≡ Some true) at has.marked)
+
+  -- one more pair
+  pub joins_marked : (k n : ℕ) (m : Bool) (a b c : List ℕ) (x y z : List Bool) (one two both : Bool) → n < 64 → slice_get marks n ≡ Some m → both ≡ (two || one) →
+      Joins (IsEarly io s k n) a b x y one → Joins (IsMarkedCall m k (n / 8 + 1) (n % 8 + 1)) b c y z two → Joins (IsEarly io s k (n + 1)) a c x z both
+  joins_marked k n m a b c x y z one two both lt got e first then =
+      joins_pair io s k n a b c x y z one two both e first
+      (joins_as (IsMarkedCall m k (n / 8 + 1) (n % 8 + 1)) (IsCallOf io s k (n / 8 + 1) (n % 8 + 1)) b c y z two (λ w q. (marked_has n m lt got q.0, q.1)) (λ w q. (has_marked n m lt got q.0, q.1)) then)
+
+  -- all pairs
+  pub joins_marks : (k n : ℕ) (a b : List ℕ) (x y : List Bool) (again : Bool) → length marks ≤ n → Joins (IsEarly io s k n) a b x y again → Joins (IsCall io s k) a b x y again
+  joins_marks k n a b x y again le all = joins_as (IsEarly io s k n) (IsCall io s k) a b x y again (λ e (i, l, p, q). (i, l, q)) early all
+    where
+      early : (e : Arc) → IsCall io s k e → IsEarly io s k n e
+      early e (i, l, q) =
+          let a' = q.0.inherited.few in let b' = q.0.result.few in
+          let lt : (i - 1) * 8 + (l - 1) < 64 = omega arith in
+          let in' : (i - 1) * 8 + (l - 1) < length marks = slice_get_within marks ((i - 1) * 8 + (l - 1)) true (here ((i - 1) * 8 + (l - 1)) lt ∙ q.0.marked) in
+          (i, l, record { inherited = q.0.inherited; result = q.0.result; before = omega arith }, q)
 
 -- one child
 pub joins_child : (es : List (Option Occ)) (io : Io) (k : ℕ) (child : Child) (flows : List Flow) (a b c : List ℕ) (x y z : List Bool) (one two both : Bool) → flows ≡ term_flows es k false 1 (map term_of child.args) → both ≡ (two || one) →

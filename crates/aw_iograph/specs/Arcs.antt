@@ -1,5 +1,5 @@
 -- Steps within a rule as arcs between the places of its occurrences.
-use Rattle.std.specs.Prelude.{◌≡◌, ℕ, suc, ◌<◌, true, false, ◌⊎◌, List, map, length, Option, Some, slice_get}
+use Rattle.std.specs.Prelude.{◌≡◌, ℕ, suc, ◌<◌, Bool, true, false, ◌⊎◌, List, map, length, Option, Some, slice_get}
 use Rattle.aw_list.specs.Members.{Member}
 use Rattle.aw_term.specs.Rules.{Rule}
 use Rattle.aw_term.specs.Views.{term_of}
@@ -34,6 +34,10 @@ IsFlow flows a = (f : Flow) × Member f flows × (a ≡ arc_of f)
 -- at child k, the arc of this pair of its sort, where the relation has it
 abbrev pub IsCallOf : Io → ℕ → ℕ → ℕ → ℕ → Arc → Type 0
 IsCallOf io s k i l a = Has io s i l × (a ≡ call_arc k i l)
+
+-- the same where a mark says whether the relation has the pair
+abbrev pub IsMarkedCall : Bool → ℕ → ℕ → ℕ → Arc → Type 0
+IsMarkedCall marked k i l a = (marked ≡ true) × (a ≡ call_arc k i l)
 
 -- at child k, an arc of a pair of its sort
 abbrev pub IsCall : Io → ℕ → ℕ → Arc → Type 0

@@ -1,5 +1,5 @@
 //! The relations of a grammar's sorts: which results depend on which inherited values.
-ghost use Rattle.std.specs.Prelude.{◌≡◌, ℕ, ◌+◌, ◌*◌, ◌/◌, ◌%◌, ◌<◌, ◌↔◌, ◌⊎◌, IfOk, IsTrue};
+ghost use Rattle.std.specs.Prelude.{◌≡◌, ℕ, ◌+◌, ◌*◌, ◌/◌, ◌%◌, ◌<◌, ◌≤◌, ◌↔◌, ◌⊎◌, length, slice_get, IfOk, IsTrue};
 ghost use Rattle.aw_grammar.specs.declared.grammar.Grammar.{Grammar as GrammarValue};
 ghost use Rattle.aw_iograph.specs.Pairs.{Has, HasSort, IsFor, IsNumber};
 ghost use Rattle.aw_iograph.specs.Growth.{Grown};
@@ -78,6 +78,27 @@ impl Io {
         }
         let at = usize::from(sort) * PAIRS + (usize::from(i) - 1) * RESULTS + (usize::from(j) - 1);
         matches!(self.marks.get(at), Some(true))
+    }
+
+    /// The marks of a sort's pairs, by inherited value and then by result. Those that the relations do not reach are left out.
+    pub(crate) fn pairs(&self, sort: u16) -> &[bool]
+        ensures few { length result.now ≤ 64 }
+        ensures marks { (n : ℕ) → n < 64 → slice_get result.now n ≡ slice_get self.now.marks.items (sort * 64 + n) }
+    {
+        let marks = self.marks.as_slice();
+        let first = usize::from(sort) * PAIRS;
+        let start = if first < marks.len() {
+            first
+        } else {
+            marks.len()
+        };
+        let left = marks.len() - start;
+        let end = if left < PAIRS {
+            marks.len()
+        } else {
+            start + PAIRS
+        };
+        &marks[start..end]
     }
 
     /// Whether a pair is in the relation of a sort, by its number from 0: by inherited value, and then by result.

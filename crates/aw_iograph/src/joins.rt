@@ -2,7 +2,7 @@
 ghost use Rattle.std.specs.Prelude.{◌≡◌, ◌+◌, ◌/◌, ◌%◌, ◌<◌, ◌≤◌, ℕ, length, IfOk, OnOk};
 ghost use Rattle.aw_grammar.specs.GrammarView.{rule_of};
 ghost use Rattle.aw_iograph.specs.declared.reach.Arc.{Arc as ArcValue};
-ghost use Rattle.aw_iograph.specs.Arcs.{IsFlow, IsCallOf, IsCall, IsOfChild, IsOfChildren, IsStep, ArePlaced};
+ghost use Rattle.aw_iograph.specs.Arcs.{IsFlow, IsMarkedCall, IsCall, IsOfChild, IsOfChildren, IsStep, ArePlaced};
 ghost use Rattle.aw_iograph.specs.Graphs.{Plus};
 ghost use Rattle.aw_iograph.specs.Occurrences.{inherited, given, place_of};
 ghost use Rattle.aw_iograph.specs.Dependence.{Edge};
@@ -12,7 +12,7 @@ ghost use Rattle.aw_iograph.specs.Small.{IsSmall, HasFew, HasFewArgs};
 
 use crate::arcs::{FLOWS, arc, call};
 use crate::graph::{Entries, RuleGraph, entries, flow_terms};
-use crate::io::{Io, PAIRS};
+use crate::io::Io;
 use crate::rows::{PLACES, first_rows, join_row};
 use aw_grammar::{Child, Children, Grammar, Rule};
 use aw_list::Items;
@@ -34,22 +34,15 @@ fn join_flows(flows: &RuleGraph, rows: &mut Vec<u8>, read: &mut Vec<bool>) -> bo
     again
 }
 
-/// The same over the arc of a pair of a child's sort, where the relation has it.
-fn join_call(
-    io: &Io,
-    sort: u16,
-    child: u8,
-    pair: usize,
-    rows: &mut Vec<u8>,
-    read: &mut Vec<bool>,
-) -> bool
+/// The same over the arc of a pair at a child, where it is marked.
+fn join_call(marked: bool, child: u8, pair: usize, rows: &mut Vec<u8>, read: &mut Vec<bool>) -> bool
     requires pair { pair < 64 }
     requires size { length rows.old.items ≡ 144 }
     requires places { length read.old.items ≡ 144 }
-    requires placed { ArePlaced (IsCallOf io.now sort child (pair / 8 + 1) (pair % 8 + 1)) }
-    ensures { Joins (IsCallOf io.now sort child (pair / 8 + 1) (pair % 8 + 1)) rows.old.items rows.new.items read.old.items read.new.items result }
+    requires placed { ArePlaced (IsMarkedCall marked child (pair / 8 + 1) (pair % 8 + 1)) }
+    ensures { Joins (IsMarkedCall marked child (pair / 8 + 1) (pair % 8 + 1)) rows.old.items rows.new.items read.old.items read.new.items result }
 {
-    if io.has_pair(sort, pair) {
+    if marked {
         join_row(call(child, pair), rows, read)
     } else {
         false
@@ -64,8 +57,8 @@ fn join_calls(io: &Io, sort: u16, child: u8, rows: &mut Vec<u8>, read: &mut Vec<
     ensures { Joins (IsCall io.now sort child) rows.old.items rows.new.items read.old.items read.new.items result }
 {
     let mut again = false;
-    for pair in 0..PAIRS {
-        if join_call(io, sort, child, pair, rows, read) {
+    for (pair, marked) in io.pairs(sort).iter().enumerate() {
+        if join_call(*marked, child, pair, rows, read) {
             again = true;
         }
     }
