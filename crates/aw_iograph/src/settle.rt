@@ -1,5 +1,5 @@
 //! The least relations that are closed under the rules of a grammar.
-ghost use Rattle.std.specs.Prelude.{◌≡◌, ◌↔◌, ◌⊎◌, ◌-◌, ◌*◌, ◌<◌, ℕ, false, length, slice_get, Some, IfOk, OnOk};
+ghost use Rattle.std.specs.Prelude.{◌≡◌, ◌↔◌, ◌⊎◌, ◌-◌, ◌<◌, ℕ, false, length, slice_get, Some, IfOk, OnOk};
 ghost use Rattle.aw_grammar.specs.GrammarView.{rule_of};
 ghost use Rattle.aw_grammar.specs.GrammarOf.{grammar_of};
 ghost use Rattle.aw_iograph.specs.Graphs.{Plus};
