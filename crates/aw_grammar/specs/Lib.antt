@@ -4,6 +4,7 @@ pub mod Faultless
 pub mod GrammarOf
 pub mod GrammarView
 pub mod Kinds
+pub mod Making
 pub mod Named
 pub mod Resolved
 pub mod SomeRules

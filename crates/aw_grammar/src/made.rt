@@ -1,12 +1,12 @@
 //! The rule that a written rule stands for.
-ghost use Rattle.std.specs.Prelude.{◌≡◌, ◌≤◌, length, map, true, false, IfOk};
-ghost use Rattle.aw_index.specs.Places.{any_stands};
+ghost use Rattle.std.specs.Prelude.{◌≡◌, ◌≤◌, length, map, true, IfOk};
 ghost use Rattle.aw_term.specs.Views.{pattern_of, term_of};
 ghost use Rattle.aw_grammar.specs.Written.{written_of, child_of_raw, rule_of_raw};
-ghost use Rattle.aw_grammar.specs.Terms.{args_of, terms_of};
-ghost use Rattle.aw_grammar.specs.Resolved.{entering, numbered, child_numbered, children_numbered};
+ghost use Rattle.aw_grammar.specs.Terms.{terms_of};
+ghost use Rattle.aw_grammar.specs.Resolved.{entering, numbered, children_numbered};
 ghost use Rattle.aw_grammar.specs.Declarations.{entry_of};
 ghost use Rattle.aw_grammar.specs.Kinds.{rule_kind, children_fit, takes_and_gives, sort_called};
+ghost use Rattle.aw_grammar.specs.Making.{AreNoCons, MakesChild, MakesChildren};
 ghost use Rattle.aw_grammar.specs.Faultless.{all_faultless, is_faultless_rule, IsMade};
 ghost use Rattle.aw_grammar.specs.GrammarView.{child_of};
 ghost use Rattle.aw_grammar.specs.GrammarOf.{declarations_of, words_of, entry};
@@ -32,8 +32,8 @@ fn to_child(
     child: &RawChild,
 ) -> Result<Option<Child>, AllocError>
     requires fits { takes_and_gives (sort_called child.now.sort grammar.now.sorts) (length (child_of_raw child.now).args) (length child.now.results) ≡ true }
-    requires free { any_stands variables.now.names (words_of grammar.now).cons ≡ false }
-    ensures { IfOk result (IsMade (all_faultless grammar.now.cons variables.now.names (child_of_raw child.now).args) (λ c. child_of grammar.now.sorts c ≡ child_numbered (words_of grammar.now).cons (words_of grammar.now).sorts variables.now.names (child_of_raw child.now))) }
+    requires free { AreNoCons grammar.now variables.now.names }
+    ensures { IfOk result (MakesChild grammar.now variables.now.names (child_of_raw child.now)) }
 {
     let sort = grammar.sort_number(child.sort.as_slice());
     let Some(args) = to_terms(grammar, variables, &child.args)? else {
@@ -49,8 +49,8 @@ fn to_children(
     children: &RawChildren,
 ) -> Result<Option<Children>, AllocError>
     requires fit { children_fit grammar.now.sorts (map child_of_raw children.now) ≡ true }
-    requires free { any_stands variables.now.names (words_of grammar.now).cons ≡ false }
-    ensures { IfOk result (IsMade (all_faultless grammar.now.cons variables.now.names (args_of (map child_of_raw children.now))) (λ cs. map (child_of grammar.now.sorts) cs ≡ children_numbered (words_of grammar.now) variables.now.names (map child_of_raw children.now))) }
+    requires free { AreNoCons grammar.now variables.now.names }
+    ensures { IfOk result (MakesChildren grammar.now variables.now.names (map child_of_raw children.now)) }
 {
     let mut made = Items::from_vec(Vec::with_capacity(children.allocator(), children.len())?);
     for child in children.as_slice() {
@@ -100,7 +100,7 @@ fn to_rule(
     requires children { children_fit grammar.now.sorts (map child_of_raw rule.now.children) ≡ true }
     requires names { names ≡ entering (words_of grammar.now).cons (rule_of_raw rule.now) }
     requires variables { variables.now.names ≡ names }
-    requires free { any_stands variables.now.names (words_of grammar.now).cons ≡ false }
+    requires free { AreNoCons grammar.now variables.now.names }
     ensures { IfOk result (IsMade (all_faultless grammar.now.cons names (terms_of (rule_of_raw rule.now))) (λ r. entry grammar.now.sorts r ≡ entry_of (declarations_of grammar.now) (rule_of_raw rule.now))) }
 {
     let Some(patterns) = to_patterns(grammar, variables, &rule.patterns)? else {
@@ -125,7 +125,7 @@ fn faultless_rule(
     requires few { length rule.now.params ≤ 8 }
     requires names { names ≡ entering (words_of grammar.now).cons (rule_of_raw rule.now) }
     requires variables { variables.now.names ≡ names }
-    requires free { any_stands variables.now.names (words_of grammar.now).cons ≡ false }
+    requires free { AreNoCons grammar.now variables.now.names }
     ensures { IfOk result (IsMade (is_faultless_rule (declarations_of grammar.now) (rule_of_raw rule.now)) (λ r. entry grammar.now.sorts r ≡ entry_of (declarations_of grammar.now) (rule_of_raw rule.now))) }
 {
     if !head_fits(grammar, rule) {

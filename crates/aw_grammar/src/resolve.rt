@@ -1,11 +1,10 @@
 //! The terms that written terms stand for, and whether constructors have as many parts as they are declared with.
 ghost use Rattle.std.specs.Prelude.{◌≡◌, map, Some, false, IfOk};
-ghost use Rattle.aw_index.specs.Places.{place_of, any_stands};
-ghost use Rattle.aw_term.specs.Views.{pattern_of, term_of};
+ghost use Rattle.aw_index.specs.Places.{place_of};
 ghost use Rattle.aw_grammar.specs.Written.{Word, written_of};
-ghost use Rattle.aw_grammar.specs.Resolved.{numbered};
 ghost use Rattle.aw_grammar.specs.Kinds.{con_called, has_arity, has_arities, all_have_arities};
-ghost use Rattle.aw_grammar.specs.Faultless.{is_declared, is_faultless, all_faultless, IsMade};
+ghost use Rattle.aw_grammar.specs.Making.{AreNoCons, MakesPattern, MakesPatterns, MakesTerm, MakesTerms};
+ghost use Rattle.aw_grammar.specs.Faultless.{is_declared, IsMade};
 ghost use Rattle.aw_grammar.specs.GrammarOf.{words_of};
 
 use crate::grammar::Grammar;
@@ -72,8 +71,8 @@ fn con_of(grammar: &Grammar, name: &Text, count: usize) -> Option<u16>
 
 /// The pattern that a bare word stands for, or `None` where it is neither a variable nor a constructor without parts.
 fn word_pattern(grammar: &Grammar, variables: &Variables, name: &Text) -> Option<Pattern>
-    requires { any_stands variables.now.names (words_of grammar.now).cons ≡ false }
-    ensures { IsMade (is_faultless grammar.now.cons variables.now.names (Word name.now)) (λ made. pattern_of made ≡ numbered (words_of grammar.now).cons variables.now.names (Word name.now)) result }
+    requires { AreNoCons grammar.now variables.now.names }
+    ensures { MakesPattern grammar.now variables.now.names (Word name.now) result }
 {
     if let Some(variable) = variables.find(name.as_slice()) {
         return Some(Pattern::Var(variable));
@@ -89,8 +88,8 @@ pub(crate) fn to_pattern(
     variables: &Variables,
     term: &RawTerm,
 ) -> Result<Option<Pattern>, AllocError>
-    requires { any_stands variables.now.names (words_of grammar.now).cons ≡ false }
-    ensures { IfOk result (IsMade (is_faultless grammar.now.cons variables.now.names (written_of term.now)) (λ made. pattern_of made ≡ numbered (words_of grammar.now).cons variables.now.names (written_of term.now))) }
+    requires { AreNoCons grammar.now variables.now.names }
+    ensures { IfOk result (MakesPattern grammar.now variables.now.names (written_of term.now)) }
 {
     match term {
         RawTerm::Word(name) => Ok(word_pattern(grammar, variables, name)),
@@ -114,8 +113,8 @@ pub(crate) fn to_patterns(
     variables: &Variables,
     terms: &RawTerms,
 ) -> Result<Option<Patterns>, AllocError>
-    requires { any_stands variables.now.names (words_of grammar.now).cons ≡ false }
-    ensures { IfOk result (IsMade (all_faultless grammar.now.cons variables.now.names (map written_of terms.now)) (λ made. map pattern_of made ≡ map (numbered (words_of grammar.now).cons variables.now.names) (map written_of terms.now))) }
+    requires { AreNoCons grammar.now variables.now.names }
+    ensures { IfOk result (MakesPatterns grammar.now variables.now.names (map written_of terms.now)) }
 {
     let mut made = Items::from_vec(Vec::with_capacity(terms.allocator(), terms.len())?);
     for term in terms.as_slice() {
@@ -129,8 +128,8 @@ pub(crate) fn to_patterns(
 
 /// The expression that a bare word stands for, or `None` where it is neither a variable nor a constructor without parts.
 fn word_term(grammar: &Grammar, variables: &Variables, name: &Text) -> Option<Expr>
-    requires { any_stands variables.now.names (words_of grammar.now).cons ≡ false }
-    ensures { IsMade (is_faultless grammar.now.cons variables.now.names (Word name.now)) (λ made. term_of made ≡ numbered (words_of grammar.now).cons variables.now.names (Word name.now)) result }
+    requires { AreNoCons grammar.now variables.now.names }
+    ensures { MakesTerm grammar.now variables.now.names (Word name.now) result }
 {
     if let Some(variable) = variables.find(name.as_slice()) {
         return Some(Expr::Var(variable));
@@ -146,8 +145,8 @@ pub(crate) fn to_term(
     variables: &Variables,
     term: &RawTerm,
 ) -> Result<Option<Expr>, AllocError>
-    requires { any_stands variables.now.names (words_of grammar.now).cons ≡ false }
-    ensures { IfOk result (IsMade (is_faultless grammar.now.cons variables.now.names (written_of term.now)) (λ made. term_of made ≡ numbered (words_of grammar.now).cons variables.now.names (written_of term.now))) }
+    requires { AreNoCons grammar.now variables.now.names }
+    ensures { IfOk result (MakesTerm grammar.now variables.now.names (written_of term.now)) }
 {
     match term {
         RawTerm::Word(name) => Ok(word_term(grammar, variables, name)),
@@ -171,8 +170,8 @@ pub(crate) fn to_terms(
     variables: &Variables,
     terms: &RawTerms,
 ) -> Result<Option<Terms>, AllocError>
-    requires { any_stands variables.now.names (words_of grammar.now).cons ≡ false }
-    ensures { IfOk result (IsMade (all_faultless grammar.now.cons variables.now.names (map written_of terms.now)) (λ made. map term_of made ≡ map (numbered (words_of grammar.now).cons variables.now.names) (map written_of terms.now))) }
+    requires { AreNoCons grammar.now variables.now.names }
+    ensures { IfOk result (MakesTerms grammar.now variables.now.names (map written_of terms.now)) }
 {
     let mut made = Items::from_vec(Vec::with_capacity(terms.allocator(), terms.len())?);
     for term in terms.as_slice() {
