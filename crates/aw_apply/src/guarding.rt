@@ -10,7 +10,7 @@ ghost use Rattle.aw_apply.specs.GuardView.{GoesOn, GoesOnAt};
 
 use crate::binding::Binding;
 use aw_base::{Lit, Path, Pattern};
-use aw_list::items::is_same_text;
+use aw_list::is_same_text;
 use aw_store::{Chase, Facts, Kind, chase};
 
 /// What matching one pattern gives; the variables have taken their slots.

@@ -56,9 +56,9 @@ fn as_push(reply: Text) -> Text
     requires { 0 < length reply }
     ensures { result ≡ 1 ∷ behind reply }
 {
-    let mut bytes = reply.into_vec();
-    bytes[0] = PUSH_KIND;
-    Text::from_vec(bytes)
+    let mut push = reply;
+    push.set(0, PUSH_KIND);
+    push
 }
 
 /// Pulls the message at a place, if there is one.

@@ -1,4 +1,4 @@
-ghost use Rattle.std.specs.Prelude.{◌≡◌, [], ◌∷◌, ◌++◌, ◌<◌, length, take, slice_get, Some, ◌↔◌, IsTrue, IfOk, MatchOption, OnOk, OnErr, OnSome};
+ghost use Rattle.std.specs.Prelude.{◌≡◌, [], ◌∷◌, ◌++◌, ◌<◌, length, take, slice_get, Some, ◌↔◌, IsTrue, MatchOption, OnOk, OnErr, OnSome};
 ghost use Rattle.std.specs.Option.{option_copied};
 ghost use Rattle.std.specs.Cmp.Lexicographic.{pointwise, slice_cmp, slice_partial_cmp, lists_per, lists_po, lists_equiv, lists_total, lists_agrees, lists_ties};
 ghost use Rattle.std.specs.List.{AllZip};
@@ -177,47 +177,4 @@ impl<T: Hash> Hash for Items<T> {
     fn hash<H: Hasher>(&self, state: &mut H) {
         self.items.hash(state);
     }
-}
-
-/// Bytes: a name, a text's content, an input or an output.
-pub type Text = Items<u8>;
-
-impl Items<u8> {
-    /// A text of these bytes.
-    pub fn from_bytes(alloc: Global, bytes: &[u8]) -> Result<Text, AllocError>
-        ensures { IfOk result (λ text. text ≡ bytes.now) }
-    {
-        Ok(Items {
-            items: bytes.to_vec(alloc)?,
-        })
-    }
-
-    /// Adds a byte at the end. An error changes nothing.
-    fn push_byte(&mut self, byte: u8) -> Result<(), AllocError>
-        ensures ok { OnOk result (self.new ≡ self.old ++ byte ∷ []) }
-        ensures err { OnErr result (self.new ≡ self.old) }
-    {
-        match self.items.push(byte) {
-            Ok(()) => Ok(()),
-            Err(_) => Err(AllocError),
-        }
-    }
-
-    /// Adds the bytes at the end. An error changes nothing. A single byte, as marks and short numbers are, goes a shorter way.
-    pub fn push_bytes(&mut self, bytes: &[u8]) -> Result<(), AllocError>
-        ensures ok { OnOk result (self.new ≡ self.old ++ bytes.now) }
-        ensures err { OnErr result (self.new ≡ self.old) }
-    {
-        match bytes {
-            [byte] => self.push_byte(*byte),
-            _ => self.items.extend_from_slice(bytes),
-        }
-    }
-}
-
-/// Whether two texts have the same bytes.
-pub fn is_same_text(a: &Text, b: &Text) -> bool
-    ensures { IsTrue result ↔ (a.now ≡ b.now) }
-{
-    a == b
 }

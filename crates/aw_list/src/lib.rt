@@ -4,7 +4,9 @@
 mod counted;
 pub mod items;
 pub mod shared;
+mod text;
 
 pub use counted::Counted;
-pub use items::{Items, Text};
+pub use items::Items;
 pub use shared::Shared;
+pub use text::{Text, is_same_text};
