@@ -84,15 +84,15 @@ pub struct Called {
 }
 
 impl Called {
-    /// Nothing yet; the next part has this number.
-    fn new(alloc: Global, next: u16) -> Called
-        ensures children { result.children.items ≡ [] }
-        ensures next { result.next ≡ next }
+    /// Nothing yet, with room for so many children; the next part has this number.
+    fn with_capacity(alloc: Global, count: usize, next: u16) -> Result<Called, AllocError>
+        ensures children { IfOk result (λ called. called.children.items ≡ []) }
+        ensures next { IfOk result (λ called. called.next ≡ next) }
     {
-        Called {
-            children: Vec::new(alloc),
+        Ok(Called {
+            children: Vec::with_capacity(alloc, count)?,
             next,
-        }
+        })
     }
 
     /// One more child, whose inherited values were laid down.
@@ -123,7 +123,7 @@ pub fn lay_children(
     requires parts { (sorts : List SortValue) → k + child_symbols (map (child_of sorts) children.now) ≤ 65535 }
     ensures { IfOk result (λ c. (sorts : List SortValue) → AreCalled equations.old.items equations.new.items c (all_children node.now rule refs.now k (map (child_of sorts) children.now))) }
 {
-    let mut called = Called::new(alloc, k);
+    let mut called = Called::with_capacity(alloc, children.len(), k)?;
     for i in 0..children.len() {
         let below = copy_node(&nodes[i])?;
         let next = called.next;

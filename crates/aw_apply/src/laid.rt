@@ -31,15 +31,15 @@ pub struct LaidAll {
 }
 
 impl LaidAll {
-    /// Nothing yet; the next part has this number.
-    fn new(alloc: Global, next: u16) -> LaidAll
-        ensures roots { result.roots.items ≡ [] }
-        ensures next { result.next ≡ next }
+    /// Nothing yet, with room for so many; the next part has this number.
+    fn with_capacity(alloc: Global, count: usize, next: u16) -> Result<LaidAll, AllocError>
+        ensures roots { IfOk result (λ all. all.roots.items ≡ []) }
+        ensures next { IfOk result (λ all. all.next ≡ next) }
     {
-        LaidAll {
-            roots: Vec::new(alloc),
+        Ok(LaidAll {
+            roots: Vec::with_capacity(alloc, count)?,
             next,
-        }
+        })
     }
 
     /// One more.
@@ -171,7 +171,7 @@ pub fn lay_grounds(
     requires { k + symbols_of (map ground_of grounds.now) ≤ 65535 }
     ensures { IfOk result (λ l. AreLaid equations.old.items equations.new.items l (lay_list node.now (λ x. elim x [ ]) k (map ground_of grounds.now))) }
 {
-    let mut all = LaidAll::new(alloc, k);
+    let mut all = LaidAll::with_capacity(alloc, grounds.len(), k)?;
     for ground in grounds {
         let next = all.next;
         all.add(lay_ground(alloc, equations, node, next, ground)?)?;
@@ -235,7 +235,7 @@ pub fn lay_terms(
     requires { k + symbols_of (map term_of terms.now) ≤ 65535 }
     ensures { IfOk result (λ l. AreLaid equations.old.items equations.new.items l (lay_list node.now (get (no_ref node.now) refs.now) k (map term_of terms.now))) }
 {
-    let mut all = LaidAll::new(alloc, k);
+    let mut all = LaidAll::with_capacity(alloc, terms.len(), k)?;
     for term in terms {
         let next = all.next;
         all.add(lay_term(alloc, equations, node, refs, next, term)?)?;

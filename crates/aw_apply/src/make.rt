@@ -114,6 +114,9 @@ fn variables(
 /// The variables of most rules are no more.
 const USUAL: usize = 16;
 
+/// Most rules make no more equations.
+const USUAL_EQUATIONS: usize = 8;
+
 /// Copies of references, with room for those of a usual rule.
 fn copy_refs(alloc: Global, refs: &[Ref]) -> Result<Vec<Ref>, AllocError>
     ensures { IfOk result (λ copies. copies.items ≡ refs.now) }
@@ -143,7 +146,7 @@ fn made_by(
     ensures equations { IfOk result (λ m. map equation_of m.equations ≡ (plain_made node.now number (rule_of g.now.sorts rule.now) (map ground_of args.now) bound.now).equations) }
     ensures children { IfOk result (λ m. m.children ≡ map as_child (plain_made node.now number (rule_of g.now.sorts rule.now) (map ground_of args.now) bound.now).calls) }
 {
-    let mut equations = Vec::new(alloc);
+    let mut equations = Vec::with_capacity(alloc, USUAL_EQUATIONS)?;
     let entered = lay_grounds(alloc, &mut equations, node, 1, args.as_slice())?;
     let LaidAll { roots, next } = entered;
     let made_nodes = child_nodes(alloc, node, number, rule.children.len())?;

@@ -1,5 +1,5 @@
 //! Held nodes found, and put in, in the order of their nodes.
-ghost use Rattle.std.specs.Prelude.{◌≡◌, ◌+◌, ◌<◌, ◌≤◌, true, false, length, IfSome};
+ghost use Rattle.std.specs.Prelude.{◌≡◌, ◌+◌, ◌<◌, ◌≤◌, true, false, insert, length, IfSome};
 ghost use Rattle.std.specs.List.{AllWithin};
 ghost use Rattle.aw_term.specs.Names.{node_lt};
 ghost use Rattle.aw_held.specs.InOrder.{IsInOrder, place_in, insert_in, Lacks};
@@ -62,15 +62,18 @@ pub fn find_held(held: &Holding, node: &Node) -> Option<usize>
     }
 }
 
-/// Puts a node that is not held in its place. There is room for it.
-pub fn put_between(held: &mut Holding, new: Held)
+/// Puts a node that is not held in its place, and tells that place. There is room for it.
+pub fn put_between(held: &mut Holding, new: Held) -> usize
     requires ordered { IsInOrder held.old.items }
     requires lacks { Lacks new.node held.old.items }
     requires room { 0 < held.old.room }
     ensures items { held.new.items ≡ insert_in new held.old.items }
+    ensures place { held.new.items ≡ insert held.old.items result new }
+    ensures within { result ≤ length held.old.items }
     ensures ordered { IsInOrder held.new.items }
     ensures room { held.old.room ≤ held.new.room + 1 }
 {
     let place = count_before(held, &new.node);
     held.put_at(place, new);
+    place
 }

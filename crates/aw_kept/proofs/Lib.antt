@@ -9,4 +9,3 @@ pub mod MarkLemmas
 pub mod Rising
 pub mod Growing
 pub mod ItemLemmas
-pub mod Placed

@@ -1,17 +1,15 @@
 -- What is kept of nodes that are to be held.
 use Rattle.std.proofs.Common.{◌≡◌, ℕ, suc, ◌+◌, ◌≤◌, Bool, true, false, cond, List, [], ◌∷◌, length, map, Option, Some, None, is_some, refl, ap, sym, ◌∙◌, arith, All}
-use Rattle.std.specs.Prelude.{option_map, count_by, nat_eq, slice_get}
+use Rattle.std.specs.Prelude.{count_by, nat_eq, slice_get}
 use Rattle.std.proofs.lemmas.Bool.{eqb-true}
 use Rattle.std.proofs.lemmas.List.Sums.{sum_by-cons}
-use Rattle.aw_term.specs.Names.{Ref, node_eq, node_lt}
+use Rattle.aw_term.specs.Names.{Ref}
 use Rattle.aw_term.specs.Rules.{Rule, Grammar, sort_of}
 use Rattle.aw_term.specs.WellFormed.{takes_of}
-use Rattle.aw_name.specs.SameNodes.{node_self}
 use Rattle.aw_store.specs.NamedRefs.{Grows, all_named}
 use Rattle.aw_store.proofs.SlotLemmas.{AreNamed-all}
 use Rattle.aw_held.specs.declared.held.Held.{Held}
 use Rattle.aw_held.specs.HeldView.{sort_or, state_of, held_of, all_of}
-use Rattle.aw_held.specs.InOrder.{place_in, insert_in}
 use Rattle.aw_react.specs.ValidNames.{takes_as}
 use Rattle.aw_kept.specs.declared.kept.Kept.{Kept}
 use Rattle.aw_kept.specs.declared.record.Record.{Record}
@@ -40,7 +38,7 @@ of_held g names h x none f = record { sort = f.sort; slots = f.slots; deep = f.d
 
 -- it stays ready where names come
 pub ready_grows : (g : Grammar) (names more : List Ref) → Grows names more → (o : Opening) → IsReady g names o → IsReady g more o
-ready_grows g names more grows o r = record { name = r.name; done = r.done; of_node = of_grows names more grows g o.held o.entry r.of_node; fit = fit_grows names more grows g o.entry r.fit; fresh = r.fresh }
+ready_grows g names more grows o r = record { done = r.done; of_node = of_grows names more grows g o.held o.entry r.of_node; fit = fit_grows names more grows g o.entry r.fit; fresh = r.fresh }
 
 -- its references are named
 pub ready_named : (g : Grammar) (names : List Ref) (o : Opening) → IsReady g names o → all_named names o.held.inherited ≡ true
@@ -78,40 +76,6 @@ all_tests_are g names (o ∷ os) r =
 -- there is room for less
 pub less_room : (kept : Kept) (n m w v : ℕ) → HasRoom kept n w → m ≤ n → v ≤ w → HasRoom kept m v
 less_room kept n m w v r a b = record { places = omega (arith, r.places, a); entries = omega (arith, r.entries, a); few = omega (arith, r.few, a); spare = omega (arith, r.spare, b) }
-
--- with a node that was put there is one more
-pub put_length : (h : Held) (hs : List Held) → length (insert_in h hs) ≡ suc (length hs)
-put_length h [] = refl
-put_length h (k ∷ ks) = by (put_length h ks) (node_lt h.node k.node)
-  where
-    by : length (insert_in h ks) ≡ suc (length ks) → (b : Bool) → length (cond b (h ∷ k ∷ ks) (k ∷ insert_in h ks)) ≡ suc (suc (length ks))
-    by e true = refl
-    by e false = ap suc e
-
--- a node that was put has a place
-pub put_there : (h : Held) (hs : List Held) → place_in h.node (insert_in h hs) ≡ None → ⊥
-put_there h [] e = first (node_eq h.node h.node) (node_self h.node) None e
-  where
-    first : (b : Bool) → b ≡ true → (o : Option ℕ) → cond b (Some 0) (option_map suc o) ≡ None → ⊥
-    first true t o e = absurd cc
-    first false t o e = absurd cc
-put_there h (k ∷ ks) e = by (put_there h ks) (node_lt h.node k.node) e
-  where
-    first : (b : Bool) → b ≡ true → (o : Option ℕ) → cond b (Some 0) (option_map suc o) ≡ None → ⊥
-    first true t o e = absurd cc
-    first false t o e = absurd cc
-
-    none_of : (o : Option ℕ) → option_map suc o ≡ None → o ≡ None
-    none_of None e = refl
-    none_of (Some i) e = absurd cc
-
-    other : (c : Bool) (o : Option ℕ) → cond c (Some 0) (option_map suc o) ≡ None → o ≡ None
-    other true o e = absurd cc
-    other false o e = none_of o e
-
-    by : (place_in h.node (insert_in h ks) ≡ None → ⊥) → (b : Bool) → place_in h.node (cond b (h ∷ k ∷ ks) (k ∷ insert_in h ks)) ≡ None → ⊥
-    by go true e = first (node_eq h.node h.node) (node_self h.node) (place_in h.node (k ∷ ks)) e
-    by go false e = go (other (node_eq h.node k.node) (place_in h.node (insert_in h ks)) e)
 
 -- the references of all of them are named
 pub all_ready_named : (g : Grammar) (names : List Ref) (os : List Opening) → All (IsReady g names) os → all_named names (all_inherited (map held_in os)) ≡ true

@@ -10,7 +10,6 @@ use Rattle.aw_space.specs.declared.opening.Opening.{Opening}
 
 -- The node is open and goes by its name; what is kept is of this node, and none of its rules waits yet.
 pub record IsReady (g : Grammar) (names : List Ref) (o : Opening) : Type 0 where
-  pub name : o.name ≡ o.held.node
   pub done : o.held.done ≡ None
   pub of_node : IsOf g names o.held o.entry
   pub fit : IsFit g names o.entry

@@ -69,7 +69,7 @@ fn all_ready<F: Facts>(
     ensures map { F.map facts.new ≡ F.map facts.old }
     ensures names { Grows (F.names facts.old) (F.names facts.new) }
 {
-    let mut more = Vec::new(alloc);
+    let mut more = Vec::with_capacity(alloc, own.len())?;
     for node in own {
         push_ready(&mut more, grammar, facts, node)?;
     }

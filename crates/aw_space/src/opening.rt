@@ -10,17 +10,15 @@ ghost use Rattle.aw_space.specs.Openings.{IsReady, all_tests, held_in, tests_of}
 
 use aw_apply::Steps;
 use aw_grammar::Grammar;
-use aw_held::{Held, Holding, find_held, put_between};
+use aw_held::{Held, Holding, put_between};
 use aw_kept::{Kept, Record, prepare};
-use aw_name::{Node, copy_node};
 use aw_store::Facts;
 use std::alloc::{AllocError, Global};
 use std::sync::ledger::Ledger;
 
-/// An open node that is to be held, and what is kept of it. Its name stands beside it, to find the place where it was put.
+/// An open node that is to be held, and what is kept of it.
 #[derive(Drop)]
 pub struct Opening {
-    pub(crate) name: Node,
     pub(crate) held: Held,
     pub(crate) entry: Record,
 }
@@ -40,11 +38,7 @@ pub fn ready<F: Facts>(
     ensures names { Grows (F.names facts.old) (F.names facts.new) }
 {
     let entry = prepare(alloc, grammar, facts, &held.node, held.inherited.as_slice())?;
-    Ok(Opening {
-        name: copy_node(&held.node)?,
-        held,
-        entry,
-    })
+    Ok(Opening { held, entry })
 }
 
 /// Holds an open node that is not held, and keeps how each rule of its sort stands there. There is room for it.
@@ -69,16 +63,9 @@ pub fn put_open<F: Facts, L: Ledger>(
     ensures room { (n w : ℕ) → HasRoom kept.old (n + 1) (w + tests_of new) → HasRoom kept.new n w }
     ensures steps { steps.new ≡ steps.old + tests_of new }
 {
-    let Opening {
-        name,
-        held: node,
-        entry,
-    } = new;
-    put_between(held, node);
-    match find_held(held, &name) {
-        Some(at) => kept.open(at, entry, grammar, facts, steps),
-        None => unreachable!(),
-    }
+    let Opening { held: node, entry } = new;
+    let at = put_between(held, node);
+    kept.open(at, entry, grammar, facts, steps);
 }
 
 /// Holds each of these nodes in turn, none of which is held. There is room for them.

@@ -13,7 +13,6 @@ prepare-requires-clause-takes g c = let gr = grammar_of c.args.grammar.now in ap
 
 pub returns-clause-ready : goal.returns-clause-ready
 returns-clause-ready g c = record {
-  name = c.in_ok-copy_node.ensures;
   done = c.requires.done;
   of_node = of_held (grammar_of c.args.grammar.now) (g.F.Facts.names c.prepare.new.facts) c.args.held c.in_ok-entry.entry c.requires.done
       (subst (λ rs. IsOf (grammar_of c.args.grammar.now) (g.F.Facts.names c.prepare.new.facts) (open_node c.args.held.node rs) c.in_ok-entry.entry) c.as_slice.ensures c.in_ok-entry.ensures.of_node);
