@@ -10,14 +10,29 @@ ghost use Rattle.aw_replay.specs.Telling.{Does, DoesSome, PrintsEvent, DoesAll, 
 
 use crate::ending::print_ending;
 use crate::telling::tell;
+use aw_list::Text;
 use aw_out::{OUTPUT_LIMIT, PrintFault, Report};
 use aw_sched::Event;
 use aw_world::{Workspace, World};
+use std::alloc::Global;
 
-/// Does what an event asks for, and prints its lines. After an error some first choices and deliveries of it were made.
+/// The room of a text to begin with: what one event tells mostly fits.
+const USUAL: usize = 512;
+
+/// A text, with room for the lines of a usual event where there is memory for it.
+fn roomy_text(alloc: Global) -> Text {
+    match Vec::with_capacity(alloc, USUAL) {
+        Ok(bytes) => Text::from_vec(bytes),
+        Err(_) => Text::new(alloc),
+    }
+}
+
+/// Does what an event asks for, and prints its lines, which are gathered in a text that serves one event after another. After an error
+/// some first choices and deliveries of it were made.
 fn tell_event<W: Workspace>(
     world: &mut World<W>,
     event: &Event,
+    text: &mut Text,
     report: &mut Report,
 ) -> Result<(), PrintFault>
     requires { MayCome (plain_of world.old) event.now }
@@ -27,7 +42,8 @@ fn tell_event<W: Workspace>(
     ensures prints { PrintsEvent ⟦<W as Workspace>⟧ world.old (event_seen event.now) report.old report.new result }
     ensures some { OnErr result (DoesSome ⟦<W as Workspace>⟧ world.old world.new (event_seen event.now)) }
 {
-    let text = tell(world, event)?;
+    text.truncate(0);
+    tell(world, event, text)?;
     report.push(text.as_slice())
 }
 
@@ -44,8 +60,9 @@ pub fn tell_events<W: Workspace>(
     ensures prints { PrintsAll ⟦<W as Workspace>⟧ world.old (map event_seen events.now) report.old report.new result }
     ensures some { OnErr result (DoesFirst ⟦<W as Workspace>⟧ world.old world.new (map event_seen events.now)) }
 {
+    let mut text = roomy_text(world.allocator());
     for event in events {
-        tell_event(world, event, report)?;
+        tell_event(world, event, &mut text, report)?;
     }
     Ok(())
 }

@@ -1,5 +1,5 @@
 //! What an event does in a world, and its lines.
-ghost use Rattle.std.specs.Prelude.{◌≡◌, ◌<◌, [], true, OnOk, OnErr, IfOk};
+ghost use Rattle.std.specs.Prelude.{◌≡◌, ◌<◌, [], true, OnOk, OnErr};
 ghost use Rattle.aw_base.specs.ChoiceFits.{choice_ok};
 ghost use Rattle.aw_choice.specs.ChoiceView.{choice_of};
 ghost use Rattle.aw_choice.specs.Events as E;
@@ -14,20 +14,7 @@ use aw_choice::{Choice, copy_choice};
 use aw_list::Text;
 use aw_sched::Event;
 use aw_world::{Move, Workspace, World};
-use std::alloc::{AllocError, Global};
-
-/// The room of a text to begin with: what one event tells mostly fits.
-const USUAL: usize = 512;
-
-/// An empty text, with room for the lines of a usual event where there is memory for it.
-fn empty_text(alloc: Global) -> Text
-    ensures { result ≡ [] }
-{
-    match Vec::with_capacity(alloc, USUAL) {
-        Ok(bytes) => Text::from_vec(bytes),
-        Err(_) => Text::new(alloc),
-    }
-}
+use std::alloc::AllocError;
 
 /// Makes a choice, and adds its lines. After an error it was made or not.
 fn tell_choice<W: Workspace>(
@@ -95,72 +82,85 @@ fn tell_settle<W: Workspace>(world: &mut World<W>, text: &mut Text) -> Result<()
     push_settled(text, world.delivered() - before)
 }
 
-/// Makes a choice; its lines.
-fn choice_lines<W: Workspace>(world: &mut World<W>, choice: &Choice) -> Result<Text, AllocError>
-    requires { choice_ok (plain_of world.old) (choice_of choice.now) ≡ true }
+/// Makes a choice; its lines, into an empty text.
+fn choice_lines<W: Workspace>(
+    world: &mut World<W>,
+    choice: &Choice,
+    text: &mut Text,
+) -> Result<(), AllocError>
+    requires ok { choice_ok (plain_of world.old) (choice_of choice.now) ≡ true }
+    requires empty { text.old ≡ [] }
     ensures accepted { world.new.accepted.now ≡ world.old.accepted.now }
     ensures loads { world.new.loads ≡ world.old.loads }
     ensures does { OnOk result (Does ⟦<W as Workspace>⟧ world.old world.new (E.Chooses (choice_of choice.now))) }
-    ensures tells { IfOk result (λ text. Tells ⟦<W as Workspace>⟧ world.old (E.Chooses (choice_of choice.now)) text) }
+    ensures tells { OnOk result (Tells ⟦<W as Workspace>⟧ world.old (E.Chooses (choice_of choice.now)) text.new) }
     ensures some { OnErr result (DoesSome ⟦<W as Workspace>⟧ world.old world.new (E.Chooses (choice_of choice.now))) }
 {
-    let mut text = empty_text(world.allocator());
-    tell_choice(world, choice, &mut text)?;
-    Ok(text)
+    tell_choice(world, choice, text)?;
+    Ok(())
 }
 
-/// Delivers a message; its lines.
-fn delivery_lines<W: Workspace>(world: &mut World<W>, number: u64) -> Result<Text, AllocError>
+/// Delivers a message; its lines, into an empty text.
+fn delivery_lines<W: Workspace>(
+    world: &mut World<W>,
+    number: u64,
+    text: &mut Text,
+) -> Result<(), AllocError>
+    requires { text.old ≡ [] }
     ensures accepted { world.new.accepted.now ≡ world.old.accepted.now }
     ensures loads { world.new.loads ≡ world.old.loads }
     ensures does { OnOk result (Does ⟦<W as Workspace>⟧ world.old world.new (E.Delivers number)) }
-    ensures tells { IfOk result (λ text. Tells ⟦<W as Workspace>⟧ world.old (E.Delivers number) text) }
+    ensures tells { OnOk result (Tells ⟦<W as Workspace>⟧ world.old (E.Delivers number) text.new) }
     ensures some { OnErr result (DoesSome ⟦<W as Workspace>⟧ world.old world.new (E.Delivers number)) }
 {
-    let mut text = empty_text(world.allocator());
-    tell_delivery(world, number, &mut text)?;
-    Ok(text)
+    tell_delivery(world, number, text)?;
+    Ok(())
 }
 
-/// Settles the world; the lines.
-fn settling_lines<W: Workspace>(world: &mut World<W>) -> Result<Text, AllocError>
+/// Settles the world; the lines, into an empty text.
+fn settling_lines<W: Workspace>(world: &mut World<W>, text: &mut Text) -> Result<(), AllocError>
+    requires { text.old ≡ [] }
     ensures accepted { world.new.accepted.now ≡ world.old.accepted.now }
     ensures loads { world.new.loads ≡ world.old.loads }
     ensures does { OnOk result (Does ⟦<W as Workspace>⟧ world.old world.new E.Settles) }
-    ensures tells { IfOk result (λ text. Tells ⟦<W as Workspace>⟧ world.old E.Settles text) }
+    ensures tells { OnOk result (Tells ⟦<W as Workspace>⟧ world.old E.Settles text.new) }
     ensures some { OnErr result (DoesSome ⟦<W as Workspace>⟧ world.old world.new E.Settles) }
 {
-    let mut text = empty_text(world.allocator());
-    tell_settle(world, &mut text)?;
-    Ok(text)
+    tell_settle(world, text)?;
+    Ok(())
 }
 
-/// The lines of a worklist.
-fn list_lines<W: Workspace>(world: &World<W>, role: u16) -> Result<Text, AllocError>
-    requires { role < (plain_of world.now).roles }
-    ensures { IfOk result (λ text. Tells ⟦<W as Workspace>⟧ world.now (E.Lists role) text) }
+/// The lines of a worklist, into an empty text.
+fn list_lines<W: Workspace>(world: &World<W>, role: u16, text: &mut Text) -> Result<(), AllocError>
+    requires role { role < (plain_of world.now).roles }
+    requires empty { text.old ≡ [] }
+    ensures { OnOk result (Tells ⟦<W as Workspace>⟧ world.now (E.Lists role) text.new) }
 {
     let items = world.list(role)?;
-    let mut text = Text::from_bytes(world.allocator(), b"list ")?;
+    text.push_bytes(b"list ")?;
     text.push_bytes(role_name(world.accepted().grammar(), role))?;
     text.push_bytes(b"\n")?;
-    push_item_lines(&mut text, world.accepted().grammar(), items.as_slice())?;
-    Ok(text)
+    push_item_lines(text, world.accepted().grammar(), items.as_slice())
 }
 
-/// Does what an event asks for; its lines. After an error some first choices and deliveries of it were made.
-pub(crate) fn tell<W: Workspace>(world: &mut World<W>, event: &Event) -> Result<Text, AllocError>
-    requires { MayCome (plain_of world.old) event.now }
+/// Does what an event asks for; its lines, into an empty text. After an error some first choices and deliveries of it were made.
+pub(crate) fn tell<W: Workspace>(
+    world: &mut World<W>,
+    event: &Event,
+    text: &mut Text,
+) -> Result<(), AllocError>
+    requires may_come { MayCome (plain_of world.old) event.now }
+    requires empty { text.old ≡ [] }
     ensures accepted { world.new.accepted.now ≡ world.old.accepted.now }
     ensures loads { world.new.loads ≡ world.old.loads }
     ensures does { OnOk result (Does ⟦<W as Workspace>⟧ world.old world.new (event_seen event.now)) }
-    ensures tells { IfOk result (λ text. Tells ⟦<W as Workspace>⟧ world.old (event_seen event.now) text) }
+    ensures tells { OnOk result (Tells ⟦<W as Workspace>⟧ world.old (event_seen event.now) text.new) }
     ensures some { OnErr result (DoesSome ⟦<W as Workspace>⟧ world.old world.new (event_seen event.now)) }
 {
     match event {
-        Event::Choose(choice) => choice_lines(world, choice),
-        Event::Deliver(number) => delivery_lines(world, *number),
-        Event::Settle => settling_lines(world),
-        Event::List(role) => list_lines(world, *role),
+        Event::Choose(choice) => choice_lines(world, choice, text),
+        Event::Deliver(number) => delivery_lines(world, *number, text),
+        Event::Settle => settling_lines(world, text),
+        Event::List(role) => list_lines(world, *role, text),
     }
 }

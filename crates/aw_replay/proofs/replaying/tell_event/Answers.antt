@@ -16,5 +16,5 @@ returns-clause-some g c =
     let x = c.tell.new.world in
     let kept : (v : V.World) → Shows g.W.Workspace c.args.world.now v → (k : ℕ) × Shows g.W.Workspace x (V.run p v (take k (moves_of p v e))) = λ v s.
     let b = all_taken (moves_of p v e) in
-    (b.0, subst (Shows g.W.Workspace x) (sym (ap (V.run p v) b.1 ∙ event_runs p v e)) (c.in_ok-text.ensures.does v s)) in
+    (b.0, subst (Shows g.W.Workspace x) (sym (ap (V.run p v) b.1 ∙ event_runs p v e)) (c.in_ok-tell.ensures.does v s)) in
     on_err _ kept
