@@ -5,27 +5,49 @@ ghost use Rattle.std.specs.Cmp.Rules.{comparing};
 ghost use Rattle.std.specs.Cmp.Lexicographic.{pointwise, lists_equiv};
 ghost use Rattle.std.proofs.Common.{rules};
 
-use smallvec::SmallVec;
+use arrayvec::ArrayVec;
 use std::alloc::{AllocError, Global};
 use std::marker::Model;
+
+/// Where the bytes of a text lie: in the value itself, or in memory of their own.
+#[derive(Debug, Drop)]
+enum Bytes {
+    Short(ArrayVec<u8, 16>),
+    Long(Vec<u8>),
+}
 
 /// Bytes: a name, a text's content, an input or an output. Up to 16 bytes, as most names have, stand in the value itself and take
 /// no memory. Contracts see the list of the bytes.
 #[derive(Debug, Drop)]
 pub struct Text {
-    bytes: SmallVec<u8, 16>,
+    alloc: Global,
+    bytes: Bytes,
 }
 
 impl Model for Text {
     ghost use Rattle.std.specs.Prelude.{List, ℕ};
     ghost use Rattle.std.specs.Coded.{coded_list, coded_ℕ};
+    ghost use Rattle.aw_list.specs.Texts.{bytes_in};
 
     ghost Value = { List ℕ };
 
     ghost coded = { coded_list coded_ℕ };
 
-    ghost view = { λ t. t.bytes.items };
+    ghost view = { λ t. bytes_in t.bytes };
 }
+
+/// A row of these bytes in memory of its own, and of more bytes behind them.
+fn joined(alloc: Global, front: &[u8], more: &[u8]) -> Result<Vec<u8>, AllocError>
+    ensures { IfOk result (λ joined. joined.items ≡ front.now ++ more.now) }
+{
+    let mut joined = Vec::with_capacity(alloc, LONG)?;
+    joined.extend_from_slice(front)?;
+    joined.extend_from_slice(more)?;
+    Ok(joined)
+}
+
+/// So much memory a text takes first, if it takes any.
+const LONG: usize = 64;
 
 impl Text {
     /// No bytes. It takes no memory.
@@ -33,16 +55,18 @@ impl Text {
         ensures { result ≡ [] }
     {
         Text {
-            bytes: SmallVec::new(alloc),
+            alloc,
+            bytes: Bytes::Short(ArrayVec::new()),
         }
     }
 
-    /// The same bytes, taken over, with their memory where they have much.
+    /// The same bytes, taken over with their memory.
     pub fn from_vec(bytes: Vec<u8>) -> Text
         ensures { result ≡ bytes.items }
     {
         Text {
-            bytes: SmallVec::from_vec(bytes),
+            alloc: *bytes.allocator(),
+            bytes: Bytes::Long(bytes),
         }
     }
 
@@ -50,28 +74,34 @@ impl Text {
     pub fn from_bytes(alloc: Global, bytes: &[u8]) -> Result<Text, AllocError>
         ensures { IfOk result (λ text. text ≡ bytes.now) }
     {
-        Ok(Text {
-            bytes: SmallVec::from_slice(alloc, bytes)?,
-        })
+        let mut few = ArrayVec::new();
+        let bytes = match few.try_extend_from_slice(bytes) {
+            Ok(()) => Bytes::Short(few),
+            Err(_) => Bytes::Long(bytes.to_vec(alloc)?),
+        };
+        Ok(Text { alloc, bytes })
     }
 
     /// The bytes, lent.
     pub fn as_slice(&self) -> &[u8]
         ensures { result.now ≡ self.now }
     {
-        self.bytes.as_slice()
+        match &self.bytes {
+            Bytes::Short(few) => few.as_slice(),
+            Bytes::Long(many) => many.as_slice(),
+        }
     }
 
     /// Where the bytes take their memory from.
     pub fn allocator(&self) -> Global {
-        *self.bytes.allocator()
+        self.alloc
     }
 
     /// How many bytes there are.
     pub fn len(&self) -> usize
         ensures { result ≡ length self.now }
     {
-        self.bytes.len()
+        self.as_slice().len()
     }
 
     /// Whether there is no byte.
@@ -85,7 +115,10 @@ impl Text {
     pub fn truncate(&mut self, len: usize)
         ensures { self.new ≡ take len self.old }
     {
-        self.bytes.truncate(len);
+        match &mut self.bytes {
+            Bytes::Short(few) => few.truncate(len),
+            Bytes::Long(many) => many.truncate(len),
+        }
     }
 
     /// Writes a byte in place of the one that stands at a place, from 0.
@@ -93,7 +126,25 @@ impl Text {
         requires { at < length self.old }
         ensures { self.new ≡ slice_set self.old at byte }
     {
-        self.bytes.as_mut_slice()[at] = byte;
+        match &mut self.bytes {
+            Bytes::Short(few) => few.as_mut_slice()[at] = byte,
+            Bytes::Long(many) => many[at] = byte,
+        }
+    }
+
+    /// Adds bytes at the end of those that stand in the value itself. An error changes nothing.
+    fn push_short(&mut self, bytes: &[u8]) -> Result<(), AllocError>
+        ensures ok { OnOk result (self.new ≡ self.old ++ bytes.now) }
+        ensures err { OnErr result (self.new ≡ self.old) }
+    {
+        if let Bytes::Short(few) = &mut self.bytes
+            && few.try_extend_from_slice(bytes).is_ok()
+        {
+            return Ok(());
+        }
+        let longer = joined(self.alloc, self.as_slice(), bytes)?;
+        self.bytes = Bytes::Long(longer);
+        Ok(())
     }
 
     /// Adds a byte at the end. An error changes nothing.
@@ -101,9 +152,12 @@ impl Text {
         ensures ok { OnOk result (self.new ≡ self.old ++ byte ∷ []) }
         ensures err { OnErr result (self.new ≡ self.old) }
     {
-        match self.bytes.push(byte) {
-            Ok(()) => Ok(()),
-            Err(_) => Err(AllocError),
+        match &mut self.bytes {
+            Bytes::Long(many) => match many.push(byte) {
+                Ok(()) => Ok(()),
+                Err(_) => Err(AllocError),
+            },
+            Bytes::Short(_) => self.push_short(&[byte]),
         }
     }
 
@@ -114,7 +168,10 @@ impl Text {
     {
         match bytes {
             [byte] => self.push(*byte),
-            _ => self.bytes.extend_from_slice(bytes),
+            _ => match &mut self.bytes {
+                Bytes::Long(many) => many.extend_from_slice(bytes),
+                Bytes::Short(_) => self.push_short(bytes),
+            },
         }
     }
 }
