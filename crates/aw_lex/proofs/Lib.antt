@@ -1,3 +1,4 @@
+pub mod FeedPlaces
 pub mod Fronts
 pub mod LineCuts
 pub mod Slices
