@@ -73,6 +73,7 @@ pub fn reserve_in(
     ensures room { vec_len equations.new + lacking (map equation_of equations.new.items) (map equation_of ready.new.items) ≤ vec_capacity equations.new }
     ensures grows { Grows names.old.items names.new.items }
     ensures only { NamesOnly names.old.items names.new.items (all_refs_in (map equation_of es.now)) }
+    ensures named { OnOk result (has_names names.new.items (map equation_of es.now) ≡ true) }
     ensures ready { OnOk result (ready.new.items ≡ es.now) }
 {
     let copies = copy_equations(es.allocator(), es.as_slice())?;

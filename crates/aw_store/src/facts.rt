@@ -104,7 +104,7 @@ pub trait Facts {
         ensures err { OnErr result (names self.new ≡ names self.old) }
         ensures named { is_named (names self.old) r.now ≡ true → IsOk result };
 
-    /// Takes the memory for adding these equations, and may name their references, no others. A constructor has at most 8
+    /// Takes the memory for adding these equations, and names their references, no others. A constructor has at most 8
     /// references. An error leaves the equations as they were, may have named some of these references, and leaves any
     /// equations ready, or none.
     fn reserve(&mut self, es: &Equations) -> Result<(), AllocError>
@@ -112,6 +112,7 @@ pub trait Facts {
         ensures map { map self.new ≡ map self.old }
         ensures names { Grows (names self.old) (names self.new) }
         ensures only { NamesOnly (names self.old) (names self.new) (all_refs_in (list_map equation_of es.now)) }
+        ensures named { OnOk result (has_names (names self.new) (list_map equation_of es.now) ≡ true) }
         ensures ready { OnOk result ((e : PlainEquation) → Contains (list_map equation_of es.now) e → is_ready self.new e) };
 
     /// Adds an equation where its left side has none; its references are named, no others. A constructor has at most 8
