@@ -18,6 +18,8 @@ const MOST: usize = 1 << 32;
 pub struct Holding {
     order: Vec<u32>,
     nodes: Vec<Held>,
+    /// The place at which a node was put in or developed last.
+    near: usize,
 }
 
 impl Model for Holding {
@@ -89,6 +91,7 @@ impl Holding {
         Holding {
             order: Vec::new(alloc),
             nodes: Vec::new(alloc),
+            near: 0,
         }
     }
 
@@ -102,6 +105,11 @@ impl Holding {
         ensures { result ≡ length self.now.items }
     {
         self.order.len()
+    }
+
+    /// The place at which a node was put in or developed last, from which others are sought. Any place would do, and is as right.
+    pub(crate) fn near(&self) -> usize {
+        self.near
     }
 
     /// The node at a place, from 0, which has to be there.
@@ -143,6 +151,7 @@ impl Holding {
         ensures room { self.old.room ≤ self.new.room + 1 }
     {
         put_number(&mut self.order, &mut self.nodes, place, new);
+        self.near = place;
     }
 
     /// Notes the choice that developed the node at a place.
@@ -157,5 +166,6 @@ impl Holding {
             place,
             done,
         );
+        self.near = place;
     }
 }

@@ -9,15 +9,17 @@ use crate::holding::Holding;
 use aw_name::Node;
 use aw_term::order::{is_before, is_node};
 
-/// Between which places a node goes: all held nodes in front of the first place are before it, and none from the second on. It is
-/// sought from the end, in steps that double, since nodes mostly come in their order.
-fn bounds_of(held: &Holding, node: &Node) -> (usize, usize)
-    requires { IsInOrder held.now.items }
+/// Between which places a node goes that no node from a place on is before: all held nodes in front of the first place are before
+/// it, and none from the second on. It is sought downward in steps that double.
+fn bounds_below(held: &Holding, node: &Node, from: usize) -> (usize, usize)
+    requires ordered { IsInOrder held.now.items }
+    requires from { from ≤ length held.now.items }
+    requires rest { AllWithin (λ h. node_lt h.node node.now ≡ false) held.now.items from (length held.now.items) }
     ensures within { (result.0 ≤ result.1) × (result.1 ≤ length held.now.items) }
     ensures front { AllWithin (λ h. node_lt h.node node.now ≡ true) held.now.items 0 result.0 }
     ensures rest { AllWithin (λ h. node_lt h.node node.now ≡ false) held.now.items result.1 (length held.now.items) }
 {
-    let mut high = held.len();
+    let mut high = from;
     let mut step = 1usize;
     while high > 0 {
         let at = high.saturating_sub(step);
@@ -28,6 +30,47 @@ fn bounds_of(held: &Holding, node: &Node) -> (usize, usize)
         step = step.saturating_mul(2);
     }
     (0, 0)
+}
+
+/// Between which places a node goes that all nodes in front of a place are before. It is sought upward in steps that double.
+fn bounds_above(held: &Holding, node: &Node, from: usize) -> (usize, usize)
+    requires ordered { IsInOrder held.now.items }
+    requires from { from ≤ length held.now.items }
+    requires front { AllWithin (λ h. node_lt h.node node.now ≡ true) held.now.items 0 from }
+    ensures within { (result.0 ≤ result.1) × (result.1 ≤ length held.now.items) }
+    ensures front { AllWithin (λ h. node_lt h.node node.now ≡ true) held.now.items 0 result.0 }
+    ensures rest { AllWithin (λ h. node_lt h.node node.now ≡ false) held.now.items result.1 (length held.now.items) }
+{
+    let mut low = from;
+    let mut step = 0usize;
+    while low < held.len() {
+        let at = low.saturating_add(step).min(held.len() - 1);
+        if !is_before(&held.at(at).node, node) {
+            return (low, at);
+        }
+        low = at + 1;
+        step = step.saturating_mul(2).saturating_add(1);
+    }
+    (low, low)
+}
+
+/// Between which places a node goes: all held nodes in front of the first place are before it, and none from the second on. It is
+/// sought from the place that changed last, since who works on a node mostly works near it next.
+fn bounds_of(held: &Holding, node: &Node) -> (usize, usize)
+    requires { IsInOrder held.now.items }
+    ensures within { (result.0 ≤ result.1) × (result.1 ≤ length held.now.items) }
+    ensures front { AllWithin (λ h. node_lt h.node node.now ≡ true) held.now.items 0 result.0 }
+    ensures rest { AllWithin (λ h. node_lt h.node node.now ≡ false) held.now.items result.1 (length held.now.items) }
+{
+    let near = held.near();
+    if near >= held.len() {
+        return bounds_below(held, node, held.len());
+    }
+    if is_before(&held.at(near).node, node) {
+        bounds_above(held, node, near + 1)
+    } else {
+        bounds_below(held, node, near)
+    }
 }
 
 /// How many held nodes are before a node.

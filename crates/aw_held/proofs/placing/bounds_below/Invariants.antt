@@ -2,7 +2,7 @@ use Rattle.std.proofs.Common.{◌≡◌, ◌≤◌, ◌<◌, length, false}
 use Rattle.std.specs.List.{AllWithin}
 use Rattle.aw_term.specs.Names.{node_lt}
 use Rattle.aw_held.specs.declared.held.Held.{Held}
-use Rattle.aw_held.proofs.placing.bounds_of.Given as goal
+use Rattle.aw_held.proofs.placing.bounds_below.Given as goal
 
 abbrev pub invariant-loop-high : goal.invariant-loop-high
 invariant-loop-high l = record {
