@@ -168,20 +168,8 @@ closed_bound g hs k l names old new once fewer w slot r here known =
 
 -- ---- left sides that are named
 
-pub lefts_taken : (names : List Ref) (es : List program.Equation) (i : ℕ) (e : program.Equation) → slice_get es i ≡ Some e → all_named names (map left_of (take i es)) ≡ true → is_named names e.left ≡ true →
-    all_named names (map left_of (take (i + 1) es)) ≡ true
-lefts_taken names es i e here before now = let one : i + 1 ≡ suc i = omega arith in ap (λ n. all_named names (map left_of (take n es))) one ∙ go es i here before
-  where
-    go : (es : List program.Equation) (i : ℕ) → slice_get es i ≡ Some e → all_named names (map left_of (take i es)) ≡ true → all_named names (map left_of (take (suc i) es)) ≡ true
-    go [] i here before = absurd cc
-    go (x ∷ xs) zero here before = let same : x ≡ e = cc in and_from _ _ (ap (λ (y : program.Equation). is_named names y.left) same ∙ now) refl
-    go (x ∷ xs) (suc i) here before =
-        let parts = and_parts (is_named names x.left) (all_named names (map left_of (take i xs))) before in
-        and_from _ _ parts.0 (go xs i here parts.1)
-
-pub all_lefts : (names : List Ref) (es : List program.Equation) (i : ℕ) → length es ≤ i → all_named names (map left_of (take i es)) ≡ true → all_named names (lefts_of (map equation_of es)) ≡ true
-all_lefts names [] i l e = refl
-all_lefts names (x ∷ xs) zero l e = absurd (omega (arith, l))
-all_lefts names (x ∷ xs) (suc i) l e =
-    let parts = and_parts (is_named names x.left) (all_named names (map left_of (take i xs))) e in
-    and_from _ _ parts.0 (all_lefts names xs i (omega (arith, l)) parts.1)
+pub lefts_named : (names : List Ref) (k : Map) → has_names names k ≡ true → all_named names (lefts_of k) ≡ true
+lefts_named names [] w = refl
+lefts_named names (e ∷ k) w =
+    let (here, rest) = and_parts (has_names_of names e) (has_names names k) w in
+    and_from _ _ (and_parts (is_named names e.left) (all_named names (mentions e.body)) here).0 (lefts_named names k rest)

@@ -4,7 +4,6 @@
 mod calls;
 mod learning;
 mod making;
-mod naming;
 mod opening;
 pub mod outcome;
 pub mod placing;

@@ -241,20 +241,20 @@ impl<'g, F: Facts> Space<'g, F> {
         &mut self,
         g: &Accepted,
         call: Option<&Placing>,
-        es: &Equations,
+        es: Equations,
         steps: &mut Steps<L>,
     ) -> Result<(), AllocError>
         requires grammar { g.now.grammar ≡ self.old.accepted.now.grammar }
         requires call { MayBeCalledIf (grammar_of g.now.grammar) self.old.role (called_by (grammar_of g.now.grammar) (option_copied call)) }
-        requires ok { MayBeLearnt (grammar_of g.now.grammar) self.old.role (list_map equation_of es.now) }
-        requires free { clash_with (called_by (grammar_of g.now.grammar) (option_copied call)) (list_map equation_of es.now) (space_seen ⟦<F as Facts>⟧ self.old) ≡ None }
+        requires ok { MayBeLearnt (grammar_of g.now.grammar) self.old.role (list_map equation_of es) }
+        requires free { clash_with (called_by (grammar_of g.now.grammar) (option_copied call)) (list_map equation_of es) (space_seen ⟦<F as Facts>⟧ self.old) ≡ None }
         ensures grammar { self.new.accepted.now.grammar ≡ self.old.accepted.now.grammar }
         ensures role { self.new.role ≡ self.old.role }
-        ensures space { OnOk result (TakesIn ⟦<F as Facts>⟧ (grammar_of g.now.grammar) (option_copied call.entry) (list_map equation_of es.now) self.old self.new) }
+        ensures space { OnOk result (TakesIn ⟦<F as Facts>⟧ (grammar_of g.now.grammar) (option_copied call.entry) (list_map equation_of es) self.old self.new) }
         ensures err { OnErr result (IsUnchanged ⟦<F as Facts>⟧ self.old self.new) }
         ensures facts { KeepsFacts (F.map self.old.facts) (F.map self.new.facts) }
         ensures nodes { KeepsNodes (space_seen ⟦<F as Facts>⟧ self.old).held (space_seen ⟦<F as Facts>⟧ self.new).held }
-        ensures steps { steps.new ≤ steps.old + taking_cost_at ⟦<F as Facts>⟧ (grammar_of g.now.grammar) (option_copied call.entry) (list_map equation_of es.now) self.old }
+        ensures steps { steps.new ≤ steps.old + taking_cost_at ⟦<F as Facts>⟧ (grammar_of g.now.grammar) (option_copied call.entry) (list_map equation_of es) self.old }
     {
         take_in(
             g.grammar(),

@@ -15,14 +15,13 @@ ghost use Rattle.aw_space.specs.TakenIn.{IsOpenableIf, IsReadyIf, tests_if, call
 use crate::calls::called;
 use crate::learning::learn_in_turn;
 use crate::making::make_ready;
-use crate::naming::name_lefts;
 use crate::opening::{Opening, put_open};
 use crate::placing::Placing;
 use aw_apply::Steps;
 use aw_grammar::Grammar;
 use aw_held::{Held, Holding, find_held};
 use aw_kept::Kept;
-use aw_store::{Equations, Facts, copy_equations};
+use aw_store::{Equations, Facts};
 use std::alloc::AllocError;
 use std::sync::ledger::Ledger;
 
@@ -95,30 +94,28 @@ pub fn take_in<F: Facts, L: Ledger>(
     facts: &mut F,
     kept: &mut Kept,
     call: Option<&Placing>,
-    es: &Equations,
+    es: Equations,
     steps: &mut Steps<L>,
 ) -> Result<(), AllocError>
     requires ordered { IsInOrder held.old.items }
-    requires few { all_few (list_map equation_of es.now) ≡ true }
-    requires free { first_clash (F.map facts.old) (list_map equation_of es.now) ≡ None }
+    requires few { all_few (list_map equation_of es) ≡ true }
+    requires free { first_clash (F.map facts.old) (list_map equation_of es) ≡ None }
     requires call { IsOpenableIf (grammar_of grammar.now) (missing_node (option_copied call) held.old.items) }
     requires stands { IsKept (grammar_of grammar.now) held.old.items (F.map facts.old) (F.names facts.old) kept.old }
     ensures held { OnOk result (held.new.items ≡ with_node (missing_node (option_copied call.entry) held.old.items) held.old.items) }
     ensures ordered { IsInOrder held.new.items }
-    ensures map { OnOk result (F.map facts.new ≡ add_all (F.map facts.old) (list_map equation_of es.now)) }
+    ensures map { OnOk result (F.map facts.new ≡ add_all (F.map facts.old) (list_map equation_of es)) }
     ensures names { Grows (F.names facts.old) (F.names facts.new) }
     ensures named { OnOk result (all_named (F.names facts.new) (inherited_by (missing_node (option_copied call.entry) held.old.items)) ≡ true) }
     ensures err_held { OnErr result (held.new.items ≡ held.old.items) }
     ensures err_map { OnErr result (F.map facts.new ≡ F.map facts.old) }
     ensures stands { IsKept (grammar_of grammar.now) held.new.items (F.map facts.new) (F.names facts.new) kept.new }
-    ensures steps { steps.new ≤ steps.old + call_taken_cost (grammar_of grammar.now) (option_copied call.entry) held.old.items (F.map facts.old) (list_map equation_of es.now) }
+    ensures steps { steps.new ≤ steps.old + call_taken_cost (grammar_of grammar.now) (option_copied call.entry) held.old.items (F.map facts.old) (list_map equation_of es) }
 {
     let new = missing(held, call)?;
-    let more = copy_equations(held.allocator(), es.as_slice())?;
     let opening = make_ready_if(grammar, facts, held, kept, new)?;
-    name_lefts(facts, es.as_slice())?;
-    facts.reserve(es)?;
+    facts.reserve(&es)?;
     put_if(grammar, &*facts, held, kept, opening, steps);
-    learn_in_turn(grammar, facts, kept, more, steps);
+    learn_in_turn(grammar, facts, kept, es.into_vec(), steps);
     Ok(())
 }

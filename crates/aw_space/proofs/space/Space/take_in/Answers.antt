@@ -16,11 +16,11 @@ use Rattle.aw_space.proofs.Told.{equations_free}
 use Rattle.aw_space.proofs.space.Space.take_in.Goals as goal
 
 pub take_in-requires-clause-few : goal.take_in-requires-clause-few
-take_in-requires-clause-few g c = all_few_valid c.args.g.now.grammar (map equation_of c.args.es.now) c.requires.ok.ok
+take_in-requires-clause-few g c = all_few_valid c.args.g.now.grammar (map equation_of c.args.es) c.requires.ok.ok
 
 pub take_in-requires-clause-free : goal.take_in-requires-clause-free
 take_in-requires-clause-free g c =
-    equations_free (option_map (placed_call (grammar_of c.args.g.now.grammar)) (option_copied c.args.call)) (map equation_of c.args.es.now) (space_seen g.F.Facts c.args.self.now) c.requires.free
+    equations_free (option_map (placed_call (grammar_of c.args.g.now.grammar)) (option_copied c.args.call)) (map equation_of c.args.es) (space_seen g.F.Facts c.args.self.now) c.requires.free
 
 pub take_in-requires-clause-call : goal.take_in-requires-clause-call
 take_in-requires-clause-call g c =
@@ -37,7 +37,7 @@ invariant_of-self g c =
     let old = c.args.self.now in
     let gr = grammar_of old.accepted.now.grammar in
     let p = option_copied c.args.call in
-    let es = map equation_of c.args.es.now in
+    let es = map equation_of c.args.es in
     let call = subst (λ x. MayBeCalledIf (grammar_of x) old.role (option_map (placed_call (grammar_of x)) p)) c.requires.grammar c.requires.call in
     let may = subst (λ x. MayBeLearnt (grammar_of x) old.role es) c.requires.grammar c.requires.ok in
     record {
@@ -51,19 +51,19 @@ invariant_of-self g c =
 pub returns-clause-space : goal.returns-clause-space
 returns-clause-space g c =
     let old = c.args.self.now in
-    taken_space (grammar_of old.accepted.now.grammar) old.role old.held.items c.take_in.new.held.items (g.F.Facts.map old.facts) (g.F.Facts.map c.take_in.new.facts) (option_copied c.args.call) (map equation_of c.args.es.now) c.take_in.result
+    taken_space (grammar_of old.accepted.now.grammar) old.role old.held.items c.take_in.new.held.items (g.F.Facts.map old.facts) (g.F.Facts.map c.take_in.new.facts) (option_copied c.args.call) (map equation_of c.args.es) c.take_in.result
     (grammar_of c.args.g.now.grammar) old.choices.items (ap grammar_of (sym c.requires.grammar)) c.take_in.ensures.held c.take_in.ensures.map
 
 pub returns-clause-facts : goal.returns-clause-facts
 returns-clause-facts g c =
     let old = c.args.self.now in
-    taken_facts (grammar_of old.accepted.now.grammar) old.role old.held.items c.take_in.new.held.items (g.F.Facts.map old.facts) (g.F.Facts.map c.take_in.new.facts) (option_copied c.args.call) (map equation_of c.args.es.now) c.take_in.result
+    taken_facts (grammar_of old.accepted.now.grammar) old.role old.held.items c.take_in.new.held.items (g.F.Facts.map old.facts) (g.F.Facts.map c.take_in.new.facts) (option_copied c.args.call) (map equation_of c.args.es) c.take_in.result
     c.take_in.ensures.map c.take_in.ensures.err_map
 
 pub returns-clause-nodes : goal.returns-clause-nodes
 returns-clause-nodes g c =
     let old = c.args.self.now in
-    taken_nodes (grammar_of old.accepted.now.grammar) old.role old.held.items c.take_in.new.held.items (g.F.Facts.map old.facts) (g.F.Facts.map c.take_in.new.facts) (option_copied c.args.call) (map equation_of c.args.es.now) c.take_in.result
+    taken_nodes (grammar_of old.accepted.now.grammar) old.role old.held.items c.take_in.new.held.items (g.F.Facts.map old.facts) (g.F.Facts.map c.take_in.new.facts) (option_copied c.args.call) (map equation_of c.args.es) c.take_in.result
     c.take_in.ensures.held c.take_in.ensures.err_held
 
 pub returns-clause-steps : goal.returns-clause-steps
@@ -71,7 +71,7 @@ returns-clause-steps g c =
     let old = c.args.self.now in
     let gr = grammar_of c.args.g.now.grammar in
     let p = option_copied c.args.call in
-    let es = map equation_of c.args.es.now in
+    let es = map equation_of c.args.es in
     let k = g.F.Facts.map old.facts in
     let hs = old.held.items in
     let cost = subst (λ x. c.take_in.new.steps ≤ c.args.steps.now + taken_cost (grammar_of x) (missing_node p hs) hs k es) c.grammar.ensures.value c.take_in.ensures.steps in
