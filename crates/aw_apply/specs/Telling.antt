@@ -21,7 +21,7 @@ IsLive names (guard.Circle slot) = slot < length names
 
 -- what a guard gives once its slots were named
 abbrev pub matched_of : Tested → Q.Matched Ref Ref
-matched_of (tested.Yes bound) = Q.Yes bound
+matched_of (tested.Yes bound) = Q.Yes bound.items
 matched_of (tested.Waits on) = Q.Waits on
 matched_of (tested.Differs place) = Q.Differs (place_of place)
 matched_of (tested.Circle at) = Q.Circle at
@@ -29,7 +29,7 @@ matched_of (tested.Circle at) = Q.Circle at
 -- what this rule leads to where it is weighed so
 abbrev pub weighed_of : Rule → Weighed → C.Outcome Ref Ref
 weighed_of rule (weighed.Refused answer) = C.Refused (answer_of answer)
-weighed_of rule (weighed.Takes bound) = C.Takes rule bound
+weighed_of rule (weighed.Takes bound) = C.Takes rule bound.items
 
 -- where a rule with so many children is taken, there is room for a child's step below the node
 abbrev pub HasRoom : ℕ → Node → Weighed → Type 0

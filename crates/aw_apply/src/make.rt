@@ -18,8 +18,8 @@ use crate::laid::{
 use crate::making::Made;
 use aw_base::{Expr, Grammar, Grounds, Rule};
 use aw_list::Items;
-use aw_name::{Node, Ref, Slot, copy_node, copy_ref};
-use aw_store::{Body, Equation, Refs};
+use aw_name::{Node, Ref, Slot, copy_node};
+use aw_store::{Body, Equation};
 use std::alloc::{AllocError, Global};
 
 /// Result j of a node.
@@ -91,19 +91,18 @@ fn lay_results(
 /// The references of a rule's variables by number: bound by its patterns, entered, and results of its children, whose nodes are
 /// these.
 fn variables(
-    alloc: Global,
     g: &Grammar,
     node: &Node,
     number: u16,
     rule: &Rule,
     nodes: &[Node],
-    bound: &[Ref],
+    bound: Vec<Ref>,
     entered: Vec<Ref>,
 ) -> Result<Vec<Ref>, AllocError>
     requires { nodes.now ≡ map (below node.now number) (upto 1 (length rule.now.children)) }
-    ensures { IfOk result (λ refs. refs.items ≡ bound.now ++ (entered.items ++ child_refs node.now number 1 (rule_of g.now.sorts rule.now).children)) }
+    ensures { IfOk result (λ refs. refs.items ≡ bound.items ++ (entered.items ++ child_refs node.now number 1 (rule_of g.now.sorts rule.now).children)) }
 {
-    let mut refs = copy_refs(alloc, bound)?;
+    let mut refs = bound;
     let mut entered = entered;
     refs.append(&mut entered)?;
     let children = rule.children.as_slice();
@@ -111,22 +110,8 @@ fn variables(
     Ok(refs)
 }
 
-/// The variables of most rules are no more.
-const USUAL: usize = 16;
-
 /// Most rules make no more equations.
 const USUAL_EQUATIONS: usize = 8;
-
-/// Copies of references, with room for those of a usual rule.
-fn copy_refs(alloc: Global, refs: &[Ref]) -> Result<Vec<Ref>, AllocError>
-    ensures { IfOk result (λ copies. copies.items ≡ refs.now) }
-{
-    let mut copies = Vec::with_capacity(alloc, USUAL)?;
-    for r in refs {
-        copies.push(copy_ref(r)?)?;
-    }
-    Ok(copies)
-}
 
 /// What a rule makes at a node.
 fn made_by(
@@ -136,22 +121,22 @@ fn made_by(
     number: u16,
     rule: &Rule,
     args: &Grounds,
-    bound: &Refs,
+    bound: Vec<Ref>,
 ) -> Result<Made, AllocError>
     requires few { length rule.now.children ≤ 8 }
     requires gives { length rule.now.results ≤ 8 }
     requires room { 0 < length rule.now.children → length node.now.steps < 250 }
     requires entered { symbols_of (map ground_of args.now) ≤ 256 }
     requires symbols { child_symbols (rule_of g.now.sorts rule.now).children + symbols_of (map term_of rule.now.results) ≤ 256 }
-    ensures equations { IfOk result (λ m. map equation_of m.equations ≡ (plain_made node.now number (rule_of g.now.sorts rule.now) (map ground_of args.now) bound.now).equations) }
-    ensures children { IfOk result (λ m. m.children ≡ map as_child (plain_made node.now number (rule_of g.now.sorts rule.now) (map ground_of args.now) bound.now).calls) }
+    ensures equations { IfOk result (λ m. map equation_of m.equations ≡ (plain_made node.now number (rule_of g.now.sorts rule.now) (map ground_of args.now) bound.items).equations) }
+    ensures children { IfOk result (λ m. m.children ≡ map as_child (plain_made node.now number (rule_of g.now.sorts rule.now) (map ground_of args.now) bound.items).calls) }
 {
     let mut equations = Vec::with_capacity(alloc, USUAL_EQUATIONS)?;
     let entered = lay_grounds(alloc, &mut equations, node, 1, args.as_slice())?;
     let LaidAll { roots, next } = entered;
     let made_nodes = child_nodes(alloc, node, number, rule.children.len())?;
     let nodes = made_nodes.as_slice();
-    let refs = variables(alloc, g, node, number, rule, nodes, bound.as_slice(), roots)?;
+    let refs = variables(g, node, number, rule, nodes, bound, roots)?;
     let called = lay_children(
         alloc,
         &mut equations,
@@ -180,13 +165,13 @@ pub fn made(
     node: &Node,
     rule: u16,
     args: &Grounds,
-    bound: &Refs,
+    bound: Vec<Ref>,
 ) -> Result<Made, AllocError>
     requires declared { IsSome (slice_get g.now.rules rule) }
     requires room { (r : RuleValue) → slice_get g.now.rules rule ≡ Some r → 0 < length r.children → length node.now.steps < 250 }
     requires entered { symbols_of (map ground_of args.now) ≤ 256 }
-    ensures equations { IfOk result (λ m. OfRule (grammar_of g.now) rule (λ r. map equation_of m.equations ≡ (plain_made node.now rule r (map ground_of args.now) bound.now).equations)) }
-    ensures children { IfOk result (λ m. OfRule (grammar_of g.now) rule (λ r. m.children ≡ map as_child (plain_made node.now rule r (map ground_of args.now) bound.now).calls)) }
+    ensures equations { IfOk result (λ m. OfRule (grammar_of g.now) rule (λ r. map equation_of m.equations ≡ (plain_made node.now rule r (map ground_of args.now) bound.items).equations)) }
+    ensures children { IfOk result (λ m. OfRule (grammar_of g.now) rule (λ r. m.children ≡ map as_child (plain_made node.now rule r (map ground_of args.now) bound.items).calls)) }
 {
     match g.rule(rule) {
         Some(declared) => made_by(alloc, g, node, rule, declared, args, bound),

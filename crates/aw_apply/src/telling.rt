@@ -17,7 +17,7 @@ use crate::guard::{Guard, test_guard};
 use crate::steps::Steps;
 use aw_base::{Answer, Place, Rule};
 use aw_name::{Node, Ref, Trail};
-use aw_store::{Facts, Refs, ref_at, refs_at};
+use aw_store::{Facts, ref_at, refs_at};
 use std::alloc::{AllocError, Global};
 use std::sync::ledger::Ledger;
 
@@ -25,7 +25,7 @@ use std::sync::ledger::Ledger;
 /// that differs; or the one at a pattern's place from which a chase goes round.
 #[derive(Debug, Drop)]
 pub enum Tested {
-    Yes(Refs),
+    Yes(Vec<Ref>),
     Waits(Ref),
     Differs(Place),
     Circle(Ref),
@@ -35,7 +35,7 @@ pub enum Tested {
 #[derive(Debug, Drop)]
 pub enum Weighed {
     Refused(Answer),
-    Takes(Refs),
+    Takes(Vec<Ref>),
 }
 
 /// The slot of a reference that is named.
@@ -64,13 +64,16 @@ pub fn slots_of<F: Facts>(f: &F, refs: &[Ref]) -> Binding
     slots
 }
 
+/// Most rules have no more variables besides those of their patterns.
+const MORE: usize = 8;
+
 /// What a guard gives, by copies of the references that its slots name.
 pub fn tell_guard<F: Facts>(alloc: Global, f: &F, guard: &Guard) -> Result<Tested, AllocError>
     requires { IsLive (F.names f.now) guard.now }
     ensures { IfOk result (λ t. as_named (matched_of t) ≡ guard_of (F.names f.now) guard.now) }
 {
     match guard {
-        Guard::Yes(bound) => Ok(Tested::Yes(refs_at(alloc, f, bound.as_slice())?)),
+        Guard::Yes(bound) => Ok(Tested::Yes(refs_at(alloc, f, bound.as_slice(), MORE)?)),
         Guard::Waits(slot) => Ok(Tested::Waits(ref_at(f, *slot)?)),
         Guard::Differs(place) => Ok(Tested::Differs(*place)),
         Guard::Circle(slot) => Ok(Tested::Circle(ref_at(f, *slot)?)),

@@ -77,7 +77,7 @@ pub fn weigh<F: Facts>(
         None => Ok(Answered::Untested),
         Some(Weighed::Refused(answer)) => Ok(Answered::Refused(answer)),
         Some(Weighed::Takes(bound)) => {
-            let made = made(alloc, g, node, number, args, &bound)?;
+            let made = made(alloc, g, node, number, args, bound)?;
             Ok(Answered::Gives(made))
         }
     }

@@ -1,5 +1,7 @@
 -- What is foreseen, by the outcome.
 use Rattle.std.proofs.Common.{◌≡◌, ℕ, true, List, [], map, Option, Some, None, slice_get, refl, ap, sym, ◌∙◌, subst}
+use Rattle.std.specs.declared.vec.Vec.{Vec}
+use Rattle.std.specs.declared.alloc.Global.{Global}
 use Rattle.std.specs.Prelude.{is_some}
 use Rattle.std.proofs.lemmas.Bool.{and_parts}
 use Rattle.aw_term.specs.Names.{Node, Ref, root}
@@ -61,12 +63,12 @@ takes_on m n r args rule bound x e es cs = record {
 }
 
 -- a rule that is taken makes what it makes
-pub taken_foretold : (g : Grammar) (m : Made) (n : Node) (r : ℕ) (args : List Ground) (w : Weighed) (bound : List Ref) (x : Q.Outcome Ref Ref) → choice_ok g (Develop n r args) ≡ true → Weighs g r w x → w ≡ weighed.Takes bound →
-    ((rule : Rule) → slice_get g.rules r ≡ Some rule → map equation_of m.equations ≡ (M.made n r rule args bound).equations) → ((rule : Rule) → slice_get g.rules r ≡ Some rule → m.children ≡ map as_child (M.made n r rule args bound).calls) →
+pub taken_foretold : (g : Grammar) (m : Made) (n : Node) (r : ℕ) (args : List Ground) (w : Weighed) (bound : Vec Ref Global) (x : Q.Outcome Ref Ref) → choice_ok g (Develop n r args) ≡ true → Weighs g r w x → w ≡ weighed.Takes bound →
+    ((rule : Rule) → slice_get g.rules r ≡ Some rule → map equation_of m.equations ≡ (M.made n r rule args bound.items).equations) → ((rule : Rule) → slice_get g.rules r ≡ Some rule → m.children ≡ map as_child (M.made n r rule args bound.items).calls) →
     IsOutcome (record { answer = answer.Taken; made = m }) (Develop n r args) x
 taken_foretold g m n r args w bound x ok weighs is es cs =
     let rule = asked_rule g n r args ok in
-    takes_on m n r args rule.0 bound x (ap (weighed_of rule.0) (sym is) ∙ weighs rule.0 rule.1) (es rule.0 rule.1) (cs rule.0 rule.1)
+    takes_on m n r args rule.0 bound.items x (ap (weighed_of rule.0) (sym is) ∙ weighs rule.0 rule.1) (es rule.0 rule.1) (cs rule.0 rule.1)
 
 known_on : (o : Outcome) (s k : ℕ) (a : Answer) (x : Q.Outcome Ref Ref) → answer_of a ≡ Q.answer_of x → making (Start s k) x ≡ making (Start s k) Q.Starts → o.answer ≡ a → o.made.equations ≡ [] → o.made.children ≡ [] → IsOutcome o (Start s k) x
 known_on o s k a x e m f es cs = record {

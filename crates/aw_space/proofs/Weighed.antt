@@ -1,5 +1,7 @@
 -- What is weighed of a rule by how it stands.
-use Rattle.std.proofs.Common.{◌≡◌, ℕ, List, Some, None, slice_get, ap, sym, ◌∙◌}
+use Rattle.std.proofs.Common.{◌≡◌, ℕ, Some, None, slice_get, ap, sym, ◌∙◌}
+use Rattle.std.specs.declared.vec.Vec.{Vec}
+use Rattle.std.specs.declared.alloc.Global.{Global}
 use Rattle.std.specs.Prelude.{option_map}
 use Rattle.std.proofs.lemmas.Option.{slice_get-map}
 use Rattle.aw_term.specs.Names.{Ref}
@@ -25,7 +27,7 @@ refused_is Q.Starts a e = absurd cc
 refused_is (Q.Takes rule bound) a e = absurd cc
 
 -- a refusal takes nothing
-pub refused_other : (a : Answer) (bound : List Ref) → weighed.Refused a ≡ weighed.Takes bound → ⊥
+pub refused_other : (a : Answer) (bound : Vec Ref Global) → weighed.Refused a ≡ weighed.Takes bound → ⊥
 refused_other a bound e = absurd cc
 
 -- a rule of the node's sort stands at the open node as it stands by its number

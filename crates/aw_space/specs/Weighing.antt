@@ -1,5 +1,7 @@
 -- What a choice of a rule is weighed as.
 use Rattle.std.specs.Prelude.{◌≡◌, ◌≢◌, ℕ, List, length, Some, slice_get}
+use Rattle.std.specs.declared.vec.Vec.{Vec}
+use Rattle.std.specs.declared.alloc.Global.{Global}
 use Rattle.aw_term.specs.Names.{Node, Ref}
 use Rattle.aw_term.specs.Rules as P
 use Rattle.aw_term.specs.Choices.{Outcome}
@@ -29,4 +31,4 @@ StandsSo k h sorts r s = RuleStands k h.node h.inherited (rule_of sorts r) s
 
 -- it is a refusal
 abbrev pub IsRefused : Weighed → Type 0
-IsRefused w = (bound : List Ref) → w ≢ weighed.Takes bound
+IsRefused w = (bound : Vec Ref Global) → w ≢ weighed.Takes bound

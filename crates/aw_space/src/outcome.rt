@@ -93,7 +93,7 @@ pub fn foresee<F: Facts, L: Ledger>(
                 Weighed::Refused(answer) => Ok(Outcome::plainly(alloc, answer)),
                 Weighed::Takes(bound) => Ok(Outcome {
                     answer: Answer::Taken,
-                    made: made(alloc, grammar, node, *rule, args, &bound)?,
+                    made: made(alloc, grammar, node, *rule, args, bound)?,
                 }),
             }
         }

@@ -17,16 +17,21 @@ pub fn ref_at<F: Facts>(f: &F, slot: usize) -> Result<Ref, AllocError>
     copy_ref(f.name(slot))
 }
 
-/// Copies of the references of some slots.
-pub fn refs_at<F: Facts>(alloc: Global, f: &F, slots: &[usize]) -> Result<Refs, AllocError>
+/// Copies of the references of slots, with room for so many more behind them.
+pub fn refs_at<F: Facts>(
+    alloc: Global,
+    f: &F,
+    slots: &[usize],
+    more: usize,
+) -> Result<Vec<Ref>, AllocError>
     requires { All (λ slot. slot < length (F.names f.now)) slots.now }
-    ensures { IfOk result (λ refs. AreNamed (F.names f.now) slots.now refs) }
+    ensures { IfOk result (λ refs. AreNamed (F.names f.now) slots.now refs.items) }
 {
-    let mut refs = Vec::with_capacity(alloc, slots.len())?;
+    let mut refs = Vec::with_capacity(alloc, slots.len().saturating_add(more))?;
     for slot in slots {
         refs.push(ref_at(f, *slot)?)?;
     }
-    Refs::from_vec(refs)
+    Ok(refs)
 }
 
 /// A copy of part k, from 0, of the constructor at a slot.

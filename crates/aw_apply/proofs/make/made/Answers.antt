@@ -24,8 +24,8 @@ returns-clause-equations c =
     let g = c.args.g.now in
     let gs = map ground_of c.args.args.now in
     let here = sym (ap option_copied (sym c.in-Some.is) ∙ c.rule.ensures.value) in
-    IfOk-weaker c.made_by.result (λ (m : Made). map equation_of m.equations ≡ (made n c.args.rule (rule_of g.sorts c.in-Some.declared.now) gs c.args.bound.now).equations) _
-    (λ m w. λ r e. w ∙ ap (λ (q : Rule). (made n c.args.rule q gs c.args.bound.now).equations) (rule_found (rule_of g.sorts) g.rules c.args.rule c.in-Some.declared.now r here e))
+    IfOk-weaker c.made_by.result (λ (m : Made). map equation_of m.equations ≡ (made n c.args.rule (rule_of g.sorts c.in-Some.declared.now) gs c.args.bound.items).equations) _
+    (λ m w. λ r e. w ∙ ap (λ (q : Rule). (made n c.args.rule q gs c.args.bound.items).equations) (rule_found (rule_of g.sorts) g.rules c.args.rule c.in-Some.declared.now r here e))
     c.made_by.ensures.equations
 
 pub returns-clause-children : goal.returns-clause-children
@@ -34,6 +34,6 @@ returns-clause-children c =
     let g = c.args.g.now in
     let gs = map ground_of c.args.args.now in
     let here = sym (ap option_copied (sym c.in-Some.is) ∙ c.rule.ensures.value) in
-    IfOk-weaker c.made_by.result (λ (m : Made). m.children ≡ map as_child (made n c.args.rule (rule_of g.sorts c.in-Some.declared.now) gs c.args.bound.now).calls) _
-    (λ m w. λ r e. w ∙ ap (λ (q : Rule). map as_child (made n c.args.rule q gs c.args.bound.now).calls) (rule_found (rule_of g.sorts) g.rules c.args.rule c.in-Some.declared.now r here e))
+    IfOk-weaker c.made_by.result (λ (m : Made). m.children ≡ map as_child (made n c.args.rule (rule_of g.sorts c.in-Some.declared.now) gs c.args.bound.items).calls) _
+    (λ m w. λ r e. w ∙ ap (λ (q : Rule). map as_child (made n c.args.rule q gs c.args.bound.items).calls) (rule_found (rule_of g.sorts) g.rules c.args.rule c.in-Some.declared.now r here e))
     c.made_by.ensures.children

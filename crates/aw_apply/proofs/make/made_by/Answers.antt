@@ -21,7 +21,7 @@ variables-requires c =
 pub lay_children-requires-clause-nodes : goal.lay_children-requires-clause-nodes
 lay_children-requires-clause-nodes c =
     c.as_slice-nodes.ensures.value ∙ c.in_ok-made_nodes.ensures
-    ∙ ap (λ k. map (below c.args.node.now c.args.number) (upto 1 k)) (c.len.ensures ∙ ap length (sym c.as_slice-4.ensures))
+    ∙ ap (λ k. map (below c.args.node.now c.args.number) (upto 1 k)) (c.len.ensures ∙ ap length (sym c.as_slice-3.ensures))
 
 pub lay_children-requires-clause-parts : goal.lay_children-requires-clause-parts
 lay_children-requires-clause-parts c = λ sorts.
@@ -33,13 +33,13 @@ lay_children-requires-clause-parts c = λ sorts.
       lay_list-next n (λ x. elim x [ ]) 1 (map ground_of c.args.args.now),
       c.requires.entered,
       c.requires.symbols,
-      ap (λ cs. child_symbols (map (child_of sorts) cs)) c.as_slice-4.ensures,
+      ap (λ cs. child_symbols (map (child_of sorts) cs)) c.as_slice-3.ensures,
       symbols_apart sorts c.args.g.now.sorts c.args.rule.now.children,
     )
 
 -- the arguments, the variables and the children, as the plain definitions have them
 sources : (c : In_ok-called) → (all_of (map equation_of c.lay_grounds.new.equations.items) c.in_ok-entered.entered ≡ lay_list c.args.node.now (λ x. elim x [ ]) 1 (map ground_of c.args.args.now))
-    × (c.in_ok-refs.refs.items ≡ c.args.bound.now ++ (c.in_ok-entered.entered.roots.items ++ child_refs c.args.node.now c.args.number 1 (rule_of c.args.g.now.sorts c.args.rule.now).children))
+    × (c.in_ok-refs.refs.items ≡ c.args.bound.items ++ (c.in_ok-entered.entered.roots.items ++ child_refs c.args.node.now c.args.number 1 (rule_of c.args.g.now.sorts c.args.rule.now).children))
     × (called_of (map equation_of c.lay_children.new.equations.items) c.in_ok-called.called ≡ laid_behind (map equation_of c.lay_grounds.new.equations.items) (as_children (lay_children c.args.node.now c.args.number (get (no_ref c.args.node.now) c.in_ok-refs.refs.items) 1 c.in_ok-entered.entered.next (rule_of c.args.g.now.sorts c.args.rule.now).children)))
 sources c =
     let n = c.args.node.now in
@@ -49,12 +49,12 @@ sources c =
     let entered = c.in_ok-entered.entered in
     let first = map equation_of c.lay_grounds.new.equations.items in (
       c.in_ok-entered.ensures
-          ∙ ap (λ es. laid_behind (map equation_of es) (lay_list n (λ x. elim x [ ]) 1 (map ground_of c.as_slice.result.now))) c.new-equations.ensures.items
+          ∙ ap (λ es. laid_behind (map equation_of es) (lay_list n (λ x. elim x [ ]) 1 (map ground_of c.as_slice.result.now))) c.in_ok-equations.ensures.items
           ∙ ap (λ xs. lay_list n (λ x. elim x [ ]) 1 (map ground_of xs)) c.as_slice.ensures,
-      c.in_ok-refs.ensures ∙ ap (λ b. b ++ (entered.roots.items ++ child_refs n r 1 (rule_of sorts rule).children)) c.as_slice-2.ensures,
+      c.in_ok-refs.ensures,
       c.in_ok-called.ensures sorts
-          ∙ ap (λ xs. laid_behind first (as_children (lay_children n r (get (no_ref n) c.as_slice-3.result.now) 1 entered.next (map (child_of sorts) xs)))) c.as_slice-4.ensures
-          ∙ ap (λ rs. laid_behind first (as_children (lay_children n r (get (no_ref n) rs) 1 entered.next (rule_of sorts rule).children))) c.as_slice-3.ensures.value,
+          ∙ ap (λ xs. laid_behind first (as_children (lay_children n r (get (no_ref n) c.as_slice-2.result.now) 1 entered.next (map (child_of sorts) xs)))) c.as_slice-3.ensures
+          ∙ ap (λ rs. laid_behind first (as_children (lay_children n r (get (no_ref n) rs) 1 entered.next (rule_of sorts rule).children))) c.as_slice-2.ensures.value,
     )
 
 pub lay_results-requires-clause-parts : goal.lay_results-requires-clause-parts
@@ -82,10 +82,10 @@ returns-clause-equations c =
     let children = as_children (lay_children n c.args.number f 1 entered.next (rule_of c.args.g.now.sorts rule).children) in
     let (ea, er, ec) = sources (goal.at.returns-clause-equations c).In_ok-called in
     let all = c.in_ok-lay_results.ensures
-    ∙ ap (λ ts. first ++ lay_results n (get (no_ref n) c.as_slice-5.result.now) c.in_ok-called.called.next 1 (map term_of ts)) c.as_slice-results.ensures
-    ∙ ap (λ rs. first ++ lay_results n (get (no_ref n) rs) c.in_ok-called.called.next 1 (map term_of rule.results)) c.as_slice-5.ensures.value
+    ∙ ap (λ ts. first ++ lay_results n (get (no_ref n) c.as_slice-4.result.now) c.in_ok-called.called.next 1 (map term_of ts)) c.as_slice-results.ensures
+    ∙ ap (λ rs. first ++ lay_results n (get (no_ref n) rs) c.in_ok-called.called.next 1 (map term_of rule.results)) c.as_slice-4.ensures.value
     ∙ ap (λ (z : Laid (List MadeChild)). first ++ lay_results n f z.next 1 (map term_of rule.results)) ec in
-    made_equations n c.args.number (rule_of c.args.g.now.sorts rule) (map ground_of c.args.args.now) c.args.bound.now (all_of (map equation_of c.lay_grounds.new.equations.items) entered) c.in_ok-refs.refs.items children
+    made_equations n c.args.number (rule_of c.args.g.now.sorts rule) (map ground_of c.args.args.now) c.args.bound.items (all_of (map equation_of c.lay_grounds.new.equations.items) entered) c.in_ok-refs.refs.items children
     (lay_results n f children.next 1 (map term_of rule.results)) first (map equation_of c.from_vec.result)
     ea er refl refl (ap (λ (z : Laid (List MadeChild)). z.equations) ec) (ap (map equation_of) c.from_vec.ensures ∙ all)
 
@@ -96,5 +96,5 @@ returns-clause-children c =
     let (ea, er, ec) = sources (goal.at.returns-clause-children c).In_ok-called in
     c.from_vec-2.ensures
     ∙ ap (λ (z : Laid (List MadeChild)). z.roots) ec
-    ∙ made_children n c.args.number (rule_of c.args.g.now.sorts c.args.rule.now) (map ground_of c.args.args.now) c.args.bound.now (all_of (map equation_of c.lay_grounds.new.equations.items) entered) c.in_ok-refs.refs.items
+    ∙ made_children n c.args.number (rule_of c.args.g.now.sorts c.args.rule.now) (map ground_of c.args.args.now) c.args.bound.items (all_of (map equation_of c.lay_grounds.new.equations.items) entered) c.in_ok-refs.refs.items
     (as_children (lay_children n c.args.number (get (no_ref n) c.in_ok-refs.refs.items) 1 entered.next (rule_of c.args.g.now.sorts c.args.rule.now).children)) ea er refl
