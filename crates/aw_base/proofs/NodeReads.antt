@@ -1,16 +1,22 @@
 -- Which node a text names, by the parts of the text.
-use Rattle.std.proofs.Common.{◌≡◌, ℕ, ◌+◌, ◌≤◌, ◌<◌, refl, ap, true, cond, ◌==◌, List, [], ◌∷◌, length, Option, Some, None, is_some, option_map, option_and_then, count_by, arith, IsSomeAnd}
-use Rattle.std.proofs.lemmas.Bool.{lt-ltb}
+use Rattle.std.proofs.Common.{◌≡◌, ℕ, ◌+◌, ◌≤◌, ◌<◌, refl, ap, ◌∙◌, Bool, true, false, cond, ◌==◌, List, [], ◌∷◌, length, slice_get, Option, Some, None, is_some, option_map, option_and_then, count_by, arith, IfSome}
+use Rattle.std.specs.Prelude.{Err}
+use Rattle.std.proofs.lemmas.Bool.{lt-ltb, le-ltb}
 use Rattle.std.proofs.lemmas.List.Splits.{length-slice_split}
 use Rattle.aw_text.specs.Spelling.{parts, steps_of, step_of, name_from, start_of, parts_of_name}
 use Rattle.aw_term.specs.Names.{Step}
 use Rattle.aw_term.specs.Rules.{Grammar}
 use Rattle.aw_term.specs.Artifacts.{Words}
-use Rattle.aw_base.specs.NodeNames.{TooLong, steps_named, with_start, with_parts}
+use Rattle.aw_base.specs.NodeNames.{TooLong, NotDeclared, steps_named, is_start, first_misfit, fitted, with_steps, with_start, with_parts}
+use Rattle.aw_base.specs.NodeReading.{Reads, long_fault, start_named}
 use Rattle.aw_grammar.specs.Named.{number_named}
 
 abbrev Parts : Type 0
 Parts = List ℕ × ℕ × List (List ℕ × ℕ)
+
+-- the parts of a name with this start, this case and these steps
+abbrev pub whole : List ℕ → ℕ → Option (List (List ℕ × ℕ)) → Option Parts
+whole start case trail = option_map (λ (t : List (List ℕ × ℕ)). let parts : Parts = (start, case, t) in parts) trail
 
 -- as many steps as parts
 length_steps : (ps : List (List ℕ)) (trail : List (List ℕ × ℕ)) → steps_of ps ≡ Some trail → length trail ≡ length ps
@@ -44,9 +50,9 @@ length_named w (p ∷ ps) steps e = with_rule (number_named w.rules p.0) (steps_
         let tail = deeper t refl in omega (arith, tail, ap length same)
 
 pub few_steps : (w : Words) (start : List ℕ) (case : ℕ) (trail : Option (List (List ℕ × ℕ))) (steps : List Step)
-    → IsSomeAnd (option_map (λ (t : List (List ℕ × ℕ)). let parts : Parts = (start, case, t) in parts) trail) (λ parts. length parts.2 ≤ 250)
+    → IfSome (whole start case trail) (λ parts. length parts.2 ≤ 250)
     → option_and_then (steps_named w) trail ≡ Some steps → length steps ≤ 250
-few_steps w start case None steps h e = absurd h
+few_steps w start case None steps h e = cc
 few_steps w start case (Some trail) steps h e = omega (arith, h, length_named w trail steps e)
 
 -- a name has as many steps as slashes
@@ -68,12 +74,36 @@ slashes_are_steps text found e = omega (arith, from_slashes (parts text) found e
 
 -- what parse_node's tests say
 
-pub long_name : (w : Words) (g : Grammar) (text : List ℕ) (found : Option Parts) → parts_of_name text ≡ found → is_some found ≡ true → 250 < count_by (λ b. b == 47) text → with_parts w g found ≡ TooLong
-long_name w g text None f e h = cc
-long_name w g text (Some p) f e h =
+pub long_name : (w : Words) (g : Grammar) (text : List ℕ) (found : Option Parts) → parts_of_name text ≡ found → 250 < count_by (λ b. b == 47) text
+    → Reads (with_parts w g found) (Err (long_fault (is_some found)))
+long_name w g text None f h = refl
+long_name w g text (Some p) f h =
     let many : 250 < length p.2 = omega (arith, slashes_are_steps text p f, h) in
     ap (λ b. cond b TooLong (with_start w g p.1 p.2 (number_named w.sorts p.0))) (lt-ltb 250 (length p.2) many)
 
-pub short_name : (text : List ℕ) (found : Option Parts) → parts_of_name text ≡ found → is_some found ≡ true → count_by (λ b. b == 47) text ≤ 250 → IsSomeAnd found (λ parts. length parts.2 ≤ 250)
-short_name text None f e h = cc
-short_name text (Some p) f e h = omega (arith, slashes_are_steps text p f, h)
+pub short_name : (text : List ℕ) (found : Option Parts) → parts_of_name text ≡ found → count_by (λ b. b == 47) text ≤ 250 → IfSome found (λ parts. length parts.2 ≤ 250)
+short_name text None f h = tt
+short_name text (Some p) f h = omega (arith, slashes_are_steps text p f, h)
+
+-- what node_of's tests say
+
+by_start : (w : Words) (g : Grammar) (start : List ℕ) (case : ℕ) (trail : List (List ℕ × ℕ)) → length trail ≤ 250
+    → with_parts w g (Some (start, case, trail)) ≡ with_start w g case trail (number_named w.sorts start)
+by_start w g start case trail h = ap (λ b. cond b TooLong (with_start w g case trail (number_named w.sorts start))) (le-ltb 250 (length trail) h)
+
+from_start : (w : Words) (g : Grammar) (case : ℕ) (trail : List (List ℕ × ℕ)) (number : Option ℕ) (s : ℕ)
+    → option_and_then (λ k. cond (is_start (slice_get g.sorts k)) (Some k) None) number ≡ Some s
+    → with_start w g case trail number ≡ with_steps g s case (steps_named w trail)
+from_start w g case trail None s e = cc
+from_start w g case trail (Some k) s e = by (is_start (slice_get g.sorts k)) e
+  where
+    by : (b : Bool) → cond b (Some k) None ≡ Some s → cond b (with_steps g k case (steps_named w trail)) NotDeclared ≡ with_steps g s case (steps_named w trail)
+    by true e = let same : k ≡ s = cc in ap (λ j. with_steps g j case (steps_named w trail)) same
+    by false e = cc
+
+pub all_declared : (w : Words) (g : Grammar) (start : List ℕ) (case s : ℕ) (trail : Option (List (List ℕ × ℕ))) (steps : List Step)
+    → IfSome (whole start case trail) (λ parts. length parts.2 ≤ 250) → start_named w g start ≡ Some s → option_and_then (steps_named w) trail ≡ Some steps
+    → with_parts w g (whole start case trail) ≡ fitted (record { start = s; case = case; steps = steps }) (first_misfit g 0 s steps)
+all_declared w g start case s None steps h e f = cc
+all_declared w g start case s (Some trail) steps h e f =
+    by_start w g start case trail h ∙ from_start w g case trail (number_named w.sorts start) s e ∙ ap (with_steps g s case) f

@@ -1,5 +1,5 @@
 -- Reading the name of a node, part by part.
-use Rattle.std.specs.Prelude.{◌≡◌, ℕ, List, ◌∷◌, Option, None, Some, Result, Ok, Err, slice_get, if◌then◌else◌, option_map, option_and_then, option_copied}
+use Rattle.std.specs.Prelude.{◌≡◌, ℕ, Bool, List, ◌∷◌, Option, None, Some, Result, Ok, Err, slice_get, if◌then◌else◌, option_map, option_and_then, option_copied}
 use Rattle.aw_text.specs.Spelling.{steps_of, parts_behind}
 use Rattle.aw_term.specs.Names.{Step, Node}
 use Rattle.aw_term.specs.Rules.{Grammar}
@@ -18,6 +18,14 @@ Reads read (Err Long) = read ≡ TooLong
 Reads read (Err Unknown) = read ≡ NotDeclared
 Reads read (Err (Misfit at)) = read ≡ NoFit at
 Reads read (Err NoMemory) = Unit {0}
+
+-- why a text of few steps names no node, where no node was found by its parts and it is a node name, or is none
+abbrev pub name_fault : Bool → NameFault
+name_fault spelled = if spelled then Unknown else Form
+
+-- why a text of more than 250 steps names no node, where it is a node name, or is none
+abbrev pub long_fault : Bool → NameFault
+long_fault spelled = if spelled then Long else Form
 
 -- the start sort of a name
 abbrev pub start_named : Words → Grammar → List ℕ → Option ℕ

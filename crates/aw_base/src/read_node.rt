@@ -1,10 +1,11 @@
 //! Reading the name of a node, as `visit#1/admit.1`.
-ghost use Rattle.std.specs.Prelude.{◌≡◌, is_some, true, ◌≤◌, ◌<◌, ◌==◌, Some, count_by, length, IfOk, IfSome, IsSomeAnd, option_map, option_and_then, option_copied};
+ghost use Rattle.std.specs.Prelude.{◌≡◌, is_some, true, ◌≤◌, ◌<◌, ◌==◌, Some, count_by, length, IfOk, IfSome, option_map, option_and_then, option_copied};
 ghost use Rattle.aw_term.specs.Rules.{sort_of};
 ghost use Rattle.aw_text.specs.NodeParts.{begins};
+ghost use Rattle.aw_text.specs.Spelling.{node_name, parts_of_name};
 ghost use Rattle.aw_grammar.specs.GrammarOf.{grammar_of, words_of};
-ghost use Rattle.aw_base.specs.NodeNames.{first_misfit, node_read, with_parts};
-ghost use Rattle.aw_base.specs.NodeReading.{Reads, leads_on, start_named, steps_behind};
+ghost use Rattle.aw_base.specs.NodeNames.{first_misfit, node_read};
+ghost use Rattle.aw_base.specs.NodeReading.{Reads, leads_on, long_fault, name_fault, start_named, steps_behind};
 ghost use Rattle.aw_base.specs.declared.read_node.NameFault.TheVariants.{NoMemory};
 
 use crate::names::sort_of_step;
@@ -57,14 +58,16 @@ fn named_step<'a>(g: &Grammar, steps: &'a [u8]) -> Option<NamedStep<'a>>
     })
 }
 
+/// The steps with their rules looked up, with room for so many at once; `None` where a step is none or its rule is not declared.
 fn named_steps(
     alloc: Global,
     g: &Grammar,
     steps: Option<&[u8]>,
+    room: usize,
 ) -> Result<Option<Vec<Step>>, AllocError>
     ensures { IfOk result (λ found. option_map (λ v. v.items) found ≡ steps_behind (words_of g.now) (option_copied steps.entry)) }
 {
-    let mut found = Vec::new(alloc);
+    let mut found = Vec::with_capacity(alloc, room)?;
     let mut rest = steps;
     while let Some(bytes) = rest {
         match named_step(g, bytes) {
@@ -107,16 +110,35 @@ fn slash_count(text: &[u8]) -> usize
     text.iter().filter(|byte| **byte == b'/').count()
 }
 
-fn node_of(alloc: Global, g: &Grammar, name: &NodeStart<'_>) -> Result<Node, NameFault>
-    requires { IsSomeAnd (begins name.now) (λ parts. length parts.2 ≤ 250) }
+/// Why a text names no node, where no node was found by its parts: a name in it is not declared, or it is no node name. Only such
+/// a text is read once more.
+fn name_fault(text: &[u8]) -> NameFault
+    ensures { result ≡ name_fault (node_name text.now) }
+{
+    if is_node_name(text) {
+        NameFault::Unknown
+    } else {
+        NameFault::Form
+    }
+}
+
+fn node_of(
+    alloc: Global,
+    g: &Grammar,
+    text: &[u8],
+    name: &NodeStart<'_>,
+    slashes: usize,
+) -> Result<Node, NameFault>
+    requires begun { parts_of_name text.now ≡ begins name.now }
+    requires few { IfSome (begins name.now) (λ parts. length parts.2 ≤ 250) }
     ensures valid { IfOk result (λ n. is_some (sort_of (grammar_of g.now) n) ≡ true) }
-    ensures read { Reads (with_parts (words_of g.now) (grammar_of g.now) (begins name.now)) result }
+    ensures read { Reads (node_read (words_of g.now) (grammar_of g.now) text.now) result }
 {
     let Some(start) = start_named(g, name.start) else {
-        return Err(NameFault::Unknown);
+        return Err(name_fault(text));
     };
-    let Some(steps) = named_steps(alloc, g, name.steps)? else {
-        return Err(NameFault::Unknown);
+    let Some(steps) = named_steps(alloc, g, name.steps, slashes)? else {
+        return Err(name_fault(text));
     };
     match first_misfit(g, start, &steps) {
         Some(at) => Err(NameFault::Step { at }),
@@ -128,19 +150,28 @@ fn node_of(alloc: Global, g: &Grammar, name: &NodeStart<'_>) -> Result<Node, Nam
     }
 }
 
+/// Why a text with more than 250 slashes names no node.
+fn long_fault(text: &[u8]) -> NameFault
+    ensures { result ≡ long_fault (node_name text.now) }
+{
+    if is_node_name(text) {
+        NameFault::Long
+    } else {
+        NameFault::Form
+    }
+}
+
 /// The node that a text names, which is then valid.
 pub fn parse_node(alloc: Global, g: &Grammar, text: &[u8]) -> Result<Node, NameFault>
     ensures valid { IfOk result (λ n. is_some (sort_of (grammar_of g.now) n) ≡ true) }
     ensures read { Reads (node_read (words_of g.now) (grammar_of g.now) text.now) result }
 {
-    if !is_node_name(text) {
-        return Err(NameFault::Form);
-    }
-    if slash_count(text) > Trail::MOST {
-        return Err(NameFault::Long);
+    let slashes = slash_count(text);
+    if slashes > Trail::MOST {
+        return Err(long_fault(text));
     }
     match node_start(text) {
-        Some(name) => node_of(alloc, g, &name),
+        Some(name) => node_of(alloc, g, text, &name, slashes),
         None => Err(NameFault::Form),
     }
 }
