@@ -10,7 +10,8 @@ use Rattle.std.proofs.lemmas.List.Sorted.{IsPermutation-refl, IsPermutation-cons
 use Rattle.slab.specs.Slab.{get, Updates}
 use Rattle.std.specs.Option.{option_map}
 use Rattle.aw_work.specs.declared.block.Triple.{Triple}
-use Rattle.aw_work.specs.Triples.{values, Stored, triples, room, others_than, waiting_at}
+use Rattle.aw_work.specs.declared.bins.By.TheVariants as by
+use Rattle.aw_work.specs.Triples.{values, Stored, triples, room, number_at, others_than, waiting_at}
 
 module _ {T : Type 0} where
   abbrev front : Option T → List T → List T
@@ -105,16 +106,13 @@ dropped old new key node (Some t) is has up perm room =
       omega (arith, size),
     )
 
-has_mapped : {T : Type 0} (f : T → ℕ) (o : Option T) (p : Option ℕ) (n : ℕ) (t : T) → p ≡ option_map f o → o ≡ Some t → p ≢ Some n → f t ≢ n
-has_mapped f o p n t is here none same = none (is ∙ ap (option_map f) here ∙ ap Some same)
-
 -- where no key is under the slot, no triple waits for it
-pub none_waits : (b : List (Option ℕ)) (s : Stored) (slot : ℕ) → ((key : ℕ) → get_or b key None ≡ option_map (λ t. t.slot) (get s key)) → ((key : ℕ) → get_or b key None ≢ Some slot) → waiting_at slot (triples s) ≡ 0
-none_waits b s slot is none = none_counted (λ (t : Triple). t.slot) slot s.slots (λ k t here. has_mapped (λ (u : Triple). u.slot) (get s k) (get_or b k None) slot t (is k) here (none k))
+pub none_waits : (s : Stored) (slot : ℕ) → ((key : ℕ) → number_at by.Slot s key ≢ Some slot) → waiting_at slot (triples s) ≡ 0
+none_waits s slot none = none_counted (λ (t : Triple). t.slot) slot s.slots (λ k t here same. none k (ap (option_map (λ (u : Triple). u.slot)) here ∙ ap Some same))
 
 -- where no key is under the node, all triples are of others
-pub none_left_of : (b : List (Option ℕ)) (s : Stored) (node : ℕ) → ((key : ℕ) → get_or b key None ≡ option_map (λ t. t.node) (get s key)) → ((key : ℕ) → get_or b key None ≢ Some node) → others_than node (triples s) ≡ triples s
-none_left_of b s node is none = all_others (λ (t : Triple). t.node) node s.slots (λ k t here. has_mapped (λ (u : Triple). u.node) (get s k) (get_or b k None) node t (is k) here (none k))
+pub none_left_of : (s : Stored) (node : ℕ) → ((key : ℕ) → number_at by.Node s key ≢ Some node) → others_than node (triples s) ≡ triples s
+none_left_of s node none = all_others (λ (t : Triple). t.node) node s.slots (λ k t here same. none k (ap (option_map (λ (u : Triple). u.node)) here ∙ ap Some same))
 
 abbrev listed : {T : Type 0} → Option T → List T
 listed None = []
