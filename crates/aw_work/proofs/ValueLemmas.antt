@@ -1,5 +1,5 @@
 -- The values of places, when one place changes.
-use Rattle.std.proofs.Common.{◌≡◌, ◌≢◌, ℕ, zero, suc, ◌+◌, zero-add, Bool, false, cond, List, [], ◌∷◌, ◌++◌, get_or, Option, Some, None, count_by, refl, sym, ap, ◌∙◌, subst, arith, ne_eqb, eq-eqb, nat_eq, length, ◌<◌, ◌≤◌, IfSome, is_some, take, append-nil}
+use Rattle.std.proofs.Common.{◌≡◌, ◌≢◌, ℕ, zero, suc, ◌+◌, ◌-◌, zero-add, Bool, false, cond, List, [], ◌∷◌, ◌++◌, get_or, Option, Some, None, count_by, refl, sym, ap, ◌∙◌, subst, arith, ne_eqb, eq-eqb, nat_eq, length, ◌<◌, ◌≤◌, IfSome, is_some, take, append-nil}
 use Rattle.std.proofs.lemmas.List.{length-append}
 use Rattle.std.specs.Prelude.{not, filter}
 use Rattle.std.proofs.lemmas.Bool.{cond-true, cond-false, not_from_false, not_from_true}
@@ -7,11 +7,11 @@ use Rattle.std.proofs.lemmas.Option.{none-some, same_Some}
 use Rattle.std.proofs.lemmas.List.Sums.{sum_by-cons}
 use Rattle.std.specs.List.Sorted.{IsPermutation}
 use Rattle.std.proofs.lemmas.List.Sorted.{IsPermutation-refl, IsPermutation-cons, IsPermutation-trans, IsPermutation-middle, IsPermutation-push_more, length_permutation}
-use Rattle.slab.specs.Slab.{get, Updates}
+use Rattle.slab.specs.Slab.{Slab, get, slab_len, Updates}
 use Rattle.std.specs.Option.{option_map}
 use Rattle.aw_work.specs.declared.block.Triple.{Triple}
 use Rattle.aw_work.specs.declared.bins.By.TheVariants as by
-use Rattle.aw_work.specs.Triples.{values, Stored, triples, room, number_at, others_than, waiting_at}
+use Rattle.aw_work.specs.Triples.{values, Stored, left_out, triples, room, number_at, others_than, waiting_at}
 
 module _ {T : Type 0} where
   abbrev front : Option T → List T → List T
@@ -92,26 +92,34 @@ module _ {T : Type 0} where
       cond-true (not (nat_eq (f t) n)) _ _ (not_from_false _ (ne_eqb (f t) n (h 0 t refl)))
       ∙ ap (λ r. t ∷ r) (all_others f n xs (λ k. h (suc k)))
 
-same_mapped : {T : Type 0} (f : T → ℕ) (o : Option T) (n : ℕ) (t : T) → option_map f o ≡ Some n → o ≡ Some t → f t ≡ n
+pub same_mapped : {T : Type 0} (f : T → ℕ) (o : Option T) (n : ℕ) (t : T) → option_map f o ≡ Some n → o ≡ Some t → f t ≡ n
 same_mapped f o n t e s = same_Some (f t) n (sym (ap (option_map f) s) ∙ e)
 
+-- of a block from which nothing was taken out all triples are in the slab
+pub settled : (b : Stored) → b.taken ≡ None → triples b ≡ values b.pairs.slots
+settled b free = ap (λ o. values (left_out o b.pairs).slots) free
+
+pub settled_room : (b : Stored) → b.taken ≡ None → room b ≡ b.pairs.capacity - slab_len b.pairs
+settled_room b free = ap (λ o. b.pairs.capacity - slab_len (left_out o b.pairs)) free
+
 -- a triple of the node is taken out
-pub dropped : (old new : Stored) (key node : ℕ) (r : Option Triple) → r ≡ get old key → option_map (λ t. t.node) (get old key) ≡ Some node → Updates old new key None → IfSome r (λ t. IsPermutation (triples old) (t ∷ triples new)) → IfSome r (λ t. room new ≡ room old + 1) → (others_than node (triples new) ≡ others_than node (triples old)) × (room new + length (triples new) ≡ room old + length (triples old)) × (length (triples new) < length (triples old))
-dropped old new key node None is has up perm room = absurd (none-some node (ap (option_map (λ (t : Triple). t.node)) is ∙ has))
-dropped old new key node (Some t) is has up perm room =
-    let own : t.node ≡ node = same_mapped (λ (u : Triple). u.node) (get old key) node t has (sym is) in
-    let size : length (triples new) + 1 ≡ length (triples old) = omega (arith, length_permutation (triples old) (t ∷ triples new) perm) in (
-      values_filtered (λ u. not (nat_eq u.node node)) key new.slots old.slots t (not_from_true _ (eq-eqb t.node node own)) up.changed (sym is) (λ i d. sym (up.others i d)),
-      omega (arith, size, room),
+pub dropped : (old new : Stored) (key node : ℕ) (r : Option Triple) → old.taken ≡ None → new.taken ≡ None → r ≡ get old.pairs key → number_at by.Node old.pairs key ≡ Some node → Updates old.pairs new.pairs key None → IfSome r (λ t. IsPermutation (triples old) (t ∷ triples new)) → IfSome r (λ t. room new ≡ room old + 1) → (others_than node (triples new) ≡ others_than node (triples old)) × (room new + length (triples new) ≡ room old + length (triples old)) × (length (triples new) < length (triples old))
+dropped old new key node None free still is has up perm more = absurd (none-some node (ap (option_map (λ (t : Triple). t.node)) is ∙ has))
+dropped old new key node (Some t) free still is has up perm more =
+    let own : t.node ≡ node = same_mapped (λ (u : Triple). u.node) (get old.pairs key) node t has (sym is) in
+    let size : length (triples new) + 1 ≡ length (triples old) = omega (arith, length_permutation (triples old) (t ∷ triples new) perm) in
+    let kept = values_filtered (λ u. not (nat_eq u.node node)) key new.pairs.slots old.pairs.slots t (not_from_true _ (eq-eqb t.node node own)) up.changed (sym is) (λ i d. sym (up.others i d)) in (
+      ap (others_than node) (settled new still) ∙ kept ∙ ap (others_than node) (sym (settled old free)),
+      omega (arith, size, more),
       omega (arith, size),
     )
 
 -- where no key is under the slot, no triple waits for it
-pub none_waits : (s : Stored) (slot : ℕ) → ((key : ℕ) → number_at by.Slot s key ≢ Some slot) → waiting_at slot (triples s) ≡ 0
+pub none_waits : (s : Slab Triple) (slot : ℕ) → ((key : ℕ) → number_at by.Slot s key ≢ Some slot) → waiting_at slot (values s.slots) ≡ 0
 none_waits s slot none = none_counted (λ (t : Triple). t.slot) slot s.slots (λ k t here same. none k (ap (option_map (λ (u : Triple). u.slot)) here ∙ ap Some same))
 
 -- where no key is under the node, all triples are of others
-pub none_left_of : (s : Stored) (node : ℕ) → ((key : ℕ) → number_at by.Node s key ≢ Some node) → others_than node (triples s) ≡ triples s
+pub none_left_of : (s : Slab Triple) (node : ℕ) → ((key : ℕ) → number_at by.Node s key ≢ Some node) → others_than node (values s.slots) ≡ values s.slots
 none_left_of s node none = all_others (λ (t : Triple). t.node) node s.slots (λ k t here same. none k (ap (option_map (λ (u : Triple). u.node)) here ∙ ap Some same))
 
 abbrev listed : {T : Type 0} → Option T → List T
