@@ -2,13 +2,13 @@ pub mod Behind
 pub mod CircleLemmas
 pub mod Entering
 pub mod FewOf
-pub mod Gaining
 pub mod Joining
 pub mod Marking
 pub mod Placing
 pub mod Reaching
 pub mod Relations
 pub mod RuleGraphs
+pub mod StepArcs
 pub mod StepJoins
 pub mod Sweeps
 pub mod TextFlows

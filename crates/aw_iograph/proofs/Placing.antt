@@ -1,7 +1,6 @@
 -- Each occurrence of a rule has its place.
 use Rattle.std.proofs.Common.{◌≡◌, ℕ, zero, suc, ◌+◌, ◌*◌, ◌-◌, ◌<◌, ◌≤◌, Bool, true, false, List, [], ◌∷◌, ◌++◌, map, length, replicate, Some, None, slice_get, refl, sym, ap, ◌∙◌, subst, inl, inr, arith}
-use Rattle.std.specs.Prelude.{◌⊎◌, if◌then◌else◌}
-use Rattle.std.proofs.lemmas.Bool.{cases_lt}
+use Rattle.std.specs.Prelude.{if◌then◌else◌}
 use Rattle.std.proofs.lemmas.Option.{same_Some, slice_get_within}
 use Rattle.aw_list.specs.Members.{Member}
 use Rattle.aw_list.proofs.Members.{never, member_split, member_unmap}
@@ -10,7 +9,7 @@ use Rattle.aw_term.specs.Rules.{Term, Child, Rule, get, upto}
 use Rattle.aw_term.specs.WellFormed.{leaves}
 use Rattle.aw_term.proofs.Gets.{member_upto, get_member}
 use Rattle.aw_iograph.specs.declared.occ.Occ.{Occ}
-use Rattle.aw_iograph.specs.Occurrences.{inherited, given, pattern_entries, child_entries, entries, term_at, IsPlace, place_of, IsUpTo}
+use Rattle.aw_iograph.specs.Occurrences.{inherited, given, pattern_entries, child_entries, entries, term_at, IsPlace, place_of}
 use Rattle.aw_iograph.specs.Small.{HasFew}
 use Rattle.aw_iograph.proofs.TextFlows.{Stands, argument, outcome, stands}
 
@@ -48,6 +47,30 @@ entry_place r v o few e = elim (member_split (Some o) (pattern_entries 1 r.patte
   ]
 ]
 
+pattern_value : (ps : List Term) (n : ℕ) (o : Occ) → Member (Some o) (pattern_entries n ps) → o.result ≡ false
+pattern_value [] n o m = never m
+pattern_value (p ∷ ps) n o m = elim (member_split (Some o) (map (λ v. Some (inherited 0 n)) (leaves p)) (pattern_entries (suc n) ps) m) [
+  | inl a ↦ (let (v, w, e) = member_unmap (λ v. Some (inherited 0 n)) (Some o) (leaves p) a in ap (λ (x : Occ). x.result) (same_Some o (inherited 0 n) e))
+  | inr b ↦ pattern_value ps (suc n) o b
+]
+
+child_value : (cs : List Child) (n : ℕ) (o : Occ) → 0 < n → Member (Some o) (child_entries n cs) → 0 < o.child
+child_value [] n o pos m = never m
+child_value (c ∷ cs) n o pos m = elim (member_split (Some o) (map (λ l. Some (given n l)) (upto 1 c.outs)) (child_entries (suc n) cs) m) [
+  | inl a ↦ (let (l, w, e) = member_unmap (λ l. Some (given n l)) (Some o) (upto 1 c.outs) a in subst (λ (x : Occ). 0 < x.child) (sym (same_Some o (given n l) e)) pos)
+  | inr b ↦ (let above : 0 < suc n = omega arith in child_value cs (suc n) o above b)
+]
+
+-- a variable that enters at a result enters at one of a child
+pub entry_child : (r : Rule) (v : ℕ) (o : Occ) → get None (entries r) v ≡ Some o → o.result ≡ true → 0 < o.child
+entry_child r v o e given' = elim (member_split (Some o) (pattern_entries 1 r.patterns) (replicate r.params None ++ child_entries 1 r.children) (get_member (entries r) v o e)) [
+  | inl a ↦ (let not_so : true ≡ false = sym given' ∙ pattern_value r.patterns 1 o a in absurd cc)
+  | inr b ↦ elim (member_split (Some o) (replicate r.params None) (child_entries 1 r.children) b) [
+    | inl p ↦ never (no_copy r.params o p)
+    | inr q ↦ child_value r.children 1 o (omega arith) q
+  ]
+]
+
 standing_place : (r : Rule) (t : Term) (u : Occ) → HasFew r → Stands r t u → IsPlace u
 standing_place r t u few (argument k i c g h) =
     let a : k < length r.children = slice_get_within r.children k c g in let b : i < length c.args = slice_get_within c.args i t h in
@@ -78,17 +101,6 @@ pub place_one : (o u : Occ) → IsPlace o → IsPlace u → place_of o ≡ place
 place_one o u p q e =
     let (a, b, c) = same_parts o.child u.child o.result u.result o.number u.number p.counted p.number q.counted q.number e in
     ap (λ (k : ℕ). record { child = k; result = o.result; number = o.number }) a ∙ ap (λ (x : Bool). record { child = u.child; result = x; number = o.number }) b ∙ ap (λ (n : ℕ). record { child = u.child; result = u.result; number = n }) c
-
--- the order of places is that of occurrences
-pub place_order : (o u : Occ) → IsPlace o → IsPlace u → place_of o ≤ place_of u → IsUpTo o u
-place_order o u p q le = parts o.child u.child o.result u.result o.number u.number p.counted p.number q.counted q.number le
-  where
-    parts : (k l : ℕ) (b c : Bool) (i j : ℕ) → 0 < i → i ≤ 8 → 0 < j → j ≤ 8 → k * 16 + ((if b then 8 else 0) + (i - 1)) ≤ l * 16 + ((if c then 8 else 0) + (j - 1)) →
-        (k < l) ⊎ ((k ≡ l) × (((b ≡ false) × (c ≡ true)) ⊎ ((b ≡ c) × (i ≤ j))))
-    parts k l true true i j a p b q le = elim (cases_lt k l) [ inl x ↦ inl x | inr y ↦ inr (omega arith, inr (refl, omega arith)) ]
-    parts k l false false i j a p b q le = elim (cases_lt k l) [ inl x ↦ inl x | inr y ↦ inr (omega arith, inr (refl, omega arith)) ]
-    parts k l false true i j a p b q le = elim (cases_lt k l) [ inl x ↦ inl x | inr y ↦ inr (omega arith, inl (refl, refl)) ]
-    parts k l true false i j a p b q le = let less : k < l = omega arith in inl less
 
 pub number_place : (b : Bool) (i : ℕ) → 0 < i → i ≤ 8 → IsPlace (record { child = 0; result = b; number = i })
 number_place b i pos few = record { child = omega arith; counted = pos; number = few }

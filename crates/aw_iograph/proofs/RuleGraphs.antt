@@ -1,14 +1,14 @@
 -- The arcs of a rule are its steps.
-use Rattle.std.proofs.Common.{◌≡◌, ℕ, zero, suc, ◌+◌, ◌<◌, ◌≤◌, true, false, List, [], ◌++◌, map, length, Option, Some, slice_get, refl, sym, ap, ◌∙◌, subst, inl, inr, arith}
+use Rattle.std.proofs.Common.{◌≡◌, ℕ, zero, suc, ◌+◌, ◌<◌, ◌≤◌, true, false, List, map, length, Option, Some, slice_get, refl, sym, ap, ◌∙◌, subst, inl, inr, arith}
 use Rattle.std.proofs.lemmas.Option.{slice_get_within}
 use Rattle.aw_list.specs.Members.{Member}
-use Rattle.aw_list.proofs.Members.{never, member_left, member_right, member_split, member_map, member_unmap, got_map, got_unmap}
+use Rattle.aw_list.proofs.Members.{member_left, member_right, member_split, got_map, got_unmap}
 use Rattle.aw_term.specs.Rules as P
 use Rattle.aw_term.specs.Views.{term_of}
 use Rattle.aw_grammar.specs.declared.rule.Rule.{Rule}
 use Rattle.aw_grammar.specs.declared.rule.Sort.{Sort}
 use Rattle.aw_grammar.specs.GrammarView.{rule_of, child_of}
-use Rattle.aw_iograph.specs.declared.reach.Arc.{Arc}
+use Rattle.aw_iograph.specs.declared.rows.Arc.{Arc}
 use Rattle.aw_iograph.specs.declared.occ.Occ.{Occ}
 use Rattle.aw_iograph.specs.declared.occ.Flow.{Flow}
 use Rattle.aw_iograph.specs.declared.io.Io.{Io}
@@ -17,7 +17,7 @@ use Rattle.aw_iograph.specs.Occurrences.{inherited, given, entries, term_flows, 
 use Rattle.aw_iograph.specs.Dependence.{Edge, text, call}
 use Rattle.aw_iograph.specs.Pairs.{Has}
 use Rattle.aw_iograph.specs.Small.{HasFew}
-use Rattle.aw_iograph.specs.Arcs.{arc_of, call_arc, Gains, IsOfChildren, IsStep, ArePlaced, IsGraphBy, IsGraphOf}
+use Rattle.aw_iograph.specs.Arcs.{arc_of, call_arc, IsStep, ArePlaced, IsGraphBy}
 use Rattle.aw_iograph.specs.Rows.{ArrowOf}
 use Rattle.aw_iograph.proofs.TextFlows.{child_there, child_only, flows_all, flows_only}
 use Rattle.aw_iograph.proofs.Placing.{entry_place, term_place, place_below, place_one}
@@ -81,25 +81,6 @@ steps_of sorts r io few = record { there = there; only = only; places = λ o u e
 -- the same where the entries are given by an equation
 pub steps_from : (sorts : List Sort) (r : Rule) (io : Io) (es : List (Option Occ)) → HasFew (rule_of sorts r) → es ≡ entries (rule_of sorts r) → IsGraphBy (rule_of sorts r) (Has io) (IsStep es io r.children r.results)
 steps_from sorts r io es few e = subst (λ (x : List (Option Occ)). IsGraphBy (rule_of sorts r) (Has io) (IsStep x io r.children r.results)) (sym e) (steps_of sorts r io few)
-
--- a list that gained these steps has them
-pub graph_from : (sorts : List Sort) (r : Rule) (io : Io) (es : List (Option Occ)) (arcs mid start : List Arc) → HasFew (rule_of sorts r) → es ≡ entries (rule_of sorts r) → start ≡ [] → Gains (IsOfChildren es io r.children (length r.children)) start mid →
-    arcs ≡ mid ++ map arc_of (term_flows es 0 true 1 (map term_of r.results)) → IsGraphOf (rule_of sorts r) (Has io) arcs
-graph_from sorts r io es arcs mid start few e none children results = let g = steps_from sorts r io es few e in
-    record { there = λ o u x. put _ (g.there o u x); only = λ a m. g.only a (took a m); places = g.places }
-  where
-    last : List Arc
-    last = map arc_of (term_flows es 0 true 1 (map term_of r.results))
-
-    put : (a : Arc) → IsStep es io r.children r.results a → Member a arcs
-    put a (inl child) = subst (λ (as' : List Arc). Member a as') (sym results) (member_left a mid last (children.there a child))
-    put a (inr (f, m, e')) = subst (λ (as' : List Arc). Member a as') (sym results) (member_right a mid last (subst (λ (x : Arc). Member x last) (sym e') (member_map arc_of f (term_flows es 0 true 1 (map term_of r.results)) m)))
-
-    took : (a : Arc) → Member a arcs → IsStep es io r.children r.results a
-    took a m = elim (member_split a mid last (subst (λ (as' : List Arc). Member a as') results m)) [
-      | inl x ↦ elim (children.only a x) [ inl was ↦ never (subst (λ (as' : List Arc). Member a as') none was) | inr now ↦ inl now ]
-      | inr y ↦ inr (member_unmap arc_of a (term_flows es 0 true 1 (map term_of r.results)) y)
-    ]
 
 pub graph_within : (r : P.Rule) (rel : ℕ → ℕ → ℕ → Type 0) (kind : Arc → Type 0) → IsGraphBy r rel kind → ArePlaced kind
 graph_within r rel kind g a m =

@@ -11,19 +11,17 @@ use Rattle.aw_grammar.specs.declared.rule.Child.{Child}
 use Rattle.aw_grammar.specs.declared.rule.Rule.{Rule}
 use Rattle.aw_grammar.specs.declared.rule.Sort.{Sort}
 use Rattle.aw_grammar.specs.GrammarView.{rule_of}
-use Rattle.aw_iograph.specs.declared.reach.Arc.{Arc}
+use Rattle.aw_iograph.specs.declared.rows.Arc.{Arc}
 use Rattle.aw_iograph.specs.declared.occ.Occ.{Occ}
 use Rattle.aw_iograph.specs.declared.occ.Flow.{Flow}
 use Rattle.aw_iograph.specs.declared.io.Io.{Io}
 use Rattle.aw_iograph.specs.Graphs.{Plus}
-use Rattle.aw_iograph.specs.Occurrences.{inherited, given, term_flows, place_of}
-use Rattle.aw_iograph.specs.Dependence.{Edge}
-use Rattle.aw_iograph.specs.Pairs.{Has, IsNumber}
+use Rattle.aw_iograph.specs.Occurrences.{inherited, term_flows, IsPlace, place_of}
+use Rattle.aw_iograph.specs.Pairs.{Has}
 use Rattle.aw_iograph.specs.Arcs.{arc_of, call_arc, IsFlow, IsCallOf, IsMarkedCall, IsCall, IsOfChild, IsOfChildren, IsStep, IsGraphBy}
-use Rattle.aw_iograph.specs.Rows.{IsIn, AreLed, IsJoined, Joins}
-use Rattle.aw_iograph.proofs.Gaining.{IsEarly, early_none, early_split, early_left, early_right, child_split, child_left, child_right}
+use Rattle.aw_iograph.specs.Rows.{IsOwn, ArrowOf, AreLed, IsJoined, Joins, HasEachWalk, HasOnlyWalks, bit_of, bit_value}
+use Rattle.aw_iograph.proofs.StepArcs.{IsEarly, early_none, early_split, early_left, early_right, child_split, child_left, child_right}
 use Rattle.aw_iograph.proofs.Joining.{IsAmong, joins_none, joins_both, joins_as, joins_next, joins_all, all_led}
-use Rattle.aw_iograph.proofs.Placing.{number_place}
 use Rattle.aw_iograph.proofs.RuleGraphs.{walk_arcs, arcs_walk, circle_place, end_place}
 
 pub got_at : {A : Type 0} (xs ys : List A) (n : ℕ) (d : A) → xs ≡ ys → n < length xs → slice_get ys n ≡ Some (get_or xs n d)
@@ -134,21 +132,23 @@ joins_steps es io cs results flows a b c x y z one two both same e first then =
     (λ w p. inl p)
     (λ w q. inr (subst (λ (fs : List Flow). IsFlow fs w) same q))
 
--- rows that are joined over the steps of a rule have each walk from an inherited value to a result
-pub rows_there : (sorts : List Sort) (r : Rule) (io : Io) (P : Arc → Type 0) (rows : List ℕ) → IsGraphBy (rule_of sorts r) (Has io) P → ((a : Arc) → P a → IsJoined rows a) → ((i : ℕ) → i < 8 → IsIn rows i i) →
-    (i j : ℕ) → Plus (Edge (rule_of sorts r) (Has io)) (inherited 0 i) (given 0 j) → IsNumber i × IsNumber j × IsIn rows (place_of (given 0 j)) (place_of (inherited 0 i))
-rows_there sorts r io P rows g joined start i j w =
-    let p = circle_place (rule_of sorts r) (Has io) P g w in let q = end_place (rule_of sorts r) (Has io) P g w in
-    let few : place_of (inherited 0 i) < 8 = omega (arith, p.counted, p.number) in (
-      record { counted = p.counted; few = p.number },
-      record { counted = q.counted; few = q.number },
-      all_led P rows joined (place_of (inherited 0 i)) (start (place_of (inherited 0 i)) few) (walk_arcs (rule_of sorts r) (Has io) P g w),
-    )
+-- an inherited value has its bit, and a bit its inherited value
+pub value_own : (k i : ℕ) → IsPlace (inherited k i) → IsOwn (place_of (inherited k i)) (bit_of k i)
+value_own k i p = let a = p.child in let b = p.counted in let c = p.number in (omega arith, omega arith)
+
+pub bit_place : (n : ℕ) → n < 72 → IsPlace (bit_value n)
+bit_place n lt = record { child = omega arith; counted = omega arith; number = omega arith }
+
+pub bit_same : (n : ℕ) → n ≡ bit_of (n / 8) (n % 8 + 1)
+bit_same n = omega arith
+
+-- rows that are joined over the steps of a rule have each walk from an inherited value
+pub rows_there : (sorts : List Sort) (r : Rule) (io : Io) (P : Arc → Type 0) (rows : List ℕ) → IsGraphBy (rule_of sorts r) (Has io) P → ((a : Arc) → P a → IsJoined rows a) → HasEachWalk (rule_of sorts r) (Has io) rows
+rows_there sorts r io P rows g joined k i u w =
+    let p = circle_place (rule_of sorts r) (Has io) P g w in
+    (p, end_place (rule_of sorts r) (Has io) P g w, all_led P rows joined (bit_of k i) (inl (value_own k i p)) (walk_arcs (rule_of sorts r) (Has io) P g w))
 
 -- and rows that are led over them have no other
-pub rows_only : (sorts : List Sort) (r : Rule) (io : Io) (P : Arc → Type 0) (rows : List ℕ) → IsGraphBy (rule_of sorts r) (Has io) P → AreLed P rows →
-    (i j : ℕ) → IsNumber i → IsNumber j → IsIn rows (place_of (given 0 j)) (place_of (inherited 0 i)) → Plus (Edge (rule_of sorts r) (Has io)) (inherited 0 i) (given 0 j)
-rows_only sorts r io P rows g led i j a b on = elim (led (place_of (given 0 j)) (place_of (inherited 0 i)) on) [
-  | inl same ↦ absurd (omega (arith, a.few, a.counted, same))
-  | inr w ↦ arcs_walk (rule_of sorts r) (Has io) P g (inherited 0 i) (given 0 j) (number_place false i a.counted a.few) (number_place true j b.counted b.few) w
-]
+pub rows_only : (sorts : List Sort) (r : Rule) (io : Io) (P : Arc → Type 0) (rows : List ℕ) → IsGraphBy (rule_of sorts r) (Has io) P → AreLed P rows → HasOnlyWalks (rule_of sorts r) (Has io) rows
+rows_only sorts r io P rows g led k i u p q on =
+    arcs_walk (rule_of sorts r) (Has io) P g (inherited k i) u p q (subst (λ m. Plus (ArrowOf P) m (place_of u)) (sym (value_own k i p).1) (led (place_of u) (bit_of k i) on))

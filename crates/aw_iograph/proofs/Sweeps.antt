@@ -1,5 +1,5 @@
 -- Rules that are visited in turn.
-use Rattle.std.proofs.Common.{◌≡◌, ℕ, ◌+◌, ◌<◌, ◌≤◌, Bool, false, List, length, Some, slice_get, refl, sym, subst, inl, inr, arith, ◌∙◌}
+use Rattle.std.proofs.Common.{◌≡◌, ℕ, ◌+◌, ◌<◌, ◌≤◌, Bool, true, false, List, length, Some, slice_get, refl, sym, subst, inl, inr, arith, ◌∙◌}
 use Rattle.std.specs.Prelude.{◌⊎◌, ◌||◌}
 use Rattle.std.proofs.lemmas.Bool.{or_parts, cases_lt}
 use Rattle.std.proofs.lemmas.Option.{slice_get_within}
@@ -16,8 +16,9 @@ use Rattle.aw_iograph.specs.Growth.{Grown}
 use Rattle.aw_iograph.specs.Occurrences.{inherited, given, place_of}
 use Rattle.aw_iograph.specs.Dependence.{Edge, Walk, Follows, IsKept, IsClosedUnder}
 use Rattle.aw_iograph.specs.Pairs.{Has, HasMark, IsNumber}
-use Rattle.aw_iograph.specs.Rows.{IsIn}
+use Rattle.aw_iograph.specs.Rows.{IsIn, HasEachWalk, HasOnlyWalks, bit_of}
 use Rattle.aw_iograph.proofs.Marking.{grown_trans}
+use Rattle.aw_iograph.proofs.Placing.{number_place}
 use Rattle.aw_iograph.proofs.Relations.{follows_walk}
 
 pub has_grown : (old new : Io) (b : Bool) → Grown old.marks.items new.marks.items b → (s i j : ℕ) → Has old s i j → Has new s i j
@@ -25,21 +26,32 @@ has_grown old new b grown s i j has = record { inherited = has.inherited; result
 
 -- a walk of the rule gives a pair that was added
 pub visit_kept : (r s : Rule) (sorts : List Sort) (old new : Io) (rows slice : List ℕ) → r ≡ s → slice ≡ rows →
-    ((i j : ℕ) → Plus (Edge (rule_of sorts r) (Has old)) (inherited 0 i) (given 0 j) → IsNumber i × IsNumber j × IsIn rows (place_of (given 0 j)) (place_of (inherited 0 i))) →
+    HasEachWalk (rule_of sorts r) (Has old) rows →
     ((i j : ℕ) → IsNumber i → IsNumber j → IsIn slice (place_of (given 0 j)) (place_of (inherited 0 i)) → Has new r.sort i j) →
     (i j : ℕ) → Plus (Edge (rule_of sorts s) (Has old)) (inherited 0 i) (given 0 j) → Has new s.sort i j
 visit_kept r s sorts old new rows slice same at joined there i j w =
     let w' : Plus (Edge (rule_of sorts r) (Has old)) (inherited 0 i) (given 0 j) = subst (λ (x : Rule). Plus (Edge (rule_of sorts x) (Has old)) (inherited 0 i) (given 0 j)) (sym same) w in
-    let (a, b, on) = joined i j w' in subst (λ (x : Rule). Has new x.sort i j) same (there i j a b (subst (λ (rs : List ℕ). IsIn rs (place_of (given 0 j)) (place_of (inherited 0 i))) (sym at) on))
+    let (p, q, on) = joined 0 i (given 0 j) w' in
+    let bit : bit_of 0 i ≡ place_of (inherited 0 i) = omega arith in
+    subst (λ (x : Rule). Has new x.sort i j) same
+    (there i j (record { counted = p.counted; few = p.number }) (record { counted = q.counted; few = q.number })
+    (subst (λ (rs : List ℕ). IsIn rs (place_of (given 0 j)) (place_of (inherited 0 i))) (sym at) (subst (λ n. IsIn rows (place_of (given 0 j)) n) bit on)))
 
 -- a pair that was added has a walk of the rule
 pub visit_only : (g : Grammar) (n : ℕ) (r : Rule) (old new : Io) (rows slice : List ℕ) → slice_get g.rules n ≡ Some r → slice ≡ rows →
-    ((i j : ℕ) → IsNumber i → IsNumber j → IsIn rows (place_of (given 0 j)) (place_of (inherited 0 i)) → Plus (Edge (rule_of g.sorts r) (Has old)) (inherited 0 i) (given 0 j)) →
+    HasOnlyWalks (rule_of g.sorts r) (Has old) rows →
     ((s i j : ℕ) → Has new s i j → Has old s i j ⊎ ((s ≡ r.sort) × IsIn slice (place_of (given 0 j)) (place_of (inherited 0 i)))) →
     (s i j : ℕ) → Has new s i j → Has old s i j ⊎ Walk (grammar_of g) (Has old) s i j
 visit_only g n r old new rows slice here at led only s i j has = elim (only s i j has) [
   | inl was ↦ inl was
-  | inr now ↦ inr (rule_of g.sorts r, member_map (rule_of g.sorts) r g.rules (member_got g.rules n r here), sym now.0, led i j has.inherited has.result (subst (λ (rs : List ℕ). IsIn rs (place_of (given 0 j)) (place_of (inherited 0 i))) at now.1))
+  | inr now ↦ (let bit : place_of (inherited 0 i) ≡ bit_of 0 i = omega arith in
+      inr (
+        rule_of g.sorts r,
+        member_map (rule_of g.sorts) r g.rules (member_got g.rules n r here),
+        sym now.0,
+        led 0 i (given 0 j) (number_place false i has.inherited.counted has.inherited.few) (number_place true j has.result.counted has.result.few)
+            (subst (λ m. IsIn rows (place_of (given 0 j)) m) bit (subst (λ (rs : List ℕ). IsIn rs (place_of (given 0 j)) (place_of (inherited 0 i))) at now.1)),
+      ))
 ]
 
 -- the last n rules were looked at

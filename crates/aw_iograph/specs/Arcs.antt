@@ -5,7 +5,7 @@ use Rattle.aw_term.specs.Rules.{Rule}
 use Rattle.aw_term.specs.Views.{term_of}
 use Rattle.aw_term.specs.declared.term.Expr.{Expr}
 use Rattle.aw_grammar.specs.declared.rule.Child.{Child}
-use Rattle.aw_iograph.specs.declared.reach.Arc.{Arc}
+use Rattle.aw_iograph.specs.declared.rows.Arc.{Arc}
 use Rattle.aw_iograph.specs.declared.occ.Occ.{Occ}
 use Rattle.aw_iograph.specs.declared.occ.Flow.{Flow}
 use Rattle.aw_iograph.specs.declared.io.Io.{Io}
@@ -20,12 +20,6 @@ arc_of f = record { from = place_of f.from; to = place_of f.to }
 -- at a child, from an inherited value to a result
 abbrev pub call_arc : ℕ → ℕ → ℕ → Arc
 call_arc k i l = arc_of (record { from = inherited k i; to = given k l })
-
--- a list gains the arcs of a kind, and no other
-pub record Gains (P : Arc → Type 0) (old new : List Arc) : Type 0 where
-  pub kept : (a : Arc) → Member a old → Member a new
-  pub there : (a : Arc) → P a → Member a new
-  pub only : (a : Arc) → Member a new → Member a old ⊎ P a
 
 -- an arc of one of these flows
 abbrev pub IsFlow : List Flow → Arc → Type 0
@@ -64,7 +58,3 @@ pub record IsGraphBy (r : Rule) (rel : ℕ → ℕ → ℕ → Type 0) (P : Arc 
   pub there : (o u : Occ) → Edge r rel o u → P (arc_of (record { from = o; to = u }))
   pub only : (a : Arc) → P a → (o : Occ) × (u : Occ) × IsPlace o × IsPlace u × Edge r rel o u × (a ≡ arc_of (record { from = o; to = u }))
   pub places : (o u : Occ) → Edge r rel o u → IsPlace o × IsPlace u
-
--- the same of a list of arcs
-abbrev pub IsGraphOf : Rule → (ℕ → ℕ → ℕ → Type 0) → List Arc → Type 0
-IsGraphOf r rel arcs = IsGraphBy r rel (λ a. Member a arcs)

@@ -1,10 +1,9 @@
 //! The relations of a grammar's sorts: which results depend on which inherited values.
-ghost use Rattle.std.specs.Prelude.{◌≡◌, ℕ, ◌+◌, ◌*◌, ◌/◌, ◌%◌, ◌<◌, ◌≤◌, ◌↔◌, ◌⊎◌, length, slice_get, IfOk, IsTrue};
+ghost use Rattle.std.specs.Prelude.{◌≡◌, ℕ, ◌+◌, ◌*◌, ◌<◌, ◌≤◌, ◌↔◌, ◌⊎◌, true, length, slice_get, slice_set, IfOk, IsTrue};
 ghost use Rattle.aw_grammar.specs.declared.grammar.Grammar.{Grammar as GrammarValue};
 ghost use Rattle.aw_iograph.specs.Pairs.{Has, HasSort, IsFor, IsNumber};
 ghost use Rattle.aw_iograph.specs.Growth.{Grown};
 
-use crate::reach::mark;
 use aw_grammar::Grammar;
 use std::alloc::{AllocError, Global};
 
@@ -13,6 +12,19 @@ pub(crate) const RESULTS: usize = 8;
 
 /// The pairs of a sort: each of 8 inherited values with each of 8 results.
 pub(crate) const PAIRS: usize = 64;
+
+/// Sets a mark, and says whether it was not set before.
+fn mark(marks: &mut Vec<bool>, at: usize) -> bool
+    requires { at < length marks.old.items }
+    ensures marked { marks.new.items ≡ slice_set marks.old.items at true }
+    ensures grown { Grown marks.old.items marks.new.items result }
+{
+    if marks[at] {
+        return false;
+    }
+    marks[at] = true;
+    true
+}
 
 /// A set of pairs for each sort: of an inherited value and a result that depends on it, both numbered from 1.
 #[derive(Debug, Drop)]
@@ -99,13 +111,5 @@ impl Io {
             start + PAIRS
         };
         &marks[start..end]
-    }
-
-    /// Whether a pair is in the relation of a sort, by its number from 0: by inherited value, and then by result.
-    pub(crate) fn has_pair(&self, sort: u16, pair: usize) -> bool
-        requires { pair < 64 }
-        ensures { IsTrue result ↔ Has self.now sort (pair / 8 + 1) (pair % 8 + 1) }
-    {
-        matches!(self.marks.get(usize::from(sort) * PAIRS + pair), Some(true))
     }
 }

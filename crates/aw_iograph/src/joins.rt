@@ -1,25 +1,25 @@
 //! Rows joined over the steps of a rule, child by child, without a list of its arcs.
 ghost use Rattle.std.specs.Prelude.{◌≡◌, ◌+◌, ◌/◌, ◌%◌, ◌<◌, ◌≤◌, ℕ, length, IfOk, OnOk};
 ghost use Rattle.aw_grammar.specs.GrammarView.{rule_of};
-ghost use Rattle.aw_iograph.specs.declared.reach.Arc.{Arc as ArcValue};
+ghost use Rattle.aw_iograph.specs.declared.rows.Arc.{Arc as ArcValue};
 ghost use Rattle.aw_iograph.specs.Arcs.{IsFlow, IsMarkedCall, IsCall, IsOfChild, IsOfChildren, IsStep, ArePlaced};
-ghost use Rattle.aw_iograph.specs.Graphs.{Plus};
-ghost use Rattle.aw_iograph.specs.Occurrences.{inherited, given, place_of};
-ghost use Rattle.aw_iograph.specs.Dependence.{Edge};
-ghost use Rattle.aw_iograph.specs.Pairs.{Has, IsNumber};
-ghost use Rattle.aw_iograph.specs.Rows.{IsIn, AreLed, IsJoined, Joins};
+ghost use Rattle.aw_iograph.specs.Pairs.{Has};
+ghost use Rattle.aw_iograph.specs.Rows.{IsIn, AreLed, IsJoined, Joins, HasEachWalk, HasOnlyWalks};
 ghost use Rattle.aw_iograph.specs.Small.{IsSmall, HasFew, HasFewArgs};
 
-use crate::arcs::{FLOWS, arc, call};
+use crate::arcs::{arc, call};
 use crate::graph::{Entries, RuleGraph, entries, flow_terms};
 use crate::io::Io;
-use crate::rows::{PLACES, first_rows, join_row};
+use crate::rows::{PLACES, join_row};
 use aw_grammar::{Child, Children, Grammar, Rule};
 use aw_list::Items;
 use std::alloc::{AllocError, Global};
 
+/// Memory is taken at once for so many flows of a rule, which is enough for most.
+const FLOWS: usize = 64;
+
 /// Joins rows over flows, and says whether it is to be done again: whether a row grew after it had been read.
-fn join_flows(flows: &RuleGraph, rows: &mut Vec<u8>, read: &mut Vec<bool>) -> bool
+fn join_flows(flows: &RuleGraph, rows: &mut Vec<u128>, read: &mut Vec<bool>) -> bool
     requires size { length rows.old.items ≡ 144 }
     requires places { length read.old.items ≡ 144 }
     requires placed { ArePlaced (IsFlow flows.now) }
@@ -35,7 +35,13 @@ fn join_flows(flows: &RuleGraph, rows: &mut Vec<u8>, read: &mut Vec<bool>) -> bo
 }
 
 /// The same over the arc of a pair at a child, where it is marked.
-fn join_call(marked: bool, child: u8, pair: usize, rows: &mut Vec<u8>, read: &mut Vec<bool>) -> bool
+fn join_call(
+    marked: bool,
+    child: u8,
+    pair: usize,
+    rows: &mut Vec<u128>,
+    read: &mut Vec<bool>,
+) -> bool
     requires pair { pair < 64 }
     requires size { length rows.old.items ≡ 144 }
     requires places { length read.old.items ≡ 144 }
@@ -50,7 +56,7 @@ fn join_call(marked: bool, child: u8, pair: usize, rows: &mut Vec<u8>, read: &mu
 }
 
 /// The same over the arcs of all pairs of a child's sort.
-fn join_calls(io: &Io, sort: u16, child: u8, rows: &mut Vec<u8>, read: &mut Vec<bool>) -> bool
+fn join_calls(io: &Io, sort: u16, child: u8, rows: &mut Vec<u128>, read: &mut Vec<bool>) -> bool
     requires size { length rows.old.items ≡ 144 }
     requires places { length read.old.items ≡ 144 }
     requires placed { ArePlaced (IsCall io.now sort child) }
@@ -74,7 +80,7 @@ fn join_child(
     child: &Child,
     number: u8,
     flows: &mut RuleGraph,
-    rows: &mut Vec<u8>,
+    rows: &mut Vec<u128>,
     read: &mut Vec<bool>,
 ) -> Result<bool, AllocError>
     requires args { length child.now.args ≤ 8 }
@@ -96,7 +102,7 @@ fn join_children(
     io: &Io,
     children: &Children,
     flows: &mut RuleGraph,
-    rows: &mut Vec<u8>,
+    rows: &mut Vec<u128>,
     read: &mut Vec<bool>,
 ) -> Result<bool, AllocError>
     requires few { length children.now ≤ 8 }
@@ -121,7 +127,7 @@ fn join_rule(
     io: &Io,
     rule: &Rule,
     flows: &mut RuleGraph,
-    rows: &mut Vec<u8>,
+    rows: &mut Vec<u128>,
     read: &mut Vec<bool>,
 ) -> Result<bool, AllocError>
     requires small { IsSmall rule.now }
@@ -143,7 +149,7 @@ fn join_all(
     io: &Io,
     rule: &Rule,
     flows: &mut RuleGraph,
-    rows: &mut Vec<u8>,
+    rows: &mut Vec<u128>,
     read: &mut Vec<bool>,
 ) -> Result<(), AllocError>
     requires small { IsSmall rule.now }
@@ -160,7 +166,7 @@ fn join_all(
     Ok(())
 }
 
-/// Which inherited values of a rule's left side reach each of its places.
+/// Which inherited values of a rule reach each of its places.
 ///
 /// Where children take only what comes before them, no row grows after it was read, and the steps are gone through just once.
 pub(crate) fn rule_rows(
@@ -168,18 +174,16 @@ pub(crate) fn rule_rows(
     g: &Grammar,
     io: &Io,
     rule: &Rule,
-) -> Result<Vec<u8>, AllocError>
+) -> Result<Vec<u128>, AllocError>
     requires small { IsSmall rule.now }
     requires few { HasFew (rule_of g.now.sorts rule.now) }
     ensures size { IfOk result (λ rows. length rows.items ≡ 144) }
-    ensures there { IfOk result (λ rows. (i j : ℕ) → Plus (Edge (rule_of g.now.sorts rule.now) (Has io.now)) (inherited 0 i) (given 0 j) →
-        IsNumber i × IsNumber j × IsIn rows.items (place_of (given 0 j)) (place_of (inherited 0 i))) }
-    ensures only { IfOk result (λ rows. (i j : ℕ) → IsNumber i → IsNumber j → IsIn rows.items (place_of (given 0 j)) (place_of (inherited 0 i)) →
-        Plus (Edge (rule_of g.now.sorts rule.now) (Has io.now)) (inherited 0 i) (given 0 j)) }
+    ensures there { IfOk result (λ rows. HasEachWalk (rule_of g.now.sorts rule.now) (Has io.now) rows.items) }
+    ensures only { IfOk result (λ rows. HasOnlyWalks (rule_of g.now.sorts rule.now) (Has io.now) rows.items) }
 {
     let entered = entries(alloc, g, rule)?;
     let mut flows = Items::from_vec(Vec::with_capacity(alloc, FLOWS)?);
-    let mut rows = first_rows(alloc)?;
+    let mut rows = vec![in alloc; 0u128; PLACES]?;
     let mut read = vec![in alloc; false; PLACES]?;
     join_all(&entered, io, rule, &mut flows, &mut rows, &mut read)?;
     Ok(rows)

@@ -8,7 +8,6 @@ pub mod io;
 pub mod joins;
 pub mod laws;
 pub mod occ;
-pub mod reach;
 pub mod rows;
 pub mod rules;
 pub mod settle;

@@ -1,23 +1,44 @@
-//! Which inherited values of a rule's left side reach each of its places, joined as rows of bits.
-ghost use Rattle.std.specs.Prelude.{◌≡◌, ◌<◌, ◌↔◌, ℕ, length, IfOk, IsTrue};
-ghost use Rattle.aw_iograph.specs.Rows.{HasBit, IsIn, Joins};
+//! Which inherited values of a rule reach each of its places, joined as rows of bits.
+ghost use Rattle.std.specs.Prelude.{◌≡◌, ◌<◌, ◌↔◌, ℕ, length, IsTrue};
+ghost use Rattle.aw_iograph.specs.Rows.{HasBit, IsOwn, Joins};
 
-use crate::reach::Arc;
-use std::alloc::{AllocError, Global};
+use crate::io::RESULTS;
 
 /// The places of a rule: for its left side and each of 8 children, 8 inherited values and 8 results.
 pub(crate) const PLACES: usize = 144;
 
-/// Whether a row has the bit of a place.
-pub(crate) fn has_bit(row: u8, place: u8) -> bool
-    requires { place < 8 }
-    ensures { IsTrue result ↔ HasBit row place }
-{
-    row & (1 << place) != 0
+/// The places of a child, or of the left side: of 8 inherited values, and then of 8 results.
+pub(crate) const CHILD_PLACES: usize = 16;
+
+/// A step from a place of a rule to the next one.
+#[derive(Debug, Clone, Copy, Drop)]
+pub struct Arc {
+    pub from: usize,
+    pub to: usize,
 }
 
-/// Joins the row where an arc begins into the one where it ends, and says whether that one grew after it had been read.
-pub(crate) fn join_row(arc: Arc, rows: &mut Vec<u8>, read: &mut Vec<bool>) -> bool
+/// Whether a row has a bit.
+pub(crate) fn has_bit(row: u128, bit: u8) -> bool
+    requires { bit < 128 }
+    ensures { IsTrue result ↔ HasBit row bit }
+{
+    row & (1 << bit) != 0
+}
+
+/// The bit of a place, where an inherited value stands there. Results have none.
+fn own(place: usize) -> u128
+    ensures { (n : ℕ) → HasBit result n ↔ IsOwn place n }
+{
+    if place < PLACES && place % CHILD_PLACES < RESULTS {
+        1 << (place / CHILD_PLACES * RESULTS + place % CHILD_PLACES)
+    } else {
+        0
+    }
+}
+
+/// Joins the row of the place where an arc begins, and that place's own bit, into the row of the place where it ends, and says
+/// whether that one grew after it had been read.
+pub(crate) fn join_row(arc: Arc, rows: &mut Vec<u128>, read: &mut Vec<bool>) -> bool
     requires from_in { arc.from < length rows.old.items }
     requires to_in { arc.to < length rows.old.items }
     requires places { length read.old.items ≡ length rows.old.items }
@@ -25,23 +46,10 @@ pub(crate) fn join_row(arc: Arc, rows: &mut Vec<u8>, read: &mut Vec<bool>) -> bo
 {
     read[arc.from] = true;
     let row = rows[arc.to];
-    let joined = row | rows[arc.from];
+    let joined = row | (rows[arc.from] | own(arc.from));
     if joined == row {
         return false;
     }
     rows[arc.to] = joined;
     read[arc.to]
-}
-
-/// The rows in which each of the first eight places leads to itself alone.
-pub(crate) fn first_rows(alloc: Global) -> Result<Vec<u8>, AllocError>
-    ensures size { IfOk result (λ rows. length rows.items ≡ 144) }
-    ensures start { IfOk result (λ rows. (i : ℕ) → i < 8 → IsIn rows.items i i) }
-    ensures only { IfOk result (λ rows. (v i : ℕ) → IsIn rows.items v i → i ≡ v) }
-{
-    let mut rows = vec![in alloc; 0u8; PLACES]?;
-    for place in 0..8 {
-        rows[place] = 1 << place;
-    }
-    Ok(rows)
 }

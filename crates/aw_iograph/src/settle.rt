@@ -26,7 +26,7 @@ const AFTER_LAST: u8 = 9;
 const BEFORE_RESULTS: usize = 7;
 
 /// Adds a pair where its inherited value is in the row of its result, and says whether it was not there before.
-fn add_reached(io: &mut Io, sort: u16, i: u8, j: u8, row: u8) -> bool
+fn add_reached(io: &mut Io, sort: u16, i: u8, j: u8, row: u128) -> bool
     requires sort { HasSort io.old sort }
     requires inherited { IsNumber i }
     requires result { IsNumber j }
@@ -42,7 +42,7 @@ fn add_reached(io: &mut Io, sort: u16, i: u8, j: u8, row: u8) -> bool
 }
 
 /// Adds the pairs of a result and each inherited value in its row.
-fn add_row(io: &mut Io, sort: u16, j: u8, row: u8) -> bool
+fn add_row(io: &mut Io, sort: u16, j: u8, row: u128) -> bool
     requires sort { HasSort io.old sort }
     requires result { IsNumber j }
     ensures grown { Grown io.old.marks.items io.new.marks.items result }
@@ -59,7 +59,7 @@ fn add_row(io: &mut Io, sort: u16, j: u8, row: u8) -> bool
 }
 
 /// Adds the pairs of each result and each inherited value in its row.
-fn add_rows(io: &mut Io, sort: u16, rows: &[u8]) -> bool
+fn add_rows(io: &mut Io, sort: u16, rows: &[u128]) -> bool
     requires sort { HasSort io.old sort }
     requires size { length rows.now ≡ 144 }
     ensures grown { Grown io.old.marks.items io.new.marks.items result }

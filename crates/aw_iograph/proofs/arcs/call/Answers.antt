@@ -1,4 +1,4 @@
-use Rattle.aw_iograph.proofs.Gaining.{pair_arc}
+use Rattle.aw_iograph.proofs.StepArcs.{pair_arc}
 use Rattle.aw_iograph.proofs.arcs.call.Goals as goal
 
 pub returns : goal.returns

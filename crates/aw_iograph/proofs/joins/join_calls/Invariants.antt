@@ -1,5 +1,5 @@
 use Rattle.aw_iograph.specs.Rows.{Joins}
-use Rattle.aw_iograph.proofs.Gaining.{IsEarly}
+use Rattle.aw_iograph.proofs.StepArcs.{IsEarly}
 use Rattle.aw_iograph.proofs.joins.join_calls.Given as goal
 
 abbrev pub invariant-loop-pair : goal.invariant-loop-pair

@@ -1,7 +1,7 @@
 use Rattle.std.proofs.Common.{List, subst, inl, inr}
 use Rattle.aw_iograph.specs.declared.occ.Flow.{Flow}
 use Rattle.aw_iograph.specs.Arcs.{IsFlow}
-use Rattle.aw_iograph.proofs.Gaining.{refilled}
+use Rattle.aw_iograph.proofs.StepArcs.{refilled}
 use Rattle.aw_iograph.proofs.StepJoins.{or_true, or_false, joins_steps}
 use Rattle.aw_iograph.proofs.joins.join_rule.Goals as goal
 

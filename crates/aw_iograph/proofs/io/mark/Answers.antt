@@ -1,6 +1,6 @@
 use Rattle.std.proofs.Common.{◌≡◌, get_or, false}
 use Rattle.aw_iograph.proofs.Marking.{grown_set}
-use Rattle.aw_iograph.proofs.reach.mark.Goals as goal
+use Rattle.aw_iograph.proofs.io.mark.Goals as goal
 
 pub returns-clause-grown : goal.returns-clause-grown
 returns-clause-grown c =
