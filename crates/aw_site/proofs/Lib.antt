@@ -4,6 +4,7 @@ pub mod Clashing
 pub mod Walking
 pub mod SentLists
 pub mod Ordering
+pub mod Wanting
 pub mod Noting
 pub mod HeldTests
 pub mod FrontLemmas

@@ -1,5 +1,5 @@
 -- References that are put in order one after the other.
-use Rattle.std.proofs.Common.{◌≡◌, ℕ, zero, suc, ◌<◌, ◌≤◌, ◌⊎◌, inl, inr, Bool, true, false, cond, List, [], ◌∷◌, ◌++◌, length, get_or, Some, slice_get, refl, ap, sym, subst, ◌∙◌, arith}
+use Rattle.std.proofs.Common.{◌≡◌, ℕ, zero, suc, ◌<◌, ◌≤◌, ◌⊎◌, inl, inr, Bool, true, false, cond, List, [], ◌∷◌, length, get_or, Some, slice_get, refl, ap, sym, subst, ◌∙◌, arith}
 use Rattle.std.specs.Prelude.{insert, filter}
 use Rattle.std.specs.List.{AllWithin}
 use Rattle.std.specs.List.Sorted.{IsPartitionedBy}
@@ -9,30 +9,6 @@ use Rattle.aw_term.proofs.RefOrder.{ref-no, ref-trans, ref_tied}
 use Rattle.aw_term.proofs.RefTests.{ref_eq-true, ref_eq-self}
 use Rattle.aw_react.specs.InOrder.{insert_ref, in_order}
 use Rattle.aw_site.specs.Ordered.{AreInOrder}
-
--- each of some references, the last first, put among others
-abbrev pub insert_each : List Ref → List Ref → List Ref
-insert_each [] out = out
-insert_each (r ∷ rs) out = insert_ref r (insert_each rs out)
-
--- a last one is put first, where it is taken
-pub insert_taken-push : (p : Ref → Bool) (rs : List Ref) (r : Ref) (out : List Ref) → insert_each (filter p (rs ++ r ∷ [])) out ≡ insert_each (filter p rs) (cond (p r) (insert_ref r out) out)
-insert_taken-push p [] r out = in_cond (p r)
-  where
-    in_cond : (b : Bool) → insert_each (cond b (r ∷ []) []) out ≡ cond b (insert_ref r out) out
-    in_cond true = refl
-    in_cond false = refl
-insert_taken-push p (x ∷ rs) r out = in_cond (p x) (insert_taken-push p rs r out)
-  where
-    in_cond : (b : Bool) → insert_each (filter p (rs ++ r ∷ [])) out ≡ insert_each (filter p rs) (cond (p r) (insert_ref r out) out)
-        → insert_each (cond b (x ∷ filter p (rs ++ r ∷ [])) (filter p (rs ++ r ∷ []))) out
-        ≡ insert_each (cond b (x ∷ filter p rs) (filter p rs)) (cond (p r) (insert_ref r out) out)
-    in_cond true e = ap (insert_ref x) e
-    in_cond false e = e
-
-pub insert_each-all : (rs : List Ref) → insert_each rs [] ≡ in_order rs
-insert_each-all [] = refl
-insert_each-all (r ∷ rs) = ap (insert_ref r) (insert_each-all rs)
 
 each_at : (P : Ref → Type 0) (ys : List Ref) (k : ℕ) (e : Ref) → Each P ys → k < length ys → P (get_or ys k e)
 each_at P [] k e each m = absurd (omega (arith, m))

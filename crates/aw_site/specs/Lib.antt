@@ -2,6 +2,7 @@ pub mod Views
 pub mod Holders
 pub mod Senders
 pub mod Ordered
+pub mod Wanting
 pub mod Plans
 pub mod Shown
 pub mod Doing

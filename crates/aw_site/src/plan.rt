@@ -11,7 +11,7 @@ ghost use Rattle.aw_site.specs.Senders.{SendsAs};
 ghost use Rattle.aw_site.specs.Views.{child_call};
 
 use crate::sender::Sender;
-use crate::wanted::{push_mentions, push_refs};
+use crate::wanted::share;
 use aw_apply::Made;
 use aw_msg::Message;
 use aw_name::{Ref, Refs};
@@ -27,18 +27,19 @@ pub struct Plan {
 }
 
 impl<'a, F: Facts> Sender<'a, F> {
-    /// What is sent behind these messages: questions for those of the references that are wanted.
-    fn asking(&self, subs: &Subs, sent: Vec<Message>, refs: Vec<Ref>) -> Result<Plan, AllocError>
-        ensures wanted { IfOk result (λ p. (s : P.Site) → SendsAs ⟦<F as Facts>⟧ self.now s → ShowsAsked subs.now s.asked →
-            p.wanted ≡ wanted_of (grammar_of self.now.grammar.now) s refs.items) }
+    /// What is sent behind these messages: questions for these references.
+    fn asking(&self, sent: Vec<Message>, wanted: Vec<Ref>) -> Result<Plan, AllocError>
+        ensures wanted { IfOk result (λ p. p.wanted ≡ wanted.items) }
         ensures sent { IfOk result (λ p. (s : P.Site) → SendsAs ⟦<F as Facts>⟧ self.now s →
             list_map (message_of (grammar_of self.now.grammar.now)) p.sent.items
             ≡ list_map (message_of (grammar_of self.now.grammar.now)) sent.items ++ asks_for (grammar_of self.now.grammar.now) s p.wanted) }
     {
         let mut sent = sent;
-        let wanted = self.wanted(subs, refs)?;
         self.push_asks(&mut sent, wanted.as_slice())?;
-        Ok(Plan { sent, wanted })
+        Ok(Plan {
+            sent,
+            wanted: share(self.alloc, wanted)?,
+        })
     }
 
     /// What is sent where these equations and children were made here: calls of the children of other roles, tells of the equations that are
@@ -54,10 +55,10 @@ impl<'a, F: Facts> Sender<'a, F> {
         let mut sent = Vec::new(self.alloc);
         self.push_calls_out(&mut sent, made.children.as_slice())?;
         self.push_tells(&mut sent, subs, made.equations.as_slice())?;
-        let mut refs = Vec::new(self.alloc);
-        push_mentions(&mut refs, made.equations.as_slice())?;
-        self.push_inherited(&mut refs, made.children.as_slice())?;
-        self.asking(subs, sent, refs)
+        let mut wanted = Vec::new(self.alloc);
+        self.insert_inherited(&mut wanted, subs, made.children.as_slice())?;
+        self.insert_mentions(&mut wanted, subs, made.equations.as_slice())?;
+        self.asking(sent, wanted)
     }
 
     /// What is sent where a node with these references and these equations came: questions.
@@ -72,9 +73,9 @@ impl<'a, F: Facts> Sender<'a, F> {
         ensures sent { IfOk result (λ p. (s : P.Site) → SendsAs ⟦<F as Facts>⟧ self.now s →
             list_map (message_of (grammar_of self.now.grammar.now)) p.sent.items ≡ asks_for (grammar_of self.now.grammar.now) s p.wanted) }
     {
-        let mut refs = Vec::new(self.alloc);
-        push_refs(&mut refs, inherited)?;
-        push_mentions(&mut refs, es)?;
-        self.asking(subs, Vec::new(self.alloc), refs)
+        let mut wanted = Vec::new(self.alloc);
+        self.insert_mentions(&mut wanted, subs, es)?;
+        self.insert_refs(&mut wanted, subs, inherited)?;
+        self.asking(Vec::new(self.alloc), wanted)
     }
 }

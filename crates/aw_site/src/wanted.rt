@@ -1,18 +1,19 @@
 //! References that are asked for: another role's, without an equation here, and not asked for before.
-ghost use Rattle.std.specs.Prelude.{◌≡◌, ◌≤◌, ◌++◌, ◌∷◌, [], None, IfOk, IfSome, OnOk, filter, insert, length, map as list_map, if◌then◌else◌};
+ghost use Rattle.std.specs.Prelude.{◌≡◌, ◌≤◌, ◌++◌, ◌∷◌, [], None, IfOk, IfSome, OnOk, insert, length, map as list_map};
 ghost use Rattle.aw_grammar.specs.GrammarOf.{grammar_of};
 ghost use Rattle.aw_store.specs.Equations.{mentions};
 ghost use Rattle.aw_store.specs.EquationView.{body_of, equation_of};
 ghost use Rattle.aw_msg.specs.MessageView.{message_of};
 ghost use Rattle.aw_react.specs.Asking.{all_mentions, all_inherited, is_wanted, ask_message};
-ghost use Rattle.aw_react.specs.InOrder.{insert_ref, in_order};
+ghost use Rattle.aw_react.specs.InOrder.{insert_ref};
 ghost use Rattle.aw_react.specs.Sites as P;
 ghost use Rattle.aw_react.specs.Telling.{calls_in};
 ghost use Rattle.aw_site.specs.Holders.{ShowsAsked};
 ghost use Rattle.aw_site.specs.Ordered.{AreInOrder};
-ghost use Rattle.aw_site.specs.Plans.{wanted_of, asks_for};
+ghost use Rattle.aw_site.specs.Plans.{asks_for};
 ghost use Rattle.aw_site.specs.Senders.{SendsAs};
 ghost use Rattle.aw_site.specs.Views.{child_call};
+ghost use Rattle.aw_site.specs.Wanting.{PutsWanted};
 
 use crate::finding::has_equation_in_both;
 use crate::sender::Sender;
@@ -24,40 +25,6 @@ use aw_store::{Body, Equation, Facts};
 use aw_subs::Subs;
 use aw_term::order::{is_ref, is_ref_before};
 use std::alloc::{AllocError, Global};
-
-/// Adds copies of references.
-pub fn push_refs(refs: &mut Vec<Ref>, more: &[Ref]) -> Result<(), AllocError>
-    ensures { OnOk result (refs.new.items ≡ refs.old.items ++ more.now) }
-{
-    for r in more {
-        refs.push(copy_ref(r)?)?;
-    }
-    Ok(())
-}
-
-/// Adds copies of the references of a body.
-fn push_body_refs(refs: &mut Vec<Ref>, body: &Body) -> Result<(), AllocError>
-    ensures { OnOk result (refs.new.items ≡ refs.old.items ++ mentions (body_of body.now)) }
-{
-    match body {
-        Body::Same(r) => {
-            refs.push(copy_ref(r)?)?;
-            Ok(())
-        }
-        Body::Con(_, parts) => push_refs(refs, parts.as_slice()),
-        Body::Num(_) | Body::Text(_) => Ok(()),
-    }
-}
-
-/// Adds copies of the references in the bodies of equations.
-pub fn push_mentions(refs: &mut Vec<Ref>, es: &[Equation]) -> Result<(), AllocError>
-    ensures { OnOk result (refs.new.items ≡ refs.old.items ++ all_mentions (list_map equation_of es.now)) }
-{
-    for e in es {
-        push_body_refs(refs, &e.body)?;
-    }
-    Ok(())
-}
 
 /// Where a reference goes among references in order; `None` where it stands already.
 fn place_of(refs: &[Ref], r: &Ref) -> Option<usize>
@@ -73,19 +40,19 @@ fn place_of(refs: &[Ref], r: &Ref) -> Option<usize>
     }
 }
 
-/// Puts a reference before the first that is after it, where it does not stand already.
-fn insert_ref(refs: &mut Vec<Ref>, r: Ref) -> Result<(), AllocError>
+/// Puts a copy of a reference before the first that is after it, where it does not stand already.
+fn insert_ref(refs: &mut Vec<Ref>, r: &Ref) -> Result<(), AllocError>
     requires { AreInOrder refs.old.items }
-    ensures { OnOk result (refs.new.items ≡ insert_ref r refs.old.items) }
+    ensures { OnOk result (refs.new.items ≡ insert_ref r.now refs.old.items) }
 {
-    if let Some(at) = place_of(refs.as_slice(), &r) {
-        refs.insert(at, r)?;
+    if let Some(at) = place_of(refs.as_slice(), r) {
+        refs.insert(at, copy_ref(r)?)?;
     }
     Ok(())
 }
 
 /// The same references, shared. Where there is none, it takes no memory.
-fn share(alloc: Global, refs: Vec<Ref>) -> Result<Refs, AllocError>
+pub fn share(alloc: Global, refs: Vec<Ref>) -> Result<Refs, AllocError>
     ensures { IfOk result (λ shared. shared ≡ refs.items) }
 {
     if refs.is_empty() {
@@ -105,40 +72,103 @@ impl<'a, F: Facts> Sender<'a, F> {
             && !subs.has_asked(r)
     }
 
-    /// Puts a reference among those in order, where it is wanted and does not stand there already.
-    fn insert_wanted(&self, sorted: &mut Vec<Ref>, subs: &Subs, r: Ref) -> Result<(), AllocError>
-        requires { AreInOrder sorted.old.items }
-        ensures ordered { OnOk result (AreInOrder sorted.new.items) }
-        ensures put { OnOk result ((s : P.Site) → SendsAs ⟦<F as Facts>⟧ self.now s → ShowsAsked subs.now s.asked →
-            sorted.new.items ≡ (if is_wanted (grammar_of self.now.grammar.now) s r then insert_ref r sorted.old.items else sorted.old.items)) }
+    /// Puts a copy of a reference among those in order, where it is wanted and does not stand there already.
+    fn insert_wanted(&self, wanted: &mut Vec<Ref>, subs: &Subs, r: &Ref) -> Result<(), AllocError>
+        requires { AreInOrder wanted.old.items }
+        ensures { OnOk result (PutsWanted ⟦<F as Facts>⟧ self.now subs.now (r.now ∷ []) wanted.old.items wanted.new.items) }
     {
-        if self.is_wanted(subs, &r) {
-            insert_ref(sorted, r)
+        if self.is_wanted(subs, r) {
+            insert_ref(wanted, r)
         } else {
             Ok(())
         }
     }
 
-    /// Those of the references that are wanted, put in order, each once.
-    fn wanted_in_order(&self, subs: &Subs, refs: Vec<Ref>) -> Result<Vec<Ref>, AllocError>
-        ensures { IfOk result (λ sorted. (s : P.Site) → SendsAs ⟦<F as Facts>⟧ self.now s → ShowsAsked subs.now s.asked →
-            sorted.items ≡ in_order (filter (is_wanted (grammar_of self.now.grammar.now) s) refs.items)) }
+    /// Puts copies of references, as far as they are wanted, among those in order, the last one first.
+    pub fn insert_refs(
+        &self,
+        wanted: &mut Vec<Ref>,
+        subs: &Subs,
+        refs: &[Ref],
+    ) -> Result<(), AllocError>
+        requires { AreInOrder wanted.old.items }
+        ensures { OnOk result (PutsWanted ⟦<F as Facts>⟧ self.now subs.now refs.now wanted.old.items wanted.new.items) }
     {
-        let mut refs = refs;
-        let mut sorted = Vec::new(self.alloc);
-        while let Some(r) = refs.pop() {
-            self.insert_wanted(&mut sorted, subs, r)?;
+        for i in 0..refs.len() {
+            self.insert_wanted(wanted, subs, &refs[refs.len() - 1 - i])?;
         }
-        Ok(sorted)
+        Ok(())
     }
 
-    /// Those of the references that are wanted, in order, each once.
-    pub fn wanted(&self, subs: &Subs, refs: Vec<Ref>) -> Result<Refs, AllocError>
-        ensures { IfOk result (λ wanted. (s : P.Site) → SendsAs ⟦<F as Facts>⟧ self.now s → ShowsAsked subs.now s.asked →
-            wanted ≡ wanted_of (grammar_of self.now.grammar.now) s refs.items) }
+    /// The same of the references of a body.
+    fn insert_body_refs(
+        &self,
+        wanted: &mut Vec<Ref>,
+        subs: &Subs,
+        body: &Body,
+    ) -> Result<(), AllocError>
+        requires { AreInOrder wanted.old.items }
+        ensures { OnOk result (PutsWanted ⟦<F as Facts>⟧ self.now subs.now (mentions (body_of body.now)) wanted.old.items wanted.new.items) }
     {
-        let sorted = self.wanted_in_order(subs, refs)?;
-        share(self.alloc, sorted)
+        match body {
+            Body::Same(r) => self.insert_wanted(wanted, subs, r),
+            Body::Con(_, parts) => self.insert_refs(wanted, subs, parts.as_slice()),
+            Body::Num(_) | Body::Text(_) => Ok(()),
+        }
+    }
+
+    /// The same of the references in the bodies of equations.
+    pub fn insert_mentions(
+        &self,
+        wanted: &mut Vec<Ref>,
+        subs: &Subs,
+        es: &[Equation],
+    ) -> Result<(), AllocError>
+        requires { AreInOrder wanted.old.items }
+        ensures { OnOk result (PutsWanted ⟦<F as Facts>⟧ self.now subs.now (all_mentions (list_map equation_of es.now)) wanted.old.items wanted.new.items) }
+    {
+        for i in 0..es.len() {
+            let e = &es[es.len() - 1 - i];
+            self.insert_body_refs(wanted, subs, &e.body)?;
+        }
+        Ok(())
+    }
+
+    /// The same of what a child inherits, where it is of this role.
+    fn insert_child_refs(
+        &self,
+        wanted: &mut Vec<Ref>,
+        subs: &Subs,
+        child: &MadeChild,
+    ) -> Result<(), AllocError>
+        requires { AreInOrder wanted.old.items }
+        ensures { OnOk result (PutsWanted ⟦<F as Facts>⟧ self.now subs.now
+            (all_inherited (calls_in (grammar_of self.now.grammar.now) self.now.role (child_call (grammar_of self.now.grammar.now) child.now ∷ [])))
+            wanted.old.items wanted.new.items) }
+    {
+        if home(self.grammar, &child.node) == self.role {
+            self.insert_refs(wanted, subs, child.inherited.as_slice())
+        } else {
+            Ok(())
+        }
+    }
+
+    /// The same of what the children of this role inherit.
+    pub fn insert_inherited(
+        &self,
+        wanted: &mut Vec<Ref>,
+        subs: &Subs,
+        children: &[MadeChild],
+    ) -> Result<(), AllocError>
+        requires { AreInOrder wanted.old.items }
+        ensures { OnOk result (PutsWanted ⟦<F as Facts>⟧ self.now subs.now
+            (all_inherited (calls_in (grammar_of self.now.grammar.now) self.now.role (list_map (child_call (grammar_of self.now.grammar.now)) children.now)))
+            wanted.old.items wanted.new.items) }
+    {
+        for i in 0..children.len() {
+            self.insert_child_refs(wanted, subs, &children[children.len() - 1 - i])?;
+        }
+        Ok(())
     }
 
     /// The question for a reference.
@@ -161,32 +191,6 @@ impl<'a, F: Facts> Sender<'a, F> {
     {
         for r in wanted {
             sent.push(self.ask(r)?)?;
-        }
-        Ok(())
-    }
-
-    /// Adds copies of what the children of this role inherit.
-    pub fn push_inherited(
-        &self,
-        refs: &mut Vec<Ref>,
-        children: &[MadeChild],
-    ) -> Result<(), AllocError>
-        ensures { OnOk result (refs.new.items ≡ refs.old.items
-            ++ all_inherited (calls_in (grammar_of self.now.grammar.now) self.now.role (list_map (child_call (grammar_of self.now.grammar.now)) children.now))) }
-    {
-        for child in children {
-            self.push_child_inherited(refs, child)?;
-        }
-        Ok(())
-    }
-
-    /// Adds copies of what a child inherits, where it is of this role.
-    fn push_child_inherited(&self, refs: &mut Vec<Ref>, child: &MadeChild) -> Result<(), AllocError>
-        ensures { OnOk result (refs.new.items ≡ refs.old.items
-            ++ all_inherited (calls_in (grammar_of self.now.grammar.now) self.now.role (child_call (grammar_of self.now.grammar.now) child.now ∷ []))) }
-    {
-        if home(self.grammar, &child.node) == self.role {
-            push_refs(refs, child.inherited.as_slice())?;
         }
         Ok(())
     }

@@ -1,4 +1,4 @@
-use Rattle.std.proofs.Common.{◌≡◌, ◌∙◌, ◌++◌, ap, sym, map}
+use Rattle.std.proofs.Common.{◌∙◌, ◌++◌, ap, sym, map}
 use Rattle.aw_grammar.specs.GrammarOf.{grammar_of}
 use Rattle.aw_msg.specs.MessageView.{message_of}
 use Rattle.std.proofs.lemmas.Result.{IfOk-weaker}
@@ -7,16 +7,23 @@ use Rattle.aw_react.specs.Asking.{all_mentions, all_inherited}
 use Rattle.aw_react.specs.Telling.{tells, calls_out, calls_in}
 use Rattle.aw_site.specs.Plans.{asks_for, wanted_of}
 use Rattle.aw_site.specs.Views.{child_call}
+use Rattle.aw_site.proofs.Wanting.{puts_both, wanted_put}
 use Rattle.aw_site.proofs.sender.Sender.plan_made.Goals as goal
 
 pub returns-clause-wanted : goal.returns-clause-wanted
 returns-clause-wanted g c =
-    let gr = grammar_of c.args.self.now.grammar.now in
-    let mentioned : c.push_mentions.new.refs.items ≡ all_mentions (map equation_of c.args.made.now.equations) =
-    c.in_ok-push_mentions.ensures ∙ (λ i. c.new-refs.ensures.items i ++ all_mentions (map equation_of (c.as_slice-3.ensures i))) in
+    let f = g.F.Facts in
+    let sender = c.args.self.now in
+    let subs = c.args.subs.now in
+    let gr = grammar_of sender.grammar.now in
+    let inherited = all_inherited (calls_in gr sender.role (map (child_call gr) c.as_slice-3.result.now)) in
+    let mentioned = all_mentions (map equation_of c.as_slice-4.result.now) in
+    let none = c.new-wanted.result.items in
+    let wanted = c.insert_mentions.new.wanted.items in
     IfOk-weaker c.asking.result _ _
-    (λ p h s sends shows. h s sends shows
-    ∙ ap (wanted_of gr s) (c.in_ok-push_inherited.ensures ∙ (λ i. mentioned i ++ all_inherited (calls_in gr (sym sends.role i) (map (child_call gr) (c.as_slice-4.ensures i))))))
+    (λ p h s sends shows. h ∙ wanted_put f sender subs (mentioned ++ inherited) none wanted c.new-wanted.ensures.items
+    (puts_both f sender subs mentioned inherited none c.insert_inherited.new.wanted.items wanted c.in_ok-insert_inherited.ensures c.in_ok-insert_mentions.ensures) s sends shows
+    ∙ ap (wanted_of gr s) (λ i. all_mentions (map equation_of (c.as_slice-4.ensures i)) ++ all_inherited (calls_in gr (sym sends.role i) (map (child_call gr) (c.as_slice-3.ensures i)))))
     c.asking.ensures.wanted
 
 pub returns-clause-sent : goal.returns-clause-sent

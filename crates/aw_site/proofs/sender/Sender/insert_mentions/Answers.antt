@@ -1,0 +1,19 @@
+use Rattle.std.proofs.Common.{List, map, sym, subst}
+use Rattle.std.proofs.lemmas.List.{append-nil}
+use Rattle.aw_term.specs.Names.{Ref}
+use Rattle.aw_store.specs.Equations.{mentions}
+use Rattle.aw_store.specs.EquationView.{body_of, equation_of}
+use Rattle.aw_react.specs.Asking.{all_mentions}
+use Rattle.aw_site.specs.Wanting.{PutsWanted}
+use Rattle.aw_site.proofs.Wanting.{puts_more, mentions_split}
+use Rattle.aw_site.proofs.sender.Sender.insert_mentions.Goals as goal
+
+pub loop-i-preserved : goal.loop-i-preserved
+loop-i-preserved g c =
+    let f = g.F.Facts in
+    let e = c.index-es-es.result in
+    let before = c.loop-i.wanted.items in
+    let after = c.insert_body_refs.new.wanted.items in
+    puts_more f c.args.self.now c.args.subs.now (λ es. all_mentions (map equation_of es)) mentions_split c.args.es.now c.loop-i.i e
+    c.args.wanted.now.items before after c.loop-i-test.true c.index-es-es.is c.loop-i.invariant
+    (subst (λ (rs : List Ref). PutsWanted f c.args.self.now c.args.subs.now rs before after) (sym (append-nil (mentions (body_of e.body)))) c.in_ok-insert_body_refs.ensures)
