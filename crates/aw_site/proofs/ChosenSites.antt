@@ -220,13 +220,13 @@ module _ (g : Grammar) (s : Site) (c : Choice) (hs : List program.Held) (cs : Li
 
   -- the plan for what was made
   pub plan_prepared : (other : Grammar) (p : Plan) → other ≡ g
-      → p.wanted ≡ wanted_of other (worked g s c (outcome g s c)) (made_mentions other (worked g s c (outcome g s c)) (map equation_of m.equations) (map (child_call other) m.children))
-      → map (message_of other) p.sent.items ≡ told other (worked g s c (outcome g s c)) (map equation_of m.equations) (map (child_call other) m.children) ++ asks_for other (worked g s c (outcome g s c)) p.wanted
+      → p.wanted.items ≡ wanted_of other (worked g s c (outcome g s c)) (made_mentions other (worked g s c (outcome g s c)) (map equation_of m.equations) (map (child_call other) m.children))
+      → map (message_of other) p.sent.items ≡ told other (worked g s c (outcome g s c)) (map equation_of m.equations) (map (child_call other) m.children) ++ asks_for other (worked g s c (outcome g s c)) p.wanted.items
       → IsPlanned g (worked g s c (outcome g s c)) (reaction_of s (choose g s c)) p
   plan_prepared other p e w v =
       let t = worked g s c (outcome g s c) in
-      let w' = subst (λ (y : Grammar). p.wanted ≡ wanted_of y t (made_mentions y t (map equation_of m.equations) (map (child_call y) m.children))) e w in
-      let v' = subst (λ (y : Grammar). map (message_of y) p.sent.items ≡ told y t (map equation_of m.equations) (map (child_call y) m.children) ++ asks_for y t p.wanted) e v in
+      let w' = subst (λ (y : Grammar). p.wanted.items ≡ wanted_of y t (made_mentions y t (map equation_of m.equations) (map (child_call y) m.children))) e w in
+      let v' = subst (λ (y : Grammar). map (message_of y) p.sent.items ≡ told y t (map equation_of m.equations) (map (child_call y) m.children) ++ asks_for y t p.wanted.items) e v in
       let wanted = w' ∙ (λ i. wanted_of g t (made_mentions g t (equations_made i) (calls_made i))) in
       let sent = v' ∙ (λ i. told g t (equations_made i) (calls_made i) ++ asks_for g t (wanted i)) in
       done_on g s c (outcome g s c) ∙ (λ i. doing t (sym wanted i) (sym sent i))

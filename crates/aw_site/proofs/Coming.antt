@@ -62,26 +62,26 @@ none_behind s k es r e n = ap (λ m. find m r) (e ∙ sym (append-nil k) ∙ (λ
 -- ---- plans
 
 pub planned_came : (g other : Grammar) (s : Site) (c : Option Call) (es : List P.Equation) (rs : List Ref) (p : Plan) → other ≡ g → rs ≡ inherited_by c ++ all_mentions es
-    → p.wanted ≡ wanted_of other (holding s c es) rs → map (message_of other) p.sent.items ≡ asks_for other (holding s c es) p.wanted → IsPlanned g (holding s c es) (came g s c es) p
+    → p.wanted.items ≡ wanted_of other (holding s c es) rs → map (message_of other) p.sent.items ≡ asks_for other (holding s c es) p.wanted.items → IsPlanned g (holding s c es) (came g s c es) p
 planned_came g other s c es rs p e r w v =
     let t = holding s c es in
-    let wanted : p.wanted ≡ wanted_of g t (inherited_by c ++ all_mentions es) = w ∙ (λ i. wanted_of (e i) t (r i)) in
+    let wanted : p.wanted.items ≡ wanted_of g t (inherited_by c ++ all_mentions es) = w ∙ (λ i. wanted_of (e i) t (r i)) in
     let sent : map (message_of g) p.sent.items ≡ asks_for g t (wanted_of g t (inherited_by c ++ all_mentions es)) =
-    subst (λ (y : Grammar). map (message_of y) p.sent.items ≡ asks_for y t p.wanted) e v ∙ ap (asks_for g t) wanted in
+    subst (λ (y : Grammar). map (message_of y) p.sent.items ≡ asks_for y t p.wanted.items) e v ∙ ap (asks_for g t) wanted in
     λ i. doing t (sym wanted i) (sym sent i)
 
 listed_map : (g : Grammar) (o : Option Message) → map (message_of g) (listed o) ≡ listed (option_map (message_of g) o)
 listed_map g None = refl
 listed_map g (Some m) = refl
 
-pub planned_answer : (g other : Grammar) (s : Site) (r : Ref) (from : ℕ) (p : Plan) (m : Option Message) → other ≡ g → p.wanted ≡ [] → p.sent.items ≡ listed m
+pub planned_answer : (g other : Grammar) (s : Site) (r : Ref) (from : ℕ) (p : Plan) (m : Option Message) → other ≡ g → p.wanted.items ≡ [] → p.sent.items ≡ listed m
     → listed (option_map (message_of other) m) ≡ tell_back other s (find s.equations r) r from → IsPlanned g (watching s r from) (react g s (Asks r from)) p
 planned_answer g other s r from p m e w l v =
     let told = subst (λ (y : Grammar). listed (option_map (message_of y) m) ≡ tell_back y s (find s.equations r) r from) e v in
     let sent : map (message_of g) p.sent.items ≡ tell_back g s (find s.equations r) r from = ap (map (message_of g)) l ∙ listed_map g m ∙ told in
-    let asked : s.asked ≡ s.asked ++ p.wanted = sym (append-nil s.asked) ∙ (λ i. s.asked ++ sym w i) in
+    let asked : s.asked ≡ s.asked ++ p.wanted.items = sym (append-nil s.asked) ∙ (λ i. s.asked ++ sym w i) in
     (λ i. record { site = record (watching s r from) { asked = asked i; outbox = s.outbox ++ tell_back g s (find s.equations r) r from }; sent = tell_back g s (find s.equations r) r from })
-    ∙ (λ i. doing (watching s r from) p.wanted (sym sent i))
+    ∙ (λ i. doing (watching s r from) p.wanted.items (sym sent i))
 
 -- ---- the reaction to a message
 

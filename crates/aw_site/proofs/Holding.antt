@@ -88,7 +88,7 @@ outbox_planned g p old room new r n =
 
 -- the site that did all else is shown, and then what was planned is done
 pub shown_planned : {F : Type 0} (f : Ghosts F) (space : Space F f) (subs : Subs) (loads : Bool) (g : program.Grammar) (t : Site) (x : Reaction) (p : Plan) (old room new : List Message)
-    → g ≡ space.accepted.now.grammar → t.role ≡ space.role → t.loads ≡ loads → space_in t ≡ space_seen f space → ShowsAsked subs (t.asked ++ p.wanted) → ShowsWatchers subs t.watchers
+    → g ≡ space.accepted.now.grammar → t.role ≡ space.role → t.loads ≡ loads → space_in t ≡ space_seen f space → ShowsAsked subs (t.asked ++ p.wanted.items) → ShowsWatchers subs t.watchers
     → t.outbox ≡ map (message_of (grammar_of g)) old → room ≡ old → new ≡ room ++ p.sent.items → IsPlanned (grammar_of g) t x p → Shows f space subs new loads x.site
 shown_planned f space subs loads g t x p old room new same role flag holds asked watchers outbox r n e =
     let done : Shows f space subs new loads (doing_planned (grammar_of g) t p).site = record {

@@ -13,7 +13,7 @@ doing s asked sent = record { site = record s { asked = s.asked ++ asked; outbox
 
 -- it does so as planned
 abbrev pub doing_planned : Grammar → Site → Plan → Reaction
-doing_planned g s p = doing s p.wanted (map (message_of g) p.sent.items)
+doing_planned g s p = doing s p.wanted.items (map (message_of g) p.sent.items)
 
 -- this is what a site does that has done all else
 abbrev pub IsPlanned : Grammar → Site → Reaction → Plan → Type 0

@@ -11,10 +11,9 @@ ghost use Rattle.aw_site.specs.Senders.{SendsAs};
 ghost use Rattle.aw_site.specs.Views.{child_call};
 
 use crate::sender::Sender;
-use crate::wanted::share;
 use aw_apply::Made;
 use aw_msg::Message;
-use aw_name::{Ref, Refs};
+use aw_name::Ref;
 use aw_store::{Equation, Facts};
 use aw_subs::Subs;
 use std::alloc::AllocError;
@@ -23,34 +22,31 @@ use std::alloc::AllocError;
 #[derive(Drop)]
 pub struct Plan {
     pub sent: Vec<Message>,
-    pub wanted: Refs,
+    pub wanted: Vec<Ref>,
 }
 
 impl<'a, F: Facts> Sender<'a, F> {
     /// What is sent behind these messages: questions for these references.
     fn asking(&self, sent: Vec<Message>, wanted: Vec<Ref>) -> Result<Plan, AllocError>
-        ensures wanted { IfOk result (λ p. p.wanted ≡ wanted.items) }
+        ensures wanted { IfOk result (λ p. p.wanted.items ≡ wanted.items) }
         ensures sent { IfOk result (λ p. (s : P.Site) → SendsAs ⟦<F as Facts>⟧ self.now s →
             list_map (message_of (grammar_of self.now.grammar.now)) p.sent.items
-            ≡ list_map (message_of (grammar_of self.now.grammar.now)) sent.items ++ asks_for (grammar_of self.now.grammar.now) s p.wanted) }
+            ≡ list_map (message_of (grammar_of self.now.grammar.now)) sent.items ++ asks_for (grammar_of self.now.grammar.now) s p.wanted.items) }
     {
         let mut sent = sent;
         self.push_asks(&mut sent, wanted.as_slice())?;
-        Ok(Plan {
-            sent,
-            wanted: share(self.alloc, wanted)?,
-        })
+        Ok(Plan { sent, wanted })
     }
 
     /// What is sent where these equations and children were made here: calls of the children of other roles, tells of the equations that are
     /// watched, and questions. The equations are those that come behind the store.
     pub fn plan_made(&self, subs: &Subs, made: &Made) -> Result<Plan, AllocError>
         ensures wanted { IfOk result (λ p. (s : P.Site) → SendsAs ⟦<F as Facts>⟧ self.now s → ShowsAsked subs.now s.asked →
-            p.wanted ≡ wanted_of (grammar_of self.now.grammar.now) s (made_mentions (grammar_of self.now.grammar.now) s
+            p.wanted.items ≡ wanted_of (grammar_of self.now.grammar.now) s (made_mentions (grammar_of self.now.grammar.now) s
             (list_map equation_of made.now.equations) (list_map (child_call (grammar_of self.now.grammar.now)) made.now.children))) }
         ensures sent { IfOk result (λ p. (s : P.Site) → SendsAs ⟦<F as Facts>⟧ self.now s → ShowsWatchers subs.now s.watchers →
             list_map (message_of (grammar_of self.now.grammar.now)) p.sent.items ≡ told (grammar_of self.now.grammar.now) s (list_map equation_of made.now.equations)
-            (list_map (child_call (grammar_of self.now.grammar.now)) made.now.children) ++ asks_for (grammar_of self.now.grammar.now) s p.wanted) }
+            (list_map (child_call (grammar_of self.now.grammar.now)) made.now.children) ++ asks_for (grammar_of self.now.grammar.now) s p.wanted.items) }
     {
         let mut sent = Vec::new(self.alloc);
         self.push_calls_out(&mut sent, made.children.as_slice())?;
@@ -69,9 +65,9 @@ impl<'a, F: Facts> Sender<'a, F> {
         es: &[Equation],
     ) -> Result<Plan, AllocError>
         ensures wanted { IfOk result (λ p. (s : P.Site) → SendsAs ⟦<F as Facts>⟧ self.now s → ShowsAsked subs.now s.asked →
-            p.wanted ≡ wanted_of (grammar_of self.now.grammar.now) s (inherited.now ++ all_mentions (list_map equation_of es.now))) }
+            p.wanted.items ≡ wanted_of (grammar_of self.now.grammar.now) s (inherited.now ++ all_mentions (list_map equation_of es.now))) }
         ensures sent { IfOk result (λ p. (s : P.Site) → SendsAs ⟦<F as Facts>⟧ self.now s →
-            list_map (message_of (grammar_of self.now.grammar.now)) p.sent.items ≡ asks_for (grammar_of self.now.grammar.now) s p.wanted) }
+            list_map (message_of (grammar_of self.now.grammar.now)) p.sent.items ≡ asks_for (grammar_of self.now.grammar.now) s p.wanted.items) }
     {
         let mut wanted = Vec::new(self.alloc);
         self.insert_mentions(&mut wanted, subs, es)?;

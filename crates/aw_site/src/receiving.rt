@@ -57,7 +57,7 @@ fn plan_answer<'g, F: Facts>(
     r: &Ref,
     from: u16,
 ) -> Result<Plan, AllocError>
-    ensures nothing { IfOk result (λ p. p.wanted ≡ []) }
+    ensures nothing { IfOk result (λ p. p.wanted.items ≡ []) }
     ensures plan { IfOk result (λ p. (s : P.Site) → s.role ≡ space.now.role → s.loads ≡ loads → s.equations ≡ F.map space.now.facts →
         IsPlanned (grammar_of g.now.grammar) (watching s r.now from) (plain_react (grammar_of g.now.grammar) s (Asks r.now from)) p) }
 {
@@ -71,7 +71,7 @@ fn plan_answer<'g, F: Facts>(
     };
     Ok(Plan {
         sent: listed(alloc, sender.tell_back(r, from)?)?,
-        wanted: Refs::new(alloc),
+        wanted: Vec::new(alloc),
     })
 }
 

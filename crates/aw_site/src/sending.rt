@@ -86,14 +86,14 @@ pub fn make_room(
     ensures watchers { (ws : List Watch) → ShowsWatchers subs.old ws → ShowsWatchers subs.new ws }
     ensures room { IfOk result (λ copies. vec_len outbox.new + vec_len plan.now.sent ≤ vec_capacity outbox.new) }
     ensures copy_room { IfOk result (λ copies. vec_len copy.new + vec_len copies ≤ vec_capacity copy.new) }
-    ensures ready { IfOk result (λ copies. All (λ x. is_ready subs.new.subs x ≡ true) plan.now.wanted) }
+    ensures ready { IfOk result (λ copies. All (λ x. is_ready subs.new.subs x ≡ true) plan.now.wanted.items) }
     ensures short { IfOk result (λ copies. all_short plan.now.sent.items ≡ true) }
 {
     messages_are_short(plan.sent.as_slice());
     let copies = copy_messages(alloc, plan.sent.as_slice())?;
     outbox.reserve(plan.sent.len())?;
     copy.reserve(copies.len())?;
-    subs.reserve(&plan.wanted)?;
+    subs.reserve(plan.wanted.as_slice())?;
     Ok(copies)
 }
 
@@ -107,10 +107,10 @@ pub fn carry_out(
 )
     requires room { vec_len outbox.old + vec_len plan.sent ≤ vec_capacity outbox.old }
     requires copy_room { vec_len copy.old + vec_len copies ≤ vec_capacity copy.old }
-    requires ready { All (λ x. is_ready subs.old.subs x ≡ true) plan.wanted }
+    requires ready { All (λ x. is_ready subs.old.subs x ≡ true) plan.wanted.items }
     ensures outbox { outbox.new.items ≡ outbox.old.items ++ plan.sent.items }
     ensures copy { copy.new.items ≡ copy.old.items ++ copies.items }
-    ensures asked { (asked : List RefName) → ShowsAsked subs.old asked → ShowsAsked subs.new (asked ++ plan.wanted) }
+    ensures asked { (asked : List RefName) → ShowsAsked subs.old asked → ShowsAsked subs.new (asked ++ plan.wanted.items) }
     ensures watchers { (ws : List Watch) → ShowsWatchers subs.old ws → ShowsWatchers subs.new ws }
 {
     let Plan { sent, wanted } = plan;

@@ -20,11 +20,11 @@ use crate::sender::Sender;
 use crate::validity::home;
 use aw_apply::MadeChild;
 use aw_msg::{Message, MsgKind};
-use aw_name::{Ref, Refs, copy_ref};
+use aw_name::{Ref, copy_ref};
 use aw_store::{Body, Equation, Facts};
 use aw_subs::Subs;
 use aw_term::order::{is_ref, is_ref_before};
-use std::alloc::{AllocError, Global};
+use std::alloc::AllocError;
 
 /// Where a reference goes among references in order; `None` where it stands already.
 fn place_of(refs: &[Ref], r: &Ref) -> Option<usize>
@@ -49,17 +49,6 @@ fn insert_ref(refs: &mut Vec<Ref>, r: &Ref) -> Result<(), AllocError>
         refs.insert(at, copy_ref(r)?)?;
     }
     Ok(())
-}
-
-/// The same references, shared. Where there is none, it takes no memory.
-pub fn share(alloc: Global, refs: Vec<Ref>) -> Result<Refs, AllocError>
-    ensures { IfOk result (λ shared. shared ≡ refs.items) }
-{
-    if refs.is_empty() {
-        Ok(Refs::new(alloc))
-    } else {
-        Refs::from_vec(refs)
-    }
 }
 
 impl<'a, F: Facts> Sender<'a, F> {

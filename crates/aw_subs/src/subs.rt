@@ -4,7 +4,7 @@ ghost use Rattle.aw_name.specs.declared.node.Ref.{Ref as RefName};
 ghost use Rattle.aw_term.specs.Names.{ref_eq};
 ghost use Rattle.aw_subs.specs.Entries.{is_asked, watches, watchers, is_ready, entry_of, Writes};
 
-use aw_name::{Ref, Refs, copy_ref};
+use aw_name::{Ref, copy_ref};
 use std::alloc::{AllocError, Global};
 use std::collections::HashMap;
 
@@ -157,13 +157,13 @@ impl Subs {
     }
 
     /// Makes these references ready. It changes neither what was asked for nor the watchers; after an error some of them may be ready.
-    pub fn reserve(&mut self, refs: &Refs) -> Result<(), AllocError>
+    pub fn reserve(&mut self, refs: &[Ref]) -> Result<(), AllocError>
         ensures asked { (x : RefName) → is_asked self.new.subs x ≡ is_asked self.old.subs x }
         ensures watchers { (x : RefName) → watchers self.new.subs x ≡ watchers self.old.subs x }
         ensures kept { (x : RefName) → is_ready self.old.subs x ≡ true → is_ready self.new.subs x ≡ true }
         ensures ready { OnOk result (All (λ x. is_ready self.new.subs x ≡ true) refs.now) }
     {
-        for r in refs.as_slice() {
+        for r in refs {
             self.ready_one(r)?;
         }
         Ok(())

@@ -25,4 +25,4 @@ returns-clause-wanted g c =
 pub returns-clause-sent : goal.returns-clause-sent
 returns-clause-sent g c =
     let gr = grammar_of c.args.self.now.grammar.now in
-    IfOk-weaker c.asking.result _ _ (λ p h s sends. h s sends ∙ ap (λ ms. map (message_of gr) ms ++ asks_for gr s p.wanted) c.new.ensures.items) c.asking.ensures.sent
+    IfOk-weaker c.asking.result _ _ (λ p h s sends. h s sends ∙ ap (λ ms. map (message_of gr) ms ++ asks_for gr s p.wanted.items) c.new.ensures.items) c.asking.ensures.sent

@@ -33,5 +33,5 @@ returns-clause-sent g c =
     (λ p h s sends watch.
     let called = c.in_ok-push_calls_out.ensures s sends ∙ (λ i. map (message_of gr) (c.new-sent.ensures.items i) ++ calls_out gr s (map (child_call gr) (c.as_slice.ensures i))) in
     h s sends
-    ∙ ap (λ ms. ms ++ asks_for gr s p.wanted) (c.in_ok-push_tells.ensures s sends watch ∙ (λ i. called i ++ tells gr s (map equation_of (c.as_slice-2.ensures i)))))
+    ∙ ap (λ ms. ms ++ asks_for gr s p.wanted.items) (c.in_ok-push_tells.ensures s sends watch ∙ (λ i. called i ++ tells gr s (map equation_of (c.as_slice-2.ensures i)))))
     c.asking.ensures.sent

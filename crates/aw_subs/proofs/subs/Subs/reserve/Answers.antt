@@ -1,4 +1,4 @@
-use Rattle.std.proofs.Common.{◌≡◌, ◌∙◌, true, subst, ◌<◌, ◌≤◌, length, get_or}
+use Rattle.std.proofs.Common.{◌≡◌, ◌∙◌, true}
 use Rattle.aw_subs.specs.Entries.{is_ready}
 use Rattle.aw_subs.proofs.EntryLemmas.{all_taken, all_of_take}
 use Rattle.aw_subs.proofs.subs.Subs.reserve.Goals as goal
@@ -10,11 +10,9 @@ loop-r-preserved c =
       asked = λ x. c.in_ok-ready_one.ensures.asked x ∙ c.loop-r.invariant.asked x;
       watched = λ x. c.in_ok-ready_one.ensures.watchers x ∙ c.loop-r.invariant.watched x;
       kept = λ x h. c.in_ok-ready_one.ensures.kept x (c.loop-r.invariant.kept x h);
-      ready = all_taken (λ x. is_ready m x ≡ true) c.args.refs.now c.loop-r.r-index c.r-item.result
-          (subst (λ xs. c.loop-r.r-index < length xs) c.as_slice-r-items.ensures c.loop-r-test.true)
-          (subst (λ xs. c.r-item.result ≡ get_or xs c.loop-r.r-index c.r-item.result) c.as_slice-r-items.ensures c.r-item.is)
+      ready = all_taken (λ x. is_ready m x ≡ true) c.args.refs.now c.loop-r.r-index c.r-item.result c.loop-r-test.true c.r-item.is
           (λ k d l. c.in_ok-ready_one.ensures.kept _ (c.loop-r.invariant.ready k d l)) c.in_ok-ready_one.ensures.ready;
     }
 
 pub returns-clause-ready : goal.returns-clause-ready
-returns-clause-ready c = all_of_take (λ x. is_ready c.loop-r.self.subs x ≡ true) c.args.refs.now c.loop-r.r-index (subst (λ xs. length xs ≤ c.loop-r.r-index) c.as_slice-r-items.ensures c.loop-r-test.false) c.loop-r.invariant.ready
+returns-clause-ready c = all_of_take (λ x. is_ready c.loop-r.self.subs x ≡ true) c.args.refs.now c.loop-r.r-index c.loop-r-test.false c.loop-r.invariant.ready
