@@ -47,9 +47,10 @@ pub fn carried(alloc: Global, kind: &MsgKind) -> Result<Equations, AllocError>
         }
         MsgKind::Ask { .. } => Ok(Equations::new(alloc)),
         MsgKind::Tell { equation, load } => {
-            let mut es = Vec::new(alloc);
+            let load = load.as_slice();
+            let mut es = Vec::with_capacity(alloc, 1 + load.len())?;
             es.push(copy_equation(equation)?)?;
-            push_equations(&mut es, load.as_slice())?;
+            push_equations(&mut es, load)?;
             Ok(Equations::from_vec(es))
         }
     }
