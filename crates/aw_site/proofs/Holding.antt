@@ -69,14 +69,14 @@ of_role g role m ok =
 
 -- ---- what was planned is done
 
-pub count_planned : (g : program.Grammar) (t : Site) (x : Reaction) (p : Plan) (copies : List Message) (n : ℕ) → n ≡ length copies → copies ≡ p.sent.items → IsPlanned (grammar_of g) t x p → n ≡ length x.sent
-count_planned g t x p copies n l c e =
-    l ∙ ap length c ∙ sym (length-map p.sent.items (message_of (grammar_of g))) ∙ ap (λ (y : Reaction). length y.sent) (sym e)
+pub count_planned : (g : program.Grammar) (t : Site) (x : Reaction) (p : Plan) (n : ℕ) → n ≡ length p.sent.items → IsPlanned (grammar_of g) t x p → n ≡ length x.sent
+count_planned g t x p n l e =
+    l ∙ sym (length-map p.sent.items (message_of (grammar_of g))) ∙ ap (λ (y : Reaction). length y.sent) (sym e)
 
-pub copy_planned : (g : program.Grammar) (t : Site) (x : Reaction) (p : Plan) (old room new copies : List Message) → room ≡ old → new ≡ room ++ copies → copies ≡ p.sent.items → IsPlanned (grammar_of g) t x p
+pub copy_planned : (g : program.Grammar) (t : Site) (x : Reaction) (p : Plan) (old new : List Message) → new ≡ old ++ p.sent.items → IsPlanned (grammar_of g) t x p
     → map (message_of (grammar_of g)) new ≡ map (message_of (grammar_of g)) old ++ x.sent
-copy_planned g t x p old room new copies r n c e =
-    ap (map (message_of (grammar_of g))) (n ∙ (λ i. r i ++ c i))
+copy_planned g t x p old new n e =
+    ap (map (message_of (grammar_of g))) n
     ∙ map-append (message_of (grammar_of g)) old p.sent.items
     ∙ ap (λ (y : Reaction). map (message_of (grammar_of g)) old ++ y.sent) (sym e)
 

@@ -97,9 +97,17 @@ pub fn choose<'g, F: Facts>(
 {
     let alloc = *outbox.allocator();
     let Prepared { outcome, plan } = prepare(alloc, g, space, subs, loads, choice)?;
-    let copies = make_room(alloc, &plan, subs, outbox, copy)?;
-    let count = copies.len();
-    uncounted::follow(space, g, choice, &outcome)?;
-    carry_out(plan, copies, subs, outbox, copy);
-    Ok((outcome.answer, count))
+    let before = copy.len();
+    let count = plan.sent.len();
+    make_room(&plan, subs, outbox, copy)?;
+    match uncounted::follow(space, g, choice, &outcome) {
+        Ok(()) => {
+            carry_out(plan, subs, outbox);
+            Ok((outcome.answer, count))
+        }
+        Err(refused) => {
+            copy.truncate(before);
+            Err(refused)
+        }
+    }
 }

@@ -100,11 +100,19 @@ fn answer_ask<'g, F: Facts>(
 {
     let alloc = *outbox.allocator();
     let plan = plan_answer(alloc, g, space, loads, r, from)?;
-    let copies = make_room(alloc, &plan, subs, outbox, copy)?;
-    let count = copies.len();
-    subs.watch(r, from)?;
-    carry_out(plan, copies, subs, outbox, copy);
-    Ok(count)
+    let before = copy.len();
+    let count = plan.sent.len();
+    make_room(&plan, subs, outbox, copy)?;
+    match subs.watch(r, from) {
+        Ok(_) => {
+            carry_out(plan, subs, outbox);
+            Ok(count)
+        }
+        Err(refused) => {
+            copy.truncate(before);
+            Err(refused)
+        }
+    }
 }
 
 /// Copies of the references of a call, if there is one.
@@ -177,11 +185,19 @@ fn take_in<'g, F: Facts>(
 {
     let alloc = *outbox.allocator();
     let plan = plan_came(alloc, g, space, subs, loads, call, es)?;
-    let copies = make_room(alloc, &plan, subs, outbox, copy)?;
-    let count = copies.len();
-    uncounted::take_in(space, g, call, es)?;
-    carry_out(plan, copies, subs, outbox, copy);
-    Ok(count)
+    let before = copy.len();
+    let count = plan.sent.len();
+    make_room(&plan, subs, outbox, copy)?;
+    match uncounted::take_in(space, g, call, es) {
+        Ok(()) => {
+            carry_out(plan, subs, outbox);
+            Ok(count)
+        }
+        Err(refused) => {
+            copy.truncate(before);
+            Err(refused)
+        }
+    }
 }
 
 /// Does what a message asks for of which something is new; how many messages were sent. An error changes nothing.

@@ -1,5 +1,6 @@
-//! What a site sends is made before anything changes, and memory is taken for it; then it is noted, and nothing can be refused.
-ghost use Rattle.std.specs.Prelude.{◌≡◌, ◌+◌, ◌++◌, ◌∷◌, [], ◌≤◌, ◌<◌, List, true, All, IfOk, vec_len, vec_capacity};
+//! What a site sends is made, and copied, before anything of the site changes, and memory is taken for it; then it is noted, and nothing can
+//! be refused.
+ghost use Rattle.std.specs.Prelude.{◌≡◌, ◌+◌, ◌++◌, ◌∷◌, [], ◌≤◌, ◌<◌, List, true, All, OnOk, OnErr, length, take, vec_len, vec_capacity};
 ghost use Rattle.aw_term.specs.Names.{Ref as RefName};
 ghost use Rattle.aw_react.specs.Sites.{Watch};
 ghost use Rattle.aw_subs.specs.Entries.{is_ready};
@@ -11,7 +12,7 @@ use crate::short::messages_are_short;
 use aw_msg::{Message, copy_message};
 use aw_name::Ref;
 use aw_subs::Subs;
-use std::alloc::{AllocError, Global};
+use std::alloc::AllocError;
 
 /// Adds a message, for which there is room.
 fn push_sent(outbox: &mut Vec<Message>, message: Message)
@@ -60,61 +61,65 @@ fn ask_all(subs: &mut Subs, wanted: &[Ref])
     }
 }
 
-/// Copies of messages.
-fn copy_messages(alloc: Global, messages: &[Message]) -> Result<Vec<Message>, AllocError>
-    ensures { IfOk result (λ copies. copies.items ≡ messages.now) }
+/// Adds copies of messages. An error may leave some of them at the end.
+fn push_copies(copy: &mut Vec<Message>, messages: &[Message]) -> Result<(), AllocError>
+    ensures ok { OnOk result (copy.new.items ≡ copy.old.items ++ messages.now) }
+    ensures kept { take (length copy.old.items) copy.new.items ≡ copy.old.items }
 {
-    let mut copies = Vec::with_capacity(alloc, messages.len())?;
+    copy.reserve(messages.len())?;
     for m in messages {
-        copies.push(copy_message(m)?)?;
+        copy.push(copy_message(m)?)?;
     }
-    Ok(copies)
+    Ok(())
 }
 
-/// Takes the memory for a plan, and copies its messages. Nothing changes of what was asked for, who watches, or what was sent.
+/// Adds copies of messages. An error changes nothing.
+fn add_copies(copy: &mut Vec<Message>, messages: &[Message]) -> Result<(), AllocError>
+    ensures ok { OnOk result (copy.new.items ≡ copy.old.items ++ messages.now) }
+    ensures err { OnErr result (copy.new.items ≡ copy.old.items) }
+{
+    let before = copy.len();
+    match push_copies(copy, messages) {
+        Ok(()) => Ok(()),
+        Err(refused) => {
+            copy.truncate(before);
+            Err(refused)
+        }
+    }
+}
+
+/// Takes the memory for a plan, and adds copies of its messages to the copy. Nothing changes of what was asked for, who watches, or what
+/// was sent; and an error leaves the copy as it was, too.
 pub fn make_room(
-    alloc: Global,
     plan: &Plan,
     subs: &mut Subs,
     outbox: &mut Vec<Message>,
     copy: &mut Vec<Message>,
-) -> Result<Vec<Message>, AllocError>
-    ensures copies { IfOk result (λ copies. copies.items ≡ plan.now.sent.items) }
+) -> Result<(), AllocError>
     ensures outbox { outbox.new.items ≡ outbox.old.items }
-    ensures copy { copy.new.items ≡ copy.old.items }
+    ensures copy { OnOk result (copy.new.items ≡ copy.old.items ++ plan.now.sent.items) }
+    ensures err_copy { OnErr result (copy.new.items ≡ copy.old.items) }
     ensures asked { (asked : List RefName) → ShowsAsked subs.old asked → ShowsAsked subs.new asked }
     ensures watchers { (ws : List Watch) → ShowsWatchers subs.old ws → ShowsWatchers subs.new ws }
-    ensures room { IfOk result (λ copies. vec_len outbox.new + vec_len plan.now.sent ≤ vec_capacity outbox.new) }
-    ensures copy_room { IfOk result (λ copies. vec_len copy.new + vec_len copies ≤ vec_capacity copy.new) }
-    ensures ready { IfOk result (λ copies. All (λ x. is_ready subs.new.subs x ≡ true) plan.now.wanted.items) }
-    ensures short { IfOk result (λ copies. all_short plan.now.sent.items ≡ true) }
+    ensures room { OnOk result (vec_len outbox.new + vec_len plan.now.sent ≤ vec_capacity outbox.new) }
+    ensures ready { OnOk result (All (λ x. is_ready subs.new.subs x ≡ true) plan.now.wanted.items) }
+    ensures short { OnOk result (all_short plan.now.sent.items ≡ true) }
 {
     messages_are_short(plan.sent.as_slice());
-    let copies = copy_messages(alloc, plan.sent.as_slice())?;
     outbox.reserve(plan.sent.len())?;
-    copy.reserve(copies.len())?;
     subs.reserve(plan.wanted.as_slice())?;
-    Ok(copies)
+    add_copies(copy, plan.sent.as_slice())
 }
 
 /// Notes what a plan sends and asks for. The memory for it was taken.
-pub fn carry_out(
-    plan: Plan,
-    copies: Vec<Message>,
-    subs: &mut Subs,
-    outbox: &mut Vec<Message>,
-    copy: &mut Vec<Message>,
-)
+pub fn carry_out(plan: Plan, subs: &mut Subs, outbox: &mut Vec<Message>)
     requires room { vec_len outbox.old + vec_len plan.sent ≤ vec_capacity outbox.old }
-    requires copy_room { vec_len copy.old + vec_len copies ≤ vec_capacity copy.old }
     requires ready { All (λ x. is_ready subs.old.subs x ≡ true) plan.wanted.items }
     ensures outbox { outbox.new.items ≡ outbox.old.items ++ plan.sent.items }
-    ensures copy { copy.new.items ≡ copy.old.items ++ copies.items }
     ensures asked { (asked : List RefName) → ShowsAsked subs.old asked → ShowsAsked subs.new (asked ++ plan.wanted.items) }
     ensures watchers { (ws : List Watch) → ShowsWatchers subs.old ws → ShowsWatchers subs.new ws }
 {
     let Plan { sent, wanted } = plan;
     push_all_sent(outbox, sent);
-    push_all_sent(copy, copies);
     ask_all(subs, wanted.as_slice());
 }

@@ -13,19 +13,19 @@ use Rattle.aw_site.proofs.Holding.{count_planned, copy_planned, shown_planned}
 use Rattle.aw_site.proofs.InRange.{short_more}
 use Rattle.aw_site.proofs.choosing.choose.Goals as goal
 
-pub returns-clause-count : goal.returns-clause-count
-returns-clause-count g c = λ s shows.
+pub returns-in-Ok-clause-count : goal.returns-in-Ok-clause-count
+returns-in-Ok-clause-count g c = λ s shows.
     let gr = grammar_of c.args.g.now.grammar in
     let ch = choice_of c.args.choice.now in
     let t = worked gr s ch (outcome gr s ch) in
     let x = reaction_of s (choose gr s ch) in
     let planned = (c.in_ok-outcome.ensures.prepares s shows.holds).plan in
-    let counted : c.len-count.result ≡ length c.in_ok-copies.copies.items = search rules in
-    count_planned c.args.g.now.grammar t x c.in_ok-outcome.field-0.plan c.in_ok-copies.copies.items c.len-count.result counted c.in_ok-copies.ensures.copies planned
+    let counted : c.len-count.result ≡ length c.in_ok-outcome.field-0.plan.sent.items = search rules in
+    count_planned c.args.g.now.grammar t x c.in_ok-outcome.field-0.plan c.len-count.result counted planned
     ∙ ap length (sent_reacted s (choose gr s ch))
 
-pub returns-clause-site : goal.returns-clause-site
-returns-clause-site g c = λ s shows.
+pub returns-in-Ok-clause-site : goal.returns-in-Ok-clause-site
+returns-in-Ok-clause-site g c = λ s shows.
     let gr = grammar_of c.args.g.now.grammar in
     let ch = choice_of c.args.choice.now in
     let h = shows.holds in
@@ -36,23 +36,22 @@ returns-clause-site g c = λ s shows.
     (shown_planned g.F.Facts c.follow.new.space c.carry_out.new.subs c.args.loads c.args.g.now.grammar t x c.in_ok-outcome.field-0.plan
     c.args.outbox.now.items c.make_room.new.outbox.items c.carry_out.new.outbox.items
     (c.requires.grammar ∙ sym c.follow.ensures.grammar) (h.role ∙ sym c.follow.ensures.role) h.flag
-    ((λ i. space_on gr (h.role i) (h.holds i) ch (S.outcome gr (h.holds i) ch)) ∙ sym c.in_ok-follow.ensures.space)
+    ((λ i. space_on gr (h.role i) (h.holds i) ch (S.outcome gr (h.holds i) ch)) ∙ sym c.in-Ok.ensures.space)
     (c.carry_out.ensures.asked s.asked (c.make_room.ensures.asked s.asked h.asked))
     (c.carry_out.ensures.watchers s.watchers (c.make_room.ensures.watchers s.watchers h.watchers))
     (shows.sent ∙ (λ i. map (message_of (grammar_of (sym c.requires.grammar i))) c.args.outbox.now.items))
     c.make_room.ensures.outbox c.carry_out.ensures.outbox planned)
 
-pub returns-clause-copy : goal.returns-clause-copy
-returns-clause-copy g c = λ s shows.
+pub returns-in-Ok-clause-copy : goal.returns-in-Ok-clause-copy
+returns-in-Ok-clause-copy g c = λ s shows.
     let gr = grammar_of c.args.g.now.grammar in
     let ch = choice_of c.args.choice.now in
     let t = worked gr s ch (outcome gr s ch) in
     let x = reaction_of s (choose gr s ch) in
     let planned = (c.in_ok-outcome.ensures.prepares s shows.holds).plan in
-    copy_planned c.args.g.now.grammar t x c.in_ok-outcome.field-0.plan c.args.copy.now.items c.make_room.new.copy.items c.carry_out.new.copy.items c.in_ok-copies.copies.items
-    c.make_room.ensures.copy c.carry_out.ensures.copy c.in_ok-copies.ensures.copies planned
+    copy_planned c.args.g.now.grammar t x c.in_ok-outcome.field-0.plan c.args.copy.now.items c.make_room.new.copy.items c.in_ok-make_room.ensures.copy planned
     ∙ ap (λ ms. map (message_of gr) c.args.copy.now.items ++ ms) (sent_reacted s (choose gr s ch))
 
-pub returns-clause-short : goal.returns-clause-short
-returns-clause-short g c =
-    short_more c.args.outbox.now.items c.make_room.new.outbox.items c.in_ok-outcome.field-0.plan.sent.items c.carry_out.new.outbox.items c.make_room.ensures.outbox c.carry_out.ensures.outbox c.in_ok-copies.ensures.short
+pub returns-in-Ok-clause-short : goal.returns-in-Ok-clause-short
+returns-in-Ok-clause-short g c =
+    short_more c.args.outbox.now.items c.make_room.new.outbox.items c.in_ok-outcome.field-0.plan.sent.items c.carry_out.new.outbox.items c.make_room.ensures.outbox c.carry_out.ensures.outbox c.in_ok-make_room.ensures.short

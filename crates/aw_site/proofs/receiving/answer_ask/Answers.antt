@@ -9,8 +9,8 @@ use Rattle.aw_site.proofs.Noting.{asked_same, watched_one}
 use Rattle.aw_site.proofs.InRange.{short_more}
 use Rattle.aw_site.proofs.receiving.answer_ask.Goals as goal
 
-pub returns-clause-site : goal.returns-clause-site
-returns-clause-site g c = λ s shows.
+pub returns-in-Ok-clause-site : goal.returns-in-Ok-clause-site
+returns-in-Ok-clause-site g c = λ s shows.
     let gr = grammar_of c.args.g.now.grammar in
     let h = shows.holds in
     let r = c.args.r.now in
@@ -19,11 +19,11 @@ returns-clause-site g c = λ s shows.
     c.args.outbox.now.items c.make_room.new.outbox.items c.carry_out.new.outbox.items
     c.requires.grammar h.role h.flag h.holds
     (c.carry_out.ensures.asked s.asked (asked_same c.make_room.new.subs c.watch.new.self s.asked c.watch.ensures.asked (c.make_room.ensures.asked s.asked h.asked)))
-    (c.carry_out.ensures.watchers _ (watched_one c.make_room.new.subs c.watch.new.self r from s.watchers c.in_ok-watch.ensures.watchers (c.make_room.ensures.watchers s.watchers h.watchers)))
+    (c.carry_out.ensures.watchers _ (watched_one c.make_room.new.subs c.watch.new.self r from s.watchers c.in-Ok.ensures.watchers (c.make_room.ensures.watchers s.watchers h.watchers)))
     (shows.sent ∙ (λ i. map (message_of (grammar_of (sym c.requires.grammar i))) c.args.outbox.now.items))
     c.make_room.ensures.outbox c.carry_out.ensures.outbox
     (c.in_ok-plan.ensures.plan s h.role h.flag (equations_by g.F.Facts c.args.space.now c.args.subs.now c.args.loads s c.args.g.now.grammar c.requires.grammar h))
 
-pub returns-clause-short : goal.returns-clause-short
-returns-clause-short g c =
-    short_more c.args.outbox.now.items c.make_room.new.outbox.items c.in_ok-plan.plan.sent.items c.carry_out.new.outbox.items c.make_room.ensures.outbox c.carry_out.ensures.outbox c.in_ok-copies.ensures.short
+pub returns-in-Ok-clause-short : goal.returns-in-Ok-clause-short
+returns-in-Ok-clause-short g c =
+    short_more c.args.outbox.now.items c.make_room.new.outbox.items c.in_ok-plan.plan.sent.items c.carry_out.new.outbox.items c.make_room.ensures.outbox c.carry_out.ensures.outbox c.in_ok-make_room.ensures.short

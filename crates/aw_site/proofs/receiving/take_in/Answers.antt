@@ -10,21 +10,21 @@ use Rattle.aw_site.proofs.Holding.{shown_planned}
 use Rattle.aw_site.proofs.InRange.{short_more}
 use Rattle.aw_site.proofs.receiving.take_in.Goals as goal
 
-pub returns-clause-site : goal.returns-clause-site
-returns-clause-site g c = λ s shows.
+pub returns-in-Ok-clause-site : goal.returns-in-Ok-clause-site
+returns-in-Ok-clause-site g c = λ s shows.
     let gr = grammar_of c.args.g.now.grammar in
     let h = shows.holds in
     let call = option_map (placed_call gr) (option_copied c.args.call) in
     let es = map equation_of c.args.es.now in
     shown_planned g.F.Facts c.take_in.new.space c.carry_out.new.subs c.args.loads c.args.g.now.grammar (holding s call es) (came gr s call es) c.in_ok-plan.plan
     c.args.outbox.now.items c.make_room.new.outbox.items c.carry_out.new.outbox.items
-    (c.requires.grammar ∙ sym c.take_in.ensures.grammar) (h.role ∙ sym c.take_in.ensures.role) h.flag (ap (taken_in call es) h.holds ∙ sym c.in_ok-take_in.ensures.space)
+    (c.requires.grammar ∙ sym c.take_in.ensures.grammar) (h.role ∙ sym c.take_in.ensures.role) h.flag (ap (taken_in call es) h.holds ∙ sym c.in-Ok.ensures.space)
     (c.carry_out.ensures.asked s.asked (c.make_room.ensures.asked s.asked h.asked))
     (c.carry_out.ensures.watchers s.watchers (c.make_room.ensures.watchers s.watchers h.watchers))
     (shows.sent ∙ (λ i. map (message_of (grammar_of (sym c.requires.grammar i))) c.args.outbox.now.items))
     c.make_room.ensures.outbox c.carry_out.ensures.outbox
     (c.in_ok-plan.ensures s h)
 
-pub returns-clause-short : goal.returns-clause-short
-returns-clause-short g c =
-    short_more c.args.outbox.now.items c.make_room.new.outbox.items c.in_ok-plan.plan.sent.items c.carry_out.new.outbox.items c.make_room.ensures.outbox c.carry_out.ensures.outbox c.in_ok-copies.ensures.short
+pub returns-in-Ok-clause-short : goal.returns-in-Ok-clause-short
+returns-in-Ok-clause-short g c =
+    short_more c.args.outbox.now.items c.make_room.new.outbox.items c.in_ok-plan.plan.sent.items c.carry_out.new.outbox.items c.make_room.ensures.outbox c.carry_out.ensures.outbox c.in_ok-make_room.ensures.short
