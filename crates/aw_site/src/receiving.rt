@@ -161,22 +161,22 @@ fn take_in<'g, F: Facts>(
     outbox: &mut Vec<Message>,
     loads: bool,
     call: Option<&Placing>,
-    es: &Equations,
+    es: Equations,
     copy: &mut Vec<Message>,
 ) -> Result<usize, AllocError>
     requires grammar { g.now.grammar ≡ space.old.accepted.now.grammar }
     requires call { MayBeCalledIf (grammar_of g.now.grammar) space.old.role (called_by (grammar_of g.now.grammar) (option_copied call)) }
-    requires ok { MayBeLearnt (grammar_of g.now.grammar) space.old.role (list_map equation_of es.now) }
-    requires free { clash_with (called_by (grammar_of g.now.grammar) (option_copied call)) (list_map equation_of es.now) (space_seen ⟦<F as Facts>⟧ space.old) ≡ None }
+    requires ok { MayBeLearnt (grammar_of g.now.grammar) space.old.role (list_map equation_of es) }
+    requires free { clash_with (called_by (grammar_of g.now.grammar) (option_copied call)) (list_map equation_of es) (space_seen ⟦<F as Facts>⟧ space.old) ≡ None }
     ensures grammar { space.new.accepted.now.grammar ≡ space.old.accepted.now.grammar }
     ensures role { space.new.role ≡ space.old.role }
     ensures count { IfOk result (λ n. (s : P.Site) → Shows ⟦<F as Facts>⟧ space.old subs.old outbox.old.items loads s →
-        n ≡ length (came (grammar_of g.now.grammar) s (called_by (grammar_of g.now.grammar) (option_copied call.entry)) (list_map equation_of es.now)).sent) }
+        n ≡ length (came (grammar_of g.now.grammar) s (called_by (grammar_of g.now.grammar) (option_copied call.entry)) (list_map equation_of es)).sent) }
     ensures site { OnOk result ((s : P.Site) → Shows ⟦<F as Facts>⟧ space.old subs.old outbox.old.items loads s → Shows ⟦<F as Facts>⟧ space.new subs.new outbox.new.items loads
-        (came (grammar_of g.now.grammar) s (called_by (grammar_of g.now.grammar) (option_copied call.entry)) (list_map equation_of es.now)).site) }
+        (came (grammar_of g.now.grammar) s (called_by (grammar_of g.now.grammar) (option_copied call.entry)) (list_map equation_of es)).site) }
     ensures copy { OnOk result ((s : P.Site) → Shows ⟦<F as Facts>⟧ space.old subs.old outbox.old.items loads s →
         list_map (message_of (grammar_of g.now.grammar)) copy.new.items ≡ list_map (message_of (grammar_of g.now.grammar)) copy.old.items
-        ++ (came (grammar_of g.now.grammar) s (called_by (grammar_of g.now.grammar) (option_copied call.entry)) (list_map equation_of es.now)).sent) }
+        ++ (came (grammar_of g.now.grammar) s (called_by (grammar_of g.now.grammar) (option_copied call.entry)) (list_map equation_of es)).sent) }
     ensures err { OnErr result ((s : P.Site) → Shows ⟦<F as Facts>⟧ space.old subs.old outbox.old.items loads s → Shows ⟦<F as Facts>⟧ space.new subs.new outbox.new.items loads s) }
     ensures err_copy { OnErr result (copy.new.items ≡ copy.old.items) }
     ensures short { all_short outbox.old.items ≡ true → all_short outbox.new.items ≡ true }
@@ -184,7 +184,7 @@ fn take_in<'g, F: Facts>(
     ensures nodes { KeepsNodes (space_seen ⟦<F as Facts>⟧ space.old).held (space_seen ⟦<F as Facts>⟧ space.new).held }
 {
     let alloc = *outbox.allocator();
-    let plan = plan_came(alloc, g, space, subs, loads, call, es)?;
+    let plan = plan_came(alloc, g, space, subs, loads, call, &es)?;
     let before = copy.len();
     let count = plan.sent.len();
     make_room(&plan, subs, outbox, copy)?;
@@ -208,11 +208,11 @@ fn react<'g, F: Facts>(
     outbox: &mut Vec<Message>,
     loads: bool,
     m: &Message,
-    es: &Equations,
+    es: Equations,
     copy: &mut Vec<Message>,
 ) -> Result<usize, AllocError>
     requires grammar { g.now.grammar ≡ space.old.accepted.now.grammar }
-    requires carried { (g : T.Grammar) → list_map equation_of es.now ≡ carried (kind_of g m.now.kind) }
+    requires carried { (g : T.Grammar) → list_map equation_of es ≡ carried (kind_of g m.now.kind) }
     requires fresh { (s : P.Site) → HoldsAs ⟦<F as Facts>⟧ space.old subs.old loads s → IsFresh (grammar_of g.now.grammar) s (message_of (grammar_of g.now.grammar) m.now) }
     requires holds { ∥ ((s : P.Site) × HoldsAs ⟦<F as Facts>⟧ space.old subs.old loads s) ∥₁ }
     ensures grammar { space.new.accepted.now.grammar ≡ space.old.accepted.now.grammar }
@@ -287,7 +287,7 @@ pub fn receive<'g, F: Facts>(
         }),
         Judged::Repeat => Ok(Received::Repeat),
         Judged::Fresh => {
-            let count = react(g, space, subs, outbox, loads, m, &es, copy)?;
+            let count = react(g, space, subs, outbox, loads, m, es, copy)?;
             Ok(Received::New(count))
         }
     }

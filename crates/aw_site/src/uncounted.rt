@@ -103,7 +103,7 @@ fn take_in_ledger<'g, F: Facts, L: Ledger>(
     space: &mut Space<'g, F>,
     g: &Accepted,
     call: Option<&Placing>,
-    es: &Equations,
+    es: Equations,
     blank: Blank,
 ) -> Result<(), AllocError>
     requires name { blank.name ≡ L.name }
@@ -111,11 +111,11 @@ fn take_in_ledger<'g, F: Facts, L: Ledger>(
     requires some { 0 < L.parts }
     requires grammar { g.now.grammar ≡ space.old.accepted.now.grammar }
     requires call { MayBeCalledIf (grammar_of g.now.grammar) space.old.role (called_by (grammar_of g.now.grammar) (option_copied call)) }
-    requires ok { MayBeLearnt (grammar_of g.now.grammar) space.old.role (list_map equation_of es.now) }
-    requires free { clash_with (called_by (grammar_of g.now.grammar) (option_copied call)) (list_map equation_of es.now) (space_seen ⟦<F as Facts>⟧ space.old) ≡ None }
+    requires ok { MayBeLearnt (grammar_of g.now.grammar) space.old.role (list_map equation_of es) }
+    requires free { clash_with (called_by (grammar_of g.now.grammar) (option_copied call)) (list_map equation_of es) (space_seen ⟦<F as Facts>⟧ space.old) ≡ None }
     ensures grammar { space.new.accepted.now.grammar ≡ space.old.accepted.now.grammar }
     ensures role { space.new.role ≡ space.old.role }
-    ensures space { OnOk result (TakesIn ⟦<F as Facts>⟧ (grammar_of g.now.grammar) (option_copied call.entry) (list_map equation_of es.now) space.old space.new) }
+    ensures space { OnOk result (TakesIn ⟦<F as Facts>⟧ (grammar_of g.now.grammar) (option_copied call.entry) (list_map equation_of es) space.old space.new) }
     ensures err { OnErr result (IsUnchanged ⟦<F as Facts>⟧ space.old space.new) }
     ensures facts { KeepsFacts (F.map space.old.facts) (F.map space.new.facts) }
     ensures nodes { KeepsNodes (space_seen ⟦<F as Facts>⟧ space.old).held (space_seen ⟦<F as Facts>⟧ space.new).held }
@@ -130,15 +130,15 @@ pub fn take_in<'g, F: Facts>(
     space: &mut Space<'g, F>,
     g: &Accepted,
     call: Option<&Placing>,
-    es: &Equations,
+    es: Equations,
 ) -> Result<(), AllocError>
     requires grammar { g.now.grammar ≡ space.old.accepted.now.grammar }
     requires call { MayBeCalledIf (grammar_of g.now.grammar) space.old.role (called_by (grammar_of g.now.grammar) (option_copied call)) }
-    requires ok { MayBeLearnt (grammar_of g.now.grammar) space.old.role (list_map equation_of es.now) }
-    requires free { clash_with (called_by (grammar_of g.now.grammar) (option_copied call)) (list_map equation_of es.now) (space_seen ⟦<F as Facts>⟧ space.old) ≡ None }
+    requires ok { MayBeLearnt (grammar_of g.now.grammar) space.old.role (list_map equation_of es) }
+    requires free { clash_with (called_by (grammar_of g.now.grammar) (option_copied call)) (list_map equation_of es) (space_seen ⟦<F as Facts>⟧ space.old) ≡ None }
     ensures grammar { space.new.accepted.now.grammar ≡ space.old.accepted.now.grammar }
     ensures role { space.new.role ≡ space.old.role }
-    ensures space { OnOk result (TakesIn ⟦<F as Facts>⟧ (grammar_of g.now.grammar) (option_copied call.entry) (list_map equation_of es.now) space.old space.new) }
+    ensures space { OnOk result (TakesIn ⟦<F as Facts>⟧ (grammar_of g.now.grammar) (option_copied call.entry) (list_map equation_of es) space.old space.new) }
     ensures err { OnErr result (IsUnchanged ⟦<F as Facts>⟧ space.old space.new) }
     ensures facts { KeepsFacts (F.map space.old.facts) (F.map space.new.facts) }
     ensures nodes { KeepsNodes (space_seen ⟦<F as Facts>⟧ space.old).held (space_seen ⟦<F as Facts>⟧ space.new).held }

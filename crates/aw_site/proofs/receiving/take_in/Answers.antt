@@ -15,7 +15,7 @@ returns-in-Ok-clause-site g c = λ s shows.
     let gr = grammar_of c.args.g.now.grammar in
     let h = shows.holds in
     let call = option_map (placed_call gr) (option_copied c.args.call) in
-    let es = map equation_of c.args.es.now in
+    let es = map equation_of c.args.es in
     shown_planned g.F.Facts c.take_in.new.space c.carry_out.new.subs c.args.loads c.args.g.now.grammar (holding s call es) (came gr s call es) c.in_ok-plan.plan
     c.args.outbox.now.items c.make_room.new.outbox.items c.carry_out.new.outbox.items
     (c.requires.grammar ∙ sym c.take_in.ensures.grammar) (h.role ∙ sym c.take_in.ensures.role) h.flag (ap (taken_in call es) h.holds ∙ sym c.in-Ok.ensures.space)
