@@ -108,7 +108,7 @@ fn refs_at(alloc: Global, names: &[Ref], slots: &[usize]) -> Result<Refs, AllocE
     requires { all_below (length names.now) slots.now ≡ true }
     ensures { IfOk result (λ refs. refs ≡ refs_of names.now slots.now) }
 {
-    let mut refs = Vec::new(alloc);
+    let mut refs = Vec::with_capacity(alloc, slots.len())?;
     for slot in slots {
         refs.push(ref_at(names, *slot)?)?;
     }

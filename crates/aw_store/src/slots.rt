@@ -82,7 +82,7 @@ pub fn intern_all<F: Facts>(
     ensures slots { IfOk result (λ slots. AreNamed (F.names f.new) slots.items refs.now) }
     ensures named { OnOk result (all_named (F.names f.new) refs.now ≡ true) }
 {
-    let mut slots = Vec::new(alloc);
+    let mut slots = Vec::with_capacity(alloc, refs.len())?;
     for r in refs {
         slots.push(f.intern(r)?)?;
     }
