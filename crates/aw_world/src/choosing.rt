@@ -12,7 +12,7 @@ ghost use Rattle.aw_world.specs.Seen.{ArePlaced, ShowEach, AnswersAt, Chooses};
 
 use crate::workspace::Workspace;
 use aw_accept::Accepted;
-use aw_base::home_of;
+use aw_base::{home_of, home_of_valid};
 use aw_choice::{Answer, Choice};
 use aw_grammar::Grammar;
 use aw_msg::Messages;
@@ -29,8 +29,9 @@ fn role_at(g: &Grammar, node: &Node) -> u16
     }
 }
 
-/// The role at which a choice is made.
+/// The role at which a choice that fits the grammar is made. The name of a node that is developed is valid, so its last step tells.
 fn role_of(alloc: Global, g: &Grammar, choice: &Choice) -> u16
+    requires { choice_ok (grammar_of g.now) (choice_of choice.now) ≡ true }
     ensures { result ≡ home (grammar_of g.now) (V.node_of (choice_of choice.now)) }
 {
     match choice {
@@ -42,7 +43,7 @@ fn role_of(alloc: Global, g: &Grammar, choice: &Choice) -> u16
                 steps: Trail::new(alloc),
             },
         ),
-        Choice::Develop { node, .. } => role_at(g, node),
+        Choice::Develop { node, .. } => home_of_valid(g, node),
     }
 }
 
