@@ -53,7 +53,8 @@ impl<'g> Run<'g> {
     {
         let answer = self.plain.choose(accepted, &choice)?;
         push_choice_line(&mut self.told, accepted.grammar(), &choice, &answer)?;
-        self.events.push(Event::Choose(choice))?;
+        let event = Event::of_choice(self.told.allocator(), choice)?;
+        self.events.push(event)?;
         Ok(answer)
     }
 

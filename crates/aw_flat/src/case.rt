@@ -279,7 +279,7 @@ impl<'g> Case<'g> {
         };
         self.told.push_bytes(line)?;
         self.told.push_bytes(b": ")?;
-        self.choose(choice)
+        self.choose(choice.get())
     }
 
     /// Tells a line of a schedule, and answers its choice.

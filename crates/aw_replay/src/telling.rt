@@ -158,7 +158,7 @@ pub(crate) fn tell<W: Workspace>(
     ensures some { OnErr result (DoesSome ⟦<W as Workspace>⟧ world.old world.new (event_seen event.now)) }
 {
     match event {
-        Event::Choose(choice) => choice_lines(world, choice, text),
+        Event::Choose(choice) => choice_lines(world, choice.get(), text),
         Event::Deliver(number) => delivery_lines(world, *number, text),
         Event::Settle => settling_lines(world, text),
         Event::List(role) => list_lines(world, *role, text),

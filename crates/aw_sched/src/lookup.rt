@@ -83,19 +83,24 @@ fn choose_event(
             Err(fault) => Err(fault),
         },
         NodeSaid::Valid(node) => match chosen_args(alloc, g, rule, args) {
-            Ok((rule, args)) => Ok(Event::Choose(Choice::Develop { node, rule, args })),
+            Ok((rule, args)) => {
+                let choice = Choice::Develop { node, rule, args };
+                Ok(Event::of_choice(alloc, choice)?)
+            }
             Err(fault) => Err(fault),
         },
     }
 }
 
-fn start_event(g: &Grammar, sort: &[u8], case: u64) -> Result<Event, LineFault>
+fn start_event(alloc: Global, g: &Grammar, sort: &[u8], case: u64) -> Result<Event, LineFault>
     ensures gives { let line = StartLine sort.now case in GivesEvent (line_kind (declarations_of g.now) line) (event_of (declarations_of g.now) line) result }
     ensures fits { IfOk result (MayCome (grammar_of g.now)) }
 {
     match g.sort_named(sort) {
         None => Err(LineFault::Bad(SchedKind::Unknown)),
-        Some(sort) if is_start(g, sort) => Ok(Event::Choose(Choice::Start { sort, case })),
+        Some(sort) if is_start(g, sort) => {
+            Ok(Event::of_choice(alloc, Choice::Start { sort, case })?)
+        }
         Some(_) => Err(LineFault::Bad(SchedKind::NotStart)),
     }
 }
@@ -117,7 +122,7 @@ pub(crate) fn event_of(alloc: Global, g: &Grammar, line: &SchedLine<'_>) -> Resu
     ensures fits { IfOk result (MayCome (grammar_of g.now)) }
 {
     match line {
-        SchedLine::Start { sort, case } => start_event(g, sort, *case),
+        SchedLine::Start { sort, case } => start_event(alloc, g, sort, *case),
         SchedLine::Choose { node, rule, args } => choose_event(alloc, g, node, rule, args),
         SchedLine::Deliver(message) => Ok(Event::Deliver(*message)),
         SchedLine::Settle => Ok(Event::Settle),

@@ -29,7 +29,7 @@ fn event_fits(g: &Grammar, t: &Typed, event: &Event) -> bool
     ensures { result ≡ event_fits (types_of t.now.types) (grammar_of g.now) (event_seen event.now) }
 {
     match event {
-        Event::Choose(choice) => arg_ok(t, choice),
+        Event::Choose(choice) => arg_ok(t, choice.get()),
         Event::Deliver(_) => true,
         Event::Settle => true,
         Event::List(_) => true,

@@ -70,11 +70,19 @@ fn is_named_again(alloc: Global, g: &Grammar, node: &Node) -> Result<bool, Alloc
     }
 }
 
+/// Whether the task that a choice is on, where it is on one, is named again.
+fn is_node_named_again(alloc: Global, g: &Grammar, choice: &Choice) -> Result<bool, AllocError> {
+    match choice {
+        Choice::Start { .. } => Ok(true),
+        Choice::Develop { node, .. } => is_named_again(alloc, g, node),
+    }
+}
+
 /// Whether each task that is chosen on is named again.
 fn are_named_again(alloc: Global, g: &Grammar, events: &[Event]) -> Result<bool, AllocError> {
     for event in events {
-        if let Event::Choose(Choice::Develop { node, .. }) = event {
-            if !is_named_again(alloc, g, node)? {
+        if let Event::Choose(choice) = event {
+            if !is_node_named_again(alloc, g, choice.get())? {
                 return Ok(false);
             }
         }

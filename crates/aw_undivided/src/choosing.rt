@@ -2,7 +2,6 @@
 ghost use Rattle.std.specs.Prelude.{◌≡◌, IfOk};
 ghost use Rattle.aw_undivided.specs.Choosing.{is_choice, choices_among};
 
-use aw_choice::copy_choice;
 use aw_list::Items;
 use aw_sched::{Event, Events};
 use std::alloc::{AllocError, Global};
@@ -14,12 +13,12 @@ fn is_choice(event: &Event) -> bool
     matches!(event, Event::Choose(_))
 }
 
-/// A copy of an event.
+/// A copy of an event, which shares the memory of a choice.
 fn copy_event(event: &Event) -> Result<Event, AllocError>
     ensures { IfOk result (λ copy. copy ≡ event.now) }
 {
     match event {
-        Event::Choose(choice) => Ok(Event::Choose(copy_choice(choice)?)),
+        Event::Choose(choice) => Ok(Event::Choose(choice.clone()?)),
         Event::Deliver(message) => Ok(Event::Deliver(*message)),
         Event::Settle => Ok(Event::Settle),
         Event::List(role) => Ok(Event::List(*role)),

@@ -1,4 +1,5 @@
 use Rattle.std.proofs.Common.{sym, map, subst}
+use Rattle.std.specs.Prelude.{Ok}
 use Rattle.aw_grammar.specs.Written.{written_of}
 use Rattle.aw_grammar.specs.GrammarOf.{declarations_of, grammar_of, words_of}
 use Rattle.aw_base.specs.NodeNames.{node_named}
@@ -24,14 +25,16 @@ returns-after-chosen_args-clause-gives c =
       | in-Err w ↦ subst gives (sym w.result-is) (choose_fault g n c.args.rule.now args (event_of (declarations_of g) line) w.in-Err.fault said.0 w.in-Err.ensures)
     ]
 
-pub returns-in-Ok-chosen_args-clause-gives : goal.returns-in-Ok-chosen_args-clause-gives
-returns-in-Ok-chosen_args-clause-gives c =
+pub returns-in_ok-of_choice-in-Ok-chosen_args-clause-gives : goal.returns-in_ok-of_choice-in-Ok-chosen_args-clause-gives
+returns-in_ok-of_choice-in-Ok-chosen_args-clause-gives c =
     let g = c.args.g.now in
     let n = c.args.node.now in
     let node = c.in-Valid.node in
     let says = SaysNode (grammar_of g) (is_long n) (node_named (words_of g) (grammar_of g) n) in
     let said : says (Valid node) = subst says c.in-Valid.is c.in_ok-said_node.ensures.ok in
-    choose_good g n c.args.rule.now (map written_of c.args.args.now) node c.in-Ok-chosen_args.rule c.in-Ok-chosen_args.args said.0 said.1.0 c.in-Ok-chosen_args.ensures
+    let line = ChooseLine n c.args.rule.now (map written_of c.args.args.now) in
+    subst (λ e. GivesEvent (line_kind (declarations_of g) line) (event_of (declarations_of g) line) (Ok e)) (sym c.in_ok-of_choice-in-Ok-chosen_args.ensures)
+    (choose_good g n c.args.rule.now (map written_of c.args.args.now) node c.in-Ok-chosen_args.rule c.in-Ok-chosen_args.args said.0 said.1.0 c.in-Ok-chosen_args.ensures)
 
 pub returns-in-Err-chosen_args-clause-gives : goal.returns-in-Err-chosen_args-clause-gives
 returns-in-Err-chosen_args-clause-gives c =
