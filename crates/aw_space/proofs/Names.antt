@@ -1,5 +1,5 @@
 -- The references that nodes inherited, one after the other, and that they are named.
-use Rattle.std.proofs.Common.{◌≡◌, ◌+◌, true, List, [], ◌∷◌, ◌++◌, refl}
+use Rattle.std.proofs.Common.{◌≡◌, true, List, [], ◌∷◌, ◌++◌, refl}
 use Rattle.std.proofs.lemmas.Bool.{and_parts, and_from}
 use Rattle.aw_term.specs.Names.{Ref}
 use Rattle.aw_store.specs.NamedRefs.{is_named, all_named}

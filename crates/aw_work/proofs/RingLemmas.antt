@@ -6,7 +6,7 @@ use Rattle.std.proofs.lemmas.List.Folds.{sum_by-replicate}
 use Rattle.std.proofs.lemmas.Option.{none-some}
 use Rattle.futures.specs.declared.util.linked_list.Link.{Link as Wide}
 use Rattle.futures.specs.Links as kit
-use Rattle.futures.specs.Links.{next_of, prev_of, Joins, Inserts, is_list, keys_of, IsSound}
+use Rattle.futures.specs.Links.{next_of, prev_of, Joins, is_list, keys_of, IsSound}
 use Rattle.futures.proofs.LinkedListsLemmas.{keys_of_ring}
 use Rattle.aw_work.specs.declared.lists.Link.{Link}
 use Rattle.aw_work.specs.Rings.{no_link, after, before, Skips, Splices, wide, all_wide}

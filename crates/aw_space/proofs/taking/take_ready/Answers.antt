@@ -1,4 +1,4 @@
-use Rattle.std.proofs.Common.{◌+◌, ◌++◌, ◌∙◌, [], ap, sym, subst, map, arith}
+use Rattle.std.proofs.Common.{◌++◌, ◌∙◌, [], ap, sym, subst, map, arith}
 use Rattle.std.proofs.lemmas.List.Elements.{All-weaker}
 use Rattle.aw_term.specs.Names.{Ref}
 use Rattle.aw_grammar.specs.GrammarOf.{grammar_of}

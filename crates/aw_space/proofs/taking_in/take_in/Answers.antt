@@ -37,7 +37,7 @@ put_if-requires-clause-stands g c =
 
 pub learn_in_turn-requires-clause-named : goal.learn_in_turn-requires-clause-named
 learn_in_turn-requires-clause-named g c =
-    subst (λ (es : List Equation). all_named (g.F.Facts.names c.reserve.new.self) (lefts_of (map equation_of es)) ≡ true) (sym c.into_vec.ensures) (lefts_named _ _ c.in_ok-reserve.ensures.named)
+    subst (λ (es : List Equation). all_named (g.F.Facts.names c.reserve.new.self) (lefts_of (map equation_of es)) ≡ true) (sym c.into_vec.ensures) (lefts_named (g.F.Facts.names c.reserve.new.self) (map equation_of c.args.es) c.in_ok-reserve.ensures.named)
 
 pub learn_in_turn-requires-clause-fits : goal.learn_in_turn-requires-clause-fits
 learn_in_turn-requires-clause-fits g c = c.put_if.ensures.stands.fits
