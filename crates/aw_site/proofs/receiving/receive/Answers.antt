@@ -90,20 +90,20 @@ react-requires-clause-fresh g c = λ s h.
     let m = message_of gr c.args.m.now in
     subst (Judges gr s m) c.in-Fresh.is (c.in_ok-judge.ensures c.args.loads s h)
 
-pub returns-clause-answer : goal.returns-clause-answer
-returns-clause-answer g c = λ s shows.
+pub returns-in_ok-count-in-Fresh-clause-answer : goal.returns-in_ok-count-in-Fresh-clause-answer
+returns-in_ok-count-in-Fresh-clause-answer g c = λ s shows.
     let gr = grammar_of c.args.g.now.grammar in
     let m = message_of gr c.args.m.now in
     subst (IsReceived (answer.New c.in_ok-count-in-Fresh.count)) (sym (judged_as gr s m c.in_ok-judge.field-0 (c.in_ok-judge.ensures c.args.loads s shows.holds) ∙ ap (told gr s m) c.in-Fresh.is)) (c.in_ok-count-in-Fresh.ensures.count s shows)
 
-pub returns-clause-site : goal.returns-clause-site
-returns-clause-site g c = λ s shows.
+pub returns-in_ok-count-in-Fresh-clause-site : goal.returns-in_ok-count-in-Fresh-clause-site
+returns-in_ok-count-in-Fresh-clause-site g c = λ s shows.
     let gr = grammar_of c.args.g.now.grammar in
     let m = message_of gr c.args.m.now in
     subst (λ (x : Received Reaction). Shows g.F.Facts c.react.new.space c.react.new.subs c.react.new.outbox.items c.args.loads (after_message s x)) (sym (judged_as gr s m c.in_ok-judge.field-0 (c.in_ok-judge.ensures c.args.loads s shows.holds) ∙ ap (told gr s m) c.in-Fresh.is)) (c.in_ok-count-in-Fresh.ensures.site s shows)
 
-pub returns-clause-copy : goal.returns-clause-copy
-returns-clause-copy g c = λ s shows.
+pub returns-in_ok-count-in-Fresh-clause-copy : goal.returns-in_ok-count-in-Fresh-clause-copy
+returns-in_ok-count-in-Fresh-clause-copy g c = λ s shows.
     let gr = grammar_of c.args.g.now.grammar in
     let m = message_of gr c.args.m.now in
     c.in_ok-count-in-Fresh.ensures.copy s shows ∙ ap (λ (x : Received Reaction). map (message_of gr) c.args.copy.now.items ++ sent_for x) (sym (judged_as gr s m c.in_ok-judge.field-0 (c.in_ok-judge.ensures c.args.loads s shows.holds) ∙ ap (told gr s m) c.in-Fresh.is))
