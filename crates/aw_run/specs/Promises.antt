@@ -1,5 +1,5 @@
 -- What is promised of the events that an input spells behind a good specification, apart from what is written of them.
-use Rattle.std.specs.Prelude.{◌≡◌, ℕ, suc, Bool, true, List, [], ◌++◌, take, drop, Some, ◌⊎◌}
+use Rattle.std.specs.Prelude.{◌≡◌, ℕ, suc, Bool, true, List, [], ◌++◌, take, drop, Option, Some, ◌⊎◌}
 use Rattle.aw_list.specs.Members.{Member}
 use Rattle.aw_lex.specs.Lines.{lines_of}
 use Rattle.aw_term.specs.Trees.{Never}
@@ -26,9 +26,12 @@ use Rattle.aw_react.specs.Outputs.{after_events, all_lines, all_moves, moment, o
 use Rattle.aw_replay.specs.Telling.{SettlingEnds}
 use Rattle.aw_undivided.specs.ChoicesIn.{choices_in}
 use Rattle.aw_run.specs.Output.{IsOutputOf}
-use Rattle.aw_run.specs.Replies.{Replies, WritesSome}
+use Rattle.aw_run.specs.Replies.{ForInput, Replies, WritesSome}
 use Rattle.aw_run.specs.declared.reply.Reply.{Reply}
+use Rattle.aw_run.specs.declared.reply.Status.{Status}
 use Rattle.aw_run.specs.declared.reply.Status.TheVariants.{Done}
+use Rattle.aw_run.specs.declared.words.Command.{Command}
+use Rattle.aw_run.specs.declared.words.Command.TheVariants.{Reads}
 use Rattle.aw_run.specs.declared.words.Job.{Job}
 use Rattle.aw_run.specs.declared.words.Job.TheVariants.{Check, Tells}
 
@@ -113,3 +116,11 @@ RepliesKeeping job input said = Replies (IsOutputOf job input) said × (said.sta
 -- the job makes a text of the input, that text has P, and of the events that the input spells F holds
 abbrev pub WritesWith : (Types → Words → Grammar → Bool → List Event → Type 0) → Job → List ℕ → (List ℕ → Type 0) → Type 0
 WritesWith F job input P = WritesSome job input P × OfEvents F input
+
+-- where these are the words of a command that does the job and it is done, it has written the text that the job makes of the input
+abbrev pub DoneBy : Job → Option Command → Status → Option (List ℕ) → (List ℕ → Type 0) → Type 0
+DoneBy job said result left P = said ≡ Some (Reads job) → result ≡ Done → ForInput left (λ input. WritesSome job input P)
+
+-- and of the events that the input spells F holds
+abbrev pub DoneWith : (Types → Words → Grammar → Bool → List Event → Type 0) → Job → Option Command → Status → Option (List ℕ) → (List ℕ → Type 0) → Type 0
+DoneWith F job said result left P = said ≡ Some (Reads job) → result ≡ Done → ForInput left (λ input. WritesWith F job input P)

@@ -7,8 +7,8 @@ ghost use Rattle.aw_run.specs.Words.{command_of, role_word};
 ghost use Rattle.aw_run.specs.Carrying.{StopsCarrying};
 ghost use Rattle.aw_run.specs.Keeping.{StopsKeeping};
 ghost use Rattle.aw_run.specs.Statuses.{IsReply, IsPastReading, IsSilent, IsStop, IsJournalStop, IsRefusal, status_of_stop};
-ghost use Rattle.aw_run.specs.Promises.{PlainIsTyped, ReplayIsTyped, RepliesKeeping, RulesStayEnabled, Settled, StartsStayEnabled, StaysAcyclic, WritesAnyOrder, WritesWith};
-ghost use Rattle.aw_run.specs.Replies.{EndsWith, ForInput, IsDoneOrStopped, IsGood, NetFailed, NetKept, Replied, Says, SomeReply, WritesCarrying, WritesKeeping, WritesServing, WritesSome};
+ghost use Rattle.aw_run.specs.Promises.{DoneBy, DoneWith, PlainIsTyped, ReplayIsTyped, RepliesKeeping, RulesStayEnabled, Settled, StartsStayEnabled, StaysAcyclic, WritesAnyOrder};
+ghost use Rattle.aw_run.specs.Replies.{EndsWith, ForInput, IsDoneOrStopped, IsGood, NetFailed, NetKept, Replied, Says, SomeReply, WritesCarrying, WritesKeeping, WritesServing};
 ghost use Rattle.aw_run.specs.Replies.{around, contents, reads, uses_disk, uses_wire, wired};
 
 use crate::carrying::carry_source;
@@ -111,32 +111,22 @@ pub fn run<S: Source, K: Sink, W: Wire, D: Disk>(
     ensures cause { IsReply result → ForInput (S.left src.old) (λ input. EndsWith words.now input (around ⟦<W as Wire>⟧ ⟦<D as Disk>⟧ wire.old wire.new disk.old disk.new) result) }
 
     // A command that is done has written the whole text that it makes of its input.
-    ensures check { command_of words.now ≡ Some (Command.Reads Job.Check) → result ≡ Status.Done → ForInput (S.left src.old)
-        (λ input. WritesSome Job.Check input (Gets (K.written out.old) (K.written out.new))) }
-    ensures plain { command_of words.now ≡ Some (Command.Reads (Job.Tells Telling.Undivided)) → result ≡ Status.Done → ForInput (S.left src.old)
-        (λ input. WritesSome (Job.Tells Telling.Undivided) input (Gets (K.written out.old) (K.written out.new))) }
-    ensures replay { command_of words.now ≡ Some (Command.Reads (Job.Tells Telling.Replayed)) → result ≡ Status.Done → ForInput (S.left src.old)
-        (λ input. WritesSome (Job.Tells Telling.Replayed) input (Gets (K.written out.old) (K.written out.new))) }
+    ensures check { DoneBy Job.Check (command_of words.now) result (S.left src.old) (Gets (K.written out.old) (K.written out.new)) }
+    ensures plain { DoneBy (Job.Tells Telling.Undivided) (command_of words.now) result (S.left src.old) (Gets (K.written out.old) (K.written out.new)) }
+    ensures replay { DoneBy (Job.Tells Telling.Replayed) (command_of words.now) result (S.left src.old) (Gets (K.written out.old) (K.written out.new)) }
 
     // The events of a replay may be any choices and deliveries, late, repeated and out of order. At each moment the choices taken have an
     // acyclic undivided configuration, and what is enabled stays so. Settling leaves no message, and where all were delivered the
     // artifacts written are those of one undivided configuration of the same choices, in any order that it allows.
-    ensures acyclic { command_of words.now ≡ Some (Command.Reads (Job.Tells Telling.Replayed)) → result ≡ Status.Done → ForInput (S.left src.old)
-        (λ input. WritesWith StaysAcyclic (Job.Tells Telling.Replayed) input (Gets (K.written out.old) (K.written out.new))) }
-    ensures enabled { command_of words.now ≡ Some (Command.Reads (Job.Tells Telling.Replayed)) → result ≡ Status.Done → ForInput (S.left src.old)
-        (λ input. WritesWith RulesStayEnabled (Job.Tells Telling.Replayed) input (Gets (K.written out.old) (K.written out.new))) }
-    ensures started { command_of words.now ≡ Some (Command.Reads (Job.Tells Telling.Replayed)) → result ≡ Status.Done → ForInput (S.left src.old)
-        (λ input. WritesWith StartsStayEnabled (Job.Tells Telling.Replayed) input (Gets (K.written out.old) (K.written out.new))) }
-    ensures any_order { command_of words.now ≡ Some (Command.Reads (Job.Tells Telling.Replayed)) → result ≡ Status.Done → ForInput (S.left src.old)
-        (λ input. WritesWith WritesAnyOrder (Job.Tells Telling.Replayed) input (Gets (K.written out.old) (K.written out.new))) }
-    ensures settles { command_of words.now ≡ Some (Command.Reads (Job.Tells Telling.Replayed)) → result ≡ Status.Done → ForInput (S.left src.old)
-        (λ input. WritesWith Settled (Job.Tells Telling.Replayed) input (Gets (K.written out.old) (K.written out.new))) }
+    ensures acyclic { DoneWith StaysAcyclic (Job.Tells Telling.Replayed) (command_of words.now) result (S.left src.old) (Gets (K.written out.old) (K.written out.new)) }
+    ensures enabled { DoneWith RulesStayEnabled (Job.Tells Telling.Replayed) (command_of words.now) result (S.left src.old) (Gets (K.written out.old) (K.written out.new)) }
+    ensures started { DoneWith StartsStayEnabled (Job.Tells Telling.Replayed) (command_of words.now) result (S.left src.old) (Gets (K.written out.old) (K.written out.new)) }
+    ensures any_order { DoneWith WritesAnyOrder (Job.Tells Telling.Replayed) (command_of words.now) result (S.left src.old) (Gets (K.written out.old) (K.written out.new)) }
+    ensures settles { DoneWith Settled (Job.Tells Telling.Replayed) (command_of words.now) result (S.left src.old) (Gets (K.written out.old) (K.written out.new)) }
 
     // Where there are types, each configuration that the choices taken lead to is well typed, a hole having the type of its result.
-    ensures typed_plain { command_of words.now ≡ Some (Command.Reads (Job.Tells Telling.Undivided)) → result ≡ Status.Done → ForInput (S.left src.old)
-        (λ input. WritesWith PlainIsTyped (Job.Tells Telling.Undivided) input (Gets (K.written out.old) (K.written out.new))) }
-    ensures typed_replay { command_of words.now ≡ Some (Command.Reads (Job.Tells Telling.Replayed)) → result ≡ Status.Done → ForInput (S.left src.old)
-        (λ input. WritesWith ReplayIsTyped (Job.Tells Telling.Replayed) input (Gets (K.written out.old) (K.written out.new))) }
+    ensures typed_plain { DoneWith PlainIsTyped (Job.Tells Telling.Undivided) (command_of words.now) result (S.left src.old) (Gets (K.written out.old) (K.written out.new)) }
+    ensures typed_replay { DoneWith ReplayIsTyped (Job.Tells Telling.Replayed) (command_of words.now) result (S.left src.old) (Gets (K.written out.old) (K.written out.new)) }
 
     ensures trial { (n : ℕ) → command_of words.now ≡ Some (Command.Tries n) → result ≡ Status.Done → Gets (K.written out.old) (K.written out.new) (trial_text n) }
     ensures node { (n : ℕ) → command_of words.now ≡ Some (Command.Serves n) → result ≡ Status.Done → ForInput (S.left src.old) (λ input.
