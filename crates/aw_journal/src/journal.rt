@@ -161,7 +161,7 @@ impl Journal {
         };
         let bytes = record_bytes(self.alloc, count, &event)?;
         self.events.reserve(1)?;
-        match put_record(disk, self.gate, bytes.as_slice()) {
+        match put_whole(disk, self.gate, bytes) {
             Did::Done => {
                 self.gate = next;
                 self.events.push(event).unwrap();
@@ -201,6 +201,23 @@ fn put_record<D: Disk>(disk: &mut D, gate: u64, b: &[u8]) -> Did
         Did::Done => write_synced(disk, gate, &[1]),
         Did::Failed => Did::Failed,
     }
+}
+
+/// Writes a whole record behind its gate, which is closed, and opens it; the record is let go.
+fn put_whole<D: Disk>(disk: &mut D, gate: u64, bytes: Text) -> Did
+    requires some { 0 < length bytes }
+    requires fits { gate + 1 + length bytes < 2 ^ 64 }
+    requires within { IsTrue (D.tells disk.old) → gate < length (D.seen disk.old) }
+    ensures done { result ≡ Did.Done → (before rest : List ℕ) (shut : ℕ) → StandsAt D.tells D.seen D.may_leave disk.old gate before rest shut
+        → StandsAt D.tells D.seen D.may_leave disk.new gate before (behind_gate bytes rest) 1 }
+    ensures any_moment { (before rest : List ℕ) (shut : ℕ) → StandsAt D.tells D.seen D.may_leave disk.old gate before rest shut
+        → LeavesOnly D.moment D.left_since disk.old disk.new (IsAround before shut (behind_gate bytes rest)) }
+    ensures tells { D.tells disk.new ≡ D.tells disk.old }
+    ensures never_falls { D.faults disk.old ≤ D.faults disk.new }
+    ensures cause { result ≡ Did.Failed → Rose (D.faults disk.old) (D.faults disk.new) }
+    ensures kept { result ≢ Did.Failed → D.faults disk.new ≡ D.faults disk.old }
+{
+    put_record(disk, gate, bytes.as_slice())
 }
 
 fn length_bytes(n: u64) -> [u8; 8]

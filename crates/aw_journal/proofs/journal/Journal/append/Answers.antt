@@ -73,11 +73,11 @@ returns-in-Done-clause-any_moment g c told =
     let settled : IsSettled g.D.Disk.seen g.D.Disk.may_leave old j = subst (IsSettled g.D.Disk.seen g.D.Disk.may_leave old) (sym c.self.view_is) (c.requires.settled told) in
     let fits : length (front j.role j.text (events_seen j.events)) < 2 ^ 64 = omega (arith, c.self.invariant.gate) in
     let small : length (payload_of (event_of c.args.event)) < 2 ^ 64 = omega (arith, c.in-Some.ensures.0, c.payload_len-count.ensures) in
-    let bytes : c.as_slice.result.now ≡ record_of (event_of c.args.event) ++ 0 ∷ [] = c.as_slice.ensures ∙ c.in_ok-bytes.ensures.bytes in
+    let bytes : c.in_ok-bytes.bytes ≡ record_of (event_of c.args.event) ++ 0 ∷ [] = c.in_ok-bytes.ensures.bytes in
     let standing = stands g.D.Disk.tells g.D.Disk.seen g.D.Disk.may_leave old j c.self.inside.gate told c.self.invariant.gate settled in
-    let any = c.put_record.ensures.any_moment (front j.role j.text (events_seen j.events)) settled.file.rest settled.file.gate standing in
-    let any_bytes = subst (λ (b : List ℕ). LeavesOnly g.D.Disk.moment g.D.Disk.left_since old c.put_record.new.disk (IsAround (front j.role j.text (events_seen j.events)) settled.file.gate (behind_gate b settled.file.rest))) bytes any in
-    rw (← c.self.view_is) (weaker g.D.Disk.moment g.D.Disk.left_since old c.put_record.new.disk _ (IsBeforeOrAfter (events_seen j.events) (event_of c.args.event)) any_bytes
+    let any = c.put_whole.ensures.any_moment (front j.role j.text (events_seen j.events)) settled.file.rest settled.file.gate standing in
+    let any_bytes = subst (λ (b : List ℕ). LeavesOnly g.D.Disk.moment g.D.Disk.left_since old c.put_whole.new.disk (IsAround (front j.role j.text (events_seen j.events)) settled.file.gate (behind_gate b settled.file.rest))) bytes any in
+    rw (← c.self.view_is) (weaker g.D.Disk.moment g.D.Disk.left_since old c.put_whole.new.disk _ (IsBeforeOrAfter (events_seen j.events) (event_of c.args.event)) any_bytes
     (λ f left. around j.role j.text (events_seen j.events) c.self.invariant.all fits f settled.file.rest (event_of c.args.event) settled.file.gate settled.file.shut (c.in_ok-bytes.ensures.sized, c.requires.event) small left))
 
 pub returns-in-Failed-clause-any_moment : goal.returns-in-Failed-clause-any_moment
@@ -87,11 +87,11 @@ returns-in-Failed-clause-any_moment g c told =
     let settled : IsSettled g.D.Disk.seen g.D.Disk.may_leave old j = subst (IsSettled g.D.Disk.seen g.D.Disk.may_leave old) (sym c.self.view_is) (c.requires.settled told) in
     let fits : length (front j.role j.text (events_seen j.events)) < 2 ^ 64 = omega (arith, c.self.invariant.gate) in
     let small : length (payload_of (event_of c.args.event)) < 2 ^ 64 = omega (arith, c.in-Some.ensures.0, c.payload_len-count.ensures) in
-    let bytes : c.as_slice.result.now ≡ record_of (event_of c.args.event) ++ 0 ∷ [] = c.as_slice.ensures ∙ c.in_ok-bytes.ensures.bytes in
+    let bytes : c.in_ok-bytes.bytes ≡ record_of (event_of c.args.event) ++ 0 ∷ [] = c.in_ok-bytes.ensures.bytes in
     let standing = stands g.D.Disk.tells g.D.Disk.seen g.D.Disk.may_leave old j c.self.inside.gate told c.self.invariant.gate settled in
-    let any = c.put_record.ensures.any_moment (front j.role j.text (events_seen j.events)) settled.file.rest settled.file.gate standing in
-    let any_bytes = subst (λ (b : List ℕ). LeavesOnly g.D.Disk.moment g.D.Disk.left_since old c.put_record.new.disk (IsAround (front j.role j.text (events_seen j.events)) settled.file.gate (behind_gate b settled.file.rest))) bytes any in
-    rw (← c.self.view_is) (weaker g.D.Disk.moment g.D.Disk.left_since old c.put_record.new.disk _ (IsBeforeOrAfter (events_seen j.events) (event_of c.args.event)) any_bytes
+    let any = c.put_whole.ensures.any_moment (front j.role j.text (events_seen j.events)) settled.file.rest settled.file.gate standing in
+    let any_bytes = subst (λ (b : List ℕ). LeavesOnly g.D.Disk.moment g.D.Disk.left_since old c.put_whole.new.disk (IsAround (front j.role j.text (events_seen j.events)) settled.file.gate (behind_gate b settled.file.rest))) bytes any in
+    rw (← c.self.view_is) (weaker g.D.Disk.moment g.D.Disk.left_since old c.put_whole.new.disk _ (IsBeforeOrAfter (events_seen j.events) (event_of c.args.event)) any_bytes
     (λ f left. around j.role j.text (events_seen j.events) c.self.invariant.all fits f settled.file.rest (event_of c.args.event) settled.file.gate settled.file.shut (c.in_ok-bytes.ensures.sized, c.requires.event) small left))
 
 pub returns-in-Done-clause-settled : goal.returns-in-Done-clause-settled
@@ -101,14 +101,14 @@ returns-in-Done-clause-settled g c told =
     let settled : IsSettled g.D.Disk.seen g.D.Disk.may_leave old j = subst (IsSettled g.D.Disk.seen g.D.Disk.may_leave old) (sym c.self.view_is) (c.requires.settled told) in
     let fits : length (front j.role j.text (events_seen j.events)) < 2 ^ 64 = omega (arith, c.self.invariant.gate) in
     let small : length (payload_of (event_of c.args.event)) < 2 ^ 64 = omega (arith, c.in-Some.ensures.0, c.payload_len-count.ensures) in
-    let bytes : c.as_slice.result.now ≡ record_of (event_of c.args.event) ++ 0 ∷ [] = c.as_slice.ensures ∙ c.in_ok-bytes.ensures.bytes in
+    let bytes : c.in_ok-bytes.bytes ≡ record_of (event_of c.args.event) ++ 0 ∷ [] = c.in_ok-bytes.ensures.bytes in
     let standing = stands g.D.Disk.tells g.D.Disk.seen g.D.Disk.may_leave old j c.self.inside.gate told c.self.invariant.gate settled in
     let after = c.in-Done.ensures.done refl (front j.role j.text (events_seen j.events)) settled.file.rest settled.file.gate standing in
-    let after_bytes = subst (λ (b : List ℕ). StandsAt g.D.Disk.tells g.D.Disk.seen g.D.Disk.may_leave c.put_record.new.disk c.self.inside.gate (front j.role j.text (events_seen j.events)) (behind_gate b settled.file.rest) 1) bytes after in
-    let now = settled_after g.D.Disk.tells g.D.Disk.seen g.D.Disk.may_leave c.put_record.new.disk j c.self.inside.gate c.args.event settled.file.rest after_bytes in
+    let after_bytes = subst (λ (b : List ℕ). StandsAt g.D.Disk.tells g.D.Disk.seen g.D.Disk.may_leave c.put_whole.new.disk c.self.inside.gate (front j.role j.text (events_seen j.events)) (behind_gate b settled.file.rest) 1) bytes after in
+    let now = settled_after g.D.Disk.tells g.D.Disk.seen g.D.Disk.may_leave c.put_whole.new.disk j c.self.inside.gate c.args.event settled.file.rest after_bytes in
     let pushed : c.push.new.self.items ≡ c.self.inside.events.items ++ c.args.event ∷ [] =
     (rw c.unwrap.ensures at c.push.ensures.items) ∙ ap (λ (es : List NodeEvent). es ++ c.args.event ∷ []) c.reserve.ensures.items in
-    subst (λ (es : List NodeEvent). IsSettled g.D.Disk.seen g.D.Disk.may_leave c.put_record.new.disk (record j { events = es })) (sym pushed) now
+    subst (λ (es : List NodeEvent). IsSettled g.D.Disk.seen g.D.Disk.may_leave c.put_whole.new.disk (record j { events = es })) (sym pushed) now
 
 pub returns-in-Done-clause-durable : goal.returns-in-Done-clause-durable
 returns-in-Done-clause-durable g c told =
@@ -117,11 +117,11 @@ returns-in-Done-clause-durable g c told =
     let settled : IsSettled g.D.Disk.seen g.D.Disk.may_leave old j = subst (IsSettled g.D.Disk.seen g.D.Disk.may_leave old) (sym c.self.view_is) (c.requires.settled told) in
     let fits : length (front j.role j.text (events_seen j.events)) < 2 ^ 64 = omega (arith, c.self.invariant.gate) in
     let small : length (payload_of (event_of c.args.event)) < 2 ^ 64 = omega (arith, c.in-Some.ensures.0, c.payload_len-count.ensures) in
-    let bytes : c.as_slice.result.now ≡ record_of (event_of c.args.event) ++ 0 ∷ [] = c.as_slice.ensures ∙ c.in_ok-bytes.ensures.bytes in
+    let bytes : c.in_ok-bytes.bytes ≡ record_of (event_of c.args.event) ++ 0 ∷ [] = c.in_ok-bytes.ensures.bytes in
     let standing = stands g.D.Disk.tells g.D.Disk.seen g.D.Disk.may_leave old j c.self.inside.gate told c.self.invariant.gate settled in
     let after = c.in-Done.ensures.done refl (front j.role j.text (events_seen j.events)) settled.file.rest settled.file.gate standing in
-    let after_bytes = subst (λ (b : List ℕ). StandsAt g.D.Disk.tells g.D.Disk.seen g.D.Disk.may_leave c.put_record.new.disk c.self.inside.gate (front j.role j.text (events_seen j.events)) (behind_gate b settled.file.rest) 1) bytes after in
-    let now = settled_after g.D.Disk.tells g.D.Disk.seen g.D.Disk.may_leave c.put_record.new.disk j c.self.inside.gate c.args.event settled.file.rest after_bytes in
+    let after_bytes = subst (λ (b : List ℕ). StandsAt g.D.Disk.tells g.D.Disk.seen g.D.Disk.may_leave c.put_whole.new.disk c.self.inside.gate (front j.role j.text (events_seen j.events)) (behind_gate b settled.file.rest) 1) bytes after in
+    let now = settled_after g.D.Disk.tells g.D.Disk.seen g.D.Disk.may_leave c.put_whole.new.disk j c.self.inside.gate c.args.event settled.file.rest after_bytes in
     let pushed : c.push.new.self.items ≡ c.self.inside.events.items ++ c.args.event ∷ [] =
     (rw c.unwrap.ensures at c.push.ensures.items) ∙ ap (λ (es : List NodeEvent). es ++ c.args.event ∷ []) c.reserve.ensures.items in
     let event = c.args.event in
@@ -130,17 +130,17 @@ returns-in-Done-clause-durable g c told =
     let long = length-front_push j.role j.text (events_seen j.events) (event_of event) in
     let fits_now : length (front j.role j.text (events_seen (j.events ++ event ∷ []))) < 2 ^ 64 =
     omega (arith, long, c.in-Some.ensures.0, c.payload_len-count.ensures, c.self.invariant.gate, ap (λ (es : List Event). length (front j.role j.text es)) seen) in
-    subst (λ (es : List NodeEvent). (f : List ℕ) → g.D.Disk.may_leave c.put_record.new.disk f → events_of f ≡ events_seen es) (sym pushed)
-    (settled_events g.D.Disk.tells g.D.Disk.seen g.D.Disk.may_leave c.put_record.new.disk (record j { events = j.events ++ event ∷ [] }) (subst AllEvents (sym seen) all) fits_now now)
+    subst (λ (es : List NodeEvent). (f : List ℕ) → g.D.Disk.may_leave c.put_whole.new.disk f → events_of f ≡ events_seen es) (sym pushed)
+    (settled_events g.D.Disk.tells g.D.Disk.seen g.D.Disk.may_leave c.put_whole.new.disk (record j { events = j.events ++ event ∷ [] }) (subst AllEvents (sym seen) all) fits_now now)
 
-pub invariant_of-self-in-Done-1 : goal.invariant_of-self-in-Done-1
-invariant_of-self-in-Done-1 g c =
+pub invariant_of-self-in-Done : goal.invariant_of-self-in-Done
+invariant_of-self-in-Done g c =
     let pushed : events_seen c.push.new.self.items ≡ events_seen c.self.inside.events.items ++ event_of c.args.event ∷ [] =
     ap events_seen ((rw c.unwrap.ensures at c.push.ensures.items) ∙ ap (λ (es : List NodeEvent). es ++ c.args.event ∷ []) c.reserve.ensures.items) ∙ events_push c.self.inside.events.items c.args.event in
     let long = length-front_push c.self.inside.role c.self.inside.text (events_seen c.self.inside.events.items) (event_of c.args.event) in
     record { all = subst AllEvents (sym pushed) (all_push (events_seen c.self.inside.events.items) (event_of c.args.event) c.self.invariant.all (c.in_ok-bytes.ensures.sized, c.requires.event)); gate = omega (arith, long, c.in-Some.ensures.0, c.payload_len-count.ensures, c.self.invariant.gate, ap (λ (es : List Event). length (front c.self.inside.role c.self.inside.text es)) pushed) }
 
-pub put_record-requires-clause-fits : goal.put_record-requires-clause-fits
-put_record-requires-clause-fits g c =
-    let bytes : c.as_slice.result.now ≡ record_of (event_of c.args.event) ++ 0 ∷ [] = c.as_slice.ensures ∙ c.in_ok-bytes.ensures.bytes in
+pub put_whole-requires-clause-fits : goal.put_whole-requires-clause-fits
+put_whole-requires-clause-fits g c =
+    let bytes : c.in_ok-bytes.bytes ≡ record_of (event_of c.args.event) ++ 0 ∷ [] = c.in_ok-bytes.ensures.bytes in
     omega (arith, ap length bytes, length-append (record_of (event_of c.args.event)) (0 ∷ []), length-spelled (event_of c.args.event), c.in-Some.ensures.0, c.in-Some.ensures.1, c.payload_len-count.ensures)
