@@ -112,6 +112,7 @@ fn push_all<W: Wire>(
                 ask(alloc, wire, Request::Push, frame.as_slice())?;
                 pushes.room -= frame.len();
                 pushes.moved = true;
+                drop(frame);
             }
             NextUp::TooLong => {
                 pushes.room = 0;

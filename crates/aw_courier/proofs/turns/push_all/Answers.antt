@@ -23,8 +23,8 @@ returns-in_err-ask-in-Frame-clause-err g c p co s =
     (queue_at c.next_for.new.self c.args.role) _ _ h (role-few p c.args.role c.pushing.mails h.now c.pushing.invariant.holds h.shows) c.in-Frame.ensures.next.0 c.in-Frame.ensures.next.1
     (rw c.as_slice.ensures at (c.in_err-ask-in-Frame.ensures.err p)))
 
-pub pushing-preserved-in_ok-ask-in-Frame : goal.pushing-preserved-in_ok-ask-in-Frame
-pushing-preserved-in_ok-ask-in-Frame g c =
+pub pushing-preserved : goal.pushing-preserved
+pushing-preserved g c =
     let asked = rw c.as_slice.ensures at c.in_ok-ask-in-Frame.ensures.ok in
     let same = same-size c.pushing.mails c.next_for.new.self c.args.role (queue_at c.next_for.new.self c.args.role) c.in-Frame.ensures.same in
     record {
