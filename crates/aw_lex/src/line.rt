@@ -6,11 +6,14 @@ ghost use Rattle.aw_lex.specs.Lines.{first_line, lines_of, lines_from, passed_ov
 use crate::front::is_blank;
 use memchr::memchr;
 
-/// Where the first line feed stands. It is sought among many bytes at once.
+/// Where the first line feed stands. It is sought among many bytes at once, but where it is the first byte, as in an empty line.
 fn place_of_feed(text: &[u8]) -> Option<usize>
     ensures value { result ≡ position (λ b. b == 10) text.now }
     ensures within { IfSome result (λ at. at < length text.now) }
 {
+    if let [b'\n', ..] = text {
+        return Some(0);
+    }
     memchr(b'\n', text)
 }
 
