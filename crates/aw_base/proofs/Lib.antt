@@ -5,3 +5,4 @@ pub mod NamesAt
 pub mod NodeReads
 pub mod ValidNodes
 pub mod TextLemmas
+pub mod NameFronts

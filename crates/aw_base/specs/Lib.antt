@@ -2,3 +2,4 @@ pub mod Allowance
 pub mod ChoiceFits
 pub mod NodeNames
 pub mod NodeReading
+pub mod NameFronts

@@ -6,6 +6,7 @@ mod choice_fits;
 pub mod declared;
 mod homes;
 mod lines;
+mod name_writer;
 mod names;
 mod read_node;
 mod texts;
@@ -26,6 +27,7 @@ pub use choice_fits::{MOST_ARGUMENTS, MOST_NESTING, MOST_SYMBOLS, args_ok, choic
 pub use declared::{Declared, Triple};
 pub use homes::{home_at, home_of_valid, sort_at};
 pub use lines::{push_artifacts_line, push_choice, push_choice_line, push_item_lines};
+pub use name_writer::NameWriter;
 pub use names::{child_node, home_of, ref_ok, sort_of};
 pub use read_node::{NameFault, parse_node};
 pub use texts::{

@@ -53,7 +53,7 @@ pub fn rule_name(g: &Grammar, rule: u16) -> &[u8]
     }
 }
 
-fn add_step(text: &mut Text, g: &Grammar, step: &Step) -> Result<(), AllocError>
+pub(crate) fn add_step(text: &mut Text, g: &Grammar, step: &Step) -> Result<(), AllocError>
     ensures ok { OnOk result (text.new ≡ text.old ++ step_text (words_of g.now) step.now) }
     ensures err { OnErr result (StartsWith text.new text.old) }
 {

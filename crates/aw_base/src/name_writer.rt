@@ -1,0 +1,224 @@
+//! Names of nodes that are written one after another, each from the step at which it parts from the last one.
+ghost use Rattle.std.specs.Prelude.{◌≡◌, ℕ, ◌≤◌, ◌<◌, ◌+◌, ◌++◌, [], IfOk, IsTrue, OnOk, OnErr, length, take};
+ghost use Rattle.aw_term.specs.Artifacts.{node_text};
+ghost use Rattle.aw_grammar.specs.GrammarOf.{words_of};
+ghost use Rattle.aw_base.specs.NameFronts.{front, AreFronts};
+
+use crate::texts::{add_step, sort_name};
+use aw_grammar::Grammar;
+use aw_list::Text;
+use aw_name::{Node, Step, Trail, copy_node};
+use aw_text::push_number;
+use std::alloc::{AllocError, Global};
+
+/// The name that was written last, with the places where the names of the nodes above it end, from that of the start node on. Where
+/// there are no places, nothing is known.
+#[derive(Drop)]
+struct Written {
+    node: Node,
+    text: Text,
+    ends: Vec<usize>,
+}
+
+/// Whether two steps are one.
+fn is_same_step(a: &Step, b: &Step) -> bool
+    ensures { IsTrue result → a.now ≡ b.now }
+{
+    a == b
+}
+
+/// How many steps two trails have in common at their front.
+fn common_steps(a: &[Step], b: &[Step]) -> usize
+    ensures same { take result a.now ≡ take result b.now }
+    ensures short { result ≤ length a.now }
+    ensures within { result ≤ length b.now }
+{
+    let most = a.len().min(b.len());
+    for i in 0..most {
+        if !is_same_step(&a[i], &b[i]) {
+            return i;
+        }
+    }
+    most
+}
+
+/// How many fronts of a node's name are known, from that of its start node on.
+fn count_known(written: &Written, n: &Node) -> usize
+    ensures within { result ≤ length written.now.ends.items }
+    ensures few { result ≤ length n.now.steps + 1 }
+    ensures same { (j : ℕ) → j < result → front j written.now.node ≡ front j n.now }
+{
+    if written.node.start != n.start || written.node.case != n.case {
+        return 0;
+    }
+    let common = common_steps(written.node.steps.as_slice(), n.steps.as_slice());
+    written.ends.len().min(common + 1)
+}
+
+/// Lets all fronts go but those with at most so many steps. The node stays.
+fn cut(written: &mut Written, g: &Grammar, at: usize)
+    requires sound { AreFronts (words_of g.now) written.old.node written.old.text written.old.ends.items }
+    requires within { at < length written.old.ends.items }
+    ensures sound { AreFronts (words_of g.now) written.new.node written.new.text written.new.ends.items }
+    ensures count { length written.new.ends.items ≡ at + 1 }
+    ensures node { written.new.node ≡ written.old.node }
+{
+    let end = written.ends[at];
+    written.text.truncate(end);
+    written.ends.truncate(at + 1);
+}
+
+/// Writes the name of the start node alone. The node stays.
+fn begin(written: &mut Written, g: &Grammar) -> Result<(), AllocError>
+    ensures sound { OnOk result (AreFronts (words_of g.now) written.new.node written.new.text written.new.ends.items) }
+    ensures count { OnOk result (length written.new.ends.items ≡ 1) }
+    ensures node { written.new.node ≡ written.old.node }
+{
+    written.ends.clear();
+    written.text.truncate(0);
+    written.text.push_bytes(sort_name(g, written.node.start))?;
+    written.text.push_bytes(b"#")?;
+    push_number(&mut written.text, written.node.case)?;
+    written.ends.push(written.text.len())?;
+    Ok(())
+}
+
+/// Writes one more step of the node.
+fn write_step(written: &mut Written, g: &Grammar, at: usize) -> Result<(), AllocError>
+    requires sound { AreFronts (words_of g.now) written.old.node written.old.text written.old.ends.items }
+    requires next { length written.old.ends.items ≡ at + 1 }
+    requires within { at < length written.old.node.steps }
+    ensures sound { OnOk result (AreFronts (words_of g.now) written.new.node written.new.text written.new.ends.items) }
+    ensures count { OnOk result (length written.new.ends.items ≡ at + 2) }
+    ensures node { written.new.node ≡ written.old.node }
+{
+    let step = written.node.steps.as_slice()[at];
+    add_step(&mut written.text, g, &step)?;
+    written.ends.push(written.text.len())?;
+    Ok(())
+}
+
+/// Writes the steps of the node from a place on.
+fn write_steps(written: &mut Written, g: &Grammar, from: usize) -> Result<(), AllocError>
+    requires sound { AreFronts (words_of g.now) written.old.node written.old.text written.old.ends.items }
+    requires next { length written.old.ends.items ≡ from + 1 }
+    requires within { from ≤ length written.old.node.steps }
+    ensures sound { OnOk result (AreFronts (words_of g.now) written.new.node written.new.text written.new.ends.items) }
+    ensures count { OnOk result (length written.new.ends.items ≡ length written.new.node.steps + 1) }
+    ensures node { written.new.node ≡ written.old.node }
+{
+    for at in from..written.node.steps.len() {
+        write_step(written, g, at)?;
+    }
+    Ok(())
+}
+
+/// Writes the name of a node of which so many fronts are known.
+fn write_name(written: &mut Written, g: &Grammar, n: &Node, known: usize) -> Result<(), AllocError>
+    requires sound { AreFronts (words_of g.now) written.old.node written.old.text written.old.ends.items }
+    requires within { known ≤ length written.old.ends.items }
+    requires few { known ≤ length n.now.steps + 1 }
+    requires same { (j : ℕ) → j < known → front j written.old.node ≡ front j n.now }
+    ensures sound { OnOk result (AreFronts (words_of g.now) written.new.node written.new.text written.new.ends.items) }
+    ensures count { OnOk result (length written.new.ends.items ≡ length n.now.steps + 1) }
+    ensures node { OnOk result (written.new.node ≡ n.now) }
+{
+    if known == 0 {
+        written.node = copy_node(n)?;
+        begin(written, g)?;
+        return write_steps(written, g, 0);
+    }
+    cut(written, g, known - 1);
+    written.node = copy_node(n)?;
+    write_steps(written, g, known - 1)
+}
+
+/// Writes the name of a node of which so many fronts are known. After an error nothing is known.
+fn learn(written: &mut Written, g: &Grammar, n: &Node, known: usize) -> Result<(), AllocError>
+    requires sound { AreFronts (words_of g.now) written.old.node written.old.text written.old.ends.items }
+    requires within { known ≤ length written.old.ends.items }
+    requires few { known ≤ length n.now.steps + 1 }
+    requires same { (j : ℕ) → j < known → front j written.old.node ≡ front j n.now }
+    ensures sound { AreFronts (words_of g.now) written.new.node written.new.text written.new.ends.items }
+    ensures count { OnOk result (length written.new.ends.items ≡ length n.now.steps + 1) }
+    ensures node { OnOk result (written.new.node ≡ n.now) }
+{
+    match write_name(written, g, n, known) {
+        Ok(()) => Ok(()),
+        Err(failed) => {
+            written.ends.clear();
+            Err(failed)
+        }
+    }
+}
+
+/// Sees to it that the name of a node is known.
+fn know(written: &mut Written, g: &Grammar, n: &Node) -> Result<(), AllocError>
+    requires sound { AreFronts (words_of g.now) written.old.node written.old.text written.old.ends.items }
+    ensures sound { AreFronts (words_of g.now) written.new.node written.new.text written.new.ends.items }
+    ensures within { OnOk result (length n.now.steps < length written.new.ends.items) }
+    ensures known { OnOk result (front (length n.now.steps) written.new.node ≡ n.now) }
+{
+    let known = count_known(written, n);
+    if known > n.steps.len() {
+        return Ok(());
+    }
+    learn(written, g, n, known)
+}
+
+/// Sees to it that the name of a node stands in the text that is known, and tells where it ends.
+fn find_end(written: &mut Written, g: &Grammar, n: &Node) -> Result<usize, AllocError>
+    requires sound { AreFronts (words_of g.now) written.old.node written.old.text written.old.ends.items }
+    ensures sound { AreFronts (words_of g.now) written.new.node written.new.text written.new.ends.items }
+    ensures within { IfOk result (λ end. end ≤ length written.new.text) }
+    ensures text { IfOk result (λ end. take end written.new.text ≡ node_text (words_of g.now) n.now) }
+{
+    know(written, g, n)?;
+    Ok(written.ends[n.steps.len()])
+}
+
+/// Writes names of nodes. What it wrote last is kept: the names of one line, and of lines that follow one another, mostly begin alike,
+/// and what they have in common is copied.
+#[derive(Drop)]
+pub struct NameWriter<'g> {
+    grammar: &'g Grammar,
+    written: Written,
+    ghost sound: { AreFronts (words_of grammar.now) written.node written.text written.ends.items },
+}
+
+impl<'g> NameWriter<'g> {
+    /// Nothing was written yet. It takes no memory.
+    pub fn new(alloc: Global, grammar: &'g Grammar) -> NameWriter<'g>
+        ensures { result.grammar.now ≡ grammar.now }
+    {
+        NameWriter {
+            grammar,
+            written: Written {
+                node: Node {
+                    start: 0,
+                    case: 0,
+                    steps: Trail::new(alloc),
+                },
+                text: Text::new(alloc),
+                ends: Vec::new(alloc),
+            },
+        }
+    }
+
+    /// The grammar whose names it writes.
+    pub fn grammar(&self) -> &'g Grammar
+        ensures { result.now ≡ self.now.grammar.now }
+    {
+        self.grammar
+    }
+
+    /// Adds the name of a node, as `visit#1/admit.1`. An error changes nothing in the text.
+    pub fn push_node(&mut self, text: &mut Text, n: &Node) -> Result<(), AllocError>
+        ensures ok { OnOk result (text.new ≡ text.old ++ node_text (words_of self.old.grammar.now) n.now) }
+        ensures err { OnErr result (text.new ≡ text.old) }
+        ensures grammar { self.new.grammar.now ≡ self.old.grammar.now }
+    {
+        let end = find_end(&mut self.written, self.grammar, n)?;
+        text.push_bytes(&self.written.text.as_slice()[..end])
+    }
+}
