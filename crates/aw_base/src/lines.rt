@@ -6,45 +6,51 @@ ghost use Rattle.aw_term.specs.Runs.{choice_text, answer_line, item_lines};
 ghost use Rattle.aw_choice.specs.ChoiceView.{answer_of, choice_of, item_of};
 ghost use Rattle.aw_grammar.specs.GrammarOf.{words_of};
 
-use crate::texts::{push_answer, push_item, push_node, rule_name, sort_name};
+use crate::name_writer::NameWriter;
+use crate::texts::{push_answer, push_item, rule_name, sort_name};
 use aw_choice::{Answer, Choice, Item};
-use aw_grammar::Grammar;
 use aw_list::Text;
 use aw_text::push_number;
 use std::alloc::AllocError;
 
-fn add_choice(text: &mut Text, g: &Grammar, choice: &Choice) -> Result<(), AllocError>
-    ensures ok { OnOk result (text.new ≡ text.old ++ choice_text (words_of g.now) (choice_of choice.now)) }
+fn add_choice(
+    text: &mut Text,
+    names: &mut NameWriter<'_>,
+    choice: &Choice,
+) -> Result<(), AllocError>
+    ensures ok { OnOk result (text.new ≡ text.old ++ choice_text (words_of names.old.grammar.now) (choice_of choice.now)) }
     ensures err { OnErr result (StartsWith text.new text.old) }
+    ensures grammar { names.new.grammar.now ≡ names.old.grammar.now }
 {
     match choice {
         Choice::Start { sort, case } => {
             text.push_bytes(b"start ")?;
-            text.push_bytes(sort_name(g, *sort))?;
+            text.push_bytes(sort_name(names.grammar(), *sort))?;
             text.push_bytes(b" ")?;
             push_number(text, *case)
         }
         Choice::Develop { node, rule, .. } => {
             text.push_bytes(b"choose ")?;
-            push_node(text, g, node)?;
+            names.push_node(text, node)?;
             text.push_bytes(b" ")?;
-            text.push_bytes(rule_name(g, *rule))
+            text.push_bytes(rule_name(names.grammar(), *rule))
         }
     }
 }
 
 fn add_choice_line(
     text: &mut Text,
-    g: &Grammar,
+    names: &mut NameWriter<'_>,
     choice: &Choice,
     answer: &Answer,
 ) -> Result<(), AllocError>
-    ensures ok { OnOk result (text.new ≡ text.old ++ answer_line (words_of g.now) (choice_of choice.now) (answer_of answer.now)) }
+    ensures ok { OnOk result (text.new ≡ text.old ++ answer_line (words_of names.old.grammar.now) (choice_of choice.now) (answer_of answer.now)) }
     ensures err { OnErr result (StartsWith text.new text.old) }
+    ensures grammar { names.new.grammar.now ≡ names.old.grammar.now }
 {
-    push_choice(text, g, choice)?;
+    push_choice(text, names, choice)?;
     text.push_bytes(b": ")?;
-    push_answer(text, g, answer)?;
+    push_answer(text, names, answer)?;
     text.push_bytes(b"\n")
 }
 
@@ -57,31 +63,42 @@ fn add_artifacts_line(text: &mut Text, count: usize) -> Result<(), AllocError>
     text.push_bytes(b"\n")
 }
 
-fn add_item_line(text: &mut Text, g: &Grammar, item: &Item) -> Result<(), AllocError>
-    ensures ok { OnOk result (text.new ≡ text.old ++ (item_text (words_of g.now) (item_of item.now) ++ codes "\n")) }
+fn add_item_line(text: &mut Text, names: &mut NameWriter<'_>, item: &Item) -> Result<(), AllocError>
+    ensures ok { OnOk result (text.new ≡ text.old ++ (item_text (words_of names.old.grammar.now) (item_of item.now) ++ codes "\n")) }
     ensures err { OnErr result (StartsWith text.new text.old) }
+    ensures grammar { names.new.grammar.now ≡ names.old.grammar.now }
 {
-    push_item(text, g, item)?;
+    push_item(text, names, item)?;
     text.push_bytes(b"\n")
 }
 
-fn add_item_lines(text: &mut Text, g: &Grammar, items: &[Item]) -> Result<(), AllocError>
-    ensures ok { OnOk result (text.new ≡ text.old ++ item_lines (words_of g.now) (map item_of items.now)) }
+fn add_item_lines(
+    text: &mut Text,
+    names: &mut NameWriter<'_>,
+    items: &[Item],
+) -> Result<(), AllocError>
+    ensures ok { OnOk result (text.new ≡ text.old ++ item_lines (words_of names.old.grammar.now) (map item_of items.now)) }
     ensures err { OnErr result (StartsWith text.new text.old) }
+    ensures grammar { names.new.grammar.now ≡ names.old.grammar.now }
 {
     for item in items {
-        add_item_line(text, g, item)?;
+        add_item_line(text, names, item)?;
     }
     Ok(())
 }
 
 /// Adds the text of a choice, as `start visit 1` or `choose visit#1 admit`. An error changes nothing.
-pub fn push_choice(text: &mut Text, g: &Grammar, choice: &Choice) -> Result<(), AllocError>
-    ensures ok { OnOk result (text.new ≡ text.old ++ choice_text (words_of g.now) (choice_of choice.now)) }
+pub fn push_choice(
+    text: &mut Text,
+    names: &mut NameWriter<'_>,
+    choice: &Choice,
+) -> Result<(), AllocError>
+    ensures ok { OnOk result (text.new ≡ text.old ++ choice_text (words_of names.old.grammar.now) (choice_of choice.now)) }
     ensures err { OnErr result (text.new ≡ text.old) }
+    ensures grammar { names.new.grammar.now ≡ names.old.grammar.now }
 {
     let before = text.len();
-    match add_choice(text, g, choice) {
+    match add_choice(text, names, choice) {
         Ok(()) => Ok(()),
         Err(failed) => {
             text.truncate(before);
@@ -93,15 +110,16 @@ pub fn push_choice(text: &mut Text, g: &Grammar, choice: &Choice) -> Result<(), 
 /// Adds the line of a choice and its answer, as `start visit 1: taken`. An error changes nothing.
 pub fn push_choice_line(
     text: &mut Text,
-    g: &Grammar,
+    names: &mut NameWriter<'_>,
     choice: &Choice,
     answer: &Answer,
 ) -> Result<(), AllocError>
-    ensures ok { OnOk result (text.new ≡ text.old ++ answer_line (words_of g.now) (choice_of choice.now) (answer_of answer.now)) }
+    ensures ok { OnOk result (text.new ≡ text.old ++ answer_line (words_of names.old.grammar.now) (choice_of choice.now) (answer_of answer.now)) }
     ensures err { OnErr result (text.new ≡ text.old) }
+    ensures grammar { names.new.grammar.now ≡ names.old.grammar.now }
 {
     let before = text.len();
-    match add_choice_line(text, g, choice, answer) {
+    match add_choice_line(text, names, choice, answer) {
         Ok(()) => Ok(()),
         Err(failed) => {
             text.truncate(before);
@@ -126,12 +144,17 @@ pub fn push_artifacts_line(text: &mut Text, count: usize) -> Result<(), AllocErr
 }
 
 /// Adds a line for each item, as `item visit#1 admit ready`. An error changes nothing.
-pub fn push_item_lines(text: &mut Text, g: &Grammar, items: &[Item]) -> Result<(), AllocError>
-    ensures ok { OnOk result (text.new ≡ text.old ++ item_lines (words_of g.now) (map item_of items.now)) }
+pub fn push_item_lines(
+    text: &mut Text,
+    names: &mut NameWriter<'_>,
+    items: &[Item],
+) -> Result<(), AllocError>
+    ensures ok { OnOk result (text.new ≡ text.old ++ item_lines (words_of names.old.grammar.now) (map item_of items.now)) }
     ensures err { OnErr result (text.new ≡ text.old) }
+    ensures grammar { names.new.grammar.now ≡ names.old.grammar.now }
 {
     let before = text.len();
-    match add_item_lines(text, g, items) {
+    match add_item_lines(text, names, items) {
         Ok(()) => Ok(()),
         Err(failed) => {
             text.truncate(before);

@@ -6,6 +6,7 @@ ghost use Rattle.aw_term.specs.Artifacts.{step_text, steps_text, node_text, slot
 ghost use Rattle.aw_grammar.specs.GrammarOf.{words_of};
 ghost use Rattle.aw_choice.specs.ChoiceView.{path_of, place_of, answer_of, refusal_of, item_of};
 
+use crate::name_writer::NameWriter;
 use aw_choice::{Answer, Item, Path, Place, Standing};
 use aw_grammar::Grammar;
 use aw_list::Text;
@@ -99,34 +100,41 @@ fn add_slot(text: &mut Text, slot: Slot) -> Result<(), AllocError>
     }
 }
 
-fn add_ref(text: &mut Text, g: &Grammar, r: &Ref) -> Result<(), AllocError>
-    ensures ok { OnOk result (text.new ≡ text.old ++ ref_text (words_of g.now) r.now) }
+fn add_ref(text: &mut Text, names: &mut NameWriter<'_>, r: &Ref) -> Result<(), AllocError>
+    ensures ok { OnOk result (text.new ≡ text.old ++ ref_text (words_of names.old.grammar.now) r.now) }
     ensures err { OnErr result (StartsWith text.new text.old) }
+    ensures grammar { names.new.grammar.now ≡ names.old.grammar.now }
 {
-    add_node(text, g, &r.node)?;
+    names.push_node(text, &r.node)?;
     add_slot(text, r.slot)
 }
 
-fn add_following(text: &mut Text, g: &Grammar, refs: &[Ref]) -> Result<(), AllocError>
-    ensures ok { OnOk result (text.new ≡ text.old ++ flat_map (λ r. codes ", " ++ ref_text (words_of g.now) r) refs.now) }
+fn add_following(
+    text: &mut Text,
+    names: &mut NameWriter<'_>,
+    refs: &[Ref],
+) -> Result<(), AllocError>
+    ensures ok { OnOk result (text.new ≡ text.old ++ flat_map (λ r. codes ", " ++ ref_text (words_of names.old.grammar.now) r) refs.now) }
     ensures err { OnErr result (StartsWith text.new text.old) }
+    ensures grammar { names.new.grammar.now ≡ names.old.grammar.now }
 {
     for r in refs {
         text.push_bytes(b", ")?;
-        add_ref(text, g, r)?;
+        add_ref(text, names, r)?;
     }
     Ok(())
 }
 
-fn add_refs(text: &mut Text, g: &Grammar, refs: &[Ref]) -> Result<(), AllocError>
-    ensures ok { OnOk result (text.new ≡ text.old ++ listed (map (ref_text (words_of g.now)) refs.now)) }
+fn add_refs(text: &mut Text, names: &mut NameWriter<'_>, refs: &[Ref]) -> Result<(), AllocError>
+    ensures ok { OnOk result (text.new ≡ text.old ++ listed (map (ref_text (words_of names.old.grammar.now)) refs.now)) }
     ensures err { OnErr result (StartsWith text.new text.old) }
+    ensures grammar { names.new.grammar.now ≡ names.old.grammar.now }
 {
     match refs {
         [] => Ok(()),
         [first, rest @ ..] => {
-            add_ref(text, g, first)?;
-            add_following(text, g, rest)
+            add_ref(text, names, first)?;
+            add_following(text, names, rest)
         }
     }
 }
@@ -158,12 +166,18 @@ pub fn path_steps(path: &Path) -> &[u8]
     steps
 }
 
-fn add_refusal(text: &mut Text, word: &[u8], g: &Grammar, r: &Ref) -> Result<(), AllocError>
-    ensures ok { OnOk result (text.new ≡ text.old ++ (word.now ++ ref_text (words_of g.now) r.now)) }
+fn add_refusal(
+    text: &mut Text,
+    word: &[u8],
+    names: &mut NameWriter<'_>,
+    r: &Ref,
+) -> Result<(), AllocError>
+    ensures ok { OnOk result (text.new ≡ text.old ++ (word.now ++ ref_text (words_of names.old.grammar.now) r.now)) }
     ensures err { OnErr result (StartsWith text.new text.old) }
+    ensures grammar { names.new.grammar.now ≡ names.old.grammar.now }
 {
     text.push_bytes(word)?;
-    add_ref(text, g, r)
+    add_ref(text, names, r)
 }
 
 fn add_mismatch(text: &mut Text, place: &Place) -> Result<(), AllocError>
@@ -174,9 +188,10 @@ fn add_mismatch(text: &mut Text, place: &Place) -> Result<(), AllocError>
     add_place(text, place)
 }
 
-fn add_answer(text: &mut Text, g: &Grammar, a: &Answer) -> Result<(), AllocError>
-    ensures ok { OnOk result (text.new ≡ text.old ++ answer_text (words_of g.now) (answer_of a.now)) }
+fn add_answer(text: &mut Text, names: &mut NameWriter<'_>, a: &Answer) -> Result<(), AllocError>
+    ensures ok { OnOk result (text.new ≡ text.old ++ answer_text (words_of names.old.grammar.now) (answer_of a.now)) }
     ensures err { OnErr result (StartsWith text.new text.old) }
+    ensures grammar { names.new.grammar.now ≡ names.old.grammar.now }
 {
     match a {
         Answer::Known => text.push_bytes(b"known"),
@@ -184,37 +199,43 @@ fn add_answer(text: &mut Text, g: &Grammar, a: &Answer) -> Result<(), AllocError
         Answer::Developed => text.push_bytes(b"developed"),
         Answer::NotItsRule => text.push_bytes(b"wrong rule"),
         Answer::Arguments => text.push_bytes(b"arguments"),
-        Answer::Waits(r) => add_refusal(text, b"waits ", g, r),
+        Answer::Waits(r) => add_refusal(text, b"waits ", names, r),
         Answer::Differs(place) => add_mismatch(text, place),
-        Answer::Circle(r) => add_refusal(text, b"circle ", g, r),
+        Answer::Circle(r) => add_refusal(text, b"circle ", names, r),
         Answer::TooDeep => text.push_bytes(b"deep"),
         Answer::Taken => text.push_bytes(b"taken"),
     }
 }
 
-fn add_standing(text: &mut Text, g: &Grammar, state: &Standing) -> Result<(), AllocError>
-    ensures ok { OnOk result (text.new ≡ text.old ++ standing_text (words_of g.now) (refusal_of state.now)) }
+fn add_standing(
+    text: &mut Text,
+    names: &mut NameWriter<'_>,
+    state: &Standing,
+) -> Result<(), AllocError>
+    ensures ok { OnOk result (text.new ≡ text.old ++ standing_text (words_of names.old.grammar.now) (refusal_of state.now)) }
     ensures err { OnErr result (StartsWith text.new text.old) }
+    ensures grammar { names.new.grammar.now ≡ names.old.grammar.now }
 {
     match state {
         Standing::Ready => text.push_bytes(b"ready"),
-        Standing::Waits(r) => add_refusal(text, b"waits ", g, r),
+        Standing::Waits(r) => add_refusal(text, b"waits ", names, r),
         Standing::Differs(place) => add_mismatch(text, place),
-        Standing::Circle(r) => add_refusal(text, b"circle ", g, r),
+        Standing::Circle(r) => add_refusal(text, b"circle ", names, r),
         Standing::TooDeep => text.push_bytes(b"deep"),
     }
 }
 
-fn add_item(text: &mut Text, g: &Grammar, i: &Item) -> Result<(), AllocError>
-    ensures ok { OnOk result (text.new ≡ text.old ++ item_text (words_of g.now) (item_of i.now)) }
+fn add_item(text: &mut Text, names: &mut NameWriter<'_>, i: &Item) -> Result<(), AllocError>
+    ensures ok { OnOk result (text.new ≡ text.old ++ item_text (words_of names.old.grammar.now) (item_of i.now)) }
     ensures err { OnErr result (StartsWith text.new text.old) }
+    ensures grammar { names.new.grammar.now ≡ names.old.grammar.now }
 {
     text.push_bytes(b"item ")?;
-    add_node(text, g, &i.node)?;
+    names.push_node(text, &i.node)?;
     text.push_bytes(b" ")?;
-    text.push_bytes(rule_name(g, i.rule))?;
+    text.push_bytes(rule_name(names.grammar(), i.rule))?;
     text.push_bytes(b" ")?;
-    add_standing(text, g, &i.state)
+    add_standing(text, names, &i.state)
 }
 
 /// The name of a node, as `visit#1/admit.1`.
@@ -242,12 +263,13 @@ pub fn push_node(text: &mut Text, g: &Grammar, n: &Node) -> Result<(), AllocErro
 }
 
 /// Adds the name of a reference, as `visit#1:r1` or `visit#1:p2`. An error changes nothing.
-pub fn push_ref(text: &mut Text, g: &Grammar, r: &Ref) -> Result<(), AllocError>
-    ensures ok { OnOk result (text.new ≡ text.old ++ ref_text (words_of g.now) r.now) }
+pub fn push_ref(text: &mut Text, names: &mut NameWriter<'_>, r: &Ref) -> Result<(), AllocError>
+    ensures ok { OnOk result (text.new ≡ text.old ++ ref_text (words_of names.old.grammar.now) r.now) }
     ensures err { OnErr result (text.new ≡ text.old) }
+    ensures grammar { names.new.grammar.now ≡ names.old.grammar.now }
 {
     let before = text.len();
-    match add_ref(text, g, r) {
+    match add_ref(text, names, r) {
         Ok(()) => Ok(()),
         Err(failed) => {
             text.truncate(before);
@@ -257,12 +279,17 @@ pub fn push_ref(text: &mut Text, g: &Grammar, r: &Ref) -> Result<(), AllocError>
 }
 
 /// Adds references, a comma and a space between them. An error changes nothing.
-pub fn push_refs(text: &mut Text, g: &Grammar, refs: &[Ref]) -> Result<(), AllocError>
-    ensures ok { OnOk result (text.new ≡ text.old ++ listed (map (ref_text (words_of g.now)) refs.now)) }
+pub fn push_refs(
+    text: &mut Text,
+    names: &mut NameWriter<'_>,
+    refs: &[Ref],
+) -> Result<(), AllocError>
+    ensures ok { OnOk result (text.new ≡ text.old ++ listed (map (ref_text (words_of names.old.grammar.now)) refs.now)) }
     ensures err { OnErr result (text.new ≡ text.old) }
+    ensures grammar { names.new.grammar.now ≡ names.old.grammar.now }
 {
     let before = text.len();
-    match add_refs(text, g, refs) {
+    match add_refs(text, names, refs) {
         Ok(()) => Ok(()),
         Err(failed) => {
             text.truncate(before);
@@ -272,12 +299,17 @@ pub fn push_refs(text: &mut Text, g: &Grammar, refs: &[Ref]) -> Result<(), Alloc
 }
 
 /// Adds the text of an answer, as `waits visit#1:r1`. An error changes nothing.
-pub fn push_answer(text: &mut Text, g: &Grammar, a: &Answer) -> Result<(), AllocError>
-    ensures ok { OnOk result (text.new ≡ text.old ++ answer_text (words_of g.now) (answer_of a.now)) }
+pub fn push_answer(
+    text: &mut Text,
+    names: &mut NameWriter<'_>,
+    a: &Answer,
+) -> Result<(), AllocError>
+    ensures ok { OnOk result (text.new ≡ text.old ++ answer_text (words_of names.old.grammar.now) (answer_of a.now)) }
     ensures err { OnErr result (text.new ≡ text.old) }
+    ensures grammar { names.new.grammar.now ≡ names.old.grammar.now }
 {
     let before = text.len();
-    match add_answer(text, g, a) {
+    match add_answer(text, names, a) {
         Ok(()) => Ok(()),
         Err(failed) => {
             text.truncate(before);
@@ -287,12 +319,13 @@ pub fn push_answer(text: &mut Text, g: &Grammar, a: &Answer) -> Result<(), Alloc
 }
 
 /// Adds the line of an item, without its end, as `item visit#1 admit ready`. An error changes nothing.
-pub fn push_item(text: &mut Text, g: &Grammar, i: &Item) -> Result<(), AllocError>
-    ensures ok { OnOk result (text.new ≡ text.old ++ item_text (words_of g.now) (item_of i.now)) }
+pub fn push_item(text: &mut Text, names: &mut NameWriter<'_>, i: &Item) -> Result<(), AllocError>
+    ensures ok { OnOk result (text.new ≡ text.old ++ item_text (words_of names.old.grammar.now) (item_of i.now)) }
     ensures err { OnErr result (text.new ≡ text.old) }
+    ensures grammar { names.new.grammar.now ≡ names.old.grammar.now }
 {
     let before = text.len();
-    match add_item(text, g, i) {
+    match add_item(text, names, i) {
         Ok(()) => Ok(()),
         Err(failed) => {
             text.truncate(before);

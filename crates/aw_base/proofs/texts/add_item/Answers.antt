@@ -1,18 +1,14 @@
 use Rattle.std.proofs.lemmas.Result.{on_err_weaker}
-use Rattle.aw_list.proofs.Fronts.{behind, on_err_held}
+use Rattle.aw_list.proofs.Fronts.{behind}
 use Rattle.aw_base.proofs.texts.add_item.Goals as goal
-
-pub returns-in_err-add_node-clause-err : goal.returns-in_err-add_node-clause-err
-returns-in_err-add_node-clause-err c =
-    on_err_held c.from_residual-in_err-add_node.result (behind c.args.text.now _ c.push_bytes.new.self c.add_node.new.text c.in_ok-push_bytes.ensures.ok c.in_err-add_node.ensures.err)
 
 pub returns-clause-err : goal.returns-clause-err
 returns-clause-err c =
     let new = c.add_standing.new.text in
     on_err_weaker c.add_standing.result
     (λ h. behind c.args.text.now _ c.push_bytes.new.self new c.in_ok-push_bytes.ensures.ok
-    (behind c.push_bytes.new.self _ c.add_node.new.text new c.in_ok-add_node.ensures.ok
-    (behind c.add_node.new.text _ c.push_bytes-2.new.self new c.in_ok-push_bytes-2.ensures.ok
+    (behind c.push_bytes.new.self _ c.push_node.new.text new c.in_ok-push_node.ensures.ok
+    (behind c.push_node.new.text _ c.push_bytes-2.new.self new c.in_ok-push_bytes-2.ensures.ok
     (behind c.push_bytes-2.new.self _ c.push_bytes-3.new.self new c.in_ok-push_bytes-3.ensures.ok
     (behind c.push_bytes-3.new.self _ c.push_bytes-4.new.self new c.in_ok-push_bytes-4.ensures.ok h)))))
     c.add_standing.ensures.err
