@@ -7,7 +7,7 @@ ghost use Rattle.aw_sched.specs.Answers.{MayCome};
 ghost use Rattle.aw_term.specs.WellFormed.{Each};
 
 use aw_accept::Accepted;
-use aw_base::{push_artifacts_line, push_choice_line};
+use aw_base::{NameWriter, push_artifacts_line, push_choice_line};
 use aw_choice::{Answer, Choice};
 use aw_grammar::Grammar;
 use aw_list::Text;
@@ -52,8 +52,10 @@ impl<'g> Run<'g> {
         ensures fit { IfOk result (λ a. Each (MayCome (grammar_of accepted.now.grammar)) self.new.events.items) }
     {
         let answer = self.plain.choose(accepted, &choice)?;
-        push_choice_line(&mut self.told, accepted.grammar(), &choice, &answer)?;
-        let event = Event::of_choice(self.told.allocator(), choice)?;
+        let alloc = self.told.allocator();
+        let mut names = NameWriter::new(alloc, accepted.grammar());
+        push_choice_line(&mut self.told, &mut names, &choice, &answer)?;
+        let event = Event::of_choice(alloc, choice)?;
         self.events.push(event)?;
         Ok(answer)
     }

@@ -13,7 +13,7 @@ use std::alloc::{AllocError, Global};
 
 /// The name that was written last, with the places where the names of the nodes above it end, from that of the start node on. Where
 /// there are no places, nothing is known.
-#[derive(Drop)]
+#[derive(Debug, Drop)]
 struct Written {
     node: Node,
     text: Text,
@@ -179,7 +179,7 @@ fn find_end(written: &mut Written, g: &Grammar, n: &Node) -> Result<usize, Alloc
 
 /// Writes names of nodes. What it wrote last is kept: the names of one line, and of lines that follow one another, mostly begin alike,
 /// and what they have in common is copied.
-#[derive(Drop)]
+#[derive(Debug, Drop)]
 pub struct NameWriter<'g> {
     grammar: &'g Grammar,
     written: Written,

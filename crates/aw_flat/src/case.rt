@@ -7,7 +7,7 @@ use crate::typed::{read_equation, read_held, read_ref};
 use crate::weigh::{Answered, weigh};
 use aw_apply::{Made, MadeChild, MadeChildren};
 use aw_base::{
-    Answer, Choice, Grammar, Grounds, Node, Ref, Trail, push_answer, push_node, push_ref,
+    Answer, Choice, Grammar, Grounds, NameWriter, Node, Ref, Trail, push_answer, push_ref,
 };
 use aw_form::Unread;
 use aw_list::Text;
@@ -33,6 +33,7 @@ struct Held {
 #[derive(Debug, Drop)]
 pub struct Case<'g> {
     grammar: &'g Grammar,
+    names: NameWriter<'g>,
     facts: ListFacts,
     held: Vec<Held>,
     told: Text,
@@ -85,27 +86,35 @@ fn chased<F: Facts>(f: &F, slot: usize) -> (&'static [u8], usize)
 }
 
 /// Adds references, a comma and a space between them, in parentheses.
-fn push_refs(told: &mut Text, g: &Grammar, refs: &[Ref]) -> Result<(), AllocError> {
+fn push_refs(
+    told: &mut Text,
+    names: &mut NameWriter<'_>,
+    refs: &[Ref],
+) -> Result<(), AllocError> {
     let mut mark: &[u8] = b"";
     told.push_bytes(b"(")?;
     for r in refs {
         told.push_bytes(mark)?;
-        push_ref(told, g, r)?;
+        push_ref(told, names, r)?;
         mark = b", ";
     }
     told.push_bytes(b")")
 }
 
 /// Adds what a store answers to an equation.
-fn push_added(told: &mut Text, g: &Grammar, added: &Added) -> Result<(), AllocError> {
+fn push_added(
+    told: &mut Text,
+    names: &mut NameWriter<'_>,
+    added: &Added,
+) -> Result<(), AllocError> {
     match added {
         Added::New => told.push_bytes(b": new\n"),
         Added::Same => told.push_bytes(b": same\n"),
         Added::Conflict { kept, came } => {
             told.push_bytes(b": conflict ")?;
-            push_body(told, g, kept)?;
+            push_body(told, names, kept)?;
             told.push_bytes(b" against ")?;
-            push_body(told, g, came)?;
+            push_body(told, names, came)?;
             told.push_bytes(b"\n")
         }
     }
@@ -126,6 +135,7 @@ impl<'g> Case<'g> {
     pub fn new(alloc: Global, grammar: &'g Grammar) -> Case<'g> {
         Case {
             grammar,
+            names: NameWriter::new(alloc, grammar),
             facts: ListFacts::new(alloc),
             held: Vec::new(alloc),
             told: Text::new(alloc),
@@ -139,7 +149,7 @@ impl<'g> Case<'g> {
 
     /// Tells an equation.
     fn push_equation(&mut self, e: &Equation) -> Result<(), AllocError> {
-        push_ref(&mut self.told, self.grammar, &e.left)?;
+        push_ref(&mut self.told, &mut self.names, &e.left)?;
         self.told.push_bytes(b" = ")?;
         let body = body_text(self.told.allocator(), self.grammar, &e.body)?;
         self.told.push_bytes(body.as_slice())
@@ -152,7 +162,7 @@ impl<'g> Case<'g> {
             return self.told.push_bytes(b": too wide\n");
         }
         let added = self.facts.add(e)?;
-        push_added(&mut self.told, self.grammar, &added)
+        push_added(&mut self.told, &mut self.names, &added)
     }
 
     /// Adds an equation of a taken rule.
@@ -175,9 +185,9 @@ impl<'g> Case<'g> {
     /// Tells a node with its inherited references, and names these.
     fn push_held(&mut self, node: &Node, inherited: &[Ref]) -> Result<(), AllocError> {
         self.told.push_bytes(b"node ")?;
-        push_node(&mut self.told, self.grammar, node)?;
+        self.names.push_node(&mut self.told, node)?;
         self.told.push_bytes(b" ")?;
-        push_refs(&mut self.told, self.grammar, inherited)?;
+        push_refs(&mut self.told, &mut self.names, inherited)?;
         self.told.push_bytes(b"\n")?;
         let _slots = intern_all(self.told.allocator(), &mut self.facts, inherited)?;
         Ok(())
@@ -232,7 +242,7 @@ impl<'g> Case<'g> {
 
     /// Tells a refusal.
     fn refuse(&mut self, answer: &Answer) -> Result<(), AllocError> {
-        push_answer(&mut self.told, self.grammar, answer)?;
+        push_answer(&mut self.told, &mut self.names, answer)?;
         self.told.push_bytes(b"\n")
     }
 
@@ -292,10 +302,10 @@ impl<'g> Case<'g> {
     fn push_chase(&mut self, r: &Ref) -> Result<(), AllocError> {
         let slot = self.facts.intern(r)?;
         self.told.push_bytes(b"chase ")?;
-        push_ref(&mut self.told, self.grammar, r)?;
+        push_ref(&mut self.told, &mut self.names, r)?;
         let (word, end) = chased(&self.facts, slot);
         self.told.push_bytes(word)?;
-        push_ref(&mut self.told, self.grammar, self.facts.name(end))?;
+        push_ref(&mut self.told, &mut self.names, self.facts.name(end))?;
         self.told.push_bytes(b"\n")
     }
 

@@ -9,7 +9,7 @@ ghost use Rattle.aw_msg.specs.ResponseView.{response_of};
 
 use crate::reply::Answered;
 use crate::writing::add_message;
-use aw_base::{push_answer, push_item, push_refs};
+use aw_base::{NameWriter, push_answer, push_item, push_refs};
 use aw_grammar::Grammar;
 use aw_list::Text;
 use aw_store::{Content, push_body};
@@ -49,31 +49,36 @@ pub const NOTHING: u8 = 10;
 /// The kind of the reply with an item of the worklist.
 pub const ITEM: u8 = 11;
 
-fn add_content(text: &mut Text, g: &Grammar, content: &Content) -> Result<(), AllocError>
-    ensures { OnOk result (text.new ≡ text.old ++ spec.content_text (words_of g.now) (content_of content.now)) }
+fn add_content(
+    text: &mut Text,
+    names: &mut NameWriter<'_>,
+    content: &Content,
+) -> Result<(), AllocError>
+    ensures text { OnOk result (text.new ≡ text.old ++ spec.content_text (words_of names.old.grammar.now) (content_of content.now)) }
+    ensures grammar { names.new.grammar.now ≡ names.old.grammar.now }
 {
     match content {
         Content::Inherited(refs) => {
             text.push_bytes(b"(")?;
-            push_refs(text, g, refs.as_slice())?;
+            push_refs(text, names, refs.as_slice())?;
             text.push_bytes(b")")
         }
-        Content::Body(body) => push_body(text, g, body),
+        Content::Body(body) => push_body(text, names, body),
     }
 }
 
 fn add_conflict(
     text: &mut Text,
-    g: &Grammar,
+    names: &mut NameWriter<'_>,
     kept: &Content,
     came: &Content,
 ) -> Result<(), AllocError>
-    ensures { OnOk result (text.new ≡ text.old ++ spec.conflict_text (words_of g.now) (content_of kept.now) (content_of came.now)) }
+    ensures { OnOk result (text.new ≡ text.old ++ spec.conflict_text (words_of names.old.grammar.now) (content_of kept.now) (content_of came.now)) }
 {
     text.push_bytes(b"kept ")?;
-    add_content(text, g, kept)?;
+    add_content(text, names, kept)?;
     text.push_bytes(b" came ")?;
-    add_content(text, g, came)
+    add_content(text, names, came)
 }
 
 fn kind_of(r: &Answered) -> u8
@@ -98,12 +103,13 @@ fn add_payload(text: &mut Text, g: &Grammar, r: &Answered) -> Result<(), AllocEr
     requires { ReplyInRange r.now }
     ensures { OnOk result (text.new ≡ text.old ++ spec.reply_payload (words_of g.now) (response_of (grammar_of g.now) r.now)) }
 {
+    let mut names = NameWriter::new(text.allocator(), g);
     match r {
-        Answered::Conflict { kept, came } => add_conflict(text, g, kept, came),
-        Answered::Answer(answer) => push_answer(text, g, answer),
+        Answered::Conflict { kept, came } => add_conflict(text, &mut names, kept, came),
+        Answered::Answer(answer) => push_answer(text, &mut names, answer),
         Answered::Message(m) => add_message(text, m),
         Answered::Nothing(number) => add_u64(text, *number),
-        Answered::Item(item) => push_item(text, g, item),
+        Answered::Item(item) => push_item(text, &mut names, item),
         Answered::New | Answered::Again | Answered::NotMine => Ok(()),
         Answered::BadName | Answered::TooLong | Answered::BadFrame => Ok(()),
     }

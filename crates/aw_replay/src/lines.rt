@@ -8,9 +8,8 @@ ghost use Rattle.aw_world.specs.MoveView.{reply_of};
 ghost use Rattle.aw_replay.specs.Telling.{sent_after};
 
 use crate::sent::push_sent;
-use aw_base::push_choice_line;
+use aw_base::{NameWriter, push_choice_line};
 use aw_choice::{Answer, Choice};
-use aw_grammar::Grammar;
 use aw_list::Text;
 use aw_msg::Message;
 use aw_text::push_number;
@@ -20,15 +19,16 @@ use std::alloc::AllocError;
 /// Adds the line of a choice and what it was answered.
 fn push_answered(
     text: &mut Text,
-    g: &Grammar,
+    names: &mut NameWriter<'_>,
     choice: &Choice,
     reply: &Reply,
 ) -> Result<(), AllocError>
-    ensures { OnOk result (text.new ≡ text.old ++ answer_line (words_of g.now) (choice_of choice.now) (answered (reply_of reply.now))) }
+    ensures text { OnOk result (text.new ≡ text.old ++ answer_line (words_of names.old.grammar.now) (choice_of choice.now) (answered (reply_of reply.now))) }
+    ensures grammar { names.new.grammar.now ≡ names.old.grammar.now }
 {
     match reply {
-        Reply::Choice(answer) => push_choice_line(text, g, choice, answer),
-        _ => push_choice_line(text, g, choice, &Answer::NotHere),
+        Reply::Choice(answer) => push_choice_line(text, names, choice, answer),
+        _ => push_choice_line(text, names, choice, &Answer::NotHere),
     }
 }
 
@@ -65,29 +65,31 @@ pub(crate) fn push_settled(text: &mut Text, count: u64) -> Result<(), AllocError
 /// Adds the lines of a delivery and of what it sent.
 pub(crate) fn push_delivery(
     text: &mut Text,
-    g: &Grammar,
+    names: &mut NameWriter<'_>,
     number: u64,
     reply: Reply,
     messages: &[Message],
     before: usize,
 ) -> Result<(), AllocError>
-    ensures { OnOk result (text.new ≡ text.old ++ (deliver_line number (reply_of reply) ++ sent_after g.now before messages.now)) }
+    ensures text { OnOk result (text.new ≡ text.old ++ (deliver_line number (reply_of reply) ++ sent_after names.old.grammar.now before messages.now)) }
+    ensures grammar { names.new.grammar.now ≡ names.old.grammar.now }
 {
     push_delivered(text, number, &reply)?;
-    push_sent(text, g, messages, before)
+    push_sent(text, names, messages, before)
 }
 
 /// Adds the lines of a choice and of what it sent.
 pub(crate) fn push_chosen(
     text: &mut Text,
-    g: &Grammar,
+    names: &mut NameWriter<'_>,
     choice: &Choice,
     reply: Reply,
     messages: &[Message],
     before: usize,
 ) -> Result<(), AllocError>
-    ensures { OnOk result (text.new ≡ text.old ++ (answer_line (words_of g.now) (choice_of choice.now) (answered (reply_of reply)) ++ sent_after g.now before messages.now)) }
+    ensures text { OnOk result (text.new ≡ text.old ++ (answer_line (words_of names.old.grammar.now) (choice_of choice.now) (answered (reply_of reply)) ++ sent_after names.old.grammar.now before messages.now)) }
+    ensures grammar { names.new.grammar.now ≡ names.old.grammar.now }
 {
-    push_answered(text, g, choice, &reply)?;
-    push_sent(text, g, messages, before)
+    push_answered(text, names, choice, &reply)?;
+    push_sent(text, names, messages, before)
 }

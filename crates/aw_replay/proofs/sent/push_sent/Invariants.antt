@@ -7,5 +7,5 @@ use Rattle.aw_replay.proofs.sent.push_sent.Given as goal
 -- the lines so far, and those that are left
 abbrev pub invariant-loop-number : goal.invariant-loop-number
 invariant-loop-number l =
-    l.text ++ sent_lines (words_of l.g) l.number (drop l.number (map (message_of (grammar_of l.g)) l.messages))
-    ≡ l.initial.text ++ sent_lines (words_of l.g) l.from (drop l.from (map (message_of (grammar_of l.g)) l.messages))
+    l.text ++ sent_lines (words_of l.initial.names.grammar.now) l.number (drop l.number (map (message_of (grammar_of l.initial.names.grammar.now)) l.messages))
+    ≡ l.initial.text ++ sent_lines (words_of l.initial.names.grammar.now) l.from (drop l.from (map (message_of (grammar_of l.initial.names.grammar.now)) l.messages))
