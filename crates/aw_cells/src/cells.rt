@@ -5,6 +5,7 @@ ghost use Rattle.aw_store.specs.NamedRefs.{has_names_of};
 ghost use Rattle.aw_cells.specs.TableView.{names_of, map_of, IsTable};
 
 use crate::adding::{add_to, name_equations};
+use crate::hints::Hints;
 use crate::naming::{name_one, slot_in};
 use crate::reading::{child_of, kind_of, text_of};
 use crate::table::Table;
@@ -35,6 +36,7 @@ impl CellFacts {
                 names: IndexSet::new(alloc),
                 cells: Slab::new(alloc),
                 order: Vec::new(alloc),
+                hints: Hints::new(alloc),
             },
         }
     }
@@ -55,7 +57,7 @@ impl Facts for CellFacts {
     ghost few = { λ f. f.sound.sound.few };
 
     fn slot_of(&self, r: &Ref) -> Option<usize> {
-        slot_in(&self.table.names, r)
+        slot_in(&self.table, r)
     }
 
     fn kind(&self, slot: usize) -> Kind {

@@ -1,42 +1,63 @@
 //! Naming references: each new one gets the next slot.
-ghost use Rattle.std.specs.Prelude.{◌≡◌, ◌≤◌, ◌+◌, ◌^◌, ◌<◌, ◌++◌, ◌∷◌, [], Some, true, false, IfOk, OnOk, OnErr, IsOk, MatchOption, length, slice_get, vec_capacity};
+ghost use Rattle.std.specs.Prelude.{◌≡◌, ◌≤◌, ◌+◌, ◌^◌, ◌<◌, ◌++◌, ◌∷◌, [], Some, true, false, IfOk, IfSome, OnOk, OnErr, IsOk, MatchOption, length, slice_get, vec_capacity};
 ghost use Rattle.aw_store.specs.NamedRefs.{is_named, all_named, with_name, Grows, NamesOnly};
 ghost use Rattle.aw_cells.specs.StoredBodies.{refs_of, all_below};
 ghost use Rattle.slab.specs.Slab.{HasRoomFor};
 ghost use Rattle.aw_cells.specs.Rows.{IsOnlyRoom};
 ghost use Rattle.aw_cells.specs.TableView.{names_of, map_of, IsTable};
 
-use crate::stored::{Slots, Stored};
+use crate::hints::Hints;
+use crate::stored::{MOST, Slots, Stored};
 use crate::table::Table;
-use aw_name::{Ref, copy_ref};
+use aw_name::{Ref, copy_ref, is_same_ref};
 use indexmap::IndexSet;
 use slab::Slab;
 use std::alloc::AllocError;
 
-/// The slot of a reference, where it is named.
-pub fn slot_in(names: &IndexSet<Ref>, r: &Ref) -> Option<usize>
+/// The slot of a reference by its hash, where it is named.
+fn slot_by_hash(names: &IndexSet<Ref>, r: &Ref) -> Option<usize>
     ensures { MatchOption result (is_named names.now.keys r.now ≡ false) (λ slot. slice_get names.now.keys slot ≡ Some r.now) }
 {
     names.get_index_of(r)
 }
 
-/// Makes room for one more body, and for the slot of each. An error changes nothing else. It is also an error where the slab
-/// would not give out this slot next: that does not come while nothing is taken out of it, but its contract does not say so.
-fn make_room(
-    cells: &mut Slab<Stored>,
-    order: &mut Vec<usize>,
-    slot: usize,
-) -> Result<(), AllocError>
+/// The slot of the next hint, where this reference is named there.
+fn slot_by_hint(names: &[Ref], hints: &Hints, r: &Ref) -> Option<usize>
+    ensures { IfSome result (λ slot. slice_get names.now slot ≡ Some r.now) }
+{
+    let slot = hints.next()? as usize;
+    if is_same_ref(names.get(slot)?, r) {
+        Some(slot)
+    } else {
+        None
+    }
+}
+
+/// The slot of a reference, where it is named. It is looked up by its hash only where the next hint is not the one.
+pub fn slot_in(t: &Table, r: &Ref) -> Option<usize>
+    ensures { MatchOption result (is_named (names_of t.now) r.now ≡ false) (λ slot. slice_get (names_of t.now) slot ≡ Some r.now) }
+{
+    match slot_by_hint(t.names.as_slice(), &t.hints, r) {
+        Some(slot) => Some(slot),
+        None => slot_by_hash(&t.names, r),
+    }
+}
+
+/// Makes room for one more body, and for the slot of each. An error changes nothing else. It is an error where this slot has no
+/// number, and also where the slab would not give it out next: that does not come while nothing is taken out of it, but its
+/// contract does not say so.
+fn make_room(cells: &mut Slab<Stored>, order: &mut Vec<u32>, slot: usize) -> Result<(), AllocError>
     requires behind { length order.old.items ≤ slot }
     requires small { slot < 2 ^ 63 }
     ensures cells { IsOnlyRoom cells.old cells.new }
     ensures order { order.new.items ≡ order.old.items }
     ensures kept { vec_capacity order.old ≤ vec_capacity order.new }
     ensures next { OnOk result (cells.new.vacant_key ≡ slot) }
+    ensures numbered { OnOk result (slot < 2 ^ 32) }
     ensures room { OnOk result (HasRoomFor cells.new 1) }
     ensures order_room { OnOk result (slot + 1 ≤ vec_capacity order.new) }
 {
-    if cells.vacant_key() != slot {
+    if slot >= MOST || cells.vacant_key() != slot {
         return Err(AllocError);
     }
     cells.reserve(1)?;
@@ -61,6 +82,7 @@ fn name_new(t: &mut Table, r: &Ref) -> Result<usize, AllocError>
     ensures map { map_of t.new ≡ map_of t.old }
     ensures ok { OnOk result (names_of t.new ≡ names_of t.old ++ r.now ∷ []) }
     ensures slot { IfOk result (λ slot. slice_get (names_of t.new) slot ≡ Some r.now) }
+    ensures numbered { IfOk result (λ slot. slot < 2 ^ 32) }
     ensures err { OnErr result (names_of t.new ≡ names_of t.old) }
 {
     let slot = t.names.len();
@@ -79,11 +101,15 @@ pub fn name_one(t: &mut Table, r: &Ref) -> Result<usize, AllocError>
     ensures map { map_of t.new ≡ map_of t.old }
     ensures ok { OnOk result (names_of t.new ≡ with_name (names_of t.old) r.now) }
     ensures slot { IfOk result (λ slot. slice_get (names_of t.new) slot ≡ Some r.now) }
+    ensures numbered { IfOk result (λ slot. slot < 2 ^ 32) }
     ensures err { OnErr result (names_of t.new ≡ names_of t.old) }
     ensures named { is_named (names_of t.old) r.now ≡ true → IsOk result }
 {
-    match slot_in(&t.names, r) {
-        Some(slot) => Ok(slot),
+    match slot_in(t, r) {
+        Some(slot) => {
+            t.hints.pass(slot as u32);
+            Ok(slot)
+        }
         None => name_new(t, r),
     }
 }
@@ -103,7 +129,7 @@ pub fn name_parts(t: &mut Table, refs: &[Ref]) -> Result<Slots, AllocError>
 {
     let mut slots = Slots::new();
     for r in refs {
-        slots.push(name_one(t, r)?);
+        slots.push(name_one(t, r)? as u32);
     }
     Ok(slots)
 }

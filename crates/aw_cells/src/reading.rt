@@ -16,7 +16,7 @@ pub fn kind_of(stored: &Stored) -> Kind
 {
     match stored {
         Stored::Missing => Kind::Missing,
-        Stored::Same(slot) => Kind::Same(*slot),
+        Stored::Same(slot) => Kind::Same(*slot as usize),
         Stored::Con(c, parts) => Kind::Con(*c, parts.len() as u8),
         Stored::Num(n) => Kind::Num(*n),
         Stored::Text(_) => Kind::Text,
@@ -39,7 +39,7 @@ pub fn child_of(stored: &Stored, k: u8) -> usize
     ensures { slice_get (slots_of stored.now) k ≡ Some result }
 {
     match stored {
-        Stored::Con(_, parts) => parts.as_slice()[usize::from(k)],
+        Stored::Con(_, parts) => parts.as_slice()[usize::from(k)] as usize,
         Stored::Missing | Stored::Same(_) | Stored::Num(_) | Stored::Text(_) => unreachable!(),
     }
 }
@@ -64,7 +64,7 @@ fn is_ref_at(names: &[Ref], slot: usize, r: &Ref) -> bool
 }
 
 /// Whether these slots have these references.
-fn are_refs(names: &[Ref], slots: &[usize], refs: &[Ref]) -> bool
+fn are_refs(names: &[Ref], slots: &[u32], refs: &[Ref]) -> bool
     requires { all_below (length names.now) slots.now ≡ true }
     ensures { result ≡ are_at names.now slots.now refs.now }
 {
@@ -72,7 +72,7 @@ fn are_refs(names: &[Ref], slots: &[usize], refs: &[Ref]) -> bool
         return false;
     }
     for i in 0..slots.len() {
-        if !is_ref_at(names, slots[i], &refs[i]) {
+        if !is_ref_at(names, slots[i] as usize, &refs[i]) {
             return false;
         }
     }
@@ -85,7 +85,7 @@ pub fn is_stored(names: &[Ref], stored: &Stored, body: &Body) -> bool
     ensures { result ≡ is_body names.now stored.now body.now }
 {
     match (stored, body) {
-        (Stored::Same(slot), Body::Same(r)) => is_ref_at(names, *slot, r),
+        (Stored::Same(slot), Body::Same(r)) => is_ref_at(names, *slot as usize, r),
         (Stored::Con(c, slots), Body::Con(d, refs)) => {
             *c == *d && are_refs(names, slots.as_slice(), refs.as_slice())
         }
@@ -104,13 +104,13 @@ fn ref_at(names: &[Ref], slot: usize) -> Result<Ref, AllocError>
 }
 
 /// Copies of the references of these slots.
-fn refs_at(alloc: Global, names: &[Ref], slots: &[usize]) -> Result<Refs, AllocError>
+fn refs_at(alloc: Global, names: &[Ref], slots: &[u32]) -> Result<Refs, AllocError>
     requires { all_below (length names.now) slots.now ≡ true }
     ensures { IfOk result (λ refs. refs ≡ refs_of names.now slots.now) }
 {
     let mut refs = Vec::with_capacity(alloc, slots.len())?;
     for slot in slots {
-        refs.push(ref_at(names, *slot)?)?;
+        refs.push(ref_at(names, *slot as usize)?)?;
     }
     Refs::from_vec(refs)
 }
@@ -123,7 +123,7 @@ pub fn body_at(alloc: Global, names: &[Ref], stored: &Stored) -> Result<Body, Al
 {
     match stored {
         Stored::Missing => unreachable!(),
-        Stored::Same(slot) => Ok(Body::Same(ref_at(names, *slot)?)),
+        Stored::Same(slot) => Ok(Body::Same(ref_at(names, *slot as usize)?)),
         Stored::Con(c, slots) => Ok(Body::Con(*c, refs_at(alloc, names, slots.as_slice())?)),
         Stored::Num(n) => Ok(Body::Num(*n)),
         Stored::Text(t) => Ok(Body::Text(t.clone()?)),

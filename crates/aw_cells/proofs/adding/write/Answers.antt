@@ -33,6 +33,7 @@ returns-clause-table c =
       dense = dense-set t.cells (with_value t.cells c.args.slot c.args.stored) n c.args.slot c.args.stored up d;
       sound = sound-same _ _ _ _ _ _ refl (row-set t.cells (with_value t.cells c.args.slot c.args.stored) n c.args.slot c.args.stored up d l) c.push_reserved.ensures.items (sound-written t.names.keys (cells_of t) t.order.items c.args.slot c.args.stored c.requires.table.sound c.requires.within c.requires.empty c.requires.fits c.requires.written);
       room = omega (arith, c.push_reserved.ensures.capacity, c.requires.table.room);
+      numbered = c.requires.table.numbered;
     }
 
 pub returns-clause-map : goal.returns-clause-map
