@@ -1,5 +1,5 @@
 //! Slots in the order in which they are thought to be asked for.
-ghost use Rattle.std.specs.Prelude.{◌≡◌, [], slice_get};
+ghost use Rattle.std.specs.Prelude.{◌≡◌, ◌≢◌, ◌+◌, ◌++◌, ◌∷◌, [], ◌⊎◌, Some, length, slice_get};
 
 use std::alloc::Global;
 
@@ -14,7 +14,8 @@ pub struct Hints {
 impl Hints {
     /// No hints. It takes no memory.
     pub fn new(alloc: Global) -> Hints
-        ensures { result.slots.items ≡ [] }
+        ensures slots { result.slots.items ≡ [] }
+        ensures next { result.next ≡ 0 }
     {
         Hints {
             slots: Vec::new(alloc),
@@ -31,7 +32,9 @@ impl Hints {
 
     /// Goes on behind the next hint, where it is this slot.
     pub fn pass(&mut self, slot: u32)
-        ensures { self.new.slots ≡ self.old.slots }
+        ensures slots { self.new.slots ≡ self.old.slots }
+        ensures next { slice_get self.old.slots.items self.old.next ≡ Some slot → self.new.next ≡ self.old.next + 1 }
+        ensures other { slice_get self.old.slots.items self.old.next ≢ Some slot → self.new.next ≡ self.old.next }
     {
         if self.next() == Some(slot) {
             self.next += 1;
@@ -40,27 +43,35 @@ impl Hints {
 
     /// Lets all hints go, and keeps their memory.
     pub fn clear(&mut self)
-        ensures { self.new.slots.items ≡ [] }
+        ensures slots { self.new.slots.items ≡ [] }
+        ensures next { self.new.next ≡ 0 }
     {
         self.slots.clear();
         self.next = 0;
     }
 
     /// Puts a slot behind the hints, and goes on behind it. Where there is no memory for it, it is left out.
-    pub fn push(&mut self, slot: u32) {
+    pub fn push(&mut self, slot: u32)
+        ensures next { self.new.next ≡ length self.new.slots.items }
+        ensures slots { (self.new.slots.items ≡ self.old.slots.items ++ slot ∷ []) ⊎ (self.new.slots.items ≡ self.old.slots.items) }
+    {
         let _ = self.slots.push(slot);
         self.next = self.slots.len();
     }
 
     /// Puts slots behind the hints, and goes on behind them. Where there is no memory for them, they are left out.
-    pub fn push_all(&mut self, slots: &[u32]) {
+    pub fn push_all(&mut self, slots: &[u32])
+        ensures next { self.new.next ≡ length self.new.slots.items }
+        ensures slots { (self.new.slots.items ≡ self.old.slots.items ++ slots.now) ⊎ (self.new.slots.items ≡ self.old.slots.items) }
+    {
         let _ = self.slots.extend_from_slice(slots);
         self.next = self.slots.len();
     }
 
     /// Goes back to the first hint.
     pub fn rewind(&mut self)
-        ensures { self.new.slots ≡ self.old.slots }
+        ensures slots { self.new.slots ≡ self.old.slots }
+        ensures next { self.new.next ≡ 0 }
     {
         self.next = 0;
     }
