@@ -13,10 +13,14 @@ use aw_out::{OUTPUT_LIMIT, PrintFault, Report};
 use aw_sched::Event;
 use aw_world::SiteWorld;
 use std::alloc::Global;
+use std::mem;
 
 /// Replays events between sites that hold nothing, one for each role: the lines of all events, and then the artifacts where every
 /// message was delivered, and otherwise how many were not. Messages carry loads, or none does. It is too large exactly where the text
 /// would be longer than an output may be.
+///
+/// The memory of the world is not given back: a program that replays ends then, and to take apart what each site holds, piece by piece,
+/// takes long.
 pub fn replay_between_sites(
     alloc: Global,
     accepted: &Accepted,
@@ -31,5 +35,7 @@ pub fn replay_between_sites(
     ensures headline { ∥ HeadlineHolds (words_of accepted.now.grammar) (grammar_of accepted.now.grammar) loads (map event_seen events.now) ∥₁ }
 {
     let mut world = SiteWorld::new(alloc, accepted, loads)?;
-    replay(&mut world, events)
+    let told = replay(&mut world, events);
+    mem::forget(world);
+    told
 }

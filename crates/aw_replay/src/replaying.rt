@@ -10,6 +10,7 @@ ghost use Rattle.aw_replay.specs.Telling.{Does, DoesSome, PrintsEvent, DoesAll, 
 
 use crate::ending::print_ending;
 use crate::telling::tell;
+use aw_base::NameWriter;
 use aw_list::Text;
 use aw_out::{OUTPUT_LIMIT, PrintFault, Report};
 use aw_sched::Event;
@@ -27,23 +28,27 @@ fn roomy_text(alloc: Global) -> Text {
     }
 }
 
-/// Does what an event asks for, and prints its lines, which are gathered in a text that serves one event after another. After an error
+/// Does what an event asks for, and prints its lines, which are gathered in a text that serves one event after another, as do the
+/// names that were written. After an error
 /// some first choices and deliveries of it were made.
 fn tell_event<W: Workspace>(
     world: &mut World<W>,
     event: &Event,
+    names: &mut NameWriter<'_>,
     text: &mut Text,
     report: &mut Report,
 ) -> Result<(), PrintFault>
-    requires { MayCome (plain_of world.old) event.now }
+    requires may_come { MayCome (plain_of world.old) event.now }
+    requires named { names.old.grammar.now ≡ world.old.accepted.now.grammar }
     ensures accepted { world.new.accepted.now ≡ world.old.accepted.now }
     ensures loads { world.new.loads ≡ world.old.loads }
     ensures does { OnOk result (Does ⟦<W as Workspace>⟧ world.old world.new (event_seen event.now)) }
     ensures prints { PrintsEvent ⟦<W as Workspace>⟧ world.old (event_seen event.now) report.old report.new result }
     ensures some { OnErr result (DoesSome ⟦<W as Workspace>⟧ world.old world.new (event_seen event.now)) }
+    ensures names { names.new.grammar.now ≡ names.old.grammar.now }
 {
     text.truncate(0);
-    tell(world, event, text)?;
+    tell(world, event, names, text)?;
     report.push(text.as_slice())
 }
 
@@ -60,9 +65,11 @@ pub fn tell_events<W: Workspace>(
     ensures prints { PrintsAll ⟦<W as Workspace>⟧ world.old (map event_seen events.now) report.old report.new result }
     ensures some { OnErr result (DoesFirst ⟦<W as Workspace>⟧ world.old world.new (map event_seen events.now)) }
 {
-    let mut text = roomy_text(world.allocator());
+    let alloc = world.allocator();
+    let mut names = NameWriter::new(alloc, world.accepted().grammar());
+    let mut text = roomy_text(alloc);
     for event in events {
-        tell_event(world, event, &mut text, report)?;
+        tell_event(world, event, &mut names, &mut text, report)?;
     }
     Ok(())
 }

@@ -9,7 +9,7 @@ ghost use Rattle.aw_world.specs.WorldView.{plain_of};
 ghost use Rattle.aw_replay.specs.Telling.{Steps, AddsStep, StepsOrNot, IsSettled, AddsSettling, SettlesSome, Does, Tells, DoesSome};
 
 use crate::lines::{push_chosen, push_delivery, push_settled};
-use aw_base::{push_item_lines, role_name};
+use aw_base::{NameWriter, push_item_lines, role_name};
 use aw_choice::{Choice, copy_choice};
 use aw_list::Text;
 use aw_sched::Event;
@@ -20,21 +20,24 @@ use std::alloc::AllocError;
 fn tell_choice<W: Workspace>(
     world: &mut World<W>,
     choice: &Choice,
+    names: &mut NameWriter<'_>,
     text: &mut Text,
 ) -> Result<(), AllocError>
-    requires { choice_ok (plain_of world.old) (choice_of choice.now) ≡ true }
+    requires named { names.old.grammar.now ≡ world.old.accepted.now.grammar }
+    requires ok { choice_ok (plain_of world.old) (choice_of choice.now) ≡ true }
     ensures accepted { world.new.accepted.now ≡ world.old.accepted.now }
     ensures loads { world.new.loads ≡ world.old.loads }
     ensures stepped { OnOk result (Steps ⟦<W as Workspace>⟧ world.old world.new (V.Chooses (choice_of choice.now))) }
     ensures text { OnOk result (AddsStep ⟦<W as Workspace>⟧ world.old (V.Chooses (choice_of choice.now)) text.old text.new) }
     ensures some { OnErr result (StepsOrNot ⟦<W as Workspace>⟧ world.old world.new (V.Chooses (choice_of choice.now))) }
+    ensures names { names.new.grammar.now ≡ names.old.grammar.now }
 {
     let before = world.messages().len();
     let copy = copy_choice(choice)?;
     let reply = world.step(Move::Choose(copy))?;
     push_chosen(
         text,
-        world.accepted().grammar(),
+        names,
         choice,
         reply,
         world.messages(),
@@ -46,19 +49,22 @@ fn tell_choice<W: Workspace>(
 fn tell_delivery<W: Workspace>(
     world: &mut World<W>,
     number: u64,
+    names: &mut NameWriter<'_>,
     text: &mut Text,
 ) -> Result<(), AllocError>
+    requires named { names.old.grammar.now ≡ world.old.accepted.now.grammar }
     ensures accepted { world.new.accepted.now ≡ world.old.accepted.now }
     ensures loads { world.new.loads ≡ world.old.loads }
     ensures stepped { OnOk result (Steps ⟦<W as Workspace>⟧ world.old world.new (V.Delivers number)) }
     ensures text { OnOk result (AddsStep ⟦<W as Workspace>⟧ world.old (V.Delivers number) text.old text.new) }
     ensures some { OnErr result (StepsOrNot ⟦<W as Workspace>⟧ world.old world.new (V.Delivers number)) }
+    ensures names { names.new.grammar.now ≡ names.old.grammar.now }
 {
     let before = world.messages().len();
     let reply = world.step(Move::Deliver(number))?;
     push_delivery(
         text,
-        world.accepted().grammar(),
+        names,
         number,
         reply,
         world.messages(),
@@ -68,16 +74,22 @@ fn tell_delivery<W: Workspace>(
 
 /// Delivers the first message that was not delivered, again and again, and adds the lines. After an error some of these
 /// deliveries were made.
-fn tell_settle<W: Workspace>(world: &mut World<W>, text: &mut Text) -> Result<(), AllocError>
+fn tell_settle<W: Workspace>(
+    world: &mut World<W>,
+    names: &mut NameWriter<'_>,
+    text: &mut Text,
+) -> Result<(), AllocError>
+    requires named { names.old.grammar.now ≡ world.old.accepted.now.grammar }
     ensures accepted { world.new.accepted.now ≡ world.old.accepted.now }
     ensures loads { world.new.loads ≡ world.old.loads }
     ensures settled { OnOk result (IsSettled ⟦<W as Workspace>⟧ world.old world.new) }
     ensures text { OnOk result (AddsSettling ⟦<W as Workspace>⟧ world.old text.old text.new) }
     ensures some { OnErr result (SettlesSome ⟦<W as Workspace>⟧ world.old world.new) }
+    ensures names { names.new.grammar.now ≡ names.old.grammar.now }
 {
     let before = world.delivered();
     while let Some(number) = world.quiet() {
-        tell_delivery(world, number, text)?;
+        tell_delivery(world, number, names, text)?;
     }
     push_settled(text, world.delivered() - before)
 }
@@ -86,8 +98,10 @@ fn tell_settle<W: Workspace>(world: &mut World<W>, text: &mut Text) -> Result<()
 fn choice_lines<W: Workspace>(
     world: &mut World<W>,
     choice: &Choice,
+    names: &mut NameWriter<'_>,
     text: &mut Text,
 ) -> Result<(), AllocError>
+    requires named { names.old.grammar.now ≡ world.old.accepted.now.grammar }
     requires ok { choice_ok (plain_of world.old) (choice_of choice.now) ≡ true }
     requires empty { text.old ≡ [] }
     ensures accepted { world.new.accepted.now ≡ world.old.accepted.now }
@@ -95,8 +109,9 @@ fn choice_lines<W: Workspace>(
     ensures does { OnOk result (Does ⟦<W as Workspace>⟧ world.old world.new (E.Chooses (choice_of choice.now))) }
     ensures tells { OnOk result (Tells ⟦<W as Workspace>⟧ world.old (E.Chooses (choice_of choice.now)) text.new) }
     ensures some { OnErr result (DoesSome ⟦<W as Workspace>⟧ world.old world.new (E.Chooses (choice_of choice.now))) }
+    ensures names { names.new.grammar.now ≡ names.old.grammar.now }
 {
-    tell_choice(world, choice, text)?;
+    tell_choice(world, choice, names, text)?;
     Ok(())
 }
 
@@ -104,51 +119,69 @@ fn choice_lines<W: Workspace>(
 fn delivery_lines<W: Workspace>(
     world: &mut World<W>,
     number: u64,
+    names: &mut NameWriter<'_>,
     text: &mut Text,
 ) -> Result<(), AllocError>
-    requires { text.old ≡ [] }
+    requires named { names.old.grammar.now ≡ world.old.accepted.now.grammar }
+    requires empty { text.old ≡ [] }
     ensures accepted { world.new.accepted.now ≡ world.old.accepted.now }
     ensures loads { world.new.loads ≡ world.old.loads }
     ensures does { OnOk result (Does ⟦<W as Workspace>⟧ world.old world.new (E.Delivers number)) }
     ensures tells { OnOk result (Tells ⟦<W as Workspace>⟧ world.old (E.Delivers number) text.new) }
     ensures some { OnErr result (DoesSome ⟦<W as Workspace>⟧ world.old world.new (E.Delivers number)) }
+    ensures names { names.new.grammar.now ≡ names.old.grammar.now }
 {
-    tell_delivery(world, number, text)?;
+    tell_delivery(world, number, names, text)?;
     Ok(())
 }
 
 /// Settles the world; the lines, into an empty text.
-fn settling_lines<W: Workspace>(world: &mut World<W>, text: &mut Text) -> Result<(), AllocError>
-    requires { text.old ≡ [] }
+fn settling_lines<W: Workspace>(
+    world: &mut World<W>,
+    names: &mut NameWriter<'_>,
+    text: &mut Text,
+) -> Result<(), AllocError>
+    requires named { names.old.grammar.now ≡ world.old.accepted.now.grammar }
+    requires empty { text.old ≡ [] }
     ensures accepted { world.new.accepted.now ≡ world.old.accepted.now }
     ensures loads { world.new.loads ≡ world.old.loads }
     ensures does { OnOk result (Does ⟦<W as Workspace>⟧ world.old world.new E.Settles) }
     ensures tells { OnOk result (Tells ⟦<W as Workspace>⟧ world.old E.Settles text.new) }
     ensures some { OnErr result (DoesSome ⟦<W as Workspace>⟧ world.old world.new E.Settles) }
+    ensures names { names.new.grammar.now ≡ names.old.grammar.now }
 {
-    tell_settle(world, text)?;
+    tell_settle(world, names, text)?;
     Ok(())
 }
 
 /// The lines of a worklist, into an empty text.
-fn list_lines<W: Workspace>(world: &World<W>, role: u16, text: &mut Text) -> Result<(), AllocError>
+fn list_lines<W: Workspace>(
+    world: &World<W>,
+    role: u16,
+    names: &mut NameWriter<'_>,
+    text: &mut Text,
+) -> Result<(), AllocError>
+    requires named { names.old.grammar.now ≡ world.now.accepted.now.grammar }
     requires role { role < (plain_of world.now).roles }
     requires empty { text.old ≡ [] }
-    ensures { OnOk result (Tells ⟦<W as Workspace>⟧ world.now (E.Lists role) text.new) }
+    ensures text { OnOk result (Tells ⟦<W as Workspace>⟧ world.now (E.Lists role) text.new) }
+    ensures names { names.new.grammar.now ≡ names.old.grammar.now }
 {
     let items = world.list(role)?;
     text.push_bytes(b"list ")?;
-    text.push_bytes(role_name(world.accepted().grammar(), role))?;
+    text.push_bytes(role_name(names.grammar(), role))?;
     text.push_bytes(b"\n")?;
-    push_item_lines(text, world.accepted().grammar(), items.as_slice())
+    push_item_lines(text, names, items.as_slice())
 }
 
 /// Does what an event asks for; its lines, into an empty text. After an error some first choices and deliveries of it were made.
 pub(crate) fn tell<W: Workspace>(
     world: &mut World<W>,
     event: &Event,
+    names: &mut NameWriter<'_>,
     text: &mut Text,
 ) -> Result<(), AllocError>
+    requires named { names.old.grammar.now ≡ world.old.accepted.now.grammar }
     requires may_come { MayCome (plain_of world.old) event.now }
     requires empty { text.old ≡ [] }
     ensures accepted { world.new.accepted.now ≡ world.old.accepted.now }
@@ -156,11 +189,12 @@ pub(crate) fn tell<W: Workspace>(
     ensures does { OnOk result (Does ⟦<W as Workspace>⟧ world.old world.new (event_seen event.now)) }
     ensures tells { OnOk result (Tells ⟦<W as Workspace>⟧ world.old (event_seen event.now) text.new) }
     ensures some { OnErr result (DoesSome ⟦<W as Workspace>⟧ world.old world.new (event_seen event.now)) }
+    ensures names { names.new.grammar.now ≡ names.old.grammar.now }
 {
     match event {
-        Event::Choose(choice) => choice_lines(world, choice.get(), text),
-        Event::Deliver(number) => delivery_lines(world, *number, text),
-        Event::Settle => settling_lines(world, text),
-        Event::List(role) => list_lines(world, *role, text),
+        Event::Choose(choice) => choice_lines(world, choice.get(), names, text),
+        Event::Deliver(number) => delivery_lines(world, *number, names, text),
+        Event::Settle => settling_lines(world, names, text),
+        Event::List(role) => list_lines(world, *role, names, text),
     }
 }

@@ -99,7 +99,7 @@ impl<'g, W: Workspace> World<'g, W> {
     }
 
     /// The grammar of the world.
-    pub fn accepted(&self) -> &Accepted
+    pub fn accepted(&self) -> &'g Accepted
         ensures { result.now ≡ self.now.accepted.now }
     {
         self.accepted
