@@ -1,16 +1,17 @@
 //! A program whose stored run shows the lines of nodes over both stores: with values that are missing or go round, with one
-//! that has no end, and with one that is shared at each of its levels. What it has to write was worked out by hand.
+//! that has no end, and with one that is shared at each of its levels; and lines of one report, with long values that come
+//! again. What it has to write was worked out by hand.
 #![tactic(auto)]
 
 mod filling;
 
-ghost use Rattle.aw_print.specs.Ends.{AreEnds};
+ghost use Rattle.aw_print.specs.Stacks.{IsReady};
 
 use aw_base::{Choice, Grammar, Ground, Items};
 use aw_cells::CellFacts;
 use aw_list::Text;
 use aw_out::{PrintFault, Report, StdSink, write_all};
-use aw_print::{Ends, artifact_row};
+use aw_print::{Printer, artifact_row};
 use aw_spec::read_spec;
 use aw_store::{Facts, ListFacts};
 use filling::{BOX, NONE, fill, node, parts};
@@ -27,36 +28,58 @@ start visit
 rule admit {who, care} : visit()<who, care>
 ";
 
-/// A line that is asked for: the case of a visit, the numbers of the parts of the first visit that it inherits, and the most
-/// bytes of the line.
+/// A line that is asked for: the case of a visit, and the numbers of the parts of the first visit that it inherits.
 #[derive(Clone, Copy, Debug)]
 struct Asked<'a> {
     case: u64,
     inherited: &'a [u16],
-    limit: usize,
 }
 
-/// Adds the line of a visit, or that it passes the limit.
-fn push_line<F: Facts>(
-    told: &mut Text,
+/// Prints the line of a visit.
+fn print_asked<F: Facts>(
+    alloc: Global,
     g: &Grammar,
     f: &F,
-    asked: &Asked,
+    asked: Asked,
     done: &Option<Choice>,
-    ends: &mut Ends,
-) -> Result<(), AllocError>
-    requires { AreEnds (F.map f.now) (F.names f.now) ends.old }
-    ensures { AreEnds (F.map f.now) (F.names f.now) ends.new }
+    printer: &mut Printer,
+    report: &mut Report,
+) -> Result<(), PrintFault>
+    requires { IsReady g.now (F.map f.now) (F.names f.now) report.old printer.old }
+    ensures { IsReady g.now (F.map f.now) (F.names f.now) report.new printer.new }
 {
-    let alloc = told.allocator();
     let node = node(alloc, asked.case);
     let inherited = parts(alloc, asked.inherited)?;
-    let mut report = Report::new(alloc, asked.limit);
-    match artifact_row(alloc, g, &node, &inherited, done, f, ends, &mut report) {
+    artifact_row(alloc, g, &node, &inherited, done, f, printer, report)
+}
+
+/// Adds what was printed, or that it passes the limit.
+fn push_printed(
+    told: &mut Text,
+    report: &Report,
+    result: Result<(), PrintFault>,
+) -> Result<(), AllocError> {
+    match result {
         Ok(()) => told.push_bytes(report.bytes()),
         Err(PrintFault::TooLarge) => told.push_bytes(b"too large\n"),
         Err(PrintFault::NoMemory) => Err(AllocError),
     }
+}
+
+/// Adds the line of a visit, or that it has more bytes than this.
+fn push_line<F: Facts>(
+    told: &mut Text,
+    g: &Grammar,
+    f: &F,
+    asked: Asked,
+    done: &Option<Choice>,
+    limit: usize,
+) -> Result<(), AllocError> {
+    let alloc = told.allocator();
+    let mut report = Report::new(alloc, limit);
+    let mut printer = Printer::new(alloc);
+    let result = print_asked(alloc, g, f, asked, done, &mut printer, &mut report);
+    push_printed(told, &report, result)
 }
 
 /// The choice `admit {"Ada", box(none)}` of the first visit.
@@ -75,59 +98,68 @@ fn admitted(alloc: Global) -> Result<Choice, AllocError> {
 
 /// Adds lines whose values end: what is missing and what goes round prints with a mark, and a line of
 /// 96 bytes has room in 96.
-fn push_ending<F: Facts>(
-    told: &mut Text,
-    g: &Grammar,
-    f: &F,
-    ends: &mut Ends,
-) -> Result<(), AllocError>
-    requires { AreEnds (F.map f.now) (F.names f.now) ends.old }
-    ensures { AreEnds (F.map f.now) (F.names f.now) ends.new }
-{
+fn push_ending<F: Facts>(told: &mut Text, g: &Grammar, f: &F) -> Result<(), AllocError> {
     let done = Some(admitted(told.allocator())?);
     let mut asked = Asked {
         case: 1,
         inherited: &[8, 6, 9],
-        limit: 96,
     };
-    push_line(told, g, f, &asked, &done, ends)?;
-    asked.limit = 95;
-    push_line(told, g, f, &asked, &done, ends)?;
+    push_line(told, g, f, asked, &done, 96)?;
+    push_line(told, g, f, asked, &done, 95)?;
     asked.inherited = &[];
-    push_line(told, g, f, &asked, &None, ends)?;
+    push_line(told, g, f, asked, &None, 95)?;
     asked.case = 2;
-    push_line(told, g, f, &asked, &None, ends)
+    push_line(told, g, f, asked, &None, 95)
 }
 
 /// Adds lines that pass their limits: of a value without an end, at a small limit and at one a quarter of a million levels
 /// deep; and of a value that is shared at each of 40 levels.
-fn push_passing<F: Facts>(
-    told: &mut Text,
-    g: &Grammar,
-    f: &F,
-    ends: &mut Ends,
-) -> Result<(), AllocError>
-    requires { AreEnds (F.map f.now) (F.names f.now) ends.old }
-{
+fn push_passing<F: Facts>(told: &mut Text, g: &Grammar, f: &F) -> Result<(), AllocError> {
     let mut asked = Asked {
         case: 1,
         inherited: &[1],
-        limit: 1_000,
     };
-    push_line(told, g, f, &asked, &None, ends)?;
-    asked.limit = 1_000_100;
-    push_line(told, g, f, &asked, &None, ends)?;
+    push_line(told, g, f, asked, &None, 1_000)?;
+    push_line(told, g, f, asked, &None, 1_000_100)?;
     asked.inherited = &[10];
-    asked.limit = 100_000;
-    push_line(told, g, f, &asked, &None, ends)
+    push_line(told, g, f, asked, &None, 100_000)
+}
+
+/// Prints lines into one report: of a long value, of the same again, of one that has it twice, and of what goes round.
+fn print_together<F: Facts>(
+    alloc: Global,
+    g: &Grammar,
+    f: &F,
+    report: &mut Report,
+) -> Result<(), PrintFault> {
+    let mut printer = Printer::new(alloc);
+    let mut asked = Asked {
+        case: 3,
+        inherited: &[46],
+    };
+    print_asked(alloc, g, f, asked, &None, &mut printer, report)?;
+    asked.case = 4;
+    print_asked(alloc, g, f, asked, &None, &mut printer, report)?;
+    asked.inherited = &[45, 6, 46];
+    print_asked(alloc, g, f, asked, &None, &mut printer, report)?;
+    asked.inherited = &[7, 45];
+    print_asked(alloc, g, f, asked, &None, &mut printer, report)
+}
+
+/// Adds lines of one report, or that they pass its limit.
+fn push_together<F: Facts>(told: &mut Text, g: &Grammar, f: &F) -> Result<(), AllocError> {
+    let alloc = told.allocator();
+    let mut report = Report::new(alloc, 10_000);
+    let result = print_together(alloc, g, f, &mut report);
+    push_printed(told, &report, result)
 }
 
 /// Adds all lines over a store that was empty.
 fn push_lines<F: Facts>(told: &mut Text, g: &Grammar, f: &mut F) -> Result<(), AllocError> {
     fill(told.allocator(), f)?;
-    let mut ends = Ends::new(told.allocator());
-    push_ending(told, g, f, &mut ends)?;
-    push_passing(told, g, f, &mut ends)
+    push_ending(told, g, f)?;
+    push_passing(told, g, f)?;
+    push_together(told, g, f)
 }
 
 /// What is told of both stores.

@@ -20,7 +20,7 @@ use Rattle.aw_print.specs.declared.stack.Piece.{Piece}
 use Rattle.aw_print.specs.declared.stack.Piece.TheVariants.{Close}
 use Rattle.aw_print.specs.declared.stack.Span.{Span}
 use Rattle.aw_print.specs.Drafts.{Draft, Whole, then, listed, with_parts, draft_on, draft}
-use Rattle.aw_print.specs.Growing.{Begins, Printing, made, printing}
+use Rattle.aw_print.specs.Growing.{Begins, Printing, made}
 use Rattle.aw_print.specs.Ends.{AreEnds}
 use Rattle.aw_print.specs.Stacks.{Table, IsKept, AreKept, Holds, Origin, Desk, pieces_draft, begun_draft, end_draft, Notes, Begun, OpensCon, OpensBody, OpensSlot, IsAtRest}
 use Rattle.aw_print.proofs.DraftLemmas.{Begins-self}

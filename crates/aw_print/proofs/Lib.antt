@@ -5,7 +5,7 @@ pub mod StackLemmas
 pub mod BeginLemmas
 pub mod PieceLemmas
 pub mod CopyLemmas
-pub mod TableLemmas
+pub mod ReadyLemmas
 pub mod EndsLemmas
 pub mod ListLemmas
 pub mod RowLemmas

@@ -57,3 +57,7 @@ Puts all old new result = PutsTo all old new (λ n. Whole []) result
 abbrev pub Ended : (ℕ → Draft) → Bounded → Bounded → Result Unit PrintFault → Type 0
 Ended all old new (Ok done) = (m : ℕ) × (t : List ℕ) × (all m ≡ Whole t) × (new ≡ printed old t)
 Ended all old new (Err fault) = Stopped all (printing [] old) new fault
+
+-- a report has got something at its end, or nothing
+abbrev pub HasGrown : Bounded → Bounded → Type 0
+HasGrown old new = (t : List ℕ) × (new ≡ printed old t)

@@ -13,9 +13,9 @@ use Rattle.aw_out.specs.declared.error.PrintFault.{PrintFault}
 use Rattle.aw_print.specs.declared.stack.Piece.{Piece}
 use Rattle.aw_print.specs.declared.stack.Piece.TheVariants.{First, Next, Close}
 use Rattle.aw_print.specs.declared.stack.Span.{Span}
-use Rattle.aw_print.specs.declared.stack.Stack.{Stack}
+use Rattle.aw_print.specs.declared.stack.Printer.{Printer}
 use Rattle.aw_print.specs.declared.ends.Ends.{Ends}
-use Rattle.aw_print.specs.Ends.{AreEnds}
+use Rattle.aw_print.specs.Ends.{AreEnds, KeepsNone}
 use Rattle.aw_print.specs.Drafts.{Draft, Whole, then, following, listed, draft_on, draft}
 use Rattle.aw_print.specs.Growing.{LeadTo, Printing, printing, made, PutsTo}
 
@@ -67,17 +67,17 @@ pub record Desk : Type 0 where
   pub pieces : List Piece
   pub table : Table
 
--- the desk with this text gathered, this report and this stack
-abbrev pub desk : List ℕ → Bounded → Stack → Desk
-desk gathered report stack = record { printing = printing gathered report; pieces = stack.pieces.items; table = record { spans = stack.spans.items; ends = stack.ends } }
+-- the desk with this text gathered, this report and this printer
+abbrev pub desk : List ℕ → Bounded → Printer → Desk
+desk gathered report printer = record { printing = printing gathered report; pieces = printer.pieces.items; table = record { spans = printer.spans.items; ends = printer.ends } }
 
 -- what the pieces of a stack stand for
 abbrev pub pieces_draft : Origin → List Piece → ℕ → Draft
 pieces_draft o ps n = pending n o.words o.equations o.names ps
 
--- what is left on a stack
-abbrev pub stack_draft : Origin → Stack → ℕ → Draft
-stack_draft o stack = pieces_draft o stack.pieces.items
+-- what is left on the stack of a printer
+abbrev pub stack_draft : Origin → Printer → ℕ → Draft
+stack_draft o printer = pieces_draft o printer.pieces.items
 
 -- the text of a constructor that began behind so many bytes is what was made since then, the pieces above its end, and its end
 abbrev pub begun_draft : Origin → List ℕ → ℕ → List Piece → ℕ → Draft
@@ -133,6 +133,17 @@ IsSoundWith o piece d = IsSound o (record d { pieces = d.pieces ++ piece ∷ [] 
 -- no piece is left
 abbrev pub IsAtRest : Origin → Desk → Type 0
 IsAtRest o d = (d.pieces ≡ []) × AreKept o d
+
+-- Between two lines no piece is left, and what a printer keeps is so: each text stands in this report where it is said, and chases over
+-- these equations end where it is said.
+abbrev pub IsReady : made_of.Grammar → Map → List Ref → Bounded → Printer → Type 0
+IsReady g k names report printer = IsAtRest (origin g k names) (desk [] report printer)
+
+-- no piece is left, and nothing is kept
+pub record IsNew (printer : Printer) : Type 0 where
+  pub pieces : printer.pieces.items ≡ []
+  pub spans : printer.spans.items ≡ []
+  pub ends : KeepsNone printer.ends
 
 -- the bytes at a span, if there is one
 abbrev pub copied : List ℕ → Option Span → List ℕ

@@ -9,5 +9,5 @@ pub mod row;
 pub mod stack;
 pub mod value;
 
-pub use ends::Ends;
 pub use row::artifact_row;
+pub use stack::Printer;

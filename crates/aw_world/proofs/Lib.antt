@@ -16,4 +16,4 @@ pub mod QuietRows
 pub mod RowsAt
 pub mod HeldRows
 pub mod OwnGrammars
-pub mod KeptEnds
+pub mod Printers

@@ -26,7 +26,8 @@ use Rattle.aw_world.specs.MoveView.{move_of, reply_of}
 use Rattle.aw_world.specs.Reactions.{choice_at, message_at}
 use Rattle.aw_site.specs.Answers.{sent_by, sent_for}
 use Rattle.aw_world.specs.SiteAnswers.{is_new}
-use Rattle.aw_print.specs.declared.ends.Ends.{Ends}
+use Rattle.aw_out.specs.Report.{Bounded}
+use Rattle.aw_print.specs.declared.stack.Printer.{Printer}
 
 -- one workspace for each role, each made for its own role and this grammar
 pub record ArePlaced {W : Type 0} (f : Ghosts W) (g : Grammar) (ws : List W) : Type 0 where
@@ -71,9 +72,9 @@ IsReached f g loads sites messages flags taken =
 abbrev pub ShowEach : {W : Type 0} → Ghosts W → List W → List Site → Type 0
 ShowEach f ws ss = Pairs (λ x s. f.shows x s) ws ss
 
--- what is kept of the ends of chases, for each workspace its own
-abbrev pub KeepEach : {W : Type 0} → Ghosts W → List W → List Ends → Type 0
-KeepEach f ws es = Pairs (λ x e. f.keeps x e) ws es
+-- for each workspace a printer of its own, which can print its lines into this report
+abbrev pub KeepEach : {W : Type 0} → Ghosts W → Grammar → Bounded → List W → List Printer → Type 0
+KeepEach f g report ws ps = Pairs (λ x p. f.keeps x g report p) ws ps
 
 -- whatever plain world is seen before, it is seen after
 abbrev pub SeenStill : {W : Type 0} → Ghosts W → Grammar → List W → List Message → List Bool → List Choice → List W → List Message → List Bool → List Choice → Type 0

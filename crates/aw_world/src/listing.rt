@@ -2,8 +2,10 @@
 ghost use Rattle.std.specs.Prelude.{◌≡◌, ◌++◌, ◌<◌, [], Some, None, true, IfOk, IsSome, OnOk, length, map as list_map};
 ghost use Rattle.aw_choice.specs.ChoiceView.{item_of};
 ghost use Rattle.aw_grammar.specs.GrammarOf.{grammar_of};
+ghost use Rattle.aw_grammar.specs.declared.grammar.Grammar.{Grammar as GrammarValue};
 ghost use Rattle.aw_held.specs.HeldView.{all_of, state_of};
 ghost use Rattle.aw_held.specs.declared.held.Held.{Held as HeldValue};
+ghost use Rattle.aw_out.specs.Report.{Bounded};
 ghost use Rattle.aw_react.specs.Worlds as V;
 ghost use Rattle.aw_term.specs.SameGrammar.{same_grammar};
 ghost use Rattle.aw_term.specs.Rules.{Grammar as PlainGrammar};
@@ -22,21 +24,21 @@ use aw_held::Held;
 use aw_list::Items;
 use aw_name::{Node, copy_node};
 use aw_out::{PrintFault, Report};
-use aw_print::Ends;
+use aw_print::Printer;
 use std::alloc::{AllocError, Global};
 
 /// Nodes in their order.
 pub type Nodes = Items<Node>;
 
-/// For each workspace that nothing is kept yet of the ends of its chases.
-fn new_ends<W: Workspace>(alloc: Global, sites: &[W]) -> Result<Vec<Ends>, AllocError>
-    ensures { IfOk result (λ ends. KeepEach ⟦<W as Workspace>⟧ sites.now ends.items) }
+/// For each workspace a printer that keeps nothing yet.
+fn new_printers<W: Workspace>(alloc: Global, sites: &[W]) -> Result<Vec<Printer>, AllocError>
+    ensures { IfOk result (λ printers. (g : GrammarValue) (report : Bounded) → KeepEach ⟦<W as Workspace>⟧ g report sites.now printers.items) }
 {
-    let mut ends = Vec::new(alloc);
+    let mut printers = Vec::new(alloc);
     for i in 0..sites.len() {
-        ends.push(Ends::new(alloc))?;
+        printers.push(Printer::new(alloc))?;
     }
-    Ok(ends)
+    Ok(printers)
 }
 
 /// Prints the line of the node at a place.
@@ -45,21 +47,21 @@ fn print_at<W: Workspace>(
     accepted: &Accepted,
     sites: &[W],
     spot: &Spot,
-    ends: &mut Vec<Ends>,
+    printers: &mut Vec<Printer>,
     report: &mut Report,
 ) -> Result<(), PrintFault>
     requires placed { ArePlaced ⟦<W as Workspace>⟧ accepted.now.grammar sites.now }
     requires there { IsSome (held_at ⟦<W as Workspace>⟧ sites.now spot.now) }
-    requires ends { KeepEach ⟦<W as Workspace>⟧ sites.now ends.old.items }
-    ensures ends { KeepEach ⟦<W as Workspace>⟧ sites.now ends.new.items }
+    requires ready { KeepEach ⟦<W as Workspace>⟧ accepted.now.grammar report.old sites.now printers.old.items }
+    ensures ready { KeepEach ⟦<W as Workspace>⟧ accepted.now.grammar report.new sites.now printers.new.items }
     ensures prints { PrintsSpot ⟦<W as Workspace>⟧ accepted.now.grammar sites.now spot.now report.old report.new result }
 {
     let site = &sites[spot.site];
-    let own = &mut ends[spot.site];
+    let own = &mut printers[spot.site];
     site.print_row(alloc, accepted, spot.place, own, report)
 }
 
-/// Prints the lines of all nodes. Where chases end is kept from line to line.
+/// Prints the lines of all nodes, those of a workspace by one printer.
 fn print_all<W: Workspace>(
     alloc: Global,
     accepted: &Accepted,
@@ -72,9 +74,9 @@ fn print_all<W: Workspace>(
     requires order { AreAllInOrder ⟦<W as Workspace>⟧ sites.now spots.now }
     ensures { (v : V.World) → ShowEach ⟦<W as Workspace>⟧ sites.now v.sites → PrintsRows accepted.now.grammar v report.old report.new result }
 {
-    let mut ends = new_ends(alloc, sites)?;
+    let mut printers = new_printers(alloc, sites)?;
     for spot in spots {
-        print_at(alloc, accepted, sites, spot, &mut ends, report)?;
+        print_at(alloc, accepted, sites, spot, &mut printers, report)?;
     }
     Ok(())
 }

@@ -5,8 +5,9 @@ ghost use Rattle.aw_apply.specs.Messages.{Received as Answered};
 ghost use Rattle.aw_choice.specs.ChoiceView.{item_of};
 ghost use Rattle.aw_grammar.specs.GrammarOf.{grammar_of};
 ghost use Rattle.aw_held.specs.HeldView.{held_of};
-ghost use Rattle.aw_print.specs.Ends.{AreEnds};
-ghost use Rattle.aw_print.proofs.EndsLemmas.{none_kept};
+ghost use Rattle.aw_print.specs.Growing.{HasGrown};
+ghost use Rattle.aw_print.specs.Stacks.{IsReady};
+ghost use Rattle.aw_print.proofs.ReadyLemmas.{ready_new, ready_on};
 ghost use Rattle.aw_react.specs.ValidNames.{takes_as};
 ghost use Rattle.aw_react.specs.Sites.{Reaction};
 ghost use Rattle.aw_site.specs.Answers.{IsReceived};
@@ -28,7 +29,7 @@ use aw_grammar::Grammar;
 use aw_held::{Held, Holding};
 use aw_msg::{Message, Messages};
 use aw_out::{PrintFault, Report};
-use aw_print::{Ends, artifact_row};
+use aw_print::{Printer, artifact_row};
 use aw_site::{Received, Site};
 use aw_space::Space;
 use aw_store::Facts;
@@ -69,13 +70,14 @@ fn print_held(
     g: &Grammar,
     held: &Held,
     facts: &CellFacts,
-    ends: &mut Ends,
+    printer: &mut Printer,
     report: &mut Report,
 ) -> Result<(), PrintFault>
     requires named { takes_as (grammar_of g.now) (sort_of (grammar_of g.now) held.now.node) held.now.inherited ≡ true }
     requires done { done_fits (grammar_of g.now) held.now.node held.now.done ≡ true }
-    requires ends { AreEnds (⟦<CellFacts as Facts>⟧.map facts.now) (⟦<CellFacts as Facts>⟧.names facts.now) ends.old }
-    ensures ends { AreEnds (⟦<CellFacts as Facts>⟧.map facts.now) (⟦<CellFacts as Facts>⟧.names facts.now) ends.new }
+    requires ready { IsReady g.now (⟦<CellFacts as Facts>⟧.map facts.now) (⟦<CellFacts as Facts>⟧.names facts.now) report.old printer.old }
+    ensures ready { IsReady g.now (⟦<CellFacts as Facts>⟧.map facts.now) (⟦<CellFacts as Facts>⟧.names facts.now) report.new printer.new }
+    ensures grows { HasGrown report.old report.new }
     ensures prints { PrintsHeld g.now (⟦<CellFacts as Facts>⟧.map facts.now) (held_of (grammar_of g.now) held.now) report.old report.new result }
 {
     artifact_row(
@@ -85,7 +87,7 @@ fn print_held(
         &held.inherited,
         &held.done,
         facts,
-        ends,
+        printer,
         report,
     )
 }
@@ -106,7 +108,7 @@ impl<'g> Workspace for Site<'g, CellFacts> {
 
     ghost shows = { λ w s. IsShown ⟦<CellFacts as Facts>⟧ w s };
 
-    ghost keeps = { λ w e. AreEnds (⟦<CellFacts as Facts>⟧.map w.space.facts) (⟦<CellFacts as Facts>⟧.names w.space.facts) e };
+    ghost keeps = { λ w g report p. IsReady g (⟦<CellFacts as Facts>⟧.map w.space.facts) (⟦<CellFacts as Facts>⟧.names w.space.facts) report p };
 
     fn choose_into(
         &mut self,
@@ -142,19 +144,28 @@ impl<'g> Workspace for Site<'g, CellFacts> {
         alloc: Global,
         accepted: &Accepted,
         place: usize,
-        ends: &mut Ends,
+        printer: &mut Printer,
         report: &mut Report,
     ) -> Result<(), PrintFault> {
         let space = self.space();
         let held = space.nodes().at(place);
-        print_held(alloc, accepted.grammar(), held, space.facts(), ends, report)
+        print_held(
+            alloc,
+            accepted.grammar(),
+            held,
+            space.facts(),
+            printer,
+            report,
+        )
     }
 
     ghost has_role = { λ w s shown. shown.holds.role };
 
     ghost in_order = { λ w. w.space.sound.ordered };
 
-    ghost keeps_none = { λ w e none. none_kept (⟦<CellFacts as Facts>⟧.map w.space.facts) (⟦<CellFacts as Facts>⟧.names w.space.facts) e none };
+    ghost keeps_none = { λ w g report p new. ready_new g (⟦<CellFacts as Facts>⟧.map w.space.facts) (⟦<CellFacts as Facts>⟧.names w.space.facts) report p new };
+
+    ghost keeps_on = { λ w g old new p grown ready. ready_on g (⟦<CellFacts as Facts>⟧.map w.space.facts) (⟦<CellFacts as Facts>⟧.names w.space.facts) old new p grown ready };
 
     ghost holds = { λ w s shown. ap (λ x. x.held) shown.holds.holds };
 }

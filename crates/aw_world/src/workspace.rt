@@ -1,6 +1,7 @@
 //! What a world asks of a workspace: that it reacts as the plain definitions say.
 ghost use Rattle.std.specs.Prelude.{◌≡◌, ◌≤◌, ◌<◌, ℕ, List, true, IfOk, OnOk, OnErr, length, map as list_map};
 ghost use Rattle.aw_grammar.specs.GrammarOf.{grammar_of};
+ghost use Rattle.aw_grammar.specs.declared.grammar.Grammar.{Grammar as GrammarValue};
 ghost use Rattle.aw_term.specs.Rules.{Grammar as PlainGrammar};
 ghost use Rattle.aw_term.specs.SameGrammar.{same_grammar};
 ghost use Rattle.aw_base.specs.ChoiceFits.{choice_ok};
@@ -16,8 +17,10 @@ ghost use Rattle.aw_held.specs.InOrder.{IsInOrder};
 ghost use Rattle.aw_held.specs.HeldView.{all_of};
 ghost use Rattle.aw_react.specs.Worklists.{site_worklist};
 ghost use Rattle.aw_site.specs.Answers.{sent_by, sent_for};
-ghost use Rattle.aw_print.specs.Ends.{KeepsNone};
-ghost use Rattle.aw_print.specs.declared.ends.Ends.{Ends as EndsValue};
+ghost use Rattle.aw_out.specs.Report.{Bounded};
+ghost use Rattle.aw_print.specs.Growing.{HasGrown};
+ghost use Rattle.aw_print.specs.Stacks.{IsNew};
+ghost use Rattle.aw_print.specs.declared.stack.Printer.{Printer as PrinterValue};
 ghost use Rattle.aw_world.specs.PrintedRows.{PrintsRow};
 ghost use Rattle.aw_world.specs.Reactions.{choice_at, message_at, AddsMessages};
 ghost use Rattle.aw_world.specs.SiteAnswers.{is_new};
@@ -27,7 +30,7 @@ use aw_choice::{Answer, Choice, Worklist};
 use aw_held::Holding;
 use aw_msg::{Message, Messages};
 use aw_out::{PrintFault, Report};
-use aw_print::Ends;
+use aw_print::Printer;
 use std::alloc::{AllocError, Global};
 
 /// A workspace of one role.
@@ -44,8 +47,9 @@ pub trait Workspace: Drop {
     /// It can be seen as this site.
     ghost shows: { Self → P.Site → Type 0 };
 
-    /// What is kept of the ends of chases is so over its equations.
-    ghost keeps: { Self → EndsValue → Type 0 };
+    /// With the words of this grammar this printer can print its lines into this report: what it keeps is so over its equations, and in
+    /// the report.
+    ghost keeps: { Self → GrammarValue → Bounded → PrinterValue → Type 0 };
 
     /// Answers a choice, and appends what it sends to a list; how many messages those are. An error changes nothing.
     fn choose_into(
@@ -94,19 +98,21 @@ pub trait Workspace: Drop {
         ensures { result.now.items ≡ its_nodes self.now };
 
     /// Prints the artifact line of the node at a place, from the equations that it has. Where the text would pass the report's limit, or
-    /// memory is missing, the report has got the front of the line. Where chases end is kept for the lines that are printed next.
+    /// memory is missing, the report has got the front of the line. Where chases end, and where long texts stand in the report, is kept
+    /// for the lines that are printed next.
     fn print_row(
         &self,
         alloc: Global,
         accepted: &Accepted,
         place: usize,
-        ends: &mut Ends,
+        printer: &mut Printer,
         report: &mut Report,
     ) -> Result<(), PrintFault>
         requires grammar { same_grammar (its_grammar self.now) (grammar_of accepted.now.grammar) ≡ true }
         requires place { place < length (its_nodes self.now) }
-        requires ends { keeps self.now ends.old }
-        ensures ends { keeps self.now ends.new }
+        requires ready { keeps self.now accepted.now.grammar report.old printer.old }
+        ensures ready { keeps self.now accepted.now.grammar report.new printer.new }
+        ensures grows { HasGrown report.old report.new }
         ensures prints { (s : P.Site) → shows self.now s → PrintsRow accepted.now.grammar s place report.old report.new result };
 
     /// Each site that it can be seen as has its role.
@@ -115,8 +121,11 @@ pub trait Workspace: Drop {
     /// Its nodes are in the order of their names.
     ghost in_order: { (w : Self) → IsInOrder (its_nodes w) };
 
-    /// Where nothing is kept of the ends of chases, that is so over any equations.
-    ghost keeps_none: { (w : Self) (e : EndsValue) → KeepsNone e → keeps w e };
+    /// A printer that keeps nothing can print into each report.
+    ghost keeps_none: { (w : Self) (g : GrammarValue) (report : Bounded) (p : PrinterValue) → IsNew p → keeps w g report p };
+
+    /// What a printer keeps stays so where its report grows, as by lines of other workspaces.
+    ghost keeps_on: { (w : Self) (g : GrammarValue) (old new : Bounded) (p : PrinterValue) → HasGrown old new → keeps w g old p → keeps w g new p };
 
     /// Each site that it can be seen as holds its nodes.
     ghost holds: { (w : Self) (s : P.Site) → shows w s → s.held ≡ all_of (its_grammar w) (its_nodes w) };

@@ -58,4 +58,8 @@ returns-clause-prints g c =
 
 pub print_results-requires : goal.print_results-requires
 print_results-requires g c =
-    rest_on (origin c.args.g.now (g.F.Facts.map c.args.f.now) (g.F.Facts.names c.args.f.now)) (desk c.print_refs.new.text c.print_refs.new.report c.print_refs.new.stack) (desk _ c.print_refs.new.report c.print_refs.new.stack) (codes ") <") c.in_ok-push_bytes.ensures.ok refl refl refl c.in_ok-print_refs.ensures.rest
+    rest_on (origin c.args.g.now (g.F.Facts.map c.args.f.now) (g.F.Facts.names c.args.f.now)) (desk c.print_refs.new.text c.print_refs.new.report c.print_refs.new.printer) (desk _ c.print_refs.new.report c.print_refs.new.printer) (codes ") <") c.in_ok-push_bytes.ensures.ok refl refl refl c.in_ok-print_refs.ensures.rest
+
+pub returns-clause-rest : goal.returns-clause-rest
+returns-clause-rest g c =
+    rest_on (origin c.args.g.now (g.F.Facts.map c.args.f.now) (g.F.Facts.names c.args.f.now)) (desk c.print_results.new.text c.print_results.new.report c.print_results.new.printer) (desk _ c.print_results.new.report c.print_results.new.printer) (codes ">\n") c.in_ok-push_bytes-2.ensures.ok refl refl refl c.in_ok-print_results.ensures.rest

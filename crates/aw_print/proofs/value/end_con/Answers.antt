@@ -12,6 +12,6 @@ returns c =
       gathered = c.in_ok-push_bytes.ensures.ok;
       report = refl;
       pieces = c.keep.ensures.pieces;
-      kept = λ x h. subst (λ n. (x ≡ span n) ⊎ Holds c.args.stack.now.spans.items x) c.count_made-until.ensures (c.in_ok-keep.ensures.spans x h);
+      kept = λ x h. subst (λ n. (x ≡ span n) ⊎ Holds c.args.printer.now.spans.items x) c.count_made-until.ensures (c.in_ok-keep.ensures.spans x h);
       ends = c.keep.ensures.ends;
     }

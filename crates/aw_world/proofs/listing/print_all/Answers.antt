@@ -7,15 +7,15 @@ use Rattle.aw_term.specs.Artifacts.{artifact_text, row_text}
 use Rattle.aw_world.specs.Merged.{merged, nodes_of, held_at}
 use Rattle.aw_world.proofs.Lines.{stops, goes_on, told_here, drop_all}
 use Rattle.aw_world.proofs.Pairings.{pairs_length}
-use Rattle.aw_world.proofs.KeptEnds.{nothing_printed}
+use Rattle.aw_world.proofs.Printers.{nothing_printed}
 use Rattle.aw_world.proofs.RowsAt.{row_at, order_length, there}
 use Rattle.aw_world.proofs.listing.print_all.Goals as goal
 
 pub loop-spot-init : goal.loop-spot-init
-loop-spot-init g c = record { ends = c.in_ok-ends.ensures; prints = λ v shown rows read new result p. p }
+loop-spot-init g c = record { ready = c.in_ok-printers.ensures c.args.accepted.now.grammar c.args.report.now; prints = λ v shown rows read new result p. p }
 
-pub returns-in_err-ends : goal.returns-in_err-ends
-returns-in_err-ends g c = λ v shown rows read. nothing_printed _ _ c.from_residual.result (search rules)
+pub returns-in_err-printers : goal.returns-in_err-printers
+returns-in_err-printers g c = λ v shown rows read. nothing_printed _ _ c.from_residual.result (search rules)
 
 pub print_at-requires-clause-there : goal.print_at-requires-clause-there
 print_at-requires-clause-there g c =
@@ -38,7 +38,7 @@ returns-in_err-print_at g c = λ v shown rows read.
 
 pub loop-spot-preserved : goal.loop-spot-preserved
 loop-spot-preserved g c = record {
-  ends = c.print_at.ensures.ends;
+  ready = c.print_at.ensures.ready;
   prints = λ v shown rows read new r next.
       let f = g.W.Workspace in
       let d = c.args.accepted.now.grammar in

@@ -10,11 +10,11 @@ use Rattle.aw_merge.specs.ReadRows.{AreRead}
 use Rattle.aw_world.specs.Seen.{ShowEach, KeepEach}
 use Rattle.aw_world.proofs.listing.print_all.Given as goal
 
--- whatever prints what is left has printed the whole; what is kept goes with each workspace
+-- whatever prints what is left has printed the whole; each workspace has its printer
 abbrev pub invariant-loop-spot : goal.invariant-loop-spot
 invariant-loop-spot g l =
     record {
-      ends : KeepEach g.W.Workspace l.sites l.ends.items;
+      ready : KeepEach g.W.Workspace l.accepted.grammar l.report l.sites l.printers.items;
       prints : (v : World) → ShowEach g.W.Workspace l.sites v.sites → (rows : Config) → AreRead (grammar_of l.accepted.grammar) v rows → (new : Bounded) (result : Result Unit PrintFault) →
           Prints (artifact_text (words_of l.accepted.grammar) (drop l.spot-index rows)) l.report new result → Prints (artifact_text (words_of l.accepted.grammar) rows) l.fn.report new result;
     }

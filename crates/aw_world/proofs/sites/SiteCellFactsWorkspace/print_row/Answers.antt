@@ -4,7 +4,7 @@ use Rattle.aw_grammar.specs.GrammarOf.{grammar_of, words_of}
 use Rattle.aw_held.specs.HeldView.{held_of}
 use Rattle.aw_merge.specs.ReadRows.{IsRead}
 use Rattle.aw_out.specs.Report.{Prints}
-use Rattle.aw_print.specs.Ends.{AreEnds}
+use Rattle.aw_print.specs.Stacks.{IsReady}
 use Rattle.aw_react.specs.ValidNames.{takes_as}
 use Rattle.aw_space.specs.Valid.{done_fits}
 use Rattle.aw_space.proofs.Standing.{takes_here}
@@ -30,15 +30,20 @@ print_held-requires-clause-done c =
     let same = grammars_are_one _ _ c.requires.grammar ∙ sym (ap grammar_of c.grammar.ensures.value) in
     subst (λ g. done_fits g h.node h.done ≡ true) same (done_here (grammar_of space.accepted.now.grammar) space.held.items c.args.place h space.valid.nodes here)
 
-pub print_held-requires-clause-ends : goal.print_held-requires-clause-ends
-print_held-requires-clause-ends c =
+pub print_held-requires-clause-ready : goal.print_held-requires-clause-ready
+print_held-requires-clause-ready c =
     let same = c.facts.ensures ∙ ap (λ x. x.facts) c.space-space.ensures in
-    subst (λ x. AreEnds ((cells.ghosts).map x) ((cells.ghosts).names x) c.args.ends.now) (sym same) c.requires.ends
+    let d = c.args.accepted.now.grammar in
+    subst (λ g. IsReady g ((cells.ghosts).map c.facts.result.now) ((cells.ghosts).names c.facts.result.now) c.args.report.now c.args.printer.now) (sym c.grammar.ensures.value)
+    (subst (λ x. IsReady d ((cells.ghosts).map x) ((cells.ghosts).names x) c.args.report.now c.args.printer.now) (sym same) c.requires.ready)
 
-pub returns-clause-ends : goal.returns-clause-ends
-returns-clause-ends c =
+pub returns-clause-ready : goal.returns-clause-ready
+returns-clause-ready c =
     let same = c.facts.ensures ∙ ap (λ x. x.facts) c.space-space.ensures in
-    subst (λ x. AreEnds ((cells.ghosts).map x) ((cells.ghosts).names x) c.print_held.new.ends) same c.print_held.ensures.ends
+    let report = c.print_held.new.report in
+    let printer = c.print_held.new.printer in
+    subst (λ x. IsReady c.args.accepted.now.grammar ((cells.ghosts).map x) ((cells.ghosts).names x) report printer) same
+    (subst (λ g. IsReady g ((cells.ghosts).map c.facts.result.now) ((cells.ghosts).names c.facts.result.now) report printer) c.grammar.ensures.value c.print_held.ensures.ready)
 
 pub returns-clause-prints : goal.returns-clause-prints
 returns-clause-prints c = λ s shown p q at read.
