@@ -57,9 +57,9 @@ fn print_asked<F: Facts>(
 fn push_printed(
     told: &mut Text,
     report: &Report,
-    result: Result<(), PrintFault>,
+    printed: Result<(), PrintFault>,
 ) -> Result<(), AllocError> {
-    match result {
+    match printed {
         Ok(()) => told.push_bytes(report.bytes()),
         Err(PrintFault::TooLarge) => told.push_bytes(b"too large\n"),
         Err(PrintFault::NoMemory) => Err(AllocError),
@@ -78,8 +78,8 @@ fn push_line<F: Facts>(
     let alloc = told.allocator();
     let mut report = Report::new(alloc, limit);
     let mut printer = Printer::new(alloc);
-    let result = print_asked(alloc, g, f, asked, done, &mut printer, &mut report);
-    push_printed(told, &report, result)
+    let printed = print_asked(alloc, g, f, asked, done, &mut printer, &mut report);
+    push_printed(told, &report, printed)
 }
 
 /// The choice `admit {"Ada", box(none)}` of the first visit.
@@ -150,8 +150,8 @@ fn print_together<F: Facts>(
 fn push_together<F: Facts>(told: &mut Text, g: &Grammar, f: &F) -> Result<(), AllocError> {
     let alloc = told.allocator();
     let mut report = Report::new(alloc, 10_000);
-    let result = print_together(alloc, g, f, &mut report);
-    push_printed(told, &report, result)
+    let printed = print_together(alloc, g, f, &mut report);
+    push_printed(told, &report, printed)
 }
 
 /// Adds all lines over a store that was empty.
