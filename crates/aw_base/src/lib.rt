@@ -31,6 +31,6 @@ pub use name_writer::NameWriter;
 pub use names::{child_node, home_of, ref_ok, sort_of};
 pub use read_node::{NameFault, parse_node};
 pub use texts::{
-    con_name, node_text, path_steps, push_answer, push_item, push_node, push_ref, push_refs,
-    role_name, rule_name, sort_name,
+    con_name, node_text, path_steps, push_answer, push_item, push_lone_ref, push_node, push_ref,
+    push_refs, role_name, rule_name, sort_name,
 };

@@ -109,6 +109,14 @@ fn add_ref(text: &mut Text, names: &mut NameWriter<'_>, r: &Ref) -> Result<(), A
     add_slot(text, r.slot)
 }
 
+fn add_lone_ref(text: &mut Text, g: &Grammar, r: &Ref) -> Result<(), AllocError>
+    ensures ok { OnOk result (text.new ≡ text.old ++ ref_text (words_of g.now) r.now) }
+    ensures err { OnErr result (StartsWith text.new text.old) }
+{
+    add_node(text, g, &r.node)?;
+    add_slot(text, r.slot)
+}
+
 fn add_following(
     text: &mut Text,
     names: &mut NameWriter<'_>,
@@ -247,13 +255,28 @@ pub fn node_text(alloc: Global, g: &Grammar, n: &Node) -> Result<Text, AllocErro
     Ok(text)
 }
 
-/// Adds the text that `node_text` makes. An error changes nothing.
+/// Adds the text that `node_text` makes, the name of one node alone. An error changes nothing.
 pub fn push_node(text: &mut Text, g: &Grammar, n: &Node) -> Result<(), AllocError>
     ensures ok { OnOk result (text.new ≡ text.old ++ node_text (words_of g.now) n.now) }
     ensures err { OnErr result (text.new ≡ text.old) }
 {
     let before = text.len();
     match add_node(text, g, n) {
+        Ok(()) => Ok(()),
+        Err(failed) => {
+            text.truncate(before);
+            Err(failed)
+        }
+    }
+}
+
+/// Adds the name of one reference alone, as `visit#1:r1` or `visit#1:p2`. An error changes nothing.
+pub fn push_lone_ref(text: &mut Text, g: &Grammar, r: &Ref) -> Result<(), AllocError>
+    ensures ok { OnOk result (text.new ≡ text.old ++ ref_text (words_of g.now) r.now) }
+    ensures err { OnErr result (text.new ≡ text.old) }
+{
+    let before = text.len();
+    match add_lone_ref(text, g, r) {
         Ok(()) => Ok(()),
         Err(failed) => {
             text.truncate(before);
