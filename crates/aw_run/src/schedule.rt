@@ -23,6 +23,7 @@ use aw_spec::SpecText;
 use aw_typed::Typed;
 use aw_undivided::run_undivided;
 use std::alloc::{AllocError, Global};
+use std::mem;
 
 /// What is told of events. It is too large only where the text would be longer than an output may be.
 fn tell_events(
@@ -64,7 +65,8 @@ fn reply_to_events(
     }
 }
 
-/// The reply to an accepted specification of so many lines, and to the schedule behind it.
+/// The reply to an accepted specification of so many lines, and to the schedule behind it. The memory of the events is not given
+/// back, since the program ends then.
 fn reply_to_schedule(
     alloc: Global,
     telling: Telling,
@@ -82,7 +84,11 @@ fn reply_to_schedule(
 {
     let g = accepted.grammar();
     match read_schedule(alloc, g, typed, schedule) {
-        Ok(events) => reply_to_events(alloc, telling, accepted, loads, events.as_slice()),
+        Ok(events) => {
+            let reply = reply_to_events(alloc, telling, accepted, loads, events.as_slice());
+            mem::forget(events);
+            reply
+        }
         Err(SchedFault::Bad { line, kind }) => bad_schedule(alloc, before + line, kind),
         Err(SchedFault::NoMemory) => Err(AllocError),
     }
