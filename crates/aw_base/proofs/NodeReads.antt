@@ -34,7 +34,8 @@ length_steps (p ∷ ps) trail e = with_step (step_of p) (steps_of ps) trail e (l
         let same : t ≡ us = cc in
         let tail = deeper t refl in omega (arith, tail, ap length same)
 
-length_named : (w : Words) (trail : List (List ℕ × ℕ)) (steps : List Step) → steps_named w trail ≡ Some steps → length steps ≡ length trail
+-- as many steps as spellings
+pub length_named : (w : Words) (trail : List (List ℕ × ℕ)) (steps : List Step) → steps_named w trail ≡ Some steps → length steps ≡ length trail
 length_named w [] [] e = refl
 length_named w [] (s ∷ steps) e = cc
 length_named w (p ∷ ps) steps e = with_rule (number_named w.rules p.0) (steps_named w ps) steps e (length_named w ps)

@@ -8,6 +8,7 @@ mod homes;
 mod lines;
 mod name_writer;
 mod names;
+mod node_reader;
 mod read_node;
 mod texts;
 
@@ -29,6 +30,7 @@ pub use homes::{home_at, home_of_valid, sort_at};
 pub use lines::{push_artifacts_line, push_choice, push_choice_line, push_item_lines};
 pub use name_writer::NameWriter;
 pub use names::{child_node, home_of, ref_ok, sort_of};
+pub use node_reader::NodeReader;
 pub use read_node::{NameFault, parse_node};
 pub use texts::{
     con_name, node_text, path_steps, push_answer, push_item, push_lone_ref, push_node, push_ref,

@@ -38,12 +38,13 @@ impl From<AllocError> for NameFault {
 
 /// A step with its rule looked up, and the bytes behind the next slash.
 #[derive(Clone, Copy)]
-struct NamedStep<'a> {
-    step: Step,
-    more: Option<&'a [u8]>,
+pub(crate) struct NamedStep<'a> {
+    pub(crate) step: Step,
+    pub(crate) more: Option<&'a [u8]>,
 }
 
-fn named_step<'a>(g: &Grammar, steps: &'a [u8]) -> Option<NamedStep<'a>>
+/// The first of these steps, where its rule is declared.
+pub(crate) fn named_step<'a>(g: &Grammar, steps: &'a [u8]) -> Option<NamedStep<'a>>
     ensures value { steps_behind (words_of g.now) (Some steps.entry.now) ≡ option_and_then (leads_on (words_of g.now)) result }
     ensures shorter { IfSome result (λ s. IfSome s.more (λ more. length more.now < length steps.entry.now)) }
 {
@@ -81,7 +82,8 @@ fn named_steps(
     Ok(Some(found))
 }
 
-fn start_named(g: &Grammar, name: &[u8]) -> Option<u16>
+/// The start sort with a name.
+pub(crate) fn start_named(g: &Grammar, name: &[u8]) -> Option<u16>
     ensures { result ≡ start_named (words_of g.now) (grammar_of g.now) name.now }
 {
     let number = g.sort_named(name)?;
