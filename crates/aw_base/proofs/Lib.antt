@@ -6,4 +6,4 @@ pub mod NodeReads
 pub mod ValidNodes
 pub mod TextLemmas
 pub mod NameFronts
-pub mod NodeFronts
+pub mod ReadFronts

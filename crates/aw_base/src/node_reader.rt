@@ -7,7 +7,7 @@ ghost use Rattle.aw_grammar.specs.GrammarOf.{grammar_of, words_of};
 ghost use Rattle.aw_base.specs.declared.node_reader.Front.{Front as FrontOf};
 ghost use Rattle.aw_base.specs.NodeNames.{node_read};
 ghost use Rattle.aw_base.specs.NodeReading.{Reads};
-ghost use Rattle.aw_base.specs.NodeFronts.{IsNamed, HasRead, StandsAt, HasReadAll, IsReaderOf, GoesOn, MayStandAtLast, WithinCommon};
+ghost use Rattle.aw_base.specs.ReadFronts.{IsNamed, HasRead, StandsAt, HasReadAll, IsReaderOf, GoesOn, MayStandAtLast, WithinCommon};
 
 use crate::names::sort_of_step;
 use crate::read_node::{NameFault, named_step, parse_node, start_named};

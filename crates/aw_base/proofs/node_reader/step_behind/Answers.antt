@@ -1,7 +1,7 @@
 use Rattle.std.proofs.Common.{◌≡◌, ◌∙◌, ◌+◌, ◌-◌, ◌∷◌, [], sym, ap, Some, option_map, option_copied, arith, take, drop}
 use Rattle.aw_grammar.specs.GrammarOf.{grammar_of, words_of}
 use Rattle.aw_base.specs.NodeReading.{steps_behind}
-use Rattle.aw_base.proofs.NodeFronts.{goes_on}
+use Rattle.aw_base.proofs.ReadFronts.{goes_on}
 use Rattle.aw_base.proofs.node_reader.step_behind.Goals as goal
 
 pub returns-in_ok-sort-in-None : goal.returns-in_ok-sort-in-None

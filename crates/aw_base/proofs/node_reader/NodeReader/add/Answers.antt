@@ -1,4 +1,4 @@
-use Rattle.aw_base.proofs.NodeFronts.{step_added, front_added}
+use Rattle.aw_base.proofs.ReadFronts.{step_added, front_added}
 use Rattle.aw_base.proofs.node_reader.NodeReader.add.Goals as goal
 
 pub returns-in_err-push-2-clause-read : goal.returns-in_err-push-2-clause-read

@@ -1,7 +1,7 @@
 use Rattle.std.proofs.Common.{arith, ap, length}
 use Rattle.aw_grammar.specs.GrammarOf.{grammar_of, words_of}
 use Rattle.aw_base.specs.declared.node_reader.Front.{Front}
-use Rattle.aw_base.proofs.NodeFronts.{first_front}
+use Rattle.aw_base.proofs.ReadFronts.{first_front}
 use Rattle.aw_base.proofs.node_reader.NodeReader.begin.Goals as goal
 
 pub returns-clause-read : goal.returns-clause-read

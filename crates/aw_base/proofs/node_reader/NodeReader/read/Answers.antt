@@ -1,7 +1,7 @@
 use Rattle.std.proofs.Common.{◌∙◌, sym, ap}
 use Rattle.aw_grammar.specs.GrammarOf.{grammar_of, words_of}
 use Rattle.aw_base.specs.NodeNames.{Named, node_read}
-use Rattle.aw_base.proofs.NodeFronts.{read_whole}
+use Rattle.aw_base.proofs.ReadFronts.{read_whole}
 use Rattle.aw_base.proofs.node_reader.NodeReader.read.Goals as goal
 
 pub returns-in_ok-node-clause-read : goal.returns-in_ok-node-clause-read

@@ -1,6 +1,6 @@
 use Rattle.std.proofs.Common.{◌≡◌, ◌-◌, length}
 use Rattle.aw_grammar.specs.GrammarOf.{grammar_of, words_of}
-use Rattle.aw_base.specs.NodeFronts.{IsReaderOf, StandsAt}
+use Rattle.aw_base.specs.ReadFronts.{IsReaderOf, StandsAt}
 use Rattle.aw_base.proofs.node_reader.NodeReader.read_steps.Given as goal
 
 abbrev pub invariant-loop-last : goal.invariant-loop-last

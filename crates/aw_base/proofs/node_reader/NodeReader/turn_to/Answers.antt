@@ -1,6 +1,6 @@
 use Rattle.std.proofs.Common.{◌≡◌, ◌∙◌, ◌++◌, sym, ap, take, drop, arith}
 use Rattle.std.proofs.lemmas.List.{take-take, take-append-drop, take_rest}
-use Rattle.aw_base.proofs.NodeFronts.{fronts_kept, last_kept}
+use Rattle.aw_base.proofs.ReadFronts.{fronts_kept, last_kept}
 use Rattle.aw_base.proofs.node_reader.NodeReader.turn_to.Goals as goal
 
 pub returns-clause-read : goal.returns-clause-read

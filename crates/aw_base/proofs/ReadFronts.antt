@@ -12,7 +12,7 @@ use Rattle.aw_term.specs.Artifacts.{Words}
 use Rattle.aw_grammar.specs.Named.{number_named}
 use Rattle.aw_base.specs.NodeNames.{Named, steps_named, misfit_or, first_misfit, fitted, with_parts, node_read}
 use Rattle.aw_base.specs.NodeReading.{start_named, steps_behind}
-use Rattle.aw_base.specs.NodeFronts.{IsNamed, AreFronts, IsLast, GoesOn, WithinCommon}
+use Rattle.aw_base.specs.ReadFronts.{IsNamed, AreFronts, IsLast, GoesOn, WithinCommon}
 use Rattle.aw_base.specs.declared.node_reader.Front.{Front}
 use Rattle.aw_base.proofs.NodeReads.{all_declared, length_named, slashes_are_steps}
 use Rattle.aw_base.proofs.ValidNodes.{node_valid}
