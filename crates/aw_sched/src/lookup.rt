@@ -4,6 +4,7 @@ ghost use Rattle.aw_grammar.specs.Written.{written_of};
 ghost use Rattle.aw_grammar.specs.Terms.{all_have_contents};
 ghost use Rattle.aw_grammar.specs.GrammarOf.{declarations_of, grammar_of, words_of};
 ghost use Rattle.aw_base.specs.NodeNames.{node_named};
+ghost use Rattle.aw_base.specs.ReadFronts.{IsReaderOf};
 ghost use Rattle.aw_sched.specs.Lines.{StartLine, ChooseLine, ListLine};
 ghost use Rattle.aw_sched.specs.Events.{is_long, event_of, line_kind};
 ghost use Rattle.aw_sched.specs.Answers.{MayCome};
@@ -15,7 +16,7 @@ use crate::event::Event;
 use crate::fault::{LineFault, SchedKind};
 use crate::ground::{args_are_past, grounds};
 use crate::line::SchedLine;
-use aw_base::{Choice, Grammar, Grounds, NameFault, Node, RawTerms, args_ok, is_start, parse_node};
+use aw_base::{Choice, Grammar, Grounds, NameFault, Node, NodeReader, RawTerms, args_ok, is_start};
 use std::alloc::Global;
 
 /// What the name of a node says.
@@ -27,11 +28,13 @@ enum NodeSaid {
     Faulty,
 }
 
-fn said_node(alloc: Global, g: &Grammar, node: &[u8]) -> Result<NodeSaid, LineFault>
+fn said_node(nodes: &mut NodeReader, g: &Grammar, node: &[u8]) -> Result<NodeSaid, LineFault>
+    requires { IsReaderOf g.now nodes.old }
+    ensures kept { IsReaderOf g.now nodes.new }
     ensures ok { IfOk result (SaysNode (grammar_of g.now) (is_long node.now) (node_named (words_of g.now) (grammar_of g.now) node.now)) }
     ensures err { IfErr result (λ e. e ≡ NoMemory) }
 {
-    match parse_node(alloc, g, node) {
+    match nodes.read(g, node) {
         Ok(node) => Ok(NodeSaid::Valid(node)),
         Err(NameFault::Long) => Ok(NodeSaid::Long),
         Err(NameFault::Form) => Ok(NodeSaid::Faulty),
@@ -67,16 +70,19 @@ fn chosen_args(
 
 fn choose_event(
     alloc: Global,
+    nodes: &mut NodeReader,
     g: &Grammar,
     node: &[u8],
     rule: &[u8],
     args: &RawTerms,
 ) -> Result<Event, LineFault>
-    requires { all_have_contents (map written_of args.now) ≡ true }
+    requires contents { all_have_contents (map written_of args.now) ≡ true }
+    requires nodes { IsReaderOf g.now nodes.old }
+    ensures kept { IsReaderOf g.now nodes.new }
     ensures gives { let line = ChooseLine node.now rule.now (map written_of args.now) in GivesEvent (line_kind (declarations_of g.now) line) (event_of (declarations_of g.now) line) result }
     ensures fits { IfOk result (MayCome (grammar_of g.now)) }
 {
-    match said_node(alloc, g, node)? {
+    match said_node(nodes, g, node)? {
         NodeSaid::Long => Err(LineFault::Bad(SchedKind::Limit)),
         NodeSaid::Faulty => match chosen_args(alloc, g, rule, args) {
             Ok(_) => Err(LineFault::Bad(SchedKind::Name)),
@@ -116,14 +122,21 @@ fn list_event(g: &Grammar, role: &[u8]) -> Result<Event, LineFault>
 }
 
 /// The event that a line asks for, or the first kind of fault in it.
-pub(crate) fn event_of(alloc: Global, g: &Grammar, line: &SchedLine<'_>) -> Result<Event, LineFault>
-    requires { HasContents (line_seen line.now) }
+pub(crate) fn event_of(
+    alloc: Global,
+    nodes: &mut NodeReader,
+    g: &Grammar,
+    line: &SchedLine<'_>,
+) -> Result<Event, LineFault>
+    requires contents { HasContents (line_seen line.now) }
+    requires nodes { IsReaderOf g.now nodes.old }
+    ensures kept { IsReaderOf g.now nodes.new }
     ensures gives { GivesEvent (line_kind (declarations_of g.now) (line_seen line.now)) (event_of (declarations_of g.now) (line_seen line.now)) result }
     ensures fits { IfOk result (MayCome (grammar_of g.now)) }
 {
     match line {
         SchedLine::Start { sort, case } => start_event(alloc, g, sort, *case),
-        SchedLine::Choose { node, rule, args } => choose_event(alloc, g, node, rule, args),
+        SchedLine::Choose { node, rule, args } => choose_event(alloc, nodes, g, node, rule, args),
         SchedLine::Deliver(message) => Ok(Event::Deliver(*message)),
         SchedLine::Settle => Ok(Event::Settle),
         SchedLine::List(role) => list_event(g, role),

@@ -4,6 +4,7 @@ ghost use Rattle.aw_typed.specs.Typing.{types_of, IsMadeFor};
 ghost use Rattle.aw_lex.specs.Tokens.{AreSlices};
 ghost use Rattle.aw_term.specs.WellFormed.{Each};
 ghost use Rattle.aw_grammar.specs.GrammarOf.{declarations_of, grammar_of};
+ghost use Rattle.aw_base.specs.ReadFronts.{IsReaderOf};
 ghost use Rattle.aw_form.specs.Lexemes.{lexemes};
 ghost use Rattle.aw_sched.specs.Lines.{line_of};
 ghost use Rattle.aw_sched.specs.Events.{line_kind};
@@ -17,7 +18,7 @@ use crate::fault::{LineFault, SchedFault, SchedKind};
 use crate::line::SchedLine;
 use crate::lookup::event_of;
 use crate::parse::parse_line;
-use aw_base::Grammar;
+use aw_base::{Grammar, NodeReader};
 use aw_form::Unread;
 use aw_lex::{LexFault, Token, Tokens, is_passed_over, next_line, read_tokens};
 use aw_typed::{Typed, arg_ok};
@@ -53,17 +54,20 @@ fn typed_event(g: &Grammar, t: &Typed, event: Event) -> Result<Option<Event>, Li
 /// The event that a line asks for, its arguments looked at, or the first kind of fault in it.
 fn said_event(
     alloc: Global,
+    nodes: &mut NodeReader,
     g: &Grammar,
     t: &Typed,
     line: &SchedLine<'_>,
 ) -> Result<Option<Event>, LineFault>
     requires contents { HasContents (line_seen line.now) }
     requires made { IsMadeFor (grammar_of g.now) t.now }
+    requires nodes { IsReaderOf g.now nodes.old }
+    ensures kept { IsReaderOf g.now nodes.new }
     ensures reads { ReadsLine (by_kind (types_of t.now.types) (declarations_of g.now) (line_seen line.now) (line_kind (declarations_of g.now) (line_seen line.now))) result }
     ensures fits { IfOk result (λ found. IfSome found (MayCome (grammar_of g.now))) }
     ensures types { IfOk result (λ found. IfSome found (HasTypes (types_of t.now.types) (grammar_of g.now))) }
 {
-    match event_of(alloc, g, line) {
+    match event_of(alloc, nodes, g, line) {
         Ok(event) => typed_event(g, t, event),
         Err(fault) => Err(fault),
     }
@@ -71,6 +75,7 @@ fn said_event(
 
 fn event_said(
     alloc: Global,
+    nodes: &mut NodeReader,
     g: &Grammar,
     t: &Typed,
     line: &[u8],
@@ -78,12 +83,14 @@ fn event_said(
 ) -> Result<Option<Event>, LineFault>
     requires slices { AreSlices line.now 0 tokens.now }
     requires made { IsMadeFor (grammar_of g.now) t.now }
+    requires nodes { IsReaderOf g.now nodes.old }
+    ensures kept { IsReaderOf g.now nodes.new }
     ensures reads { ReadsLine (by_form (types_of t.now.types) (declarations_of g.now) (line_of (lexemes line.now tokens.now))) result }
     ensures fits { IfOk result (λ found. IfSome found (MayCome (grammar_of g.now))) }
     ensures types { IfOk result (λ found. IfSome found (HasTypes (types_of t.now.types) (grammar_of g.now))) }
 {
     match parse_line(alloc, line, tokens) {
-        Ok(said) => said_event(alloc, g, t, &said),
+        Ok(said) => said_event(alloc, nodes, g, t, &said),
         Err(Unread::Form) => Err(LineFault::Bad(SchedKind::Form)),
         Err(Unread::NoMemory) => Err(LineFault::NoMemory),
     }
@@ -91,11 +98,14 @@ fn event_said(
 
 fn line_event(
     found: &mut Tokens,
+    nodes: &mut NodeReader,
     g: &Grammar,
     t: &Typed,
     line: &[u8],
 ) -> Result<Option<Event>, LineFault>
-    requires { IsMadeFor (grammar_of g.now) t.now }
+    requires made { IsMadeFor (grammar_of g.now) t.now }
+    requires nodes { IsReaderOf g.now nodes.old }
+    ensures kept { IsReaderOf g.now nodes.new }
     ensures reads { ReadsLine (read_line (types_of t.now.types) (declarations_of g.now) line.now) result }
     ensures fits { IfOk result (λ found. IfSome found (MayCome (grammar_of g.now))) }
     ensures types { IfOk result (λ found. IfSome found (HasTypes (types_of t.now.types) (grammar_of g.now))) }
@@ -104,15 +114,17 @@ fn line_event(
         return Ok(None);
     }
     match read_tokens(found, line) {
-        Ok(()) => event_said(found.allocator(), g, t, line, found.as_slice()),
+        Ok(()) => event_said(found.allocator(), nodes, g, t, line, found.as_slice()),
         Err(LexFault::Bad { .. }) => Err(LineFault::Bad(SchedKind::Token)),
         Err(LexFault::NoMemory) => Err(LineFault::NoMemory),
     }
 }
 
-/// Adds the event of a line, where it gives one. The list of tokens is filled anew for each line.
+/// Adds the event of a line, where it gives one. The list of tokens is filled anew for each line, and the name of a node is read
+/// from where it parts from the last one.
 fn add_line(
     found: &mut Tokens,
+    nodes: &mut NodeReader,
     g: &Grammar,
     t: &Typed,
     events: &mut Events,
@@ -121,11 +133,13 @@ fn add_line(
     requires made { IsMadeFor (grammar_of g.now) t.now }
     requires come { Each (MayCome (grammar_of g.now)) events.old }
     requires typed { Each (HasTypes (types_of t.now.types) (grammar_of g.now)) events.old }
+    requires nodes { IsReaderOf g.now nodes.old }
+    ensures kept { IsReaderOf g.now nodes.new }
     ensures adds { AddsLine events.old events.new (read_line (types_of t.now.types) (declarations_of g.now) line.now) result }
     ensures fits { OnOk result (Each (MayCome (grammar_of g.now)) events.new) }
     ensures types { OnOk result (Each (HasTypes (types_of t.now.types) (grammar_of g.now)) events.new) }
 {
-    match line_event(found, g, t, line)? {
+    match line_event(found, nodes, g, t, line)? {
         Some(event) => {
             events.push(event)?;
             Ok(())
@@ -158,11 +172,12 @@ pub fn read_schedule(
 {
     let mut events = Events::new(alloc);
     let mut found = Tokens::new(alloc);
+    let mut nodes = NodeReader::new(alloc);
     let mut rest = text;
     let mut number = 0;
     while let Some((line, behind)) = next_line(rest) {
         number += 1;
-        match add_line(&mut found, g, t, &mut events, line) {
+        match add_line(&mut found, &mut nodes, g, t, &mut events, line) {
             Ok(()) => rest = behind,
             Err(fault) => return Err(fault_at(number, fault)),
         }

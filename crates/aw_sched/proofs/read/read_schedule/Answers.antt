@@ -1,13 +1,22 @@
-use Rattle.std.proofs.Common.{◌≡◌, ◌∙◌, ◌∷◌, sym, ap, suc, subst, map, add-one}
+use Rattle.std.proofs.Common.{rules, ◌≡◌, ◌∙◌, ◌∷◌, sym, ap, suc, subst, map, add-one}
 use Rattle.std.specs.Prelude.{Err}
 use Rattle.aw_lex.specs.Lines.{lines_of}
-use Rattle.aw_grammar.specs.GrammarOf.{declarations_of}
+use Rattle.aw_grammar.specs.GrammarOf.{declarations_of, grammar_of, words_of}
 use Rattle.aw_typed.specs.Typing.{types_of}
 use Rattle.aw_sched.specs.Schedules.{read_lines, schedule_of}
 use Rattle.aw_sched.specs.Answers.{Answers, event_seen}
 use Rattle.aw_sched.specs.LineEvents.{fault_at, with_events}
 use Rattle.aw_sched.proofs.ReadEvents.{fault_answer, with_none}
 use Rattle.aw_sched.proofs.read.read_schedule.Goals as goal
+
+pub loop-line-init : goal.loop-line-init
+loop-line-init c = record {
+  read = search rules;
+  fits = search rules;
+  types = search rules;
+  nodes = c.new-nodes.ensures (words_of c.args.g.now) (grammar_of c.args.g.now);
+  counted = search rules;
+}
 
 pub returns-in-Err-clause-answer : goal.returns-in-Err-clause-answer
 returns-in-Err-clause-answer c =

@@ -3,6 +3,7 @@ use Rattle.aw_lex.specs.Lines.{lines_of}
 use Rattle.aw_term.specs.WellFormed.{Each}
 use Rattle.aw_grammar.specs.GrammarOf.{declarations_of, grammar_of}
 use Rattle.aw_typed.specs.Typing.{types_of}
+use Rattle.aw_base.specs.ReadFronts.{IsReaderOf}
 use Rattle.aw_sched.specs.Schedules.{read_lines, schedule_of}
 use Rattle.aw_sched.specs.Answers.{HasTypes, MayCome, event_seen}
 use Rattle.aw_sched.specs.LineEvents.{with_events}
@@ -14,6 +15,7 @@ invariant-loop-line l =
       read : with_events (map event_seen l.events) (read_lines (types_of l.t.types) (declarations_of l.g) (suc l.number) (lines_of l.rest)) ≡ schedule_of (types_of l.t.types) (declarations_of l.g) l.fn.text;
       fits : Each (MayCome (grammar_of l.g)) l.events;
       types : Each (HasTypes (types_of l.t.types) (grammar_of l.g)) l.events;
+      nodes : IsReaderOf l.g l.nodes;
       counted : l.number + length l.rest ≤ length l.fn.text;
     }
 
