@@ -1,5 +1,5 @@
 -- The name of a node is read from any of its steps on.
-use Rattle.std.proofs.Common.{◌≡◌, ℕ, zero, suc, ◌+◌, ◌-◌, ◌≤◌, ◌<◌, refl, sym, ap, subst, ◌∙◌, ◌⊎◌, inl, inr, Bool, true, false, cond, ◌==◌, List, [], ◌∷◌, ◌++◌, length, take, drop, get_or, slice_get, Option, Some, None, is_some, option_map, option_and_then, count_by, arith, add-one, length-append}
+use Rattle.std.proofs.Common.{◌≡◌, ℕ, zero, suc, ◌+◌, ◌-◌, ◌≤◌, ◌<◌, refl, sym, ap, subst, ◌∙◌, ◌⊎◌, inl, inr, Bool, true, false, cond, ◌==◌, List, [], ◌∷◌, ◌++◌, length, take, drop, get_or, slice_get, Option, Some, None, option_map, option_and_then, count_by, arith, add-one, length-append}
 use Rattle.std.specs.List.{slice_split, onto_first}
 use Rattle.std.proofs.lemmas.List.{length-take, length-take-le, take_all, take-take, take-append-le}
 use Rattle.std.proofs.lemmas.List.Sums.{sum_by-take-le}
@@ -7,7 +7,7 @@ use Rattle.std.proofs.lemmas.Bool.{cases_lt}
 use Rattle.std.proofs.lemmas.List.Splits.{slice_split-cons_yes, length-slice_split}
 use Rattle.aw_text.specs.Spelling.{parts, steps_of, step_of, name_from, start_of, parts_of_name}
 use Rattle.aw_term.specs.Names.{Step, Node}
-use Rattle.aw_term.specs.Rules.{Grammar, sort_of_step, sort_after, sort_of}
+use Rattle.aw_term.specs.Rules.{Grammar, sort_of_step, sort_after}
 use Rattle.aw_term.specs.Artifacts.{Words}
 use Rattle.aw_grammar.specs.Named.{number_named}
 use Rattle.aw_base.specs.NodeNames.{Named, steps_named, misfit_or, first_misfit, fitted, with_parts, node_read}
@@ -15,7 +15,6 @@ use Rattle.aw_base.specs.NodeReading.{start_named, steps_behind}
 use Rattle.aw_base.specs.ReadFronts.{IsNamed, AreFronts, IsLast, GoesOn, WithinCommon}
 use Rattle.aw_base.specs.declared.node_reader.Front.{Front}
 use Rattle.aw_base.proofs.NodeReads.{all_declared, length_named, slashes_are_steps}
-use Rattle.aw_base.proofs.ValidNodes.{node_valid}
 
 onto_join : {X : Type 0} (x : X) (ps qs : List (List X)) → 0 < length ps → onto_first x (ps ++ qs) ≡ onto_first x ps ++ qs
 onto_join x [] qs h = absurd (omega (arith, h))
@@ -123,11 +122,6 @@ read_whole w g text start case steps sort h few =
     let short : length h.trail ≤ 250 = omega (arith, few, length_named w h.trail steps h.stepped) in
     let n : Node = record { start = start; case = case; steps = steps } in
     ap (with_parts w g) h.spelled ∙ all_declared w g h.name case start (Some h.trail) steps short h.begun h.stepped ∙ ap (fitted n) (each_fits g 0 start steps sort h.sorted)
-
--- and the node is valid
-pub whole_valid : (w : Words) (g : Grammar) (text : List ℕ) (start case : ℕ) (steps : List Step) (sort : ℕ) → IsNamed w g text start case steps sort
-    → is_some (sort_of g (record { start = start; case = case; steps = steps })) ≡ true
-whole_valid w g text start case steps sort h = node_valid w g h.name start case steps (sym h.begun) (sym (each_fits g 0 start steps sort h.sorted))
 
 -- a name has as many slashes as steps
 slashes : (w : Words) (g : Grammar) (text : List ℕ) (start case : ℕ) (steps : List Step) (sort : ℕ) → IsNamed w g text start case steps sort → count_by (λ b. b == 47) text ≡ length steps

@@ -21,7 +21,7 @@ struct Written {
 }
 
 /// Whether two steps are one.
-fn is_same_step(a: &Step, b: &Step) -> bool
+pub(crate) fn is_same_step(a: &Step, b: &Step) -> bool
     ensures { IsTrue result → a.now ≡ b.now }
 {
     a == b

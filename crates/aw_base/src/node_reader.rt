@@ -1,5 +1,5 @@
 //! Reading names of nodes one after another: a name is read from where it parts from the last one.
-ghost use Rattle.std.specs.Prelude.{◌≡◌, ◌≤◌, ◌<◌, ◌+◌, ◌-◌, ◌++◌, ◌∷◌, [], ℕ, true, Some, is_some, length, take, slice_get, IfOk, IfSome, OnOk, OnErr};
+ghost use Rattle.std.specs.Prelude.{◌≡◌, ◌≤◌, ◌<◌, ◌+◌, ◌-◌, ◌++◌, ◌∷◌, [], ℕ, IsTrue, true, Some, is_some, length, take, slice_get, IfOk, IfSome, OnOk, OnErr};
 ghost use Rattle.aw_term.specs.Rules.{Grammar as Declared, sort_of};
 ghost use Rattle.aw_term.specs.Artifacts.{Words};
 ghost use Rattle.aw_term.specs.Names.{Step as Stepped};
@@ -9,10 +9,11 @@ ghost use Rattle.aw_base.specs.NodeNames.{node_read};
 ghost use Rattle.aw_base.specs.NodeReading.{Reads};
 ghost use Rattle.aw_base.specs.ReadFronts.{IsNamed, HasRead, StandsAt, HasReadAll, IsReaderOf, GoesOn, MayStandAtLast, WithinCommon};
 
+use crate::name_writer::is_same_step;
 use crate::names::sort_of_step;
 use crate::read_node::{NameFault, named_step, parse_node, start_named};
 use aw_grammar::Grammar;
-use aw_name::{Node, Step, Trail};
+use aw_name::{Node, Step, Trail, copy_node};
 use aw_text::node_start;
 use std::alloc::{AllocError, Global};
 
@@ -31,6 +32,8 @@ pub struct NodeReader {
     case: u64,
     steps: Vec<Step>,
     fronts: Vec<Front>,
+    /// The node that was given last, whose steps are shared where it is named again.
+    given: Node,
 }
 
 /// How many bytes two texts have in common before the first that differs.
@@ -123,6 +126,23 @@ fn start_alone(g: &Grammar, part: &[u8]) -> Option<(u16, u64)>
     }
 }
 
+/// Whether two trails have the same steps. The last ones are looked at first: names that follow one another mostly differ there.
+fn are_same_steps(a: &[Step], b: &[Step]) -> bool
+    ensures { IsTrue result → a.now ≡ b.now }
+{
+    if a.len() != b.len() {
+        return false;
+    }
+    let mut at = a.len();
+    while at > 0 {
+        at -= 1;
+        if !is_same_step(&a[at], &b[at]) {
+            return false;
+        }
+    }
+    true
+}
+
 impl NodeReader {
     /// Nothing is read yet. It takes no memory.
     pub fn new(alloc: Global) -> NodeReader
@@ -134,6 +154,11 @@ impl NodeReader {
             case: 0,
             steps: Vec::new(alloc),
             fronts: Vec::new(alloc),
+            given: Node {
+                start: 0,
+                case: 0,
+                steps: Trail::new(alloc),
+            },
         }
     }
 
@@ -254,8 +279,17 @@ impl NodeReader {
         }
     }
 
-    /// The node to which all steps lead.
-    fn node(&self) -> Result<Node, AllocError>
+    /// Whether all steps lead to the node that was given last.
+    fn is_given(&self) -> bool
+        ensures { IsTrue result → self.now.given ≡ record { start = self.now.start; case = self.now.case; steps = self.now.steps.items } }
+    {
+        self.given.start == self.start
+            && self.given.case == self.case
+            && are_same_steps(self.given.steps.as_slice(), &self.steps)
+    }
+
+    /// The node to which all steps lead, in memory of its own.
+    fn made(&self) -> Result<Node, AllocError>
         requires { length self.now.steps.items ≤ 250 }
         ensures { IfOk result (λ n. n ≡ record { start = self.now.start; case = self.now.case; steps = self.now.steps.items }) }
     {
@@ -266,6 +300,18 @@ impl NodeReader {
             case: self.case,
             steps: Trail::from_vec(steps)?,
         })
+    }
+
+    /// The node to which all steps lead. Where it was given last, it shares its memory.
+    fn node(&mut self) -> Result<Node, AllocError>
+        requires { length self.old.steps.items ≤ 250 }
+        ensures value { IfOk result (λ n. n ≡ record { start = self.old.start; case = self.old.case; steps = self.old.steps.items }) }
+        ensures kept { (w : Words) (g : Declared) → HasRead w g self.old → HasRead w g self.new }
+    {
+        if !self.is_given() {
+            self.given = self.made()?;
+        }
+        copy_node(&self.given)
     }
 
     /// The node that a text names, which is then valid. The text is kept, and the next one is read from where it parts from it.

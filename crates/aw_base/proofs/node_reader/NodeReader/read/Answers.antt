@@ -11,4 +11,10 @@ returns-in_ok-node-clause-read c =
     let r = c.follow.new.self in
     let whole = c.in_ok-follow.ensures.whole c.if-branch.true in
     ap (node_read w g) (sym whole.0) ∙ read_whole w g r.text.items r.start r.case r.steps.items whole.1.0 whole.1.1 c.follow.ensures.read.few
-    ∙ ap Named (sym c.in_ok-node.ensures)
+    ∙ ap Named (sym c.in_ok-node.ensures.value)
+
+pub returns-in_ok-node-clause-kept : goal.returns-in_ok-node-clause-kept
+returns-in_ok-node-clause-kept c = c.node.ensures.kept (words_of c.args.g.now) (grammar_of c.args.g.now) c.follow.ensures.read
+
+pub returns-in_err-node-clause-kept : goal.returns-in_err-node-clause-kept
+returns-in_err-node-clause-kept c = c.node.ensures.kept (words_of c.args.g.now) (grammar_of c.args.g.now) c.follow.ensures.read
