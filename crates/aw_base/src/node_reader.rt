@@ -1,8 +1,7 @@
 //! Reading names of nodes one after another: a name is read from where it parts from the last one.
-ghost use Rattle.std.specs.Prelude.{◌≡◌, ◌≤◌, ◌<◌, ◌+◌, ◌-◌, ◌++◌, ◌∷◌, [], ℕ, IsTrue, true, Some, is_some, length, take, slice_get, IfOk, IfSome, OnOk, OnErr};
+ghost use Rattle.std.specs.Prelude.{◌≡◌, ◌≤◌, ◌<◌, [], IsTrue, true, is_some, length, take, IfOk, IfSome, OnOk};
 ghost use Rattle.aw_term.specs.Rules.{Grammar as Declared, sort_of};
 ghost use Rattle.aw_term.specs.Artifacts.{Words};
-ghost use Rattle.aw_term.specs.Names.{Step as Stepped};
 ghost use Rattle.aw_grammar.specs.GrammarOf.{grammar_of, words_of};
 ghost use Rattle.aw_base.specs.declared.node_reader.Front.{Front as FrontOf};
 ghost use Rattle.aw_base.specs.NodeNames.{node_read};
