@@ -7,7 +7,7 @@ mod filling;
 
 ghost use Rattle.aw_print.specs.Stacks.{IsReady};
 
-use aw_base::{Choice, Grammar, Ground, Items};
+use aw_base::{Choice, Grammar, Ground, Items, NameWriter};
 use aw_cells::CellFacts;
 use aw_list::Text;
 use aw_out::{PrintFault, Report, StdSink, write_all};
@@ -50,7 +50,10 @@ fn print_asked<F: Facts>(
 {
     let node = node(alloc, asked.case);
     let inherited = parts(alloc, asked.inherited)?;
-    artifact_row(alloc, g, &node, &inherited, done, f, printer, report)
+    let mut names = NameWriter::new(alloc, g);
+    artifact_row(
+        alloc, g, &mut names, &node, &inherited, done, f, printer, report,
+    )
 }
 
 /// Adds what was printed, or that it passes the limit.

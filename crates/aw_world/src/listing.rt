@@ -19,6 +19,7 @@ use crate::merging::{Spot, in_order};
 use crate::workspace::Workspace;
 use crate::world::World;
 use aw_accept::Accepted;
+use aw_base::NameWriter;
 use aw_choice::Worklist;
 use aw_held::Held;
 use aw_list::Items;
@@ -47,18 +48,21 @@ fn print_at<W: Workspace>(
     accepted: &Accepted,
     sites: &[W],
     spot: &Spot,
+    names: &mut NameWriter<'_>,
     printers: &mut Vec<Printer>,
     report: &mut Report,
 ) -> Result<(), PrintFault>
     requires placed { ArePlaced ⟦<W as Workspace>⟧ accepted.now.grammar sites.now }
     requires there { IsSome (held_at ⟦<W as Workspace>⟧ sites.now spot.now) }
+    requires named { names.old.grammar.now ≡ accepted.now.grammar }
     requires ready { KeepEach ⟦<W as Workspace>⟧ accepted.now.grammar report.old sites.now printers.old.items }
+    ensures names { names.new.grammar.now ≡ names.old.grammar.now }
     ensures ready { KeepEach ⟦<W as Workspace>⟧ accepted.now.grammar report.new sites.now printers.new.items }
     ensures prints { PrintsSpot ⟦<W as Workspace>⟧ accepted.now.grammar sites.now spot.now report.old report.new result }
 {
     let site = &sites[spot.site];
     let own = &mut printers[spot.site];
-    site.print_row(alloc, accepted, spot.place, own, report)
+    site.print_row(alloc, accepted, spot.place, names, own, report)
 }
 
 /// Prints the lines of all nodes, those of a workspace by one printer.
@@ -74,9 +78,10 @@ fn print_all<W: Workspace>(
     requires order { AreAllInOrder ⟦<W as Workspace>⟧ sites.now spots.now }
     ensures { (v : V.World) → ShowEach ⟦<W as Workspace>⟧ sites.now v.sites → PrintsRows accepted.now.grammar v report.old report.new result }
 {
+    let mut names = NameWriter::new(alloc, accepted.grammar());
     let mut printers = new_printers(alloc, sites)?;
     for spot in spots {
-        print_at(alloc, accepted, sites, spot, &mut printers, report)?;
+        print_at(alloc, accepted, sites, spot, &mut names, &mut printers, report)?;
     }
     Ok(())
 }

@@ -23,6 +23,7 @@ use crate::workspace::{Made, Workspace};
 use crate::world::World;
 use aw_accept::Accepted;
 use aw_apply::Steps;
+use aw_base::NameWriter;
 use aw_cells::CellFacts;
 use aw_choice::{Answer, Choice, Worklist};
 use aw_grammar::Grammar;
@@ -68,6 +69,7 @@ fn list_uncounted(space: &Space<CellFacts>, accepted: &Accepted) -> Result<Workl
 fn print_held(
     alloc: Global,
     g: &Grammar,
+    names: &mut NameWriter<'_>,
     held: &Held,
     facts: &CellFacts,
     printer: &mut Printer,
@@ -75,6 +77,8 @@ fn print_held(
 ) -> Result<(), PrintFault>
     requires named { takes_as (grammar_of g.now) (sort_of (grammar_of g.now) held.now.node) held.now.inherited ≡ true }
     requires done { done_fits (grammar_of g.now) held.now.node held.now.done ≡ true }
+    requires writer { names.old.grammar.now ≡ g.now }
+    ensures names { names.new.grammar.now ≡ names.old.grammar.now }
     requires ready { IsReady g.now (⟦<CellFacts as Facts>⟧.map facts.now) (⟦<CellFacts as Facts>⟧.names facts.now) report.old printer.old }
     ensures ready { IsReady g.now (⟦<CellFacts as Facts>⟧.map facts.now) (⟦<CellFacts as Facts>⟧.names facts.now) report.new printer.new }
     ensures grows { HasGrown report.old report.new }
@@ -83,6 +87,7 @@ fn print_held(
     artifact_row(
         alloc,
         g,
+        names,
         &held.node,
         &held.inherited,
         &held.done,
@@ -144,6 +149,7 @@ impl<'g> Workspace for Site<'g, CellFacts> {
         alloc: Global,
         accepted: &Accepted,
         place: usize,
+        names: &mut NameWriter<'_>,
         printer: &mut Printer,
         report: &mut Report,
     ) -> Result<(), PrintFault> {
@@ -152,6 +158,7 @@ impl<'g> Workspace for Site<'g, CellFacts> {
         print_held(
             alloc,
             accepted.grammar(),
+            names,
             held,
             space.facts(),
             printer,

@@ -26,6 +26,7 @@ ghost use Rattle.aw_world.specs.Reactions.{choice_at, message_at, AddsMessages};
 ghost use Rattle.aw_world.specs.SiteAnswers.{is_new};
 
 use aw_accept::Accepted;
+use aw_base::NameWriter;
 use aw_choice::{Answer, Choice, Worklist};
 use aw_held::Holding;
 use aw_msg::{Message, Messages};
@@ -105,11 +106,14 @@ pub trait Workspace: Drop {
         alloc: Global,
         accepted: &Accepted,
         place: usize,
+        names: &mut NameWriter<'_>,
         printer: &mut Printer,
         report: &mut Report,
     ) -> Result<(), PrintFault>
         requires grammar { same_grammar (its_grammar self.now) (grammar_of accepted.now.grammar) ≡ true }
         requires place { place < length (its_nodes self.now) }
+        requires named { names.old.grammar.now ≡ accepted.now.grammar }
+        ensures names { names.new.grammar.now ≡ names.old.grammar.now }
         requires ready { keeps self.now accepted.now.grammar report.old printer.old }
         ensures ready { keeps self.now accepted.now.grammar report.new printer.new }
         ensures grows { HasGrown report.old report.new }

@@ -13,8 +13,11 @@ use Rattle.aw_world.proofs.Lines.{stops}
 use Rattle.aw_world.proofs.Pairings.{on_err}
 use Rattle.aw_replay.proofs.replaying.tell_events.Goals as goal
 
-pub tell_event-requires : goal.tell_event-requires
-tell_event-requires g c =
+pub tell_event-requires-clause-named : goal.tell_event-requires-clause-named
+tell_event-requires-clause-named g c = c.loop-event.invariant.named ∙ sym (ap (λ (a : Accepted). a.grammar) c.loop-event.invariant.accepted)
+
+pub tell_event-requires-clause-may_come : goal.tell_event-requires-clause-may_come
+tell_event-requires-clause-may_come g c =
     let e = c.event-item.result in
     subst (λ (a : Accepted). MayCome (grammar_of a.grammar) e) (sym c.loop-event.invariant.accepted)
     (each_here (MayCome (grammar_of c.args.world.now.accepted.now.grammar)) c.args.events.now c.loop-event.event-index e c.loop-event-test.true c.event-item.is c.requires)
@@ -31,6 +34,7 @@ loop-event-preserved g c =
     record {
       accepted = c.tell_event.ensures.accepted ∙ i.accepted;
       loads = c.tell_event.ensures.loads ∙ i.loads;
+      named = c.tell_event.ensures.names ∙ i.named;
       after = λ v s. subst (Shows g.W.Workspace x) (ap (λ (a : Accepted). after_event (grammar_of a.grammar) (after_events p v (map event_seen (take n es))) (event_seen e)) i.accepted ∙ events_more p v es n (n + 1) e refl c.loop-event-test.true c.event-item.is)
           (c.in_ok-tell_event.ensures.does (after_events p v (map event_seen (take n es))) (i.after v s));
       whole = λ v s new r next.

@@ -15,9 +15,9 @@ pub returns-clause-text : goal.returns-clause-text
 returns-clause-text g c = on_ok_weaker c.push_chosen.result (λ e v S.
     let w = c.args.world.now in
     let T = c.in_ok-reply.ensures.steps v S in
-    e ∙ ap (λ t. c.args.text.now ++ t) (told_choice c.grammar.result.now c.step.new.self.accepted.now.grammar w.accepted.now.grammar
-    (c.grammar.ensures.value ∙ ap (λ (a : Accepted). a.grammar) c.accepted.ensures) (ap (λ (a : Accepted). a.grammar) c.step.ensures.accepted)
+    e ∙ ap (λ t. c.args.text.now ++ t) (told_choice c.args.names.now.grammar.now c.step.new.self.accepted.now.grammar w.accepted.now.grammar
+    (c.requires.named ∙ sym (ap (λ (a : Accepted). a.grammar) c.step.ensures.accepted)) (ap (λ (a : Accepted). a.grammar) c.step.ensures.accepted)
     (choice_of c.args.choice.now) (reply_of c.in_ok-reply.reply) v (V.step (grammar_of w.accepted.now.grammar) v (V.Chooses (choice_of c.in_ok-copy.copy))) (length c.messages-before.result.now) _ T.reply
     (T.world.messages ∙ ap (λ ms. map (message_of (grammar_of c.step.new.self.accepted.now.grammar)) ms) (sym c.messages.ensures))
     (ap length S.messages ∙ length-map w.messages (message_of (grammar_of w.accepted.now.grammar)) ∙ ap length (sym c.messages-before.ensures))
-    ∙ ap (λ z. move_lines (words_of w.accepted.now.grammar) v (V.Chooses (choice_of c.args.choice.now)) (V.step (grammar_of w.accepted.now.grammar) v (V.Chooses (choice_of z)))) c.in_ok-copy.ensures)) c.push_chosen.ensures
+    ∙ ap (λ z. move_lines (words_of w.accepted.now.grammar) v (V.Chooses (choice_of c.args.choice.now)) (V.step (grammar_of w.accepted.now.grammar) v (V.Chooses (choice_of z)))) c.in_ok-copy.ensures)) c.push_chosen.ensures.text

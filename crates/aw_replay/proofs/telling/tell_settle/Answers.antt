@@ -43,6 +43,7 @@ loop-number-preserved g c =
     record {
       accepted = ea;
       loads = c.tell_delivery.ensures.loads ∙ i.loads;
+      named = c.tell_delivery.ensures.names ∙ i.named;
       counts = omega (arith, i.counts, o.0, o.1);
       settled = so;
       lines = λ v s.
@@ -114,3 +115,6 @@ returns-clause-some g c =
     ap (λ (a : Accepted). bound_of (grammar_of a.grammar) (map choice_of w.taken.items)) i.accepted ∙ ap (bound_of p) (sym (i.settled v s).taken ∙ settle_taken p m v) in
     (m, omega (arith, b, t), i.settled v s) in
     on_err _ kept
+
+pub tell_delivery-requires : goal.tell_delivery-requires
+tell_delivery-requires g c = c.loop-number.invariant.named ∙ c.requires ∙ sym (ap (λ (a : Accepted). a.grammar) c.loop-number.invariant.accepted)

@@ -13,6 +13,7 @@ abbrev pub invariant-loop-number : goal.invariant-loop-number
 invariant-loop-number g l = record {
   accepted : l.world.accepted.now ≡ l.initial.world.accepted.now;
   loads : l.world.loads ≡ l.initial.world.loads;
+  named : l.names.grammar.now ≡ l.initial.names.grammar.now;
   counts : count_set l.initial.world.marks.delivered.items ≤ count_set l.world.marks.delivered.items;
   settled : (v : V.World) → Shows g.W.Workspace l.initial.world v →
       Shows g.W.Workspace l.world (V.settle (count_set l.world.marks.delivered.items - count_set l.initial.world.marks.delivered.items) (grammar_of l.initial.world.accepted.now.grammar) v);

@@ -12,7 +12,7 @@ use Rattle.aw_world.proofs.RowsAt.{row_at, order_length, there}
 use Rattle.aw_world.proofs.listing.print_all.Goals as goal
 
 pub loop-spot-init : goal.loop-spot-init
-loop-spot-init g c = record { ready = c.in_ok-printers.ensures c.args.accepted.now.grammar c.args.report.now; prints = λ v shown rows read new result p. p }
+loop-spot-init g c = record { named = c.new-names.ensures ∙ ap (λ x. x) c.grammar.ensures.value; ready = c.in_ok-printers.ensures c.args.accepted.now.grammar c.args.report.now; prints = λ v shown rows read new result p. p }
 
 pub returns-in_err-printers : goal.returns-in_err-printers
 returns-in_err-printers g c = λ v shown rows read. nothing_printed _ _ c.from_residual.result (search rules)
@@ -38,6 +38,7 @@ returns-in_err-print_at g c = λ v shown rows read.
 
 pub loop-spot-preserved : goal.loop-spot-preserved
 loop-spot-preserved g c = record {
+  named = c.print_at.ensures.names ∙ c.loop-spot.invariant.named;
   ready = c.print_at.ensures.ready;
   prints = λ v shown rows read new r next.
       let f = g.W.Workspace in

@@ -1,4 +1,4 @@
-use Rattle.std.proofs.Common.{drop}
+use Rattle.std.proofs.Common.{◌≡◌, drop}
 use Rattle.std.specs.Prelude.{Result}
 use Rattle.aw_term.specs.Artifacts.{artifact_text}
 use Rattle.aw_term.specs.Configs.{Config}
@@ -14,6 +14,7 @@ use Rattle.aw_world.proofs.listing.print_all.Given as goal
 abbrev pub invariant-loop-spot : goal.invariant-loop-spot
 invariant-loop-spot g l =
     record {
+      named : l.names.grammar.now ≡ l.accepted.grammar;
       ready : KeepEach g.W.Workspace l.accepted.grammar l.report l.sites l.printers.items;
       prints : (v : World) → ShowEach g.W.Workspace l.sites v.sites → (rows : Config) → AreRead (grammar_of l.accepted.grammar) v rows → (new : Bounded) (result : Result Unit PrintFault) →
           Prints (artifact_text (words_of l.accepted.grammar) (drop l.spot-index rows)) l.report new result → Prints (artifact_text (words_of l.accepted.grammar) rows) l.fn.report new result;
