@@ -14,6 +14,7 @@ abbrev pub invariant-loop-event : goal.invariant-loop-event
 invariant-loop-event g l = record {
   accepted : l.world.accepted.now ≡ l.initial.world.accepted.now;
   loads : l.world.loads ≡ l.initial.world.loads;
+  named : l.names.grammar.now ≡ l.initial.world.accepted.now.grammar;
   after : (v : V.World) → Shows g.W.Workspace l.initial.world v →
       Shows g.W.Workspace l.world (after_events (grammar_of l.initial.world.accepted.now.grammar) v (map event_seen (take l.event-index l.events)));
   whole : (v : V.World) → Shows g.W.Workspace l.initial.world v → (new : Bounded) (result : Result Unit PrintFault) →
