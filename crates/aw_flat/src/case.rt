@@ -86,11 +86,7 @@ fn chased<F: Facts>(f: &F, slot: usize) -> (&'static [u8], usize)
 }
 
 /// Adds references, a comma and a space between them, in parentheses.
-fn push_refs(
-    told: &mut Text,
-    names: &mut NameWriter<'_>,
-    refs: &[Ref],
-) -> Result<(), AllocError> {
+fn push_refs(told: &mut Text, names: &mut NameWriter<'_>, refs: &[Ref]) -> Result<(), AllocError> {
     let mut mark: &[u8] = b"";
     told.push_bytes(b"(")?;
     for r in refs {

@@ -15,7 +15,11 @@ use aw_text::push_number;
 use std::alloc::AllocError;
 
 /// Adds an equation, as `visit#1:p1 = "Ada"`.
-fn push_equation(text: &mut Text, names: &mut NameWriter<'_>, e: &Equation) -> Result<(), AllocError>
+fn push_equation(
+    text: &mut Text,
+    names: &mut NameWriter<'_>,
+    e: &Equation,
+) -> Result<(), AllocError>
     ensures text { OnOk result (text.new ≡ text.old ++ equation_text (words_of names.old.grammar.now) (equation_of e.now)) }
     ensures grammar { names.new.grammar.now ≡ names.old.grammar.now }
 {
@@ -25,7 +29,11 @@ fn push_equation(text: &mut Text, names: &mut NameWriter<'_>, e: &Equation) -> R
 }
 
 /// Adds equations, each behind a separator.
-fn push_following(text: &mut Text, names: &mut NameWriter<'_>, es: &[Equation]) -> Result<(), AllocError>
+fn push_following(
+    text: &mut Text,
+    names: &mut NameWriter<'_>,
+    es: &[Equation],
+) -> Result<(), AllocError>
     ensures text { OnOk result (text.new ≡ text.old ++ flat_map (λ e. codes "; " ++ equation_text (words_of names.old.grammar.now) (equation_of e)) es.now) }
     ensures grammar { names.new.grammar.now ≡ names.old.grammar.now }
 {
@@ -52,7 +60,12 @@ fn push_load(text: &mut Text, names: &mut NameWriter<'_>, es: &[Equation]) -> Re
 }
 
 /// Adds a call, as `call visit#1/admit.1 (visit#1:p2)`, without its load.
-fn push_call(text: &mut Text, names: &mut NameWriter<'_>, node: &Node, inherited: &Refs) -> Result<(), AllocError>
+fn push_call(
+    text: &mut Text,
+    names: &mut NameWriter<'_>,
+    node: &Node,
+    inherited: &Refs,
+) -> Result<(), AllocError>
     ensures text { OnOk result (text.new ≡ text.old ++ call_text (words_of names.old.grammar.now) node.now inherited.now) }
     ensures grammar { names.new.grammar.now ≡ names.old.grammar.now }
 {

@@ -35,14 +35,7 @@ fn tell_choice<W: Workspace>(
     let before = world.messages().len();
     let copy = copy_choice(choice)?;
     let reply = world.step(Move::Choose(copy))?;
-    push_chosen(
-        text,
-        names,
-        choice,
-        reply,
-        world.messages(),
-        before,
-    )
+    push_chosen(text, names, choice, reply, world.messages(), before)
 }
 
 /// Delivers a message, and adds its lines. After an error it was delivered or not.
@@ -62,14 +55,7 @@ fn tell_delivery<W: Workspace>(
 {
     let before = world.messages().len();
     let reply = world.step(Move::Deliver(number))?;
-    push_delivery(
-        text,
-        names,
-        number,
-        reply,
-        world.messages(),
-        before,
-    )
+    push_delivery(text, names, number, reply, world.messages(), before)
 }
 
 /// Delivers the first message that was not delivered, again and again, and adds the lines. After an error some of these

@@ -34,11 +34,7 @@ fn add_con(
     text.push_bytes(b")")
 }
 
-fn add_body(
-    text: &mut Text,
-    names: &mut NameWriter<'_>,
-    body: &Body,
-) -> Result<(), AllocError>
+fn add_body(text: &mut Text, names: &mut NameWriter<'_>, body: &Body) -> Result<(), AllocError>
     ensures ok { OnOk result (text.new ≡ text.old ++ body_text (words_of names.old.grammar.now) (body_of body.now)) }
     ensures err { OnErr result (StartsWith text.new text.old) }
     ensures grammar { names.new.grammar.now ≡ names.old.grammar.now }
@@ -61,11 +57,7 @@ pub fn body_text(alloc: Global, g: &Grammar, body: &Body) -> Result<Text, AllocE
 }
 
 /// Adds the text that `body_text` makes. An error changes nothing.
-pub fn push_body(
-    text: &mut Text,
-    names: &mut NameWriter<'_>,
-    body: &Body,
-) -> Result<(), AllocError>
+pub fn push_body(text: &mut Text, names: &mut NameWriter<'_>, body: &Body) -> Result<(), AllocError>
     ensures ok { OnOk result (text.new ≡ text.old ++ body_text (words_of names.old.grammar.now) (body_of body.now)) }
     ensures err { OnErr result (text.new ≡ text.old) }
     ensures grammar { names.new.grammar.now ≡ names.old.grammar.now }

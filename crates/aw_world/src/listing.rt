@@ -81,7 +81,15 @@ fn print_all<W: Workspace>(
     let mut names = NameWriter::new(alloc, accepted.grammar());
     let mut printers = new_printers(alloc, sites)?;
     for spot in spots {
-        print_at(alloc, accepted, sites, spot, &mut names, &mut printers, report)?;
+        print_at(
+            alloc,
+            accepted,
+            sites,
+            spot,
+            &mut names,
+            &mut printers,
+            report,
+        )?;
     }
     Ok(())
 }
