@@ -78,8 +78,8 @@ fn print_held(
     requires named { takes_as (grammar_of g.now) (sort_of (grammar_of g.now) held.now.node) held.now.inherited ≡ true }
     requires done { done_fits (grammar_of g.now) held.now.node held.now.done ≡ true }
     requires writer { names.old.grammar.now ≡ g.now }
-    ensures names { names.new.grammar.now ≡ names.old.grammar.now }
     requires ready { IsReady g.now (⟦<CellFacts as Facts>⟧.map facts.now) (⟦<CellFacts as Facts>⟧.names facts.now) report.old printer.old }
+    ensures names { names.new.grammar.now ≡ names.old.grammar.now }
     ensures ready { IsReady g.now (⟦<CellFacts as Facts>⟧.map facts.now) (⟦<CellFacts as Facts>⟧.names facts.now) report.new printer.new }
     ensures grows { HasGrown report.old report.new }
     ensures prints { PrintsHeld g.now (⟦<CellFacts as Facts>⟧.map facts.now) (held_of (grammar_of g.now) held.now) report.old report.new result }

@@ -113,8 +113,8 @@ pub trait Workspace: Drop {
         requires grammar { same_grammar (its_grammar self.now) (grammar_of accepted.now.grammar) ≡ true }
         requires place { place < length (its_nodes self.now) }
         requires named { names.old.grammar.now ≡ accepted.now.grammar }
-        ensures names { names.new.grammar.now ≡ names.old.grammar.now }
         requires ready { keeps self.now accepted.now.grammar report.old printer.old }
+        ensures names { names.new.grammar.now ≡ names.old.grammar.now }
         ensures ready { keeps self.now accepted.now.grammar report.new printer.new }
         ensures grows { HasGrown report.old report.new }
         ensures prints { (s : P.Site) → shows self.now s → PrintsRow accepted.now.grammar s place report.old report.new result };
