@@ -2,7 +2,7 @@
 use Rattle.std.proofs.Common.{◌≡◌, ◌≢◌, ℕ, ◌<◌, ◌≤◌, Bool, true, false, cond, Option, Some, is_some, ap, sym, ◌∙◌, refl, subst, nat_eq, get_or, eq-eqb, w64}
 use Rattle.std.specs.Prelude.{◌||◌, ◌&&◌, ◌+◌, ◌*◌, ◌%◌, ◌^◌, List, [], ◌∷◌, ◌++◌, All, length, take, Result, Ok, Err, OnOk, OnErr, bit_or}
 use Rattle.std.specs.HashMap.{HashMap, get}
-use Rattle.std.specs.Int.Bits.{or_zero_l}
+use Rattle.std.specs.Int.Bits.{or_zero_l, or_zero_r}
 use Rattle.std.proofs.lemmas.Bool.{eqb-true, both_ways}
 use Rattle.std.proofs.lemmas.List.{take_all, take_more}
 use Rattle.std.proofs.lemmas.List.Elements.{All-push}
@@ -12,7 +12,7 @@ use Rattle.aw_term.specs.Names.{Ref, ref_eq}
 use Rattle.aw_name.specs.SameRefs.{ref_same}
 use Rattle.aw_term.proofs.RefTests.{ref_eq-true, ref_eq-self}
 use Rattle.aw_subs.specs.declared.subs.Sub.{Sub}
-use Rattle.aw_subs.specs.Entries.{entry_of, watchers_in, has_bit, Writes}
+use Rattle.aw_subs.specs.Entries.{entry_of, asked_in, watchers_in, has_bit, amended, Writes}
 
 -- an entry, found by the equality that is derived in the program
 pub entry_derived : {S : Type 0} (m : HashMap Ref Sub S) (r : Ref) → get (reference.ghosts).eq m r ≡ entry_of m r
@@ -25,6 +25,21 @@ WritesDerived m n k w = (q : Ref) → get (reference.ghosts).eq n q ≡ cond ((r
 pub writes_derived : {S : Type 0} (m n : HashMap Ref Sub S) (k : Ref) (w : Sub) → WritesDerived m n k w → Writes m n k w
 writes_derived m n k w writes q =
     sym (entry_derived n q) ∙ writes q ∙ (λ i. cond (ref_same k q i) (Some w) (entry_derived m q i))
+
+-- an entry to which no watchers are added has the same, and one that is not asked for now stands as it did
+pub same_watchers : (s : Sub) (asked : Bool) → watchers_in (Some s) ≡ watchers_in (Some (amended s asked 0))
+same_watchers s asked = sym (or_zero_r s.watchers)
+
+pub same_asked : (s : Sub) (bits : ℕ) → asked_in (Some s) ≡ asked_in (Some (amended s false bits))
+same_asked s bits = cases s.asked
+  where
+    cases : (b : Bool) → b ≡ (b || false)
+    cases true = refl
+    cases false = refl
+
+-- what is written after entries that are the same
+pub writes_after : {S : Type 0} (m n p : HashMap Ref Sub S) (k : Ref) (w : Sub) → ((q : Ref) → entry_of n q ≡ entry_of m q) → Writes n p k w → Writes m p k w
+writes_after m n p k w same writes q = writes q ∙ ap (λ o. cond (ref_eq k q) (Some w) o) (same q)
 
 ready_cases : (b : Bool) (w : Sub) (o p : Option Sub) → p ≡ cond b (Some w) o → is_some o ≡ true → is_some p ≡ true
 ready_cases true w o p e h = ap is_some e

@@ -1,5 +1,5 @@
 -- What is noted of references: one entry for each that is known.
-use Rattle.std.specs.Prelude.{◌≡◌, ℕ, if◌then◌else◌, Bool, false, Option, None, Some, is_some, nat_eq}
+use Rattle.std.specs.Prelude.{◌≡◌, ℕ, if◌then◌else◌, Bool, false, ◌||◌, Option, None, Some, is_some, nat_eq, bit_or}
 use Rattle.std.specs.Int.{bit_at}
 use Rattle.std.specs.HashMap.{HashMap, get}
 use Rattle.aw_term.specs.Names.{Ref, ref_eq}
@@ -38,6 +38,10 @@ watches m r role = has_bit (watchers m r) role
 -- the reference has an entry, so that it can be asked for and watched without memory
 abbrev pub is_ready : {S : Type 0} → HashMap Ref Sub S → Ref → Bool
 is_ready m r = is_some (entry_of m r)
+
+-- an entry that was amended: asked for if it was before or is now, with the watchers from before and these
+abbrev pub amended : Sub → Bool → ℕ → Sub
+amended s asked watchers = record { asked = s.asked || asked; watchers = bit_or s.watchers watchers }
 
 -- one entry is written at k, and each other stays
 abbrev pub Writes : {S : Type 0} → HashMap Ref Sub S → HashMap Ref Sub S → Ref → Sub → Type 0

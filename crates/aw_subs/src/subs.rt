@@ -1,8 +1,8 @@
 //! References that were asked for, and the roles that watch references: one entry for each reference that is known, found by its hash.
-ghost use Rattle.std.specs.Prelude.{◌≡◌, ℕ, ◌<◌, true, false, not, ◌||◌, ◌&&◌, nat_eq, IfOk, OnOk, OnErr, IsOk, is_some, None, All};
+ghost use Rattle.std.specs.Prelude.{◌≡◌, ℕ, ◌<◌, true, false, not, ◌||◌, ◌&&◌, nat_eq, IfOk, IfSome, OnOk, OnErr, IsOk, None, All};
 ghost use Rattle.aw_name.specs.declared.node.Ref.{Ref as RefName};
 ghost use Rattle.aw_term.specs.Names.{ref_eq};
-ghost use Rattle.aw_subs.specs.Entries.{is_asked, watches, watchers, is_ready, entry_of, Writes};
+ghost use Rattle.aw_subs.specs.Entries.{is_asked, watches, watchers, is_ready, entry_of, amended, Writes};
 
 use aw_name::{Ref, copy_ref};
 use std::alloc::{AllocError, Global};
@@ -35,14 +35,19 @@ fn noted(subs: &HashMap<Ref, Sub>, r: &Ref) -> Option<Sub>
     subs.get(r).copied()
 }
 
-/// Writes the entry of a reference that has one.
-fn write(subs: &mut HashMap<Ref, Sub>, r: &Ref, sub: Sub)
-    requires { is_some (entry_of subs.old r.now) ≡ true }
-    ensures { Writes subs.old subs.new r.now sub }
+/// Adds to the entry of a reference, where it has one, and gives what was noted before.
+fn amend(subs: &mut HashMap<Ref, Sub>, r: &Ref, asked: bool, watchers: u64) -> Option<Sub>
+    ensures was { result ≡ entry_of subs.old r.now }
+    ensures written { IfSome result (λ was. Writes subs.old subs.new r.now (amended was asked watchers)) }
+    ensures kept { result ≡ None → (x : RefName) → entry_of subs.new x ≡ entry_of subs.old x }
 {
-    if let Some(entry) = subs.get_mut(r) {
-        *entry = sub;
-    }
+    let entry = subs.get_mut(r)?;
+    let was = *entry;
+    *entry = Sub {
+        asked: was.asked | asked,
+        watchers: was.watchers | watchers,
+    };
+    Some(was)
 }
 
 /// Adds the entry of a reference that has none. An error changes nothing.
@@ -75,12 +80,8 @@ impl Subs {
         ensures ready { (x : RefName) → is_ready self.old.subs x ≡ true → is_ready self.new.subs x ≡ true }
         ensures sure { is_ready self.old.subs r.now ≡ true → IsOk result }
     {
-        match noted(&self.subs, r) {
-            Some(sub) => {
-                let entry = Sub { asked: true, ..sub };
-                write(&mut self.subs, r, entry);
-                Ok(!sub.asked)
-            }
+        match amend(&mut self.subs, r, true, 0) {
+            Some(was) => Ok(!was.asked),
             None => {
                 let entry = Sub {
                     asked: true,
@@ -103,15 +104,8 @@ impl Subs {
         ensures sure { is_ready self.old.subs r.now ≡ true → IsOk result }
     {
         let bit = 1u64 << role;
-        match noted(&self.subs, r) {
-            Some(sub) => {
-                let entry = Sub {
-                    watchers: sub.watchers | bit,
-                    ..sub
-                };
-                write(&mut self.subs, r, entry);
-                Ok((sub.watchers >> role) & 1 == 0)
-            }
+        match amend(&mut self.subs, r, false, bit) {
+            Some(was) => Ok((was.watchers >> role) & 1 == 0),
             None => {
                 let entry = Sub {
                     watchers: bit,
