@@ -1,4 +1,4 @@
-use Rattle.std.proofs.Common.{rules, ◌≡◌, ◌+◌, [], Ok, drop, ap, sym, subst, arith}
+use Rattle.std.proofs.Common.{◌∙◌, rules, ◌≡◌, ◌+◌, [], Ok, drop, ap, sym, subst, arith}
 use Rattle.std.proofs.lemmas.Option.{slice_get-get_or}
 use Rattle.aw_grammar.specs.GrammarOf.{words_of}
 use Rattle.aw_out.specs.Report.{Prints}
@@ -12,7 +12,7 @@ use Rattle.aw_world.proofs.RowsAt.{row_at, order_length, there}
 use Rattle.aw_world.proofs.listing.print_all.Goals as goal
 
 pub loop-spot-init : goal.loop-spot-init
-loop-spot-init g c = record { named = c.new-names.ensures ∙ ap (λ x. x) c.grammar.ensures.value; ready = c.in_ok-printers.ensures c.args.accepted.now.grammar c.args.report.now; prints = λ v shown rows read new result p. p }
+loop-spot-init g c = record { named = c.new-names.ensures ∙ c.grammar.ensures.value; ready = c.in_ok-printers.ensures c.args.accepted.now.grammar c.args.report.now; prints = λ v shown rows read new result p. p }
 
 pub returns-in_err-printers : goal.returns-in_err-printers
 returns-in_err-printers g c = λ v shown rows read. nothing_printed _ _ c.from_residual.result (search rules)
