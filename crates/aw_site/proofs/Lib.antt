@@ -7,7 +7,8 @@ pub mod Ordering
 pub mod Wanting
 pub mod Noting
 pub mod HeldTests
-pub mod FrontLemmas
+pub mod ParentHomes
+pub mod ParentRoles
 pub mod ChosenSites
 pub mod Receptions
 pub mod Holding

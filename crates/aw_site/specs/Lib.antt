@@ -12,3 +12,4 @@ pub mod Judged
 pub mod Came
 pub mod Seen
 pub mod Sendable
+pub mod Parents

@@ -108,7 +108,7 @@ pub fn judge<'g, F: Facts>(
 {
     let grammar = g.grammar();
     let role = space.role();
-    if !message_ok(alloc, grammar, role, m)? {
+    if !message_ok(grammar, role, m) {
         return Ok(Judged::BadName);
     }
     if !is_mine(grammar, role, m) {

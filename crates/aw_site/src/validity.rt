@@ -1,20 +1,21 @@
 //! Whether all names in a message are valid, and whether it may come to a role.
-ghost use Rattle.std.specs.Prelude.{◌≡◌, IfOk, nat_lt, map as list_map};
+ghost use Rattle.std.specs.Prelude.{◌≡◌, true, not, ◌&&◌, nat_eq, nat_lt, is_some, map as list_map};
+ghost use Rattle.aw_term.specs.Rules.{role_of, sort_of};
 ghost use Rattle.aw_term.specs.Trees.{Con};
 ghost use Rattle.aw_term.specs.WellFormed.{head_fits};
 ghost use Rattle.aw_grammar.specs.GrammarOf.{grammar_of};
 ghost use Rattle.aw_store.specs.EquationView.{body_of, equation_of};
 ghost use Rattle.aw_msg.specs.MessageView.{message_of};
-ghost use Rattle.aw_react.specs.Homes.{home, parent};
+ghost use Rattle.aw_react.specs.Homes.{home, parent, has_steps};
 ghost use Rattle.aw_react.specs.ValidNames.{refs_ok, body_ok, equation_ok, equations_ok, call_ok, names_ok, origin_ok, message_ok};
+ghost use Rattle.aw_site.specs.Parents.{home_before};
 ghost use Rattle.aw_site.specs.Views.{kind_of};
 ghost use Rattle.aw_space.specs.Spaces.{call_of};
 
 use aw_base::{Grammar, content_ok, home_of, ref_ok, sort_of};
 use aw_msg::{Message, MsgKind};
-use aw_name::{Node, Ref, Step, Trail};
+use aw_name::{Node, Ref, Step};
 use aw_store::{Body, Equation};
-use std::alloc::{AllocError, Global};
 
 /// The role at which a node is worked on; 0 where its name is not valid.
 pub fn home(g: &Grammar, n: &Node) -> u16
@@ -110,54 +111,53 @@ fn names_ok(g: &Grammar, kind: &MsgKind) -> bool
     }
 }
 
-/// Copies of steps.
-fn copy_steps(alloc: Global, steps: &[Step]) -> Result<Vec<Step>, AllocError>
-    ensures { IfOk result (λ copies. copies.items ≡ steps.now) }
+/// The role of the sort of the rule that a step names; 0 where there is none.
+fn home_before(g: &Grammar, step: &Step) -> u16
+    ensures { result ≡ home_before (grammar_of g.now) step.now }
 {
-    let mut copies = Vec::with_capacity(alloc, steps.len())?;
-    for step in steps {
-        copies.push(*step)?;
+    match g.rule(step.rule) {
+        Some(rule) => role_of(g, rule.sort),
+        None => 0,
     }
-    Ok(copies)
 }
 
-/// The node of which another is a child; for a start node itself.
-fn parent(alloc: Global, node: &Node) -> Result<Node, AllocError>
-    ensures { IfOk result (λ p. p ≡ parent node.now) }
+/// The role of a sort; 0 where it is not declared.
+fn role_of(g: &Grammar, sort: u16) -> u16
+    ensures { result ≡ role_of (grammar_of g.now).sorts sort }
 {
-    let steps = node.steps.as_slice();
-    let front = copy_steps(alloc, &steps[..steps.len().saturating_sub(1)])?;
-    Ok(Node {
-        start: node.start,
-        case: node.case,
-        steps: Trail::from_vec(front)?,
-    })
+    match g.sort(sort) {
+        Some(sort) => sort.role,
+        None => 0,
+    }
 }
 
-/// Whether a message may come to a role: a call of a child of another role, a question of another role.
-fn origin_ok(alloc: Global, g: &Grammar, role: u16, kind: &MsgKind) -> Result<bool, AllocError>
-    ensures { IfOk result (λ ok. ok ≡ origin_ok (grammar_of g.now) role (kind_of (grammar_of g.now) kind.now)) }
+/// Whether a node with a valid name is a child of a node of another role. Only its last step is looked at.
+fn is_called(g: &Grammar, role: u16, node: &Node) -> bool
+    requires { is_some (sort_of (grammar_of g.now) node.now) ≡ true }
+    ensures { result ≡ (has_steps node.now.steps && not (nat_eq (home (grammar_of g.now) (parent node.now)) role)) }
+{
+    match node.steps.as_slice().last() {
+        Some(step) => home_before(g, step) != role,
+        None => false,
+    }
+}
+
+/// Whether a message with valid names may come to a role: a call of a child of another role, a question of another role.
+fn origin_ok(g: &Grammar, role: u16, kind: &MsgKind) -> bool
+    requires { names_ok (grammar_of g.now) (kind_of (grammar_of g.now) kind.now) ≡ true }
+    ensures { result ≡ origin_ok (grammar_of g.now) role (kind_of (grammar_of g.now) kind.now) }
 {
     match kind {
-        MsgKind::Call { node, .. } => {
-            if node.steps.len() == 0 {
-                return Ok(false);
-            }
-            let parent = parent(alloc, node)?;
-            Ok(home(g, &parent) != role)
-        }
-        MsgKind::Ask { from, .. } => Ok(*from != role),
-        MsgKind::Tell { .. } => Ok(true),
+        MsgKind::Call { node, .. } => is_called(g, role, node),
+        MsgKind::Ask { from, .. } => *from != role,
+        MsgKind::Tell { .. } => true,
     }
 }
 
 /// Whether all names in a message to this role are valid.
-pub fn message_ok(alloc: Global, g: &Grammar, role: u16, m: &Message) -> Result<bool, AllocError>
-    ensures { IfOk result (λ ok. ok ≡ message_ok (grammar_of g.now) role (message_of (grammar_of g.now) m.now)) }
+pub fn message_ok(g: &Grammar, role: u16, m: &Message) -> bool
+    ensures { result ≡ message_ok (grammar_of g.now) role (message_of (grammar_of g.now) m.now) }
 {
-    if is_role(g, m.to) && names_ok(g, m.kind.get()) {
-        origin_ok(alloc, g, role, m.kind.get())
-    } else {
-        Ok(false)
-    }
+    let kind = m.kind.get();
+    is_role(g, m.to) && names_ok(g, kind) && origin_ok(g, role, kind)
 }
