@@ -9,6 +9,7 @@ pub mod Noting
 pub mod HeldTests
 pub mod ParentHomes
 pub mod ParentRoles
+pub mod NamedHomes
 pub mod ChosenSites
 pub mod Receptions
 pub mod Holding
