@@ -3,6 +3,7 @@ pub mod KnownGrounds
 pub mod KnownLaw
 pub mod LineLaws
 pub mod LookedUp
+pub mod PlainLines
 pub mod ReadEvents
 pub mod ReadLines
 pub mod SoundLines

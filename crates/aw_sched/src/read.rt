@@ -1,15 +1,18 @@
 //! Reading a schedule, line by line.
 ghost use Rattle.std.specs.Prelude.{◌≡◌, IfOk, IfSome, OnOk, Some};
+ghost use Rattle.aw_typed.specs.Types.{Types};
 ghost use Rattle.aw_typed.specs.Typing.{types_of, IsMadeFor};
 ghost use Rattle.aw_lex.specs.Tokens.{AreSlices};
+ghost use Rattle.aw_term.specs.Rules as rules;
 ghost use Rattle.aw_term.specs.WellFormed.{Each};
+ghost use Rattle.aw_grammar.specs.Declarations.{Declarations};
 ghost use Rattle.aw_grammar.specs.GrammarOf.{declarations_of, grammar_of};
 ghost use Rattle.aw_base.specs.ReadFronts.{IsReaderOf};
 ghost use Rattle.aw_form.specs.Lexemes.{lexemes};
 ghost use Rattle.aw_sched.specs.Lines.{line_of};
 ghost use Rattle.aw_sched.specs.Events.{line_kind};
 ghost use Rattle.aw_sched.specs.LineSeen.{line_seen, HasContents};
-ghost use Rattle.aw_sched.specs.Schedules.{by_form, by_kind, by_type, event_fits, read_line, schedule_of};
+ghost use Rattle.aw_sched.specs.Schedules.{by_form, by_kind, by_type, event_fits, read_line, schedule_of, Gives};
 ghost use Rattle.aw_sched.specs.Answers.{Answers, HasTypes, MayCome, event_seen};
 ghost use Rattle.aw_sched.specs.LineEvents.{AddsLine, ReadsLine, fault_at};
 
@@ -21,6 +24,7 @@ use crate::parse::parse_line;
 use aw_base::{Grammar, NodeReader};
 use aw_form::Unread;
 use aw_lex::{LexFault, Token, Tokens, is_passed_over, next_line, read_tokens};
+use aw_text::number_value;
 use aw_typed::{Typed, arg_ok};
 use std::alloc::Global;
 
@@ -96,6 +100,23 @@ fn event_said(
     }
 }
 
+/// The event of a line that is `settle`, or `deliver `, a number and nothing else, as its bytes tell it. Any other line is left to
+/// be read by its tokens.
+fn plain_event(line: &[u8]) -> Option<Event>
+    ensures reads { IfSome result (λ event. (t : Types) (d : Declarations) → read_line t d line.now ≡ Gives (event_seen event)) }
+    ensures fits { IfSome result (λ event. (g : rules.Grammar) → MayCome g event) }
+    ensures types { IfSome result (λ event. (t : Types) (g : rules.Grammar) → HasTypes t g event) }
+{
+    match line {
+        [b's', b'e', b't', b't', b'l', b'e'] => Some(Event::Settle),
+        [b'd', b'e', b'l', b'i', b'v', b'e', b'r', b' ', digits @ ..] => {
+            Some(Event::Deliver(number_value(digits)?))
+        }
+        _ => None,
+    }
+}
+
+/// What a line gives: by its bytes alone where these tell it, and else by its tokens.
 fn line_event(
     found: &mut Tokens,
     nodes: &mut NodeReader,
@@ -110,6 +131,9 @@ fn line_event(
     ensures fits { IfOk result (λ found. IfSome found (MayCome (grammar_of g.now))) }
     ensures types { IfOk result (λ found. IfSome found (HasTypes (types_of t.now.types) (grammar_of g.now))) }
 {
+    if let Some(event) = plain_event(line) {
+        return Ok(Some(event));
+    }
     if is_passed_over(line) {
         return Ok(None);
     }
