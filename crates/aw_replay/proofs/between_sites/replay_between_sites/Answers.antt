@@ -17,5 +17,5 @@ returns-in_err-world-clause-headline c =
     let a = c.args.accepted.now in
     replay_headline a c.args.loads (map event_seen c.args.events.now) (all_may_stand (grammar_of a.grammar) c.args.events.now c.requires)
 
-pub replay-requires-clause-may_come : goal.replay-requires-clause-may_come
-replay-requires-clause-may_come c = subst (λ (a : Accepted). Each (MayCome (grammar_of a.grammar)) c.args.events.now) (sym c.in_ok-world.ensures.accepted) c.requires
+pub replay-told-requires-clause-may_come : goal.replay-told-requires-clause-may_come
+replay-told-requires-clause-may_come c = subst (λ (a : Accepted). Each (MayCome (grammar_of a.grammar)) c.args.events.now) (sym c.in_ok-world.ensures.accepted) c.requires

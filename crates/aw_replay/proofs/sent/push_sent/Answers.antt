@@ -9,14 +9,19 @@ use Rattle.aw_replay.proofs.sent.push_sent.Goals as goal
 
 pub loop-number-preserved : goal.loop-number-preserved
 loop-number-preserved c =
-    let w = words_of c.args.g.now in
-    let f = message_of (grammar_of c.args.g.now) in
+    let d = c.args.names.now.grammar.now in
+    let w = words_of d in
+    let f = message_of (grammar_of d) in
     let ms = c.args.messages.now in
     let xs = map f ms in
     let i = c.loop-number.number in
     let m = c.index-messages-number.result in
     let got : slice_get xs i ≡ Some (f m) = slice_get-map f ms i ∙ ap (option_map f) (slice_get_read ms (length ms) i m refl c.loop-number-test.true c.index-messages-number.is) in
-    ap (λ t. t ++ sent_lines w (i + 1) (drop (i + 1) xs)) c.in_ok-push_message.ensures
-    ∙ append_assoc c.loop-number.text (sent_line w i (f m)) (sent_lines w (i + 1) (drop (i + 1) xs))
-    ∙ ap (λ t. c.loop-number.text ++ t) (sym (sent_drop w xs i (i + 1) (f m) refl got))
-    ∙ c.loop-number.invariant
+    record {
+      added = ap (λ t. t ++ sent_lines w (i + 1) (drop (i + 1) xs))
+          (c.in_ok-push_message.ensures.text ∙ ap (λ g. c.loop-number.text ++ sent_line (words_of g) i (message_of (grammar_of g) m)) c.loop-number.invariant.grammar)
+          ∙ append_assoc c.loop-number.text (sent_line w i (f m)) (sent_lines w (i + 1) (drop (i + 1) xs))
+          ∙ ap (λ t. c.loop-number.text ++ t) (sym (sent_drop w xs i (i + 1) (f m) refl got))
+          ∙ c.loop-number.invariant.added;
+      grammar = c.push_message.ensures.grammar ∙ c.loop-number.invariant.grammar;
+    }

@@ -6,6 +6,8 @@ use Rattle.aw_replay.proofs.sent.push_sent.Given as goal
 
 -- the lines so far, and those that are left
 abbrev pub invariant-loop-number : goal.invariant-loop-number
-invariant-loop-number l =
-    l.text ++ sent_lines (words_of l.initial.names.grammar.now) l.number (drop l.number (map (message_of (grammar_of l.initial.names.grammar.now)) l.messages))
-    ≡ l.initial.text ++ sent_lines (words_of l.initial.names.grammar.now) l.from (drop l.from (map (message_of (grammar_of l.initial.names.grammar.now)) l.messages))
+invariant-loop-number l = record {
+  added : l.text ++ sent_lines (words_of l.initial.names.grammar.now) l.number (drop l.number (map (message_of (grammar_of l.initial.names.grammar.now)) l.messages))
+      ≡ l.initial.text ++ sent_lines (words_of l.initial.names.grammar.now) l.from (drop l.from (map (message_of (grammar_of l.initial.names.grammar.now)) l.messages));
+  grammar : l.names.grammar.now ≡ l.initial.names.grammar.now;
+}

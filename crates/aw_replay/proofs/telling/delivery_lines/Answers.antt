@@ -17,4 +17,4 @@ returns-in_err-tell_delivery-clause-some g c =
 pub returns-clause-tells : goal.returns-clause-tells
 returns-clause-tells g c = λ v s.
     let w = c.args.world.now in
-    c.in_ok-tell_delivery.ensures.text v s ∙ ap (λ t. t ++ event_lines (named_by w) (plain_of w) v (E.Delivers c.args.number)) c.requires
+    c.in_ok-tell_delivery.ensures.text v s ∙ ap (λ t. t ++ event_lines (named_by w) (plain_of w) v (E.Delivers c.args.number)) c.requires.empty

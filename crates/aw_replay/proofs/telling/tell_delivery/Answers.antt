@@ -14,7 +14,7 @@ returns-clause-text g c = on_ok_weaker c.push_delivery.result (λ e v S.
     let w = c.args.world.now in
     let T = c.in_ok-reply.ensures.steps v S in
     e ∙ ap (λ t. c.args.text.now ++ t) (told_delivery c.args.names.now.grammar.now c.step.new.self.accepted.now.grammar w.accepted.now.grammar
-    (c.requires ∙ sym (ap (λ (a : Accepted). a.grammar) c.step.ensures.accepted)) (ap (λ (a : Accepted). a.grammar) c.step.ensures.accepted)
+    (c.requires.named ∙ sym (ap (λ (a : Accepted). a.grammar) c.step.ensures.accepted)) (ap (λ (a : Accepted). a.grammar) c.step.ensures.accepted)
     c.args.number (reply_of c.in_ok-reply.reply) v (V.deliver (grammar_of w.accepted.now.grammar) v c.args.number) (length c.messages-before.result.now) _ T.reply
     (T.world.messages ∙ ap (λ ms. map (message_of (grammar_of c.step.new.self.accepted.now.grammar)) ms) (sym c.messages.ensures))
     (ap length S.messages ∙ length-map w.messages (message_of (grammar_of w.accepted.now.grammar)) ∙ ap length (sym c.messages-before.ensures)))) c.push_delivery.ensures.text

@@ -117,4 +117,4 @@ returns-clause-some g c =
     on_err _ kept
 
 pub tell_delivery-requires : goal.tell_delivery-requires
-tell_delivery-requires g c = c.loop-number.invariant.named ∙ c.requires ∙ sym (ap (λ (a : Accepted). a.grammar) c.loop-number.invariant.accepted)
+tell_delivery-requires g c = record { named = c.loop-number.invariant.named ∙ c.requires.named ∙ sym (ap (λ (a : Accepted). a.grammar) c.loop-number.invariant.accepted) }
