@@ -1,7 +1,7 @@
 -- The name of a node is read from any of its steps on.
 use Rattle.std.proofs.Common.{◌≡◌, ℕ, zero, suc, ◌+◌, ◌-◌, ◌≤◌, ◌<◌, refl, sym, ap, subst, ◌∙◌, ◌⊎◌, inl, inr, Bool, true, false, cond, ◌==◌, List, [], ◌∷◌, ◌++◌, length, take, drop, get_or, slice_get, Option, Some, None, option_map, option_and_then, count_by, arith, add-one, length-append}
 use Rattle.std.specs.List.{slice_split, onto_first}
-use Rattle.std.proofs.lemmas.List.{length-take, length-take-le, take_all, take-take, take-append-le}
+use Rattle.std.proofs.lemmas.List.{length-take, length-take-le, take_all, take-take, take-append-le, take-append-drop, drop-take}
 use Rattle.std.proofs.lemmas.List.Sums.{sum_by-take-le}
 use Rattle.std.proofs.lemmas.Bool.{cases_lt}
 use Rattle.std.proofs.lemmas.List.Splits.{slice_split-cons_yes, length-slice_split}
@@ -283,3 +283,14 @@ goes_on w g text last step next n h slash ends within e f =
       further = omega (arith, ends);
       within = within;
     }
+
+-- the front of a list, cut at an earlier place
+cut_front : {A : Type 0} (xs : List A) (at end : ℕ) → at ≤ end → take end xs ≡ take at xs ++ take (end - at) (drop at xs)
+cut_front xs at end h =
+    let e : end ≡ at + (end - at) = omega (arith, h) in
+    sym (take-append-drop at (take end xs)) ∙ ap (λ t. t ++ drop at (take end xs)) (take-take at end xs h)
+    ∙ ap (λ n. take at xs ++ drop at (take n xs)) e ∙ ap (λ t. take at xs ++ t) (drop-take at (end - at) xs)
+
+-- two lists that are the same up to a place, and from there to a later one, are the same up to that
+pub same_further : {A : Type 0} (xs ys : List A) (at end : ℕ) → at ≤ end → take at xs ≡ take at ys → take (end - at) (drop at xs) ≡ take (end - at) (drop at ys) → take end xs ≡ take end ys
+same_further xs ys at end h e f = cut_front xs at end h ∙ (λ i. e i ++ f i) ∙ sym (cut_front ys at end h)

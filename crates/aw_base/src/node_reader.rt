@@ -1,5 +1,5 @@
 //! Reading names of nodes one after another: a name is read from where it parts from the last one.
-ghost use Rattle.std.specs.Prelude.{◌≡◌, ◌≤◌, ◌<◌, [], IsTrue, true, is_some, length, take, IfOk, IfSome, OnOk};
+ghost use Rattle.std.specs.Prelude.{◌≡◌, ◌≤◌, ◌<◌, ◌+◌, [], IsTrue, true, is_some, length, take, IfOk, IfSome, OnOk};
 ghost use Rattle.aw_term.specs.Rules.{Grammar as Declared, sort_of};
 ghost use Rattle.aw_term.specs.Artifacts.{Words};
 ghost use Rattle.aw_grammar.specs.GrammarOf.{grammar_of, words_of};
@@ -35,6 +35,32 @@ pub struct NodeReader {
     given: Node,
 }
 
+/// How many bytes are compared at once.
+const BLOCK: usize = 64;
+
+/// Whether the next block of two texts is the same.
+fn is_same_block(a: &[u8], b: &[u8], at: usize) -> bool
+    requires first { at + 64 ≤ length a.now }
+    requires second { at + 64 ≤ length b.now }
+    ensures { result ≡ true → take at a.now ≡ take at b.now → take (at + 64) a.now ≡ take (at + 64) b.now }
+{
+    a[at..at + BLOCK] == b[at..at + BLOCK]
+}
+
+/// How many bytes two texts have in common in whole blocks at the front.
+fn common_blocks(a: &[u8], b: &[u8]) -> usize
+    ensures first { result ≤ length a.now }
+    ensures second { result ≤ length b.now }
+    ensures same { take result a.now ≡ take result b.now }
+{
+    let most = a.len().min(b.len());
+    let mut at = 0;
+    while most - at >= BLOCK && is_same_block(a, b, at) {
+        at += BLOCK;
+    }
+    at
+}
+
 /// How many bytes two texts have in common before the first that differs.
 fn common_length(a: &[u8], b: &[u8]) -> usize
     ensures first { result ≤ length a.now }
@@ -42,7 +68,7 @@ fn common_length(a: &[u8], b: &[u8]) -> usize
     ensures same { take result a.now ≡ take result b.now }
 {
     let most = a.len().min(b.len());
-    for i in 0..most {
+    for i in common_blocks(a, b)..most {
         if a[i] != b[i] {
             return i;
         }
