@@ -28,7 +28,7 @@ pub fn sort_at(g: &Grammar, n: &Node) -> u16
 }
 
 /// The role of a sort; 0 where it is not declared.
-fn role_of(g: &Grammar, sort: u16) -> u16
+pub fn role_of(g: &Grammar, sort: u16) -> u16
     ensures { result ≡ role_of (grammar_of g.now).sorts sort }
 {
     match g.sort(sort) {

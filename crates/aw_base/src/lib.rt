@@ -26,7 +26,7 @@ pub use aw_term::{Expr, Ground, Grounds, Lit, Pattern, Patterns, Terms};
 pub use aw_text::{content_ok, name_ok};
 pub use choice_fits::{MOST_ARGUMENTS, MOST_NESTING, MOST_SYMBOLS, args_ok, choice_ok, is_start};
 pub use declared::{Declared, Triple};
-pub use homes::{home_at, home_of_valid, sort_at};
+pub use homes::{home_at, home_of_valid, role_of, sort_at};
 pub use lines::{push_artifacts_line, push_choice, push_choice_line, push_item_lines};
 pub use name_writer::NameWriter;
 pub use names::{child_node, home_of, ref_ok, sort_of};

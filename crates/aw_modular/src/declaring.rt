@@ -3,25 +3,14 @@ ghost use Rattle.std.specs.Prelude.{◌≡◌, ◌↔◌, ℕ, IfOk, IsTrue};
 ghost use Rattle.aw_term.specs.WellFormed.{Each};
 ghost use Rattle.aw_grammar.specs.GrammarOf.{grammar_of};
 ghost use Rattle.aw_iograph.specs.Pairs.{Has, IsFor};
-ghost use Rattle.aw_term.specs.Rules.{role_of};
 ghost use Rattle.aw_modular.specs.Declaring.{AddsOne, IsAny, IsElsewhere};
 ghost use Rattle.aw_modular.specs.Roles.{Declares, DeclaredElsewhere, IsOf};
 ghost use Rattle.aw_modular.specs.Refusals.{IsPosition};
 
-use aw_base::{Declared, Triple};
+use aw_base::{Declared, Triple, role_of};
 use aw_grammar::Grammar;
 use aw_iograph::Io;
 use std::alloc::{AllocError, Global};
-
-/// The role of a sort.
-fn role_of(g: &Grammar, sort: u16) -> u16
-    ensures { result ≡ role_of (grammar_of g.now).sorts sort }
-{
-    match g.sorts.get(usize::from(sort)) {
-        Some(declared) => declared.role,
-        None => 0,
-    }
-}
 
 /// Whether a sort is one of a role.
 pub(crate) fn is_of(g: &Grammar, role: u16, sort: u16) -> bool

@@ -1,6 +1,6 @@
 //! Whether all names in a message are valid, and whether it may come to a role.
 ghost use Rattle.std.specs.Prelude.{◌≡◌, true, not, ◌&&◌, nat_eq, nat_lt, is_some, map as list_map};
-ghost use Rattle.aw_term.specs.Rules.{role_of, sort_of};
+ghost use Rattle.aw_term.specs.Rules.{sort_of};
 ghost use Rattle.aw_term.specs.Trees.{Con};
 ghost use Rattle.aw_term.specs.WellFormed.{head_fits};
 ghost use Rattle.aw_grammar.specs.GrammarOf.{grammar_of};
@@ -12,7 +12,7 @@ ghost use Rattle.aw_site.specs.Parents.{home_before};
 ghost use Rattle.aw_site.specs.Views.{kind_of};
 ghost use Rattle.aw_space.specs.Spaces.{call_of};
 
-use aw_base::{Grammar, content_ok, home_of, home_of_valid, ref_ok, sort_of};
+use aw_base::{Grammar, content_ok, home_of, home_of_valid, ref_ok, role_of, sort_of};
 use aw_msg::{Message, MsgKind};
 use aw_name::{Node, Ref, Step};
 use aw_store::{Body, Equation};
@@ -125,16 +125,6 @@ fn home_before(g: &Grammar, step: &Step) -> u16
 {
     match g.rule(step.rule) {
         Some(rule) => role_of(g, rule.sort),
-        None => 0,
-    }
-}
-
-/// The role of a sort; 0 where it is not declared.
-fn role_of(g: &Grammar, sort: u16) -> u16
-    ensures { result ≡ role_of (grammar_of g.now).sorts sort }
-{
-    match g.sort(sort) {
-        Some(sort) => sort.role,
         None => 0,
     }
 }

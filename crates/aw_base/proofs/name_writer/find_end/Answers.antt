@@ -1,4 +1,4 @@
-use Rattle.std.proofs.Common.{◌∙◌, ap, length, refl, rules, subst, sym, ◌<◌}
+use Rattle.std.proofs.Common.{◌∙◌, ap, length, refl, rules}
 use Rattle.std.proofs.lemmas.Option.{slice_get_read}
 use Rattle.aw_grammar.specs.GrammarOf.{words_of}
 use Rattle.aw_term.specs.Artifacts.{node_text}

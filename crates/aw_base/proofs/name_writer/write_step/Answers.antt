@@ -1,4 +1,4 @@
-use Rattle.std.proofs.Common.{ap, ◌∙◌, ◌++◌, ◌∷◌, [], arith, slice_index_or}
+use Rattle.std.proofs.Common.{ap, ◌∙◌, ◌++◌, ◌∷◌, [], slice_index_or}
 use Rattle.aw_grammar.specs.GrammarOf.{words_of}
 use Rattle.aw_name.specs.declared.node.Step.{Step}
 use Rattle.aw_term.specs.Artifacts.{step_text}
