@@ -18,8 +18,8 @@ use Rattle.aw_run.specs.Promises.{Promises}
 use Rattle.aw_run.proofs.Promising.{promises_hold, good-schedule, bad-schedule}
 use Rattle.aw_run.proofs.schedule.reply_to_schedule.Goals as goal
 
-pub reply_to_events-requires : goal.reply_to_events-requires
-reply_to_events-requires c =
+pub reply_to_events-reply-requires : goal.reply_to_events-reply-requires
+reply_to_events-reply-requires c =
     let g = c.args.accepted.now.grammar in
     let fits : Each (MayCome (grammar_of g)) c.in-Ok.events = subst (λ (h : Grammar). Each (MayCome (grammar_of h)) c.in-Ok.events) c.grammar-g.ensures.value c.in-Ok.ensures.fits in
     subst (λ (es : List Event). Each (MayCome (grammar_of g)) es) (sym c.as_slice.ensures) fits
@@ -34,7 +34,7 @@ returns-in-Ok-clause-reply c =
     let g = c.args.accepted.now.grammar in
     let read : read_lines (types_of c.args.typed.now.types) (declarations_of g) 1 (lines_of c.args.schedule.now) ≡ Events (map event_seen c.in-Ok.events) = rw c.grammar-g.ensures.value at c.in-Ok.ensures.answer in
     let good : read_lines (types_of c.args.typed.now.types) (declarations_of g) 1 (lines_of c.args.schedule.now) ≡ Events (map event_seen c.as_slice.result.now) = read ∙ ap (λ es. Events (map event_seen es)) (sym c.as_slice.ensures) in
-    IfOk-weaker c.reply_to_events.result _ _ (λ (said : Reply) w s same typed. w ∙ sym (ap reply_with (schedule-good c.args.telling s g c.args.before c.args.loads (lines_of c.args.schedule.now) _ c.args.typed.now.types same typed good))) c.reply_to_events.ensures
+    IfOk-weaker c.reply_to_events-reply.result _ _ (λ (said : Reply) w s same typed. w ∙ sym (ap reply_with (schedule-good c.args.telling s g c.args.before c.args.loads (lines_of c.args.schedule.now) _ c.args.typed.now.types same typed good))) c.reply_to_events-reply.ensures
 
 pub returns-in-Err-Bad-clause-reply : goal.returns-in-Err-Bad-clause-reply
 returns-in-Err-Bad-clause-reply c =
@@ -55,9 +55,9 @@ returns-in-Ok-clause-promises c =
     let may : Each (MayCome (grammar_of g)) c.in-Ok.events = subst (λ (h : Grammar). Each (MayCome (grammar_of h)) c.in-Ok.events) same c.in-Ok.ensures.fits in
     let fit : Each (HasTypes t (grammar_of g)) c.in-Ok.events = subst (λ (h : Grammar). Each (HasTypes t (grammar_of h)) c.in-Ok.events) same c.in-Ok.ensures.types in
     let holds = promises_hold a t c.args.loads c.in-Ok.events c.requires.made.sizes c.requires.made.none may fit in
-    IfOk-weaker c.reply_to_events.result _ _
+    IfOk-weaker c.reply_to_events-reply.result _ _
     (λ (said : Reply) w s declared typed. good-schedule Promises s g c.args.loads (lines_of c.args.schedule.now) (map event_seen c.in-Ok.events) c.args.typed.now.types declared typed read holds)
-    c.reply_to_events.ensures
+    c.reply_to_events-reply.ensures
 
 pub returns-in-Err-Bad-clause-promises : goal.returns-in-Err-Bad-clause-promises
 returns-in-Err-Bad-clause-promises c =
