@@ -1,5 +1,5 @@
 -- Guards over equations, slot by slot.
-use Rattle.std.proofs.Common.{◌≡◌, ℕ, zero, suc, ◌+◌, ◌<◌, true, false, cond, List, [], ◌∷◌, ◌++◌, length, map, drop, get_or, Option, Some, None, refl, ap, sym, ◌∙◌, arith, append_assoc, append-nil}
+use Rattle.std.proofs.Common.{◌≡◌, ℕ, zero, suc, ◌+◌, ◌<◌, true, false, cond, List, [], ◌∷◌, ◌++◌, length, map, drop, get_or, Option, Some, None, refl, ap, sym, subst, ◌∙◌, arith, append_assoc, append-nil}
 use Rattle.std.specs.Prelude.{slice_get, option_and_then, ◌&&◌, nat_eq}
 use Rattle.std.proofs.Math.Bool.{and-true}
 use Rattle.std.proofs.lemmas.Bool.{eqb-true, and_parts}
@@ -20,9 +20,10 @@ use Rattle.aw_store.specs.Chase.{Chased, Found, Missing, Round, chase}
 use Rattle.aw_store.specs.ChaseView.{IsChasedTo}
 use Rattle.aw_store.specs.NamedRefs.{body_at, as_text}
 use Rattle.aw_store.specs.StoreView.{IsKindOf}
+use Rattle.aw_store.specs.declared.facts.Kind.{Kind}
 use Rattle.aw_store.specs.declared.facts.Kind.TheVariants as kind
 use Rattle.aw_store.specs.declared.facts.Chase.TheVariants as answer
-use Rattle.aw_store.proofs.ChaseLemmas.{name_at}
+use Rattle.aw_store.proofs.ChaseLemmas.{name_at, chase_in-none, chase_in-is}
 use Rattle.aw_apply.specs.Guard.{guard_end, guard, guard_parts, guard_all}
 use Rattle.aw_apply.specs.Named.{AreNamed, names_at, as_named, behind, is_head}
 use Rattle.aw_apply.specs.GuardView.{step_of}
@@ -42,6 +43,40 @@ pub chased_found : (k : Map) (names : List Ref) (slot end : ℕ) (x : Chased) �
 chased_found k names slot end (Found h parts) w = (h, parts, refl, ap (option_and_then (find k)) w.1 ∙ w.2, slice_get_within names end w.0 w.1)
 chased_found k names slot end (Missing r) w = elim w [ ]
 chased_found k names slot end Round w = elim w [ ]
+
+-- one look at a slot whose reference has no equation
+none_of : (names : List Ref) (b : Option Body) → IsKindOf names b kind.Missing → b ≡ None
+none_of names None w = refl
+none_of names (Some (Same r)) w = elim w [ ]
+none_of names (Some (Is (Con c) parts)) w = elim w [ ]
+none_of names (Some (Is (P.Num n) parts)) w = elim w [ ]
+none_of names (Some (Is (P.Text t) parts)) w = elim w [ ]
+
+-- one look at a slot that stands for no other one
+is_here : (names : List Ref) (b : Option Body) (x : Kind) → IsKindOf names b x → (x ≡ kind.Missing → ⊥) → ((s : ℕ) → x ≡ kind.Same s → ⊥) → (h : Head) × (parts : List Ref) × (b ≡ Some (Is h parts))
+is_here names (Some (Is h parts)) x w m s = (h, parts, refl)
+is_here names None kind.Missing w m s = absurd (m refl)
+is_here names None (kind.Same q) w m s = elim w [ ]
+is_here names None (kind.Con c n) w m s = elim w [ ]
+is_here names None (kind.Num n) w m s = elim w [ ]
+is_here names None kind.Text w m s = elim w [ ]
+is_here names (Some (Same r)) kind.Missing w m s = elim w [ ]
+is_here names (Some (Same r)) (kind.Same q) w m s = absurd (s q refl)
+is_here names (Some (Same r)) (kind.Con c n) w m s = elim w [ ]
+is_here names (Some (Same r)) (kind.Num n) w m s = elim w [ ]
+is_here names (Some (Same r)) kind.Text w m s = elim w [ ]
+
+-- what one look tells of a chase
+pub missing_here : (k : Map) (names : List Ref) (slot : ℕ) (r : Ref) → slice_get names slot ≡ Some r → IsKindOf names (body_at k names slot) kind.Missing → IsChasedTo k names slot (chase k r) (answer.Missing slot)
+missing_here k names slot r e w =
+    let b = ap (option_and_then (find k)) (sym e) ∙ none_of names (body_at k names slot) w in
+    subst (λ x. IsChasedTo k names slot x (answer.Missing slot)) (sym (chase_in-none (length k) k r b)) e
+
+pub found_here : (k : Map) (names : List Ref) (slot : ℕ) (x : Kind) (r : Ref) → slice_get names slot ≡ Some r → IsKindOf names (body_at k names slot) x → (x ≡ kind.Missing → ⊥) → ((s : ℕ) → x ≡ kind.Same s → ⊥) → IsChasedTo k names slot (chase k r) (answer.Found slot)
+found_here k names slot x r e w m s =
+    let (h, parts, f) = is_here names (body_at k names slot) x w m s in
+    let b = ap (option_and_then (find k)) (sym e) ∙ f in
+    subst (λ y. IsChasedTo k names slot y (answer.Found slot)) (sym (chase_in-is (length k) k r h parts b)) (r, e, b)
 
 -- the end of a chase from a live slot is a live slot
 pub found_live : (k : Map) (names : List Ref) (slot end : ℕ) → slot < length names → ((r : Ref) → slice_get names slot ≡ Some r → IsChasedTo k names slot (chase k r) (answer.Found end)) → end < length names

@@ -1,5 +1,5 @@
 -- What a guard gives, by slots and by references.
-use Rattle.std.proofs.Common.{◌≡◌, List, Some, slice_get, ap}
+use Rattle.std.proofs.Common.{◌≡◌, ◌<◌, ℕ, zero, suc, List, [], ◌∷◌, length, Some, slice_get, get_or, refl, ap, arith}
 use Rattle.std.proofs.lemmas.Option.{slice_get_within}
 use Rattle.aw_term.specs.Names.{Ref}
 use Rattle.aw_term.specs.Matching.{Matched, Yes, Waits, Differs, Circle}
@@ -45,3 +45,16 @@ matched_one (Circle r) (Circle s) e = ap Circle cc
 matched_one (Circle r) (Yes ss) e = absurd cc
 matched_one (Circle r) (Waits s) e = absurd cc
 matched_one (Circle r) (Differs q) e = absurd cc
+
+-- slots that are live name something
+pub named_some : (names : List Ref) (slots : List ℕ) → ((i d : ℕ) → i < length slots → get_or slots i d < length names) → (rs : List Ref) × AreNamed names slots rs
+named_some names [] live = ([], refl)
+named_some names (s ∷ slots) live =
+    let (rs, e) = named_some names slots (λ i d l. live (suc i) d (omega (arith, l))) in
+    let (r, f) = get_live names s (live 0 0 (omega arith)) in
+    (r ∷ rs, λ i. f i ∷ e i)
+  where
+    get_live : (ns : List Ref) (i : ℕ) → i < length ns → (r : Ref) × (slice_get ns i ≡ Some r)
+    get_live [] i l = absurd (omega (arith, l))
+    get_live (r ∷ ns) zero l = (r, refl)
+    get_live (r ∷ ns) (suc i) l = get_live ns i (omega (arith, l))

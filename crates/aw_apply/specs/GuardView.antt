@@ -1,5 +1,5 @@
 -- What a guard answers, as the plain definitions speak of it.
-use Rattle.std.specs.Prelude.{◌≡◌, ℕ, ◌<◌, ◌≤◌, List, Option, Some, All, length, map, slice_get}
+use Rattle.std.specs.Prelude.{◌≡◌, ℕ, ◌<◌, ◌≤◌, List, [], ◌∷◌, ◌++◌, Option, Some, All, length, map, slice_get}
 use Rattle.aw_term.specs.Trees.{join}
 use Rattle.aw_term.specs.Names.{Ref}
 use Rattle.aw_term.specs.WellFormed.{all_leaves, all_nesting}
@@ -14,6 +14,8 @@ use Rattle.aw_apply.specs.Guard.{guard_all}
 use Rattle.aw_apply.specs.Named.{AreNamed, names_at, as_named, behind}
 use Rattle.aw_apply.specs.declared.guard.Guard.{Guard}
 use Rattle.aw_apply.specs.declared.guard.Guard.TheVariants as guard
+use Rattle.aw_apply.specs.declared.guard.Met.{Met}
+use Rattle.aw_apply.specs.declared.guard.Met.TheVariants as met
 use Rattle.aw_apply.specs.declared.guarding.Step.{Step}
 use Rattle.aw_apply.specs.declared.guarding.Step.TheVariants as step
 
@@ -32,12 +34,24 @@ GoesOn names old new at step matched = step_of names new step ≡ and_then (Q.Ye
 abbrev pub GoesOnAt : List Ref → ℕ → List ℕ → List ℕ → Path → Step → (Ref → Q.Matched Ref Ref) → Type 0
 GoesOnAt names slot old new at step matched = (r : Ref) → slice_get names slot ≡ Some r → GoesOn names old new at step (matched r)
 
+-- the same of the reference at a slot that is the part with this number of what stands at the path
+abbrev pub GoesOnUnder : List Ref → ℕ → List ℕ → List ℕ → Path → ℕ → Step → (Ref → Q.Matched Ref Ref) → Type 0
+GoesOnUnder names slot old new at number step matched =
+    (r : Ref) → slice_get names slot ≡ Some r → step_of names new step ≡ and_then (Q.Yes (names_at names old)) (behind (path_of at ++ number ∷ []) (as_named (matched r)))
+
 -- what a guard gives, where these references have the slots
 abbrev pub guard_of : List Ref → Guard → Q.Matched (Option Ref) (Option Ref)
 guard_of names (guard.Yes bound) = Q.Yes (names_at names bound)
 guard_of names (guard.Waits slot) = Q.Waits (slice_get names slot)
 guard_of names (guard.Differs place) = Q.Differs (place_of place)
 guard_of names (guard.Circle slot) = Q.Circle (slice_get names slot)
+
+-- what a guard gives whose patterns meet their slots so, where their variables take these
+abbrev pub guard_with : List ℕ → Met → Guard
+guard_with bound met.Yes = guard.Yes bound
+guard_with bound (met.Waits slot) = guard.Waits slot
+guard_with bound (met.Differs place) = guard.Differs place
+guard_with bound (met.Circle slot) = guard.Circle slot
 
 -- Patterns may be tried on these slots: each has a name, there is one for each pattern, and the patterns are few, of few levels and of few variables.
 pub record IsTestable (names : List Ref) (patterns : List Pattern) (inherited : List ℕ) : Type 0 where

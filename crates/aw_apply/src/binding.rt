@@ -31,6 +31,13 @@ impl Binding {
         }
     }
 
+    /// Lets go of all slots.
+    pub fn clear(&mut self)
+        ensures { self.new ≡ [] }
+    {
+        self.len = 0;
+    }
+
     /// One more slot.
     pub fn push(&mut self, slot: usize)
         requires { length self.old < 64 }

@@ -3,7 +3,7 @@ ghost use Rattle.std.specs.Prelude.{◌≡◌, ◌≤◌, ◌+◌, ◌<◌, All,
 ghost use Rattle.aw_term.specs.Trees.{join};
 ghost use Rattle.aw_term.specs.WellFormed.{all_leaves, all_nesting};
 ghost use Rattle.aw_term.specs.Views.{pattern_of};
-ghost use Rattle.aw_apply.specs.GuardView.{IsTestable, IsGuardOf};
+ghost use Rattle.aw_apply.specs.GuardView.{IsTestable, IsGuardOf, guard_with};
 
 use crate::binding::Binding;
 use crate::guarding::{Step, guard_at};
@@ -23,26 +23,55 @@ pub enum Guard {
     Circle(usize),
 }
 
-/// Patterns against slots, from the first attribute on.
-fn guard_all<F: Facts>(f: &F, patterns: &[Pattern], inherited: &[usize]) -> Guard
+/// How patterns meet slots, where what their variables take stands elsewhere: they match; or the rest is as in a guard.
+#[derive(Clone, Copy, Debug)]
+pub enum Met {
+    Yes,
+    Waits(usize),
+    Differs(Place),
+    Circle(usize),
+}
+
+/// Patterns against slots, from the first attribute on. What was bound before is let go.
+fn guard_all<F: Facts>(f: &F, patterns: &[Pattern], inherited: &[usize], bound: &mut Binding) -> Met
     requires { IsTestable (F.names f.now) patterns.now inherited.now }
-    ensures { IsGuardOf (F.map f.now) (F.names f.now) patterns.now inherited.now result }
+    ensures { IsGuardOf (F.map f.now) (F.names f.now) patterns.now inherited.now (guard_with bound.new result) }
 {
-    let mut bound = Binding::new();
+    bound.clear();
     for i in 0..patterns.len() {
-        match guard_at(f, &patterns[i], inherited[i], &Path::new(), &mut bound) {
+        match guard_at(f, &patterns[i], inherited[i], &Path::new(), bound) {
             Step::Yes => {}
-            Step::Waits(slot) => return Guard::Waits(slot),
-            Step::Circle(slot) => return Guard::Circle(slot),
+            Step::Waits(slot) => return Met::Waits(slot),
+            Step::Circle(slot) => return Met::Circle(slot),
             Step::Differs(path) => {
-                return Guard::Differs(Place {
+                return Met::Differs(Place {
                     attribute: i as u8 + 1,
                     path,
                 });
             }
         }
     }
-    Guard::Yes(bound)
+    Met::Yes
+}
+
+/// As `test_guard`, with a binding that is lent: where the patterns match it has what their variables take.
+pub fn test_into<F: Facts, L: Ledger>(
+    f: &F,
+    rule: &Rule,
+    inherited: &[usize],
+    bound: &mut Binding,
+    steps: &mut Steps<L>,
+) -> Met
+    requires live { All (λ slot. slot < length (F.names f.now)) inherited.now }
+    requires same { length rule.now.patterns ≡ length inherited.now }
+    requires few { length rule.now.patterns ≤ 8 }
+    requires shallow { all_nesting (join (map pattern_of rule.now.patterns)) ≤ 32 }
+    requires room { length (all_leaves (join (map pattern_of rule.now.patterns))) ≤ 64 }
+    ensures guard { IsGuardOf (F.map f.now) (F.names f.now) rule.now.patterns inherited.now (guard_with bound.new result) }
+    ensures step { steps.new ≡ steps.old + 1 }
+{
+    steps.tick();
+    guard_all(f, rule.patterns.as_slice(), inherited, bound)
 }
 
 /// Matches the patterns of a rule with the inherited references of a node, each given by its slot. One call is one
@@ -61,8 +90,13 @@ pub fn test_guard<F: Facts, L: Ledger>(
     ensures guard { IsGuardOf (F.map f.now) (F.names f.now) rule.now.patterns inherited.now result }
     ensures step { steps.new ≡ steps.old + 1 }
 {
-    steps.tick();
-    guard_all(f, rule.patterns.as_slice(), inherited)
+    let mut bound = Binding::new();
+    match test_into(f, rule, inherited, &mut bound, steps) {
+        Met::Yes => Guard::Yes(bound),
+        Met::Waits(slot) => Guard::Waits(slot),
+        Met::Differs(place) => Guard::Differs(place),
+        Met::Circle(slot) => Guard::Circle(slot),
+    }
 }
 
 /// Tests a guard in a ledger of its own.

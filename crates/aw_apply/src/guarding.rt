@@ -1,12 +1,15 @@
 //! One pattern against the equations of a store: the first place in depth-first order that does not match decides.
-ghost use Rattle.std.specs.Prelude.{◌≡◌, ◌≤◌, ◌+◌, ◌<◌, ℕ, List, map, length};
+ghost use Rattle.std.specs.Prelude.{◌≡◌, ◌≤◌, ◌+◌, ◌<◌, ℕ, List, Some, map, length, slice_get};
+ghost use Rattle.aw_term.specs.Names.{Ref};
 ghost use Rattle.aw_term.specs.Trees.{Con, Made, join};
 ghost use Rattle.aw_term.specs.WellFormed.{leaves, all_leaves, nesting, all_nesting};
 ghost use Rattle.aw_term.specs.Views.{head_of, pattern_of};
+ghost use Rattle.aw_store.specs.Chase.{chase as plain_chase};
+ghost use Rattle.aw_store.specs.ChaseView.{IsChasedTo};
 ghost use Rattle.aw_store.specs.NamedRefs.{body_at, parts_at};
 ghost use Rattle.aw_apply.specs.Guard.{guard as plain_guard, guard_parts as plain_parts};
 ghost use Rattle.aw_apply.specs.Named.{is_head};
-ghost use Rattle.aw_apply.specs.GuardView.{GoesOn, GoesOnAt};
+ghost use Rattle.aw_apply.specs.GuardView.{GoesOn, GoesOnAt, GoesOnUnder};
 
 use crate::binding::Binding;
 use aw_base::{Lit, Path, Pattern};
@@ -51,12 +54,24 @@ fn is_con<F: Facts>(f: &F, con: u16, parts: usize, slot: usize) -> bool
     }
 }
 
+/// Where a chase from a slot ends. Most slots stand for no other one, so that one look is enough.
+fn end_of<F: Facts>(f: &F, slot: usize) -> Chase
+    requires { slot < length (F.names f.now) }
+    ensures { (r : Ref) → slice_get (F.names f.now) slot ≡ Some r → IsChasedTo (F.map f.now) (F.names f.now) slot (plain_chase (F.map f.now) r) result }
+{
+    match f.kind(slot) {
+        Kind::Missing => Chase::Missing(slot),
+        Kind::Same(_) => chase(f, slot),
+        _ => Chase::Found(slot),
+    }
+}
+
 /// A number or a text against a slot.
 fn guard_lit<F: Facts>(f: &F, lit: &Lit, slot: usize, at: &Path) -> Step
     requires { slot < length (F.names f.now) }
     ensures { (bound : List ℕ) → GoesOnAt (F.names f.now) slot bound bound at.now result (plain_guard (F.map f.now) (pattern_of (Pattern.Lit lit.now))) }
 {
-    match chase(f, slot) {
+    match end_of(f, slot) {
         Chase::Missing(end) => Step::Waits(end),
         Chase::Circle(start) => Step::Circle(start),
         Chase::Found(end) => {
@@ -65,6 +80,35 @@ fn guard_lit<F: Facts>(f: &F, lit: &Lit, slot: usize, at: &Path) -> Step
             } else {
                 Step::Differs(*at)
             }
+        }
+    }
+}
+
+/// The part with this number of a constructor at this path, against its slot. A variable needs no path.
+#[cycle(guarding)]
+fn guard_part<F: Facts>(
+    f: &F,
+    part: &Pattern,
+    number: u8,
+    slot: usize,
+    at: &Path,
+    bound: &mut Binding,
+) -> Step
+    requires live { slot < length (F.names f.now) }
+    requires shallow { at.now.len + nesting (pattern_of part.now) ≤ 31 }
+    requires room { length bound.old + length (leaves (pattern_of part.now)) ≤ 64 }
+    ensures step { GoesOnUnder (F.names f.now) slot bound.old bound.new at.now number result (plain_guard (F.map f.now) (pattern_of part.now)) }
+    ensures room { length bound.new ≤ length bound.old + length (leaves (pattern_of part.now)) }
+{
+    match part {
+        Pattern::Var(_) => {
+            bound.push(slot);
+            Step::Yes
+        }
+        Pattern::Lit(_) | Pattern::Con(_, _) => {
+            let mut here = *at;
+            here.push(number);
+            guard_at(f, part, slot, &here, bound)
         }
     }
 }
@@ -86,9 +130,8 @@ fn guard_parts<F: Facts>(
     ensures room { length bound.new ≤ length bound.old + length (all_leaves (join (map pattern_of parts.now))) }
 {
     for i in 0..parts.len() {
-        let mut here = *at;
-        here.push(i as u8 + 1);
-        match guard_at(f, &parts[i], f.child(slot, i as u8), &here, bound) {
+        let child = f.child(slot, i as u8);
+        match guard_part(f, &parts[i], i as u8 + 1, child, at, bound) {
             Step::Yes => {}
             other => return other,
         }
@@ -112,7 +155,7 @@ fn guard_con<F: Facts>(
     ensures step { GoesOnAt (F.names f.now) slot bound.old bound.new at.now result (plain_guard (F.map f.now) (Made (Con con) (join (map pattern_of parts.now)))) }
     ensures room { length bound.new ≤ length bound.old + length (all_leaves (join (map pattern_of parts.now))) }
 {
-    match chase(f, slot) {
+    match end_of(f, slot) {
         Chase::Missing(open) => Step::Waits(open),
         Chase::Circle(start) => Step::Circle(start),
         Chase::Found(end) => {

@@ -13,8 +13,8 @@ pub mod steps;
 pub mod telling;
 
 pub use binding::Binding;
-pub use guard::{Guard, guard_uncounted, test_guard};
+pub use guard::{Guard, Met, guard_uncounted, test_guard, test_into};
 pub use make::made;
 pub use making::{Made, MadeChild, MadeChildren};
 pub use steps::Steps;
-pub use telling::{Tested, Weighed, slots_of, tell_guard, test_rule, weigh_guard};
+pub use telling::{Tested, Weighed, tell_guard, test_rule, weigh_guard};

@@ -1,18 +1,18 @@
 //! What a guard says by references: of a rule at a node, and to a choice of it.
-ghost use Rattle.std.specs.Prelude.{◌≡◌, ◌≤◌, ◌+◌, ◌<◌, List, true, All, IfOk, Some, length, map, slice_get};
+ghost use Rattle.std.specs.Prelude.{◌≡◌, ◌≤◌, ◌+◌, ◌<◌, List, All, IfOk, length, map};
 ghost use Rattle.aw_term.specs.Trees.{join};
 ghost use Rattle.aw_term.specs.Choices.{after_guard};
 ghost use Rattle.aw_term.specs.Views.{pattern_of};
 ghost use Rattle.aw_term.specs.WellFormed.{all_leaves, all_nesting};
 ghost use Rattle.aw_grammar.specs.declared.rule.Sort.{Sort as SortValue};
 ghost use Rattle.aw_grammar.specs.GrammarView.{rule_of};
-ghost use Rattle.aw_store.specs.NamedRefs.{is_named, all_named, AreNamed};
+ghost use Rattle.aw_term.specs.Names.{Ref as RefName};
+ghost use Rattle.aw_store.specs.NamedRefs.{AreNamed};
 ghost use Rattle.aw_apply.specs.Guard.{guard_all as plain_guard};
 ghost use Rattle.aw_apply.specs.GuardView.{guard_of};
 ghost use Rattle.aw_apply.specs.Named.{as_named};
 ghost use Rattle.aw_apply.specs.Telling.{IsLive, matched_of, weighed_of, HasRoom};
 
-use crate::binding::Binding;
 use crate::guard::{Guard, test_guard};
 use crate::steps::Steps;
 use aw_base::{Answer, Place, Rule};
@@ -38,32 +38,6 @@ pub enum Weighed {
     Takes(Vec<Ref>),
 }
 
-/// The slot of a reference that is named.
-fn slot_named<F: Facts>(f: &F, r: &Ref) -> usize
-    requires { is_named (F.names f.now) r.now ≡ true }
-    ensures slot { slice_get (F.names f.now) result ≡ Some r.now }
-    ensures live { result < length (F.names f.now) }
-{
-    match f.slot_of(r) {
-        Some(slot) => slot,
-        None => unreachable!(),
-    }
-}
-
-/// The slots of references that are named. It takes no memory.
-pub fn slots_of<F: Facts>(f: &F, refs: &[Ref]) -> Binding
-    requires named { all_named (F.names f.now) refs.now ≡ true }
-    requires few { length refs.now ≤ 64 }
-    ensures named { AreNamed (F.names f.now) result refs.now }
-    ensures live { All (λ slot. slot < length (F.names f.now)) result }
-{
-    let mut slots = Binding::new();
-    for r in refs {
-        slots.push(slot_named(f, r));
-    }
-    slots
-}
-
 /// Most rules have no more variables besides those of their patterns.
 const MORE: usize = 8;
 
@@ -80,24 +54,23 @@ pub fn tell_guard<F: Facts>(alloc: Global, f: &F, guard: &Guard) -> Result<Teste
     }
 }
 
-/// The guard of a rule on references that are named. One call is one step.
+/// The guard of a rule on references, each given by its slot. One call is one step.
 pub fn test_rule<F: Facts, L: Ledger>(
     alloc: Global,
     f: &F,
     rule: &Rule,
-    inherited: &[Ref],
+    slots: &[usize],
     steps: &mut Steps<L>,
 ) -> Result<Tested, AllocError>
-    requires named { all_named (F.names f.now) inherited.now ≡ true }
-    requires same { length rule.now.patterns ≡ length inherited.now }
+    requires live { All (λ slot. slot < length (F.names f.now)) slots.now }
+    requires same { length rule.now.patterns ≡ length slots.now }
     requires few { length rule.now.patterns ≤ 8 }
     requires shallow { all_nesting (join (map pattern_of rule.now.patterns)) ≤ 32 }
     requires room { length (all_leaves (join (map pattern_of rule.now.patterns))) ≤ 64 }
-    ensures guard { IfOk result (λ t. matched_of t ≡ plain_guard (F.map f.now) 1 (map pattern_of rule.now.patterns) inherited.now) }
+    ensures guard { IfOk result (λ t. (rs : List RefName) → AreNamed (F.names f.now) slots.now rs → matched_of t ≡ plain_guard (F.map f.now) 1 (map pattern_of rule.now.patterns) rs) }
     ensures step { steps.new ≡ steps.old + 1 }
 {
-    let slots = slots_of(f, inherited);
-    let guard = test_guard(f, rule, slots.as_slice(), steps);
+    let guard = test_guard(f, rule, slots, steps);
     tell_guard(alloc, f, &guard)
 }
 

@@ -5,5 +5,6 @@ pub mod NamesAt
 pub mod NodeReads
 pub mod ValidNodes
 pub mod TextLemmas
+pub mod ItemsAt
 pub mod NameFronts
 pub mod ReadFronts

@@ -1,14 +1,14 @@
 -- The text of a name and where its fronts end in it.
-use Rattle.std.proofs.Common.{◌≡◌, ℕ, zero, suc, ◌+◌, ◌-◌, ◌≤◌, ◌<◌, List, [], ◌∷◌, ◌++◌, length, take, drop, get_or, codes, refl, ap, sym, subst, ◌∙◌, arith, append_assoc, append-nil, inl, inr, slice_get, Some}
-use Rattle.std.specs.Prelude.{unwrap_or, ◌⊎◌}
+use Rattle.std.proofs.Common.{◌≡◌, ℕ, suc, ◌+◌, ◌-◌, ◌≤◌, ◌<◌, List, [], ◌∷◌, ◌++◌, length, take, drop, get_or, codes, refl, ap, sym, subst, ◌∙◌, arith, append_assoc, append-nil, inl, inr, slice_get, Some}
 use Rattle.std.specs.Fmt.{decimal}
-use Rattle.std.proofs.lemmas.List.{take-append-drop, length-append, length-take-le}
+use Rattle.std.proofs.lemmas.List.{take-append-drop, take-take, length-append, length-take-le}
 use Rattle.std.proofs.lemmas.Option.{slice_get_within}
 use Rattle.std.proofs.Math.Seq.{take-append_seam, take-length, take-suc}
 use Rattle.aw_term.specs.Names.{Node, Step}
 use Rattle.aw_term.specs.Rules.{get}
 use Rattle.aw_term.specs.Artifacts.{Words, step_text, steps_text, node_text}
 use Rattle.aw_base.specs.NameFronts.{front, AreFronts}
+use Rattle.aw_base.proofs.ItemsAt.{in_front, pushed}
 
 -- the texts of steps in two parts
 pub steps_join : (w : Words) (ss ts : List Step) → steps_text w (ss ++ ts) ≡ steps_text w ss ++ steps_text w ts
@@ -28,23 +28,16 @@ name_join w n ss ts =
     ∙ ap (λ t. s ++ t) (sym (append_assoc (codes "#") (d ++ steps_text w ss) (steps_text w ts)))
     ∙ sym (append_assoc s (codes "#" ++ (d ++ steps_text w ss)) (steps_text w ts))
 
--- the first of the first
-take_less : {A : Type 0} (xs : List A) (j c : ℕ) → j ≤ c → take j (take c xs) ≡ take j xs
-take_less xs zero c l = refl
-take_less xs (suc j) zero l = absurd (omega (arith, l))
-take_less [] (suc j) (suc c) l = refl
-take_less (x ∷ xs) (suc j) (suc c) l = ap (λ t. x ∷ t) (take_less xs j c (omega (arith, l)))
-
 -- two nodes whose first steps are the same have the same fronts up to there
 pub fronts_same : (a b : Node) (c j : ℕ) → a.start ≡ b.start → a.case ≡ b.case → take c a.steps ≡ take c b.steps → j ≤ c → front j a ≡ front j b
 fronts_same a b c j s k t l =
-    let e = sym (take_less a.steps j c l) ∙ ap (take j) t ∙ take_less b.steps j c l in
+    let e = sym (take-take j c a.steps l) ∙ ap (take j) t ∙ take-take j c b.steps l in
     λ i. record { start = s i; case = k i; steps = e i }
 
 -- the name of a front is the name of a shorter front, and more behind it
 front_longer : (w : Words) (n : Node) (k m : ℕ) → k ≤ m → node_text w (front m n) ≡ node_text w (front k n) ++ steps_text w (drop k (take m n.steps))
 front_longer w n k m l =
-    ap (λ ss. node_text w (with_steps n ss)) (sym (take-append-drop k (take m n.steps)) ∙ ap (λ t. t ++ drop k (take m n.steps)) (take_less n.steps k m l))
+    ap (λ ss. node_text w (with_steps n ss)) (sym (take-append-drop k (take m n.steps)) ∙ ap (λ t. t ++ drop k (take m n.steps)) (take-take k m n.steps l))
     ∙ name_join w n (take k n.steps) (drop k (take m n.steps))
 
 -- the name of a front stands in the text up to its end
@@ -61,14 +54,6 @@ front_stands w n text ends k end f e =
       ap (take end) whole ∙ ap (λ x. take x (name ++ rest)) at ∙ take-append_seam name rest,
     )
 
--- a place of the first ones
-get_in_front : {A : Type 0} (xs : List A) (c j : ℕ) (x : A) → slice_get (take c xs) j ≡ Some x → slice_get xs j ≡ Some x
-get_in_front [] zero j x e = absurd cc
-get_in_front [] (suc c) j x e = absurd cc
-get_in_front (y ∷ xs) zero j x e = absurd cc
-get_in_front (y ∷ xs) (suc c) zero x e = e
-get_in_front (y ∷ xs) (suc c) (suc j) x e = get_in_front xs c j x e
-
 -- fewer fronts are known, and the text ends with the last of them
 pub fronts_cut : (w : Words) (n : Node) (text ends : List ℕ) (k end : ℕ) (cut fewer : List ℕ) → AreFronts w n text ends → slice_get ends k ≡ Some end
     → cut ≡ take end text → fewer ≡ take (k + 1) ends → AreFronts w n cut fewer
@@ -77,15 +62,8 @@ fronts_cut w n text ends k end cut fewer f e t g = record {
       let within = slice_get_within ends k end e in
       let same : m ≡ k = omega (arith, l, ap length g, length-take-le (k + 1) ends (omega (arith, within))) in
       t ∙ (front_stands w n text ends k end f e).1 ∙ ap (λ x. node_text w (front x n)) (sym same);
-  each = λ j x h. f.each j x (get_in_front ends (k + 1) j x (ap (λ y. slice_get y j) (sym g) ∙ h));
+  each = λ j x h. f.each j x ((in_front (k + 1) ends j x (ap (λ y. slice_get y j) (sym g) ∙ h)).0);
 }
-
--- what stands at a place, where one was added at the end
-get_added : {A : Type 0} (xs : List A) (a x : A) (j : ℕ) → slice_get (xs ++ a ∷ []) j ≡ Some x → slice_get xs j ≡ Some x ⊎ ((j ≡ length xs) × (x ≡ a))
-get_added [] a x zero e = inr (refl, sym (ap (λ o. unwrap_or o a) e))
-get_added [] a x (suc j) e = absurd cc
-get_added (y ∷ xs) a x zero e = inl e
-get_added (y ∷ xs) a x (suc j) e = elim (get_added xs a x j e) [ inl p ↦ inl p | inr p ↦ inr (ap suc p.0, p.1) ]
 
 -- one more front is known, where the text goes on with the next step
 pub fronts_more : (w : Words) (n : Node) (text ends : List ℕ) (at : ℕ) (d : Step) (longer more : List ℕ) → AreFronts w n text ends → length ends ≡ at + 1 → at < length n.steps
@@ -102,7 +80,7 @@ fronts_more w n text ends at d longer more f l within t e =
       last = λ k g.
           let same : k ≡ suc at = omega (arith, l', g, ap length e, length-append ends (length longer ∷ [])) in
           whole ∙ ap (λ x. node_text w (front x n)) (sym same);
-      each = λ j end g. elim (get_added ends (length longer) end j (ap (λ x. slice_get x j) (sym e) ∙ g))
+      each = λ j end g. elim (pushed ends (length longer) j end (ap (λ x. slice_get x j) (sym e) ∙ g))
           [ inl p ↦ f.each j end p | inr p ↦ p.1 ∙ ap length whole ∙ ap (λ x. length (node_text w (front x n))) (sym l' ∙ sym p.0) ];
     }
 

@@ -1,9 +1,10 @@
 -- The name of a node is read from any of its steps on.
-use Rattle.std.proofs.Common.{◌≡◌, ℕ, zero, suc, ◌+◌, ◌-◌, ◌≤◌, ◌<◌, refl, sym, ap, subst, ◌∙◌, ◌⊎◌, inl, inr, Bool, true, false, cond, ◌==◌, List, [], ◌∷◌, ◌++◌, length, take, drop, get_or, slice_get, Option, Some, None, option_map, option_and_then, count_by, arith, add-one, length-append}
+use Rattle.std.proofs.Common.{◌≡◌, ℕ, zero, suc, ◌+◌, ◌-◌, ◌≤◌, ◌<◌, refl, sym, ap, subst, ◌∙◌, inl, inr, Bool, true, false, cond, ◌==◌, List, [], ◌∷◌, ◌++◌, length, take, drop, get_or, slice_get, Option, Some, None, option_map, option_and_then, count_by, arith, add-one, length-append}
 use Rattle.std.specs.List.{slice_split, onto_first}
 use Rattle.std.proofs.lemmas.List.{length-take, length-take-le, take_all, take-take, take-append-le, take-append-drop, drop-take}
 use Rattle.std.proofs.lemmas.List.Sums.{sum_by-take-le}
 use Rattle.std.proofs.lemmas.Bool.{cases_lt}
+use Rattle.std.proofs.lemmas.Option.{slice_get_within}
 use Rattle.std.proofs.lemmas.List.Splits.{slice_split-cons_yes, length-slice_split}
 use Rattle.aw_text.specs.Spelling.{parts, steps_of, step_of, name_from, start_of, parts_of_name}
 use Rattle.aw_term.specs.Names.{Step, Node}
@@ -12,8 +13,9 @@ use Rattle.aw_term.specs.Artifacts.{Words}
 use Rattle.aw_grammar.specs.Named.{number_named}
 use Rattle.aw_base.specs.NodeNames.{Named, steps_named, misfit_or, first_misfit, fitted, with_parts, node_read}
 use Rattle.aw_base.specs.NodeReading.{start_named, steps_behind}
-use Rattle.aw_base.specs.ReadFronts.{IsNamed, AreFronts, IsLast, GoesOn, WithinCommon}
+use Rattle.aw_base.specs.ReadFronts.{IsNamed, AreReadFronts, IsLast, GoesOn, WithinCommon}
 use Rattle.aw_base.specs.declared.node_reader.Front.{Front}
+use Rattle.aw_base.proofs.ItemsAt.{in_front, pushed}
 use Rattle.aw_base.proofs.NodeReads.{all_declared, length_named, slashes_are_steps}
 
 onto_join : {X : Type 0} (x : X) (ps qs : List (List X)) → 0 < length ps → onto_first x (ps ++ qs) ≡ onto_first x ps ++ qs
@@ -133,27 +135,6 @@ fewer text a b h =
     let same = ap (count_by (λ (c : ℕ). c == 47)) (take-take a b text h) in
     omega (arith, same, sum_by-take-le (λ (c : ℕ). cond (c == 47) 1 0) (take b text) a)
 
--- what stands in the front of a list stands in the list
-in_front : {A : Type 0} (n : ℕ) (xs : List A) (k : ℕ) (x : A) → slice_get (take n xs) k ≡ Some x → (slice_get xs k ≡ Some x) × (k < n)
-in_front zero [] k x e = absurd cc
-in_front zero (y ∷ xs) k x e = absurd cc
-in_front (suc n) [] k x e = absurd cc
-in_front (suc n) (y ∷ xs) zero x e = (e, omega arith)
-in_front (suc n) (y ∷ xs) (suc k) x e = let deeper = in_front n xs k x e in (deeper.0, omega (arith, deeper.1))
-
--- what stands in a list is there
-there : {A : Type 0} (xs : List A) (k : ℕ) (x : A) → slice_get xs k ≡ Some x → k < length xs
-there [] k x e = absurd cc
-there (y ∷ xs) zero x e = omega arith
-there (y ∷ xs) (suc k) x e = omega (arith, there xs k x e)
-
--- what stands in a list with one more item
-pushed : {A : Type 0} (xs : List A) (y : A) (k : ℕ) (x : A) → slice_get (xs ++ y ∷ []) k ≡ Some x → (slice_get xs k ≡ Some x) ⊎ ((k ≡ length xs) × (x ≡ y))
-pushed [] y zero x e = inr (refl, cc)
-pushed [] y (suc k) x e = absurd cc
-pushed (z ∷ xs) y zero x e = inl e
-pushed (z ∷ xs) y (suc k) x e = elim (pushed xs y k x e) as (λ _. (slice_get xs k ≡ Some x) ⊎ ((suc k ≡ suc (length xs)) × (x ≡ y))) [ inl f ↦ inl f | inr f ↦ inr (ap suc f.0, f.1) ]
-
 -- each place in a list has something
 has : {A : Type 0} (xs : List A) (k : ℕ) → k < length xs → (x : A) × (slice_get xs k ≡ Some x)
 has [] k h = absurd (omega (arith, h))
@@ -161,7 +142,7 @@ has (x ∷ xs) zero h = (x, refl)
 has (x ∷ xs) (suc k) h = has xs k (omega (arith, h))
 
 -- a later front ends no earlier: up to there stand more slashes
-rising : (w : Words) (g : Grammar) (text : List ℕ) (start case : ℕ) (steps : List Step) (fronts : List Front) → AreFronts w g text start case steps fronts
+rising : (w : Words) (g : Grammar) (text : List ℕ) (start case : ℕ) (steps : List Step) (fronts : List Front) → AreReadFronts w g text start case steps fronts
     → (k m : ℕ) (f e : Front) → slice_get fronts k ≡ Some f → slice_get fronts m ≡ Some e → k ≤ m → f.end ≤ e.end
 rising w g text start case steps fronts h k m f e p q l = elim (cases_lt e.end f.end) as (λ _. f.end ≤ e.end) [ inl less ↦ nearer less | inr more ↦ more ]
   where
@@ -170,16 +151,16 @@ rising w g text start case steps fronts h k m f e p q l = elim (cases_lt e.end f
         let few = fewer text e.end f.end (omega (arith, less)) in
         let a = slashes w g (take f.end text) start case (take k steps) f.sort (h.each k f p) in
         let b = slashes w g (take e.end text) start case (take m steps) e.sort (h.each m e q) in
-        let c = length-take-le k steps (omega (arith, l, there fronts m e q, h.paired)) in
-        let d = length-take-le m steps (omega (arith, there fronts m e q, h.paired)) in
+        let c = length-take-le k steps (omega (arith, l, slice_get_within fronts m e q, h.paired)) in
+        let d = length-take-le m steps (omega (arith, slice_get_within fronts m e q, h.paired)) in
         let same : k ≡ m = omega (arith, few, a, b, c, d, l) in
         let one : Some f ≡ Some e = sym p ∙ ap (slice_get fronts) same ∙ q in
         let alike : f ≡ e = cc in
         omega (arith, ap (λ (x : Front). x.end) alike)
 
 -- the fronts within the bytes that two texts have in common are fronts of the other one too
-pub fronts_kept : (w : Words) (g : Grammar) (old new : List ℕ) (start case : ℕ) (steps : List Step) (fronts : List Front) (common kept : ℕ) → AreFronts w g old start case steps fronts
-    → kept ≤ length fronts → WithinCommon fronts common kept → take common new ≡ take common old → AreFronts w g new start case (take (kept - 1) steps) (take kept fronts)
+pub fronts_kept : (w : Words) (g : Grammar) (old new : List ℕ) (start case : ℕ) (steps : List Step) (fronts : List Front) (common kept : ℕ) → AreReadFronts w g old start case steps fronts
+    → kept ≤ length fronts → WithinCommon fronts common kept → take common new ≡ take common old → AreReadFronts w g new start case (take (kept - 1) steps) (take kept fronts)
 fronts_kept w g old new start case steps fronts common kept h few within same = record {
   each = λ k f e. let at = in_front kept fronts k f e in
       let short : f.end ≤ common = near k f at.0 at.1 in
@@ -197,7 +178,7 @@ fronts_kept w g old new start case steps fronts common kept h few within same = 
         omega (arith, bound, rising w g old start case steps fronts h k (kept - 1) f last.0 e last.1 (omega (arith, l)))
 
 -- the last of them names the node to which all steps lead that are kept
-pub last_kept : (w : Words) (g : Grammar) (old new : List ℕ) (start case : ℕ) (steps : List Step) (fronts : List Front) (common kept : ℕ) → AreFronts w g old start case steps fronts
+pub last_kept : (w : Words) (g : Grammar) (old new : List ℕ) (start case : ℕ) (steps : List Step) (fronts : List Front) (common kept : ℕ) → AreReadFronts w g old start case steps fronts
     → kept ≤ length fronts → WithinCommon fronts common kept → take common new ≡ take common old → common ≤ length new
     → (f : Front) → slice_get (take kept fronts) (length (take kept fronts) - 1) ≡ Some f → IsLast w g new start case (take (kept - 1) steps) (take kept fronts) f
 last_kept w g old new start case steps fronts common kept h few within same short f e =
@@ -212,10 +193,10 @@ last_kept w g old new start case steps fronts common kept h few within same shor
     }
 
 -- one more step leaves the fronts as they were
-pub step_added : (w : Words) (g : Grammar) (text : List ℕ) (start case : ℕ) (steps : List Step) (fronts : List Front) (step : Step) → AreFronts w g text start case steps fronts
-    → length steps < 250 → AreFronts w g text start case (steps ++ step ∷ []) fronts
+pub step_added : (w : Words) (g : Grammar) (text : List ℕ) (start case : ℕ) (steps : List Step) (fronts : List Front) (step : Step) → AreReadFronts w g text start case steps fronts
+    → length steps < 250 → AreReadFronts w g text start case (steps ++ step ∷ []) fronts
 step_added w g text start case steps fronts step h short = record {
-  each = λ k f e. let a : take k (steps ++ step ∷ []) ≡ take k steps = take-append-le k steps (step ∷ []) (omega (arith, there fronts k f e, h.paired)) in
+  each = λ k f e. let a : take k (steps ++ step ∷ []) ≡ take k steps = take-append-le k steps (step ∷ []) (omega (arith, slice_get_within fronts k f e, h.paired)) in
       subst (λ ss. IsNamed w g (take f.end text) start case ss f.sort) (sym a) (h.each k f e);
   few = omega (arith, short, length-append steps (step ∷ []));
   paired = omega (arith, h.paired, length-append steps (step ∷ []));
@@ -223,8 +204,8 @@ step_added w g text start case steps fronts step h short = record {
 
 -- and its front is one more
 pub front_added : (w : Words) (g : Grammar) (text : List ℕ) (start case : ℕ) (steps : List Step) (fronts : List Front) (last : Front) (step : Step) (front : Front)
-    → AreFronts w g text start case steps fronts → length steps < 250 → IsLast w g text start case steps fronts last → GoesOn w g text last step front
-    → AreFronts w g text start case (steps ++ step ∷ []) (fronts ++ front ∷ [])
+    → AreReadFronts w g text start case steps fronts → length steps < 250 → IsLast w g text start case steps fronts last → GoesOn w g text last step front
+    → AreReadFronts w g text start case (steps ++ step ∷ []) (fronts ++ front ∷ [])
 front_added w g text start case steps fronts last step front h short at on = record {
   each = λ k f e. elim (pushed fronts front k f e) as (λ _. IsNamed w g (take f.end text) start case (take k (steps ++ step ∷ [])) f.sort) [
     | inl old ↦ (step_added w g text start case steps fronts step h short).each k f old
@@ -245,7 +226,7 @@ pub start_is_named : (w : Words) (g : Grammar) (text name : List ℕ) (case sort
 start_is_named w g text name case sort e f = record { name = name; trail = []; spelled = e; begun = f; stepped = refl; sorted = refl }
 
 -- which is the only front so far
-pub first_front : (w : Words) (g : Grammar) (text : List ℕ) (case : ℕ) (f : Front) → IsNamed w g (take f.end text) f.sort case [] f.sort → AreFronts w g text f.sort case [] (f ∷ [])
+pub first_front : (w : Words) (g : Grammar) (text : List ℕ) (case : ℕ) (f : Front) → IsNamed w g (take f.end text) f.sort case [] f.sort → AreReadFronts w g text f.sort case [] (f ∷ [])
 first_front w g text case f h = record {
   each = by;
   few = omega arith;
@@ -256,7 +237,7 @@ first_front w g text case f h = record {
     by zero e p = let same : f ≡ e = cc in subst (λ (x : Front). IsNamed w g (take x.end text) f.sort case [] x.sort) same h
     by (suc k) e p = absurd cc
 
-pub no_fronts : (w : Words) (g : Grammar) (text : List ℕ) (start case : ℕ) → AreFronts w g text start case [] []
+pub no_fronts : (w : Words) (g : Grammar) (text : List ℕ) (start case : ℕ) → AreReadFronts w g text start case [] []
 no_fronts w g text start case = record { each = λ k f e. absurd cc; few = omega arith; paired = omega arith }
 
 -- a list up to a later place, cut at an earlier one

@@ -1,5 +1,5 @@
--- What a reader of names keeps: the name that it read last, and where the first steps of it end.
-use Rattle.std.specs.Prelude.{◌≡◌, ◌≤◌, ◌<◌, ◌+◌, ◌-◌, ◌++◌, ℕ, List, [], ◌∷◌, Some, length, take, slice_get}
+-- What a reader of names keeps: names that it read last, and where the first steps of each end.
+use Rattle.std.specs.Prelude.{◌≡◌, ◌≤◌, ◌<◌, ◌+◌, ◌-◌, ◌++◌, ℕ, List, [], ◌∷◌, Some, All, length, take, slice_get}
 use Rattle.aw_text.specs.Spelling.{parts_of_name}
 use Rattle.aw_term.specs.Names.{Step}
 use Rattle.aw_term.specs.Rules.{Grammar, sort_after}
@@ -9,6 +9,7 @@ use Rattle.aw_grammar.specs.declared.grammar.Grammar.{Grammar as GivenGrammar}
 use Rattle.aw_base.specs.NodeNames.{steps_named}
 use Rattle.aw_base.specs.NodeReading.{start_named}
 use Rattle.aw_base.specs.declared.node_reader.Front.{Front}
+use Rattle.aw_base.specs.declared.node_reader.ReadName.{ReadName}
 use Rattle.aw_base.specs.declared.node_reader.NodeReader.{NodeReader}
 
 -- the text names the node with this start sort, this case and these steps, and this is the sort of the node
@@ -21,7 +22,7 @@ pub record IsNamed (w : Words) (g : Grammar) (text : List ℕ) (start case : ℕ
   pub sorted : sort_after g start steps ≡ Some sort
 
 -- front k of the text names the node that the first k steps lead to
-pub record AreFronts (w : Words) (g : Grammar) (text : List ℕ) (start case : ℕ) (steps : List Step) (fronts : List Front) : Type 0 where
+pub record AreReadFronts (w : Words) (g : Grammar) (text : List ℕ) (start case : ℕ) (steps : List Step) (fronts : List Front) : Type 0 where
   pub each : (k : ℕ) (f : Front) → slice_get fronts k ≡ Some f → IsNamed w g (take f.end text) start case (take k steps) f.sort
   pub few : length steps ≤ 250
   pub paired : length fronts ≤ length steps + 1
@@ -32,21 +33,29 @@ pub record IsLast (w : Words) (g : Grammar) (text : List ℕ) (start case : ℕ)
   pub all : length fronts ≡ length steps + 1
   pub within : f.end ≤ length text
 
--- what the reader keeps was read over these declarations
-abbrev pub HasRead : Words → Grammar → NodeReader → Type 0
-HasRead w g r = AreFronts w g r.text.items r.start r.case r.steps.items r.fronts.items
+-- what is kept of the name was read over these declarations
+abbrev pub IsReadOver : Words → Grammar → ReadName → Type 0
+IsReadOver w g r = AreReadFronts w g r.text.items r.start r.case r.steps.items r.fronts.items
 
--- the reader has read its text up to this front
-abbrev pub StandsAt : Words → Grammar → NodeReader → Front → Type 0
+-- the text was read up to this front
+abbrev pub StandsAt : Words → Grammar → ReadName → Front → Type 0
 StandsAt w g r f = IsLast w g r.text.items r.start r.case r.steps.items r.fronts.items f
 
--- and this is the last front that it keeps, where it keeps one
-abbrev pub MayStandAtLast : Words → Grammar → NodeReader → Type 0
+-- and this is the last front that is kept, where one is
+abbrev pub MayStandAtLast : Words → Grammar → ReadName → Type 0
 MayStandAtLast w g r = (f : Front) → slice_get r.fronts.items (length r.fronts.items - 1) ≡ Some f → StandsAt w g r f
 
--- the reader has read the whole of its text
-abbrev pub HasReadAll : Words → Grammar → NodeReader → Type 0
+-- the whole of the text was read
+abbrev pub HasReadAll : Words → Grammar → ReadName → Type 0
 HasReadAll w g r = (sort : ℕ) × IsNamed w g r.text.items r.start r.case r.steps.items sort
+
+-- what is kept of the name was read by this grammar
+abbrev pub IsReadBy : GivenGrammar → ReadName → Type 0
+IsReadBy g r = IsReadOver (words_of g) (grammar_of g) r
+
+-- what the reader keeps of each name was read over these declarations
+pub record HasRead (w : Words) (g : Grammar) (r : NodeReader) : Type 0 where
+  pub each : All (IsReadOver w g) r.names.items
 
 -- what the reader keeps was read by this grammar
 abbrev pub IsReaderOf : GivenGrammar → NodeReader → Type 0

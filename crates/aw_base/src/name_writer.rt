@@ -1,8 +1,9 @@
-//! Names of nodes that are written one after another, each from the step at which it parts from the last one.
+//! Names of nodes that are written one after another, each from the step at which it parts from the last one of its case.
 ghost use Rattle.std.specs.Prelude.{◌≡◌, ℕ, ◌≤◌, ◌<◌, ◌+◌, ◌++◌, [], IfOk, IsTrue, OnOk, OnErr, length, take};
-ghost use Rattle.aw_term.specs.Artifacts.{node_text};
+ghost use Rattle.aw_term.specs.Artifacts.{Words, node_text};
 ghost use Rattle.aw_grammar.specs.GrammarOf.{words_of};
 ghost use Rattle.aw_base.specs.NameFronts.{front, AreFronts};
+ghost use Rattle.aw_base.specs.WrittenNames.{IsWritten, AreWritten};
 
 use crate::texts::{add_step, sort_name};
 use aw_grammar::Grammar;
@@ -177,13 +178,66 @@ fn find_end(written: &mut Written, g: &Grammar, n: &Node) -> Result<usize, Alloc
     Ok(written.ends[n.steps.len()])
 }
 
-/// Writes names of nodes. What it wrote last is kept: the names of one line, and of lines that follow one another, mostly begin alike,
-/// and what they have in common is copied.
+/// Adds the name of a node to a text, by what is known. An error changes nothing in the text.
+fn push_known(
+    written: &mut Written,
+    g: &Grammar,
+    text: &mut Text,
+    n: &Node,
+) -> Result<(), AllocError>
+    requires { IsWritten (words_of g.now) written.old }
+    ensures sound { IsWritten (words_of g.now) written.new }
+    ensures ok { OnOk result (text.new ≡ text.old ++ node_text (words_of g.now) n.now) }
+    ensures err { OnErr result (text.new ≡ text.old) }
+{
+    let end = find_end(written, g, n)?;
+    text.push_bytes(&written.text.as_slice()[..end])
+}
+
+/// Of how many cases names are kept beside those of the first case.
+const PLACES: u64 = 128;
+
+/// Nothing is known. It takes no memory.
+fn nothing_written(alloc: Global) -> Written
+    ensures { (w : Words) → IsWritten w result }
+{
+    Written {
+        node: Node {
+            start: 0,
+            case: 0,
+            steps: Trail::new(alloc),
+        },
+        text: Text::new(alloc),
+        ends: Vec::new(alloc),
+    }
+}
+
+/// Whether a name can be kept at this place: those up to it are made, as long as there is memory.
+fn has_place(others: &mut Vec<Written>, g: &Grammar, place: usize) -> bool
+    requires { AreWritten (words_of g.now) others.old.items }
+    ensures sound { AreWritten (words_of g.now) others.new.items }
+    ensures within { IsTrue result → place < length others.new.items }
+{
+    let alloc = *others.allocator();
+    while others.len() <= place {
+        if others.push(nothing_written(alloc)).is_err() {
+            return false;
+        }
+    }
+    true
+}
+
+/// Writes names of nodes. What it wrote last is kept, for each of a number of cases: the names of one line, and of lines that follow
+/// one another, mostly begin alike where they are of one case, and what they have in common is copied.
 #[derive(Debug, Drop)]
 pub struct NameWriter<'g> {
     grammar: &'g Grammar,
-    written: Written,
-    ghost sound: { AreFronts (words_of grammar.now) written.node written.text written.ends.items },
+    /// The last name of the case that was named first.
+    first: Written,
+    /// The last names of other cases, each at the place that its number tells.
+    others: Vec<Written>,
+    ghost first_sound: { IsWritten (words_of grammar.now) first },
+    ghost others_sound: { AreWritten (words_of grammar.now) others.items },
 }
 
 impl<'g> NameWriter<'g> {
@@ -193,15 +247,8 @@ impl<'g> NameWriter<'g> {
     {
         NameWriter {
             grammar,
-            written: Written {
-                node: Node {
-                    start: 0,
-                    case: 0,
-                    steps: Trail::new(alloc),
-                },
-                text: Text::new(alloc),
-                ends: Vec::new(alloc),
-            },
+            first: nothing_written(alloc),
+            others: Vec::new(alloc),
         }
     }
 
@@ -212,13 +259,20 @@ impl<'g> NameWriter<'g> {
         self.grammar
     }
 
-    /// Adds the name of a node, as `visit#1/admit.1`. An error changes nothing in the text.
+    /// Adds the name of a node, as `visit#1/admit.1`. An error changes nothing in the text. Where there is no memory to keep names of
+    /// one more case, the name is written in place of the last one of the first case.
     pub fn push_node(&mut self, text: &mut Text, n: &Node) -> Result<(), AllocError>
         ensures ok { OnOk result (text.new ≡ text.old ++ node_text (words_of self.old.grammar.now) n.now) }
         ensures err { OnErr result (text.new ≡ text.old) }
         ensures grammar { self.new.grammar.now ≡ self.old.grammar.now }
     {
-        let end = find_end(&mut self.written, self.grammar, n)?;
-        text.push_bytes(&self.written.text.as_slice()[..end])
+        if self.first.ends.is_empty() || self.first.node.case == n.case {
+            return push_known(&mut self.first, self.grammar, text, n);
+        }
+        let place = (n.case % PLACES) as usize;
+        if has_place(&mut self.others, self.grammar, place) {
+            return push_known(&mut self.others[place], self.grammar, text, n);
+        }
+        push_known(&mut self.first, self.grammar, text, n)
     }
 }

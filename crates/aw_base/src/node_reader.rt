@@ -1,4 +1,4 @@
-//! Reading names of nodes one after another: a name is read from where it parts from the last one.
+//! Reading names of nodes one after another: a name is read from where it parts from the last one of its case.
 ghost use Rattle.std.specs.Prelude.{◌≡◌, ◌≤◌, ◌<◌, ◌+◌, [], IsTrue, true, is_some, length, take, IfOk, IfSome, OnOk};
 ghost use Rattle.aw_term.specs.Rules.{Grammar as Declared, sort_of};
 ghost use Rattle.aw_term.specs.Artifacts.{Words};
@@ -6,7 +6,7 @@ ghost use Rattle.aw_grammar.specs.GrammarOf.{grammar_of, words_of};
 ghost use Rattle.aw_base.specs.declared.node_reader.Front.{Front as FrontOf};
 ghost use Rattle.aw_base.specs.NodeNames.{node_read};
 ghost use Rattle.aw_base.specs.NodeReading.{Reads};
-ghost use Rattle.aw_base.specs.ReadFronts.{IsNamed, HasRead, StandsAt, HasReadAll, IsReaderOf, GoesOn, MayStandAtLast, WithinCommon};
+ghost use Rattle.aw_base.specs.ReadFronts.{IsNamed, IsReadOver, IsReadBy, StandsAt, HasReadAll, HasRead, IsReaderOf, GoesOn, MayStandAtLast, WithinCommon};
 
 use crate::name_writer::is_same_step;
 use crate::names::sort_of_step;
@@ -23,9 +23,9 @@ struct Front {
     sort: u16,
 }
 
-/// Reads names of nodes, and keeps the last one, its fronts in order: of its start, and then of each step.
+/// The name that was read last, with its fronts in order: of its start, and then of each step.
 #[derive(Debug, Drop)]
-pub struct NodeReader {
+struct ReadName {
     text: Vec<u8>,
     start: u16,
     case: u64,
@@ -168,12 +168,12 @@ fn are_same_steps(a: &[Step], b: &[Step]) -> bool
     true
 }
 
-impl NodeReader {
+impl ReadName {
     /// Nothing is read yet. It takes no memory.
-    pub fn new(alloc: Global) -> NodeReader
-        ensures { (w : Words) (g : Declared) → HasRead w g result }
+    fn new(alloc: Global) -> ReadName
+        ensures { (w : Words) (g : Declared) → IsReadOver w g result }
     {
-        NodeReader {
+        ReadName {
             text: Vec::new(alloc),
             start: 0,
             case: 0,
@@ -193,8 +193,8 @@ impl NodeReader {
         requires last { WithinCommon self.old.fronts.items common kept }
         requires within { common ≤ length text.now }
         requires same { take common self.old.text.items ≡ take common text.now }
-        ensures read { (w : Words) (g : Declared) → HasRead w g self.old → HasRead w g self.new }
-        ensures stands { (w : Words) (g : Declared) → HasRead w g self.old → OnOk result (MayStandAtLast w g self.new) }
+        ensures read { (w : Words) (g : Declared) → IsReadOver w g self.old → IsReadOver w g self.new }
+        ensures stands { (w : Words) (g : Declared) → IsReadOver w g self.old → OnOk result (MayStandAtLast w g self.new) }
         ensures text { OnOk result (self.new.text.items ≡ text.now) }
     {
         self.fronts.truncate(kept);
@@ -206,7 +206,7 @@ impl NodeReader {
 
     /// Reads the start of the text; nothing where it is no start of a declared start sort.
     fn begin(&mut self, g: &Grammar) -> Result<Option<Front>, AllocError>
-        ensures read { IsReaderOf g.now self.new }
+        ensures read { IsReadBy g.now self.new }
         ensures stands { IfOk result (λ o. IfSome o (StandsAt (words_of g.now) (grammar_of g.now) self.new)) }
         ensures same { self.new.text ≡ self.old.text }
     {
@@ -226,8 +226,8 @@ impl NodeReader {
     /// Adds a step and its front.
     fn add(&mut self, step: Step, front: Front) -> Result<(), AllocError>
         requires { length self.old.steps.items < 250 }
-        ensures read { (w : Words) (g : Declared) (last : FrontOf) → HasRead w g self.old → StandsAt w g self.old last → GoesOn w g self.old.text.items last step front → HasRead w g self.new }
-        ensures stands { (w : Words) (g : Declared) (last : FrontOf) → HasRead w g self.old → StandsAt w g self.old last → GoesOn w g self.old.text.items last step front → OnOk result (StandsAt w g self.new front) }
+        ensures read { (w : Words) (g : Declared) (last : FrontOf) → IsReadOver w g self.old → StandsAt w g self.old last → GoesOn w g self.old.text.items last step front → IsReadOver w g self.new }
+        ensures stands { (w : Words) (g : Declared) (last : FrontOf) → IsReadOver w g self.old → StandsAt w g self.old last → GoesOn w g self.old.text.items last step front → OnOk result (StandsAt w g self.new front) }
         ensures same { self.new.text ≡ self.old.text }
     {
         self.steps.push(step)?;
@@ -237,10 +237,10 @@ impl NodeReader {
 
     /// Reads the next step; nothing where none fits there.
     fn read_step(&mut self, g: &Grammar, last: Front) -> Result<Option<Front>, AllocError>
-        requires read { IsReaderOf g.now self.old }
+        requires read { IsReadBy g.now self.old }
         requires stands { StandsAt (words_of g.now) (grammar_of g.now) self.old last }
         requires more { last.end < length self.old.text.items }
-        ensures read { IsReaderOf g.now self.new }
+        ensures read { IsReadBy g.now self.new }
         ensures stands { IfOk result (λ o. IfSome o (StandsAt (words_of g.now) (grammar_of g.now) self.new)) }
         ensures nearer { IfOk result (λ o. IfSome o (λ f. last.end < f.end)) }
         ensures same { self.new.text ≡ self.old.text }
@@ -259,9 +259,9 @@ impl NodeReader {
 
     /// The last front that is kept, or that of the start, which is then read; nothing where it is no start of a declared start sort.
     fn stand(&mut self, g: &Grammar) -> Result<Option<Front>, AllocError>
-        requires read { IsReaderOf g.now self.old }
+        requires read { IsReadBy g.now self.old }
         requires last { MayStandAtLast (words_of g.now) (grammar_of g.now) self.old }
-        ensures read { IsReaderOf g.now self.new }
+        ensures read { IsReadBy g.now self.new }
         ensures stands { IfOk result (λ o. IfSome o (StandsAt (words_of g.now) (grammar_of g.now) self.new)) }
         ensures same { self.new.text ≡ self.old.text }
     {
@@ -273,9 +273,9 @@ impl NodeReader {
 
     /// Reads all steps behind this front, which is the last one; whether all of them fit.
     fn read_steps(&mut self, g: &Grammar, last: Front) -> Result<bool, AllocError>
-        requires read { IsReaderOf g.now self.old }
+        requires read { IsReadBy g.now self.old }
         requires stands { StandsAt (words_of g.now) (grammar_of g.now) self.old last }
-        ensures read { IsReaderOf g.now self.new }
+        ensures read { IsReadBy g.now self.new }
         ensures whole { IfOk result (λ b. b ≡ true → HasReadAll (words_of g.now) (grammar_of g.now) self.new) }
         ensures same { self.new.text ≡ self.old.text }
     {
@@ -291,8 +291,8 @@ impl NodeReader {
 
     /// Reads the text from where it parts from the last one; whether it names a node.
     fn follow(&mut self, g: &Grammar, text: &[u8]) -> Result<bool, AllocError>
-        requires { IsReaderOf g.now self.old }
-        ensures read { IsReaderOf g.now self.new }
+        requires { IsReadBy g.now self.old }
+        ensures read { IsReadBy g.now self.new }
         ensures whole { IfOk result (λ b. b ≡ true → (self.new.text.items ≡ text.now) × HasReadAll (words_of g.now) (grammar_of g.now) self.new) }
     {
         let common = common_length(&self.text, text);
@@ -331,7 +331,7 @@ impl NodeReader {
     fn node(&mut self) -> Result<Node, AllocError>
         requires { length self.old.steps.items ≤ 250 }
         ensures value { IfOk result (λ n. n ≡ record { start = self.old.start; case = self.old.case; steps = self.old.steps.items }) }
-        ensures kept { (w : Words) (g : Declared) → HasRead w g self.old → HasRead w g self.new }
+        ensures kept { (w : Words) (g : Declared) → IsReadOver w g self.old → IsReadOver w g self.new }
     {
         if !self.is_given() {
             self.given = self.made()?;
@@ -340,9 +340,9 @@ impl NodeReader {
     }
 
     /// The node that a text names, which is then valid. The text is kept, and the next one is read from where it parts from it.
-    pub fn read(&mut self, g: &Grammar, text: &[u8]) -> Result<Node, NameFault>
-        requires { IsReaderOf g.now self.old }
-        ensures kept { IsReaderOf g.now self.new }
+    fn read(&mut self, g: &Grammar, text: &[u8]) -> Result<Node, NameFault>
+        requires { IsReadBy g.now self.old }
+        ensures kept { IsReadBy g.now self.new }
         ensures valid { IfOk result (λ n. is_some (sort_of (grammar_of g.now) n) ≡ true) }
         ensures read { Reads (node_read (words_of g.now) (grammar_of g.now) text.now) result }
     {
@@ -350,6 +350,74 @@ impl NodeReader {
             Ok(self.node()?)
         } else {
             parse_node(*self.text.allocator(), g, text)
+        }
+    }
+}
+
+/// Of how many cases names are kept.
+const PLACES: usize = 128;
+
+/// The place where the last name is kept whose case ends in the same digits, as the bytes behind the mark `#` up to the first slash
+/// tell them. A text that names no node has a place too.
+fn place_of(text: &[u8]) -> usize
+    ensures { result < 128 }
+{
+    let mut case: u8 = 0;
+    for byte in text {
+        match *byte {
+            b'/' => break,
+            b'#' => case = 0,
+            digit => case = case.wrapping_mul(10).wrapping_add(digit.wrapping_sub(b'0')),
+        }
+    }
+    usize::from(case) % PLACES
+}
+
+/// Reads names of nodes, and keeps the last one, for each of a number of cases.
+#[derive(Debug, Drop)]
+pub struct NodeReader {
+    alloc: Global,
+    /// The last names, each at the place that its case tells.
+    names: Vec<ReadName>,
+}
+
+impl NodeReader {
+    /// Nothing is read yet. It takes no memory.
+    pub fn new(alloc: Global) -> NodeReader
+        ensures { (w : Words) (g : Declared) → HasRead w g result }
+    {
+        NodeReader {
+            alloc,
+            names: Vec::new(alloc),
+        }
+    }
+
+    /// Whether a name can be kept at this place: those up to it are made, as long as there is memory.
+    fn has_place(&mut self, place: usize) -> bool
+        ensures kept { (w : Words) (g : Declared) → HasRead w g self.old → HasRead w g self.new }
+        ensures within { IsTrue result → place < length self.new.names.items }
+    {
+        while self.names.len() <= place {
+            if self.names.push(ReadName::new(self.alloc)).is_err() {
+                return false;
+            }
+        }
+        true
+    }
+
+    /// The node that a text names, which is then valid. The text is kept, and the next one of its case is read from where it parts
+    /// from it. Where there is no memory to keep names of one more case, the text is read from its start, and not kept.
+    pub fn read(&mut self, g: &Grammar, text: &[u8]) -> Result<Node, NameFault>
+        requires { IsReaderOf g.now self.old }
+        ensures kept { IsReaderOf g.now self.new }
+        ensures valid { IfOk result (λ n. is_some (sort_of (grammar_of g.now) n) ≡ true) }
+        ensures read { Reads (node_read (words_of g.now) (grammar_of g.now) text.now) result }
+    {
+        let place = place_of(text);
+        if self.has_place(place) {
+            self.names[place].read(g, text)
+        } else {
+            parse_node(self.alloc, g, text)
         }
     }
 }

@@ -5,6 +5,7 @@ ghost use Rattle.aw_held.specs.InOrder.{done_at};
 ghost use Rattle.aw_held.specs.Picked.{picked, AreKnown, AreApart};
 
 use crate::held::Held;
+use crate::inserting::insert_number;
 use aw_choice::Choice;
 use std::alloc::{AllocError, Global};
 use std::marker::Model;
@@ -66,10 +67,7 @@ fn put_number(order: &mut Vec<u32>, nodes: &mut Vec<Held>, place: usize, new: He
         Ok(()) => {}
         Err(_) => unreachable!(),
     }
-    match order.insert(place, number) {
-        Ok(()) => {}
-        Err(_) => unreachable!(),
-    }
+    insert_number(order, place, number);
 }
 
 /// Notes the choice that developed the node at a place.

@@ -1,15 +1,14 @@
 -- A guard waits only for a reference that has no equation; and how a rule stands by what its guard gives.
-use Rattle.std.proofs.Common.{◌≡◌, ◌<◌, ℕ, zero, suc, ◌⊎◌, inl, inr, Bool, true, false, cond, List, [], ◌∷◌, length, Option, Some, None, slice_get, get_or, refl, sym, ap, ◌∙◌, arith}
+use Rattle.std.proofs.Common.{◌≡◌, ℕ, zero, suc, ◌⊎◌, inl, inr, Bool, true, false, cond, List, [], ◌∷◌, length, Option, Some, None, slice_get, refl, sym, ap, ◌∙◌}
 use Rattle.std.specs.Prelude.{nat_eq, ◌&&◌, option_and_then}
 use Rattle.std.proofs.lemmas.Bool.{lt-ltb}
 use Rattle.aw_term.specs.Trees.{Head, Leaf, Made, Trees, Nil, More, count, head_eq}
 use Rattle.aw_term.specs.Names.{Ref}
 use Rattle.aw_term.specs.Rules as T
 use Rattle.aw_term.specs.Matching.{Matched, Yes, Waits, Differs, Circle, and_then, under}
-use Rattle.aw_term.specs.Choices.{TooDeep}
 use Rattle.aw_store.specs.Equations.{Body, Same, Is, Map, find}
 use Rattle.aw_store.specs.Chase.{Chased, Found, Missing, Round, chase, chase_in, chase_on}
-use Rattle.aw_store.specs.NamedRefs.{body_at, AreNamed}
+use Rattle.aw_store.specs.NamedRefs.{body_at}
 use Rattle.aw_apply.specs.Guard.{guard_end, guard, guard_parts, guard_all}
 use Rattle.aw_apply.specs.GuardView.{guard_of}
 use Rattle.aw_apply.specs.Named.{as_named}
@@ -110,16 +109,3 @@ stands_live names d (given.Yes bound) l = by d
 stands_live names d (given.Waits slot) l = lt-ltb slot (length names) l
 stands_live names d (given.Differs place) l = refl
 stands_live names d (given.Circle slot) l = lt-ltb slot (length names) l
-
--- slots that are live name something
-pub named_some : (names : List Ref) (slots : List ℕ) → ((i d : ℕ) → i < length slots → get_or slots i d < length names) → (rs : List Ref) × AreNamed names slots rs
-named_some names [] live = ([], refl)
-named_some names (s ∷ slots) live =
-    let (rs, e) = named_some names slots (λ i d l. live (suc i) d (omega (arith, l))) in
-    let (r, f) = get_live names s (live 0 0 (omega arith)) in
-    (r ∷ rs, λ i. f i ∷ e i)
-  where
-    get_live : (ns : List Ref) (i : ℕ) → i < length ns → (r : Ref) × (slice_get ns i ≡ Some r)
-    get_live [] i l = absurd (omega (arith, l))
-    get_live (r ∷ ns) zero l = (r, refl)
-    get_live (r ∷ ns) (suc i) l = get_live ns i (omega (arith, l))

@@ -18,6 +18,7 @@ use crate::record::{Record, place_of};
 use crate::testing::{look_again, set_mark, test_all};
 use aw_apply::Steps;
 use aw_base::Grammar;
+use aw_held::insert_number;
 use aw_store::Facts;
 use aw_work::{Pair, Work};
 use std::alloc::{AllocError, Global};
@@ -86,7 +87,7 @@ impl Kept {
         let number = self.records.len();
         let mut entry = entry;
         test_all(&mut entry, number, grammar, facts, &mut self.work, steps);
-        put_in(&mut self.numbers, at, number as u32);
+        insert_number(&mut self.numbers, at, number as u32);
         put_last(&mut self.records, entry);
     }
 
@@ -159,19 +160,6 @@ impl Kept {
         };
         let stands = look_again(entry, at, slot, grammar, facts, steps);
         set_mark(entry, at, pair.node, stands, &mut self.work);
-    }
-}
-
-/// Puts a number at a place, where there is room.
-fn put_in(numbers: &mut Vec<u32>, at: usize, number: u32)
-    requires within { at ≤ vec_len numbers.old }
-    requires room { vec_len numbers.old < vec_capacity numbers.old }
-    ensures items { numbers.new.items ≡ insert numbers.old.items at number }
-    ensures room { vec_capacity numbers.old ≤ vec_capacity numbers.new }
-{
-    match numbers.insert(at, number) {
-        Ok(()) => {}
-        Err(_) => unreachable!(),
     }
 }
 

@@ -1,9 +1,12 @@
 //! The items of a worklist, and how a rule stands that is asked for, from what is kept.
 ghost use Rattle.std.specs.Prelude.{◌≡◌, ◌<◌, ◌++◌, List, Some, true, IfOk, OnOk, length, map as list_map, slice_get, vec_len};
+ghost use Rattle.aw_term.specs.Names.{Ref as RefName};
 ghost use Rattle.aw_term.specs.Rules.{Grammar as PlainGrammar};
 ghost use Rattle.aw_choice.specs.ChoiceView.{item_of, refusal_of};
 ghost use Rattle.aw_held.specs.declared.held.Held.{Held as HeldValue};
 ghost use Rattle.aw_held.specs.HeldView.{held_of, state_of};
+ghost use Rattle.aw_store.specs.Equations.{Map};
+ghost use Rattle.aw_store.specs.NamedRefs.{AreNamed};
 ghost use Rattle.aw_react.specs.Worklists.{open_items};
 ghost use Rattle.aw_kept.specs.Records.{AreLive, has_live};
 ghost use Rattle.aw_kept.specs.Items.{said_refusal, kept_item, SayOf, StandsAt};
@@ -70,6 +73,18 @@ fn push_marks<F: Facts>(
 }
 
 impl Kept {
+    /// The slots of the references that the node at this place inherits, in their order.
+    pub fn slots(&self, at: usize) -> &[usize]
+        requires { at < vec_len self.now.numbers }
+        ensures { (g : PlainGrammar) (hs : List HeldValue) (h : HeldValue) (k : Map) (names : List RefName) → slice_get hs at ≡ Some h → IsKept g hs k names self.now →
+            AreNamed names result.now h.inherited }
+    {
+        match self.records.get(self.numbers[at] as usize) {
+            Some(record) => record.slots.as_slice(),
+            None => &[],
+        }
+    }
+
     /// How the rule with this number stands at the node at this place, where that is open and of the rule's sort. Nothing is
     /// tested. Want of memory is the only error.
     pub fn standing<F: Facts>(

@@ -10,6 +10,7 @@ ghost use Rattle.aw_grammar.specs.GrammarOf.{grammar_of};
 ghost use Rattle.aw_held.specs.declared.held.Held.{Held as HeldValue};
 ghost use Rattle.aw_store.specs.Chase.{Missing, chase as plain_chase};
 ghost use Rattle.aw_store.specs.NamedRefs.{AreNamed};
+ghost use Rattle.aw_apply.specs.GuardView.{guard_with};
 ghost use Rattle.aw_kept.specs.declared.record.Mark.{Mark as MarkValue};
 ghost use Rattle.aw_kept.specs.Standings.{guard_stands, kept_refusal, told_refusal};
 ghost use Rattle.aw_kept.specs.Due.{waiting_mark};
@@ -17,36 +18,37 @@ ghost use Rattle.aw_kept.specs.Records.{IsFit, IsOf, IsTold, WaitsAtEnd, with_st
 ghost use Rattle.aw_kept.specs.Tested.{IsSet, IsTested, IsFresh, AreTested, LacksBody};
 
 use crate::record::{Record, Stands, wait_for};
-use aw_apply::{Guard, Steps, test_guard};
+use aw_apply::{Binding, Met, Steps, test_into};
 use aw_base::{Grammar, Rule};
 use aw_store::{Chase, Facts, chase};
 use aw_work::Work;
 use std::sync::ledger::Ledger;
 
-/// How a rule stands where its guard gives this.
-fn stands_by(deep: bool, rule: &Rule, guard: &Guard) -> Stands
-    ensures { result ≡ guard_stands (deep && nat_lt 0 (length rule.now.children)) guard.now }
+/// How a rule stands whose patterns meet their slots so.
+fn stands_by(deep: bool, rule: &Rule, met: Met) -> Stands
+    ensures { (bound : List ℕ) → result ≡ guard_stands (deep && nat_lt 0 (length rule.now.children)) (guard_with bound met) }
 {
-    match guard {
-        Guard::Yes(_) => {
+    match met {
+        Met::Yes => {
             if deep && !rule.children.is_empty() {
                 Stands::TooDeep
             } else {
                 Stands::Ready
             }
         }
-        Guard::Waits(slot) => Stands::Waits(*slot),
-        Guard::Differs(place) => Stands::Differs(*place),
-        Guard::Circle(slot) => Stands::Circle(*slot),
+        Met::Waits(slot) => Stands::Waits(slot),
+        Met::Differs(place) => Stands::Differs(place),
+        Met::Circle(slot) => Stands::Circle(slot),
     }
 }
 
-/// How a rule stands at a node that inherits what these slots name. One call is one step.
+/// How a rule stands at a node that inherits what these slots name. The binding is lent for the test. One call is one step.
 fn test_stands<F: Facts, L: Ledger>(
     facts: &F,
     rule: &Rule,
     slots: &[usize],
     deep: bool,
+    bound: &mut Binding,
     steps: &mut Steps<L>,
 ) -> Stands
     requires live { All (λ slot. slot < length (F.names facts.now)) slots.now }
@@ -60,8 +62,8 @@ fn test_stands<F: Facts, L: Ledger>(
     ensures live { has_live (length (F.names facts.now)) result ≡ true }
     ensures step { steps.new ≡ steps.old + 1 }
 {
-    let guard = test_guard(facts, rule, slots, steps);
-    stands_by(deep, rule, &guard)
+    let met = test_into(facts, rule, slots, bound, steps);
+    stands_by(deep, rule, met)
 }
 
 /// How the rule of a mark stands at the node of the record.
@@ -70,6 +72,7 @@ fn test_at<F: Facts, L: Ledger>(
     at: usize,
     grammar: &Grammar,
     facts: &F,
+    bound: &mut Binding,
     steps: &mut Steps<L>,
 ) -> Stands
     requires within { at < length entry.now.marks.items }
@@ -84,7 +87,14 @@ fn test_at<F: Facts, L: Ledger>(
     let Some(rule) = grammar.rule(mark.rule) else {
         unreachable!();
     };
-    test_stands(facts, rule, entry.slots.as_slice(), entry.deep, steps)
+    test_stands(
+        facts,
+        rule,
+        entry.slots.as_slice(),
+        entry.deep,
+        bound,
+        steps,
+    )
 }
 
 /// How the rule of a mark stands that waits for a slot whose reference just got an equation. Where that leads to another
@@ -110,7 +120,10 @@ pub fn look_again<F: Facts, L: Ledger>(
 {
     match chase(facts, slot) {
         Chase::Missing(end) => Stands::Waits(end),
-        _ => test_at(entry, at, grammar, facts, steps),
+        _ => {
+            let mut bound = Binding::new();
+            test_at(entry, at, grammar, facts, &mut bound, steps)
+        }
     }
 }
 
@@ -136,6 +149,7 @@ fn test_mark<F: Facts, L: Ledger>(
     grammar: &Grammar,
     facts: &F,
     work: &mut Work,
+    bound: &mut Binding,
     steps: &mut Steps<L>,
 )
     requires within { at < length entry.old.marks.items }
@@ -146,7 +160,7 @@ fn test_mark<F: Facts, L: Ledger>(
     ensures spare { work.old.spare ≤ work.new.spare + 1 }
     ensures step { steps.new ≡ steps.old + 1 }
 {
-    let stands = test_at(entry, at, grammar, facts, steps);
+    let stands = test_at(entry, at, grammar, facts, bound, steps);
     set_mark(entry, at, number, stands, work);
 }
 
@@ -167,7 +181,8 @@ pub fn test_all<F: Facts, L: Ledger>(
     ensures spare { work.old.spare ≤ work.new.spare + vec_len entry.old.marks }
     ensures steps { steps.new ≡ steps.old + vec_len entry.old.marks }
 {
+    let mut bound = Binding::new();
     for at in 0..entry.marks.len() {
-        test_mark(entry, at, number, grammar, facts, work, steps);
+        test_mark(entry, at, number, grammar, facts, work, &mut bound, steps);
     }
 }

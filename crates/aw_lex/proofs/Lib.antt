@@ -3,3 +3,4 @@ pub mod Fronts
 pub mod LineCuts
 pub mod Slices
 pub mod TokenSteps
+pub mod Words

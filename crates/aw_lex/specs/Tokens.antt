@@ -22,6 +22,10 @@ is_mark b = list_any (λ mark. b == mark) (codes "()<>{},:=;")
 abbrev pub is_word_byte : ℕ → Bool
 is_word_byte b = ((((is_letter b || is_digit b) || b == 95) || b == 35) || b == 47) || b == 46
 
+-- what a byte begins: a blank ('b'), a mark ('m'), a text ('q'), a word ('w') or nothing ('-')
+abbrev pub begun_by : ℕ → ℕ
+begun_by b = if is_blank b then 98 else if is_mark b then 109 else if b == 34 then 113 else if is_word_byte b then 119 else 45
+
 -- how many bytes of a word stand at the front
 abbrev pub word_len : List ℕ → ℕ
 word_len [] = 0

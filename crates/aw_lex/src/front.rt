@@ -1,10 +1,11 @@
 //! What stands at the front of the rest of a line.
-ghost use Rattle.std.specs.Prelude.{◌≡◌, ◌≤◌, length, option_map, take};
-ghost use Rattle.aw_lex.specs.Tokens.{is_blank, is_mark, is_word_byte, word_len, kind_of_word, front_of_word, front_of_text, front_of, Fits};
-ghost use Rattle.aw_text.specs.Spelling.{text_behind_quote};
+ghost use Rattle.std.specs.Prelude.{◌≡◌, ◌≤◌, ◌+◌, IsTrue, false, length, option_map, take, drop};
+ghost use Rattle.std.specs.List.{list_all, prefix_len};
+ghost use Rattle.aw_lex.specs.Tokens.{is_blank, is_word_byte, begun_by, word_len, kind_of_word, front_of_word, front_of_text, front_of, Fits};
+ghost use Rattle.aw_text.specs.Spelling.{is_name_byte, text_behind_quote};
 
 use crate::token::TokenKind;
-use aw_text::{is_node_name, name_ok, number_value, text_end};
+use aw_text::{is_node_name, is_number, is_plain_name, name_len, text_end};
 
 /// What stands at the front of bytes.
 #[derive(Clone, Copy, Debug)]
@@ -24,55 +25,102 @@ pub fn is_blank(byte: u8) -> bool
     matches!(byte, b' ' | b'\t' | b'\r')
 }
 
-fn is_mark(byte: u8) -> bool
-    ensures { result ≡ is_mark byte }
+/// What each byte may begin: `b` a blank, `m` a mark, `q` a text, `w` a word, and `-` nothing.
+static FIRST_BYTES: [u8; 256] = *b"\
+    ---------b---b------------------\
+    b-qw----mm--m-wwwwwwwwwwwwmmmmm-\
+    -------------------------------w\
+    -wwwwwwwwwwwwwwwwwwwwwwwwwwm-m--\
+    --------------------------------\
+    --------------------------------\
+    --------------------------------\
+    --------------------------------";
+
+fn begun_by(byte: u8) -> u8
+    ensures { result ≡ begun_by byte }
 {
-    matches!(
-        byte,
-        b'(' | b')' | b'<' | b'>' | b'{' | b'}' | b',' | b':' | b'=' | b';'
-    )
+    FIRST_BYTES[byte as usize]
 }
+
+/// Each byte of a word stands at its own place, and a comma at every other place.
+static WORD_BYTES: [u8; 256] = *b"\
+    ,,,,,,,,,,,,,,,,,,,,,,,,,,,,,,,,\
+    ,,,#,,,,,,,,,,./0123456789,,,,,,\
+    ,,,,,,,,,,,,,,,,,,,,,,,,,,,,,,,_\
+    ,abcdefghijklmnopqrstuvwxyz,,,,,\
+    ,,,,,,,,,,,,,,,,,,,,,,,,,,,,,,,,\
+    ,,,,,,,,,,,,,,,,,,,,,,,,,,,,,,,,\
+    ,,,,,,,,,,,,,,,,,,,,,,,,,,,,,,,,\
+    ,,,,,,,,,,,,,,,,,,,,,,,,,,,,,,,,";
 
 fn is_word_byte(byte: u8) -> bool
     ensures { result ≡ is_word_byte byte }
 {
-    matches!(byte, b'a'..=b'z' | b'0'..=b'9' | b'_' | b'#' | b'/' | b'.')
+    WORD_BYTES[byte as usize] != b','
 }
 
-fn word_len(bytes: &[u8]) -> usize
-    ensures value { result ≡ word_len bytes.now }
+/// Where a word ends that goes on at a place.
+fn word_end(bytes: &[u8], from: usize) -> usize
+    requires { from ≤ length bytes.now }
+    ensures value { result ≡ from + prefix_len is_word_byte (drop from bytes.now) }
+    ensures after { from ≤ result }
     ensures within { result ≤ length bytes.now }
 {
-    let mut len = 0;
-    for byte in bytes {
-        if !is_word_byte(*byte) {
-            return len;
+    let mut end = from;
+    while end < bytes.len() {
+        if !is_word_byte(bytes[end]) {
+            return end;
         }
-        len += 1;
+        end += 1;
     }
-    len
+    end
 }
 
-fn kind_of_word(word: &[u8]) -> Option<TokenKind>
+/// The kind of a word whose bytes may all stand in a name.
+fn kind_of_plain(word: &[u8]) -> Option<TokenKind>
+    requires { IsTrue (list_all is_name_byte word.now) }
     ensures { result ≡ kind_of_word word.now }
 {
-    if name_ok(word) {
+    if is_plain_name(word) {
         Some(TokenKind::Name)
-    } else if number_value(word).is_some() {
+    } else if is_number(word) {
         Some(TokenKind::Number)
-    } else if is_node_name(word) {
+    } else {
+        None
+    }
+}
+
+/// The kind of a word with a byte that stands in no name.
+fn kind_of_joined(word: &[u8]) -> Option<TokenKind>
+    requires { list_all is_name_byte word.now ≡ false }
+    ensures { result ≡ kind_of_word word.now }
+{
+    if is_node_name(word) {
         Some(TokenKind::Node)
     } else {
         None
     }
 }
 
+/// The kind of a word of which so many bytes at the front may stand in a name.
+fn kind_of_word(word: &[u8], name: usize) -> Option<TokenKind>
+    requires { name ≡ prefix_len is_name_byte word.now }
+    ensures { result ≡ kind_of_word word.now }
+{
+    if name == word.len() {
+        kind_of_plain(word)
+    } else {
+        kind_of_joined(word)
+    }
+}
+
 fn word_front(bytes: &[u8]) -> Front
     ensures { result ≡ front_of_word (word_len bytes.now) (kind_of_word (take (word_len bytes.now) bytes.now)) }
 {
-    let len = word_len(bytes);
+    let name = name_len(bytes);
+    let len = word_end(bytes, name);
     let (word, _) = bytes.split_at(len);
-    match kind_of_word(word) {
+    match kind_of_word(word, name) {
         Some(kind) => Front::Token(kind, len),
         None => Front::Bad,
     }
@@ -92,11 +140,13 @@ fn read_front(bytes: &[u8]) -> Front
 {
     match bytes {
         [] => Front::Blank,
-        [first, ..] if is_blank(*first) => Front::Blank,
-        [first, ..] if is_mark(*first) => Front::Token(TokenKind::Mark(*first), 1),
-        [b'"', rest @ ..] => text_front(rest),
-        [first, ..] if is_word_byte(*first) => word_front(bytes),
-        _ => Front::Bad,
+        [first, rest @ ..] => match begun_by(*first) {
+            b'b' => Front::Blank,
+            b'm' => Front::Token(TokenKind::Mark(*first), 1),
+            b'q' => text_front(rest),
+            b'w' => word_front(bytes),
+            _ => Front::Bad,
+        },
     }
 }
 

@@ -1,7 +1,7 @@
 -- The turns of the loop that compares two lists: what the parts from a place on answer, the lists answer.
-use Rattle.std.proofs.Common.{◌≡◌, ℕ, zero, suc, ◌+◌, ◌<◌, true, false, List, [], ◌∷◌, refl, ◌∙◌, arith, length, get_or, drop, length-drop}
+use Rattle.std.proofs.Common.{◌≡◌, ℕ, zero, suc, ◌+◌, ◌<◌, ◌≤◌, true, false, List, [], ◌∷◌, refl, sym, ap, ◌∙◌, arith, length, get_or, take, drop, length-drop}
 use Rattle.std.specs.Prelude.{min}
-use Rattle.std.specs.Ordering.{nat_cmp, ordering_then, is_ne, MatchOrdering}
+use Rattle.std.specs.Ordering.{nat_cmp, ordering_then, ordering_reverse, is_ne, MatchOrdering}
 use Rattle.std.specs.Cmp.Lexicographic.{slice_cmp}
 use Rattle.std.specs.declared.cmp.Ordering.{Ordering}
 use Rattle.std.specs.declared.cmp.Ordering.TheVariants.{Less, Equal, Greater}
@@ -29,9 +29,27 @@ defers Less k e = absurd cc
 defers Equal k e = refl
 defers Greater k e = absurd cc
 
+-- an order that is the same the other way round is a tie
+pub tied : (o : Ordering) → o ≡ ordering_reverse o → o ≡ Equal
+tied Less e = absurd cc
+tied Equal e = refl
+tied Greater e = absurd cc
+
 module _ {A : Type 0} (R : A → A → Ordering) where
   abbrev pub Rest : List A → List A → ℕ → Type 0
   Rest xs ys i = slice_cmp R (drop i xs) (drop i ys) ≡ slice_cmp R xs ys
+
+  -- what stands in front of a place, and is the same in both lists, decides nothing
+  pub skipped : ((x : A) → R x x ≡ Equal) → (xs ys : List A) (i : ℕ) → i ≤ length xs → i ≤ length ys → take i xs ≡ take i ys → Rest xs ys i
+  skipped self xs ys zero h g e = refl
+  skipped self [] ys (suc i) h g e = absurd (omega (arith, h))
+  skipped self (x ∷ xs) [] (suc i) h g e = absurd (omega (arith, g))
+  skipped self (x ∷ xs) (y ∷ ys) (suc i) h g e =
+      let fronts : x ∷ take i xs ≡ y ∷ take i ys = e in
+      let heads : x ≡ y = cc in
+      let tails : take i xs ≡ take i ys = cc in
+      skipped self xs ys i (omega (arith, h)) (omega (arith, g)) tails
+      ∙ sym (ap (λ o. ordering_then o (slice_cmp R xs ys)) (ap (R x) (sym heads) ∙ self x))
 
   -- the parts from a place on begin with the two that stand there
   pub begun : (xs ys : List A) (i : ℕ) (d : A) → i < length xs → i < length ys

@@ -1,4 +1,4 @@
-ghost use Rattle.std.specs.Prelude.{◌≡◌, ◌≤◌, ◌<◌, ◌++◌, ◌∷◌, [], IfOk, OnOk, OnErr, List, length};
+ghost use Rattle.std.specs.Prelude.{◌≡◌, ◌≤◌, ◌<◌, ◌++◌, ◌∷◌, [], IfOk, OnOk, OnErr, List, length, take, true, ◌+◌};
 ghost use Rattle.std.specs.Hash as fed;
 ghost use Rattle.std.specs.Hash.{same_Alike};
 ghost use Rattle.std.specs.Cmp.{partial_equiv_from_equiv, partial_order_from_agreeing_total};
@@ -55,8 +55,7 @@ impl PartialEq for Trail {
     ghost laws = { partial_equiv_from_equiv (lists_equiv (Prim.search (comparing, rules))) };
 
     fn eq(&self, other: &Trail) -> bool {
-        self.digest == other.digest
-            && compare_steps(self.steps.as_slice(), other.steps.as_slice()).is_eq()
+        self.digest == other.digest && are_same_steps(self.steps.as_slice(), other.steps.as_slice())
     }
 }
 
@@ -98,18 +97,65 @@ impl Hash for Trail {
     }
 }
 
-/// The order of steps: the first two that differ decide, and else the lengths do. It is one loop over both slices, since names
-/// of one case mostly have many steps in common.
+/// The order of steps: the first two that differ decide, and else the lengths do. Whole blocks that are the same are passed at
+/// once, since names of one case mostly have many steps in common.
 fn compare_steps(a: &[Step], b: &[Step]) -> Ordering
     ensures { result ≡ slice_cmp step_cmp a.now b.now }
 {
-    for i in 0..a.len().min(b.len()) {
+    for i in common_blocks(a, b)..a.len().min(b.len()) {
         let found = a[i].cmp(&b[i]);
         if found.is_ne() {
             return found;
         }
     }
     a.len().cmp(&b.len())
+}
+
+/// How many steps are compared at once.
+const BLOCK: usize = 8;
+
+/// Whether the next block of two slices is the same. All of it is looked at, without a branch for each step.
+fn is_same_block(a: &[Step], b: &[Step], at: usize) -> bool
+    requires first { at + 8 ≤ length a.now }
+    requires second { at + 8 ≤ length b.now }
+    ensures { result ≡ true → take at a.now ≡ take at b.now → take (at + 8) a.now ≡ take (at + 8) b.now }
+{
+    let mut rules = true;
+    let mut children = true;
+    for i in at..at + BLOCK {
+        rules &= a[i].rule == b[i].rule;
+        children &= a[i].child == b[i].child;
+    }
+    rules & children
+}
+
+/// How many steps two slices have in common in whole blocks at the front.
+fn common_blocks(a: &[Step], b: &[Step]) -> usize
+    ensures first { result ≤ length a.now }
+    ensures second { result ≤ length b.now }
+    ensures same { take result a.now ≡ take result b.now }
+{
+    let most = a.len().min(b.len());
+    let mut at = 0;
+    while most - at >= BLOCK && is_same_block(a, b, at) {
+        at += BLOCK;
+    }
+    at
+}
+
+/// Whether two slices have the same steps: whole blocks first, and from the first that differs on one step after the other.
+fn are_same_steps(a: &[Step], b: &[Step]) -> bool
+    ensures { result ≡ pointwise step_eq a.now b.now }
+{
+    if a.len() != b.len() {
+        return false;
+    }
+    for i in common_blocks(a, b)..a.len() {
+        if a[i] != b[i] {
+            return false;
+        }
+    }
+    true
 }
 
 /// What a digest is multiplied by before a step is added.

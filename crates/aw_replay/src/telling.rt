@@ -10,8 +10,8 @@ ghost use Rattle.aw_replay.specs.Telling.{Steps, AddsStep, StepsOrNot, IsSettled
 
 use crate::lines::{push_chosen, push_delivery, push_settled};
 use aw_base::{NameWriter, push_item_lines, role_name};
-use aw_choice::{Choice, copy_choice};
-use aw_list::Text;
+use aw_choice::Choice;
+use aw_list::{Counted, Text};
 use aw_sched::Event;
 use aw_world::{Move, Workspace, World};
 use std::alloc::AllocError;
@@ -19,7 +19,7 @@ use std::alloc::AllocError;
 /// Makes a choice, and adds its lines. After an error it was made or not.
 fn tell_choice<W: Workspace>(
     world: &mut World<W>,
-    choice: &Choice,
+    choice: &Counted<Choice>,
     names: &mut NameWriter<'_>,
     text: &mut Text,
 ) -> Result<(), AllocError>
@@ -33,9 +33,9 @@ fn tell_choice<W: Workspace>(
     ensures names { names.new.grammar.now ≡ names.old.grammar.now }
 {
     let before = world.messages().len();
-    let copy = copy_choice(choice)?;
+    let copy = choice.clone()?;
     let reply = world.step(Move::Choose(copy))?;
-    push_chosen(text, names, choice, reply, world.messages(), before)
+    push_chosen(text, names, choice.get(), reply, world.messages(), before)
 }
 
 /// Delivers a message, and adds its lines. After an error it was delivered or not.
@@ -83,7 +83,7 @@ fn tell_settle<W: Workspace>(
 /// Makes a choice; its lines, into an empty text.
 fn choice_lines<W: Workspace>(
     world: &mut World<W>,
-    choice: &Choice,
+    choice: &Counted<Choice>,
     names: &mut NameWriter<'_>,
     text: &mut Text,
 ) -> Result<(), AllocError>
@@ -178,7 +178,7 @@ pub(crate) fn tell<W: Workspace>(
     ensures names { names.new.grammar.now ≡ names.old.grammar.now }
 {
     match event {
-        Event::Choose(choice) => choice_lines(world, choice.get(), names, text),
+        Event::Choose(choice) => choice_lines(world, choice, names, text),
         Event::Deliver(number) => delivery_lines(world, *number, names, text),
         Event::Settle => settling_lines(world, names, text),
         Event::List(role) => list_lines(world, *role, names, text),

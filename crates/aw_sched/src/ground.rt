@@ -13,6 +13,7 @@ use aw_base::{
     Text, room_after_all,
 };
 use std::alloc::Global;
+use std::mem;
 
 /// Whether arguments are past a limit: 8 arguments, 256 symbols together, 32 levels each.
 pub(crate) fn args_are_past(args: &RawTerms) -> bool
@@ -30,34 +31,34 @@ fn con_named(g: &Grammar, name: &[u8]) -> Result<u16, LineFault>
     }
 }
 
+/// An argument with its names looked up; its texts and parts are taken out of the term.
 #[cycle(ground)]
-fn ground(alloc: Global, g: &Grammar, term: &RawTerm) -> Result<Ground, LineFault>
-    ensures { Finds ground_of (known_ground (words_of g.now).cons (written_of term.now)) result }
+fn ground(alloc: Global, g: &Grammar, mut term: RawTerm) -> Result<Ground, LineFault>
+    ensures { Finds ground_of (known_ground (words_of g.now).cons (written_of term)) result }
 {
-    match term {
+    match &mut term {
         RawTerm::Word(name) => {
             let con = con_named(g, name.as_slice())?;
             Ok(Ground::Con(con, Grounds::new(alloc)))
         }
         RawTerm::Apply(name, parts) => {
             let con = con_named(g, name.as_slice())?;
-            let parts = grounds(alloc, g, parts.as_slice())?;
+            let parts = mem::replace(parts, RawTerms::new(alloc));
+            let parts = grounds(alloc, g, parts)?;
             Ok(Ground::Con(con, parts))
         }
         RawTerm::Lit(Lit::Num(n)) => Ok(Ground::Num(*n)),
-        RawTerm::Lit(Lit::Text(text)) => {
-            Ok(Ground::Text(Text::from_bytes(alloc, text.as_slice())?))
-        },
+        RawTerm::Lit(Lit::Text(text)) => Ok(Ground::Text(mem::replace(text, Text::new(alloc)))),
     }
 }
 
-/// The arguments with their names looked up. They are at most 32 deep.
+/// The arguments with their names looked up. They are at most 32 deep. Texts are handed on with their memory.
 #[cycle(ground)]
-pub(crate) fn grounds(alloc: Global, g: &Grammar, terms: &[RawTerm]) -> Result<Grounds, LineFault>
-    ensures { Finds (λ found. map ground_of found) (known_grounds (words_of g.now).cons (map written_of terms.now)) result }
+pub(crate) fn grounds(alloc: Global, g: &Grammar, terms: RawTerms) -> Result<Grounds, LineFault>
+    ensures { Finds (λ found. map ground_of found) (known_grounds (words_of g.now).cons (map written_of terms)) result }
 {
     let mut found = Grounds::from_vec(Vec::with_capacity(alloc, terms.len())?);
-    for term in terms {
+    for term in terms.into_vec() {
         found.push(ground(alloc, g, term)?)?;
     }
     Ok(found)

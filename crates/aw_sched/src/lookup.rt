@@ -48,19 +48,19 @@ fn chosen_args(
     alloc: Global,
     g: &Grammar,
     rule: &[u8],
-    args: &RawTerms,
+    args: RawTerms,
 ) -> Result<(u16, Grounds), LineFault>
-    requires { all_have_contents (map written_of args.now) ≡ true }
-    ensures { GivesArgs (declarations_of g.now) (grammar_of g.now) rule.now (map written_of args.now) result }
+    requires { all_have_contents (map written_of args) ≡ true }
+    ensures { GivesArgs (declarations_of g.now) (grammar_of g.now) rule.now (map written_of args) result }
 {
-    if args_are_past(args) {
+    if args_are_past(&args) {
         return Err(LineFault::Bad(SchedKind::Limit));
     }
     let rule = match g.rule_named(rule) {
         Some(rule) => rule,
         None => return Err(LineFault::Bad(SchedKind::Unknown)),
     };
-    let args = grounds(alloc, g, args.as_slice())?;
+    let args = grounds(alloc, g, args)?;
     if args_ok(g, &args) {
         Ok((rule, args))
     } else {
@@ -74,12 +74,12 @@ fn choose_event(
     g: &Grammar,
     node: &[u8],
     rule: &[u8],
-    args: &RawTerms,
+    args: RawTerms,
 ) -> Result<Event, LineFault>
-    requires contents { all_have_contents (map written_of args.now) ≡ true }
+    requires contents { all_have_contents (map written_of args) ≡ true }
     requires nodes { IsReaderOf g.now nodes.old }
     ensures kept { IsReaderOf g.now nodes.new }
-    ensures gives { let line = ChooseLine node.now rule.now (map written_of args.now) in GivesEvent (line_kind (declarations_of g.now) line) (event_of (declarations_of g.now) line) result }
+    ensures gives { let line = ChooseLine node.now rule.now (map written_of args) in GivesEvent (line_kind (declarations_of g.now) line) (event_of (declarations_of g.now) line) result }
     ensures fits { IfOk result (MayCome (grammar_of g.now)) }
 {
     match said_node(nodes, g, node)? {
@@ -126,18 +126,18 @@ pub(crate) fn event_of(
     alloc: Global,
     nodes: &mut NodeReader,
     g: &Grammar,
-    line: &SchedLine<'_>,
+    line: SchedLine<'_>,
 ) -> Result<Event, LineFault>
-    requires contents { HasContents (line_seen line.now) }
+    requires contents { HasContents (line_seen line) }
     requires nodes { IsReaderOf g.now nodes.old }
     ensures kept { IsReaderOf g.now nodes.new }
-    ensures gives { GivesEvent (line_kind (declarations_of g.now) (line_seen line.now)) (event_of (declarations_of g.now) (line_seen line.now)) result }
+    ensures gives { GivesEvent (line_kind (declarations_of g.now) (line_seen line.entry)) (event_of (declarations_of g.now) (line_seen line.entry)) result }
     ensures fits { IfOk result (MayCome (grammar_of g.now)) }
 {
     match line {
-        SchedLine::Start { sort, case } => start_event(alloc, g, sort, *case),
+        SchedLine::Start { sort, case } => start_event(alloc, g, sort, case),
         SchedLine::Choose { node, rule, args } => choose_event(alloc, nodes, g, node, rule, args),
-        SchedLine::Deliver(message) => Ok(Event::Deliver(*message)),
+        SchedLine::Deliver(message) => Ok(Event::Deliver(message)),
         SchedLine::Settle => Ok(Event::Settle),
         SchedLine::List(role) => list_event(g, role),
     }

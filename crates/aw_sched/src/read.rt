@@ -61,13 +61,13 @@ fn said_event(
     nodes: &mut NodeReader,
     g: &Grammar,
     t: &Typed,
-    line: &SchedLine<'_>,
+    line: SchedLine<'_>,
 ) -> Result<Option<Event>, LineFault>
-    requires contents { HasContents (line_seen line.now) }
+    requires contents { HasContents (line_seen line) }
     requires made { IsMadeFor (grammar_of g.now) t.now }
     requires nodes { IsReaderOf g.now nodes.old }
     ensures kept { IsReaderOf g.now nodes.new }
-    ensures reads { ReadsLine (by_kind (types_of t.now.types) (declarations_of g.now) (line_seen line.now) (line_kind (declarations_of g.now) (line_seen line.now))) result }
+    ensures reads { ReadsLine (by_kind (types_of t.now.types) (declarations_of g.now) (line_seen line.entry) (line_kind (declarations_of g.now) (line_seen line.entry))) result }
     ensures fits { IfOk result (λ found. IfSome found (MayCome (grammar_of g.now))) }
     ensures types { IfOk result (λ found. IfSome found (HasTypes (types_of t.now.types) (grammar_of g.now))) }
 {
@@ -94,7 +94,7 @@ fn event_said(
     ensures types { IfOk result (λ found. IfSome found (HasTypes (types_of t.now.types) (grammar_of g.now))) }
 {
     match parse_line(alloc, line, tokens) {
-        Ok(said) => said_event(alloc, nodes, g, t, &said),
+        Ok(said) => said_event(alloc, nodes, g, t, said),
         Err(Unread::Form) => Err(LineFault::Bad(SchedKind::Form)),
         Err(Unread::NoMemory) => Err(LineFault::NoMemory),
     }
@@ -145,7 +145,7 @@ fn line_event(
 }
 
 /// Adds the event of a line, where it gives one. The list of tokens is filled anew for each line, and the name of a node is read
-/// from where it parts from the last one.
+/// from where it parts from the last one of its case.
 fn add_line(
     found: &mut Tokens,
     nodes: &mut NodeReader,

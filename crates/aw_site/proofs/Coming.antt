@@ -37,14 +37,15 @@ use Rattle.aw_site.specs.declared.judging.Judged.{Judged}
 use Rattle.aw_site.specs.declared.judging.Judged.TheVariants.{BadName, NotMine, Clashes, Repeat, Fresh}
 use Rattle.aw_site.specs.Shown.{space_in}
 use Rattle.aw_site.specs.Plans.{wanted_of, asks_for}
-use Rattle.aw_site.specs.Senders.{SendsAs, listed}
+use Rattle.aw_site.specs.Senders.{SendsAs}
+use Rattle.aw_site.specs.Walks.{listed}
 use Rattle.aw_site.specs.Views.{clash_of, kind_of}
 use Rattle.aw_site.proofs.Clashing.{find_added}
 use Rattle.aw_site.proofs.Receptions.{call_may_come, tell_may_come, bad_name, not_mine, in_conflict, known_already, new_here}
 
 -- ---- a sender
 
-pub sends_as : {F : Type 0} (f : Ghosts F) (sender : Sender F) (s : Site) (k : P.Map) (es : List Equation) → s.role ≡ sender.role → s.loads ≡ sender.loads → ((r : Ref) → find s.equations r ≡ find (k ++ map equation_of es) r)
+pub sends_as : {F : Type 0} (f : Ghosts F) (sender : Sender F f) (s : Site) (k : P.Map) (es : List Equation) → s.role ≡ sender.role → s.loads ≡ sender.loads → ((r : Ref) → find s.equations r ≡ find (k ++ map equation_of es) r)
     → f.map sender.facts.now ≡ k → sender.more.now ≡ es → SendsAs f sender s
 sends_as f sender s k es role loads finds facts more = record {
   role = role;

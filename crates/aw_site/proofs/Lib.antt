@@ -18,6 +18,8 @@ pub mod Beginning
 pub mod SentNames
 pub mod MadeValid
 pub mod SentValid
+pub mod Named
+pub mod ValidPlans
 pub mod Outboxes
 pub mod ValidInRange
 pub mod InRange

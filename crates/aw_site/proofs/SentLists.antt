@@ -1,8 +1,11 @@
 -- Lists of messages that grow by one item after the other.
-use Rattle.std.proofs.Common.{◌≡◌, ℕ, zero, suc, subst, ◌+◌, ◌-◌, ◌<◌, ◌≤◌, Bool, true, false, cond, List, [], ◌∷◌, ◌++◌, map, nat_eq, refl, ap, sym, ◌∙◌, append_assoc, add-one, arith}
-use Rattle.std.specs.Int.{bit_at}
+use Rattle.std.proofs.Common.{◌≡◌, ◌≢◌, ℕ, zero, suc, ◌+◌, ◌<◌, ◌≤◌, Bool, true, false, cond, List, [], ◌∷◌, ◌++◌, map, nat_eq, eq-eqb, refl, ap, sym, ◌∙◌, append_assoc, w64, arith}
+use Rattle.std.specs.Int.{bit_at, bit_not, trailing_zeros}
+use Rattle.std.specs.Prelude.{◌*◌, ◌%◌, ◌^◌, bit_and}
+use Rattle.std.proofs.lemmas.Bool.{eqb-true, both_ways}
 use Rattle.std.proofs.lemmas.List.{append-nil, map-append}
-use Rattle.std.proofs.lemmas.Nat.Bits.{bit_at-zero}
+use Rattle.std.proofs.lemmas.Nat.{and_le_l}
+use Rattle.std.proofs.lemmas.Nat.Bits.{bit_at-zero, bit_at-trailing_zeros, bit_at_clear_same, bit_at_clear_other}
 use Rattle.aw_term.specs.Names.{Ref}
 use Rattle.aw_term.specs.Rules.{Grammar}
 use Rattle.aw_store.specs.Equations.{Equation}
@@ -11,6 +14,7 @@ use Rattle.aw_apply.specs.Messages.{Message}
 use Rattle.aw_react.specs.Homes.{home}
 use Rattle.aw_react.specs.Sites.{Watch, Site}
 use Rattle.aw_react.specs.Telling.{has_watch, watchers_from, tell, tells, call_out, calls_out}
+use Rattle.aw_subs.specs.Entries.{has_bit}
 use Rattle.aw_site.specs.Holders.{AreWatchers}
 
 -- one item further, where what a list makes is what its first makes before what the rest makes
@@ -33,42 +37,103 @@ split_cases false x xs = refl
 pub calls_split : (g : Grammar) (s : Site) (c : Call) (cs : List Call) → calls_out g s (c ∷ cs) ≡ calls_out g s (c ∷ []) ++ calls_out g s cs
 calls_split g s c cs = split_cases (nat_eq (home g c.node) s.role) (call_out g s c) (calls_out g s cs)
 
-told_cases : (tell : ℕ → Message) (b : Bool) (i : ℕ) (is : List ℕ) → map tell (cond b (i ∷ is) is) ≡ cond b (tell i ∷ []) [] ++ map tell is
-told_cases tell true i is = refl
-told_cases tell false i is = refl
+-- ---- the roles that watch, by their bits
 
--- the loop over the roles that may watch
-pub told_next : (tell : ℕ → Message) (before after whole : List Message) (most i : ℕ) (r : Ref) (ws : List Watch) → i < most
-    → after ≡ before ++ cond (has_watch r i ws) (tell i ∷ []) [] → before ++ map tell (watchers_from (most - i) i r ws) ≡ whole
-    → after ++ map tell (watchers_from (most - (i + 1)) (i + 1) r ws) ≡ whole
-told_next tell before after whole most i r ws l a b =
-    let n = most - (i + 1) in
-    let count : most - i ≡ suc n = omega arith in
-    ap (λ ys. ys ++ map tell (watchers_from n (i + 1) r ws)) a
-    ∙ append_assoc before (cond (has_watch r i ws) (tell i ∷ []) []) (map tell (watchers_from n (i + 1) r ws))
-    ∙ ap (λ k. before ++ (cond (has_watch r i ws) (tell i ∷ []) [] ++ map tell (watchers_from n k r ws))) (add-one i)
-    ∙ ap (λ ys. before ++ ys) (sym (told_cases tell (has_watch r i ws) i (watchers_from n (suc i) r ws)))
-    ∙ ap (λ k. before ++ map tell (watchers_from k i r ws)) (sym count)
+-- the places from i on, n of them, at which p holds
+abbrev pub places : (ℕ → Bool) → ℕ → ℕ → List ℕ
+places p zero i = []
+places p (suc n) i = cond (p i) (i ∷ places p n (suc i)) (places p n (suc i))
+
+-- the same places
+same_places : (p q : ℕ → Bool) (n i : ℕ) → ((j : ℕ) → i ≤ j → j < i + n → p j ≡ q j) → places p n i ≡ places q n i
+same_places p q zero i same = refl
+same_places p q (suc n) i same =
+    let here : p i ≡ q i = same i (omega arith) (omega arith) in
+    let rest : places p n (suc i) ≡ places q n (suc i) = same_places p q n (suc i) (λ j a b. same j (omega (arith, a)) (omega (arith, b))) in
+    λ k. cond (here k) (i ∷ rest k) (rest k)
+
+watching_places : (n i : ℕ) (r : Ref) (ws : List Watch) → watchers_from n i r ws ≡ places (λ j. has_watch r j ws) n i
+watching_places zero i r ws = refl
+watching_places (suc n) i r ws = ap (λ is. cond (has_watch r i ws) (i ∷ is) is) (watching_places n (suc i) r ws)
+
+-- no place
+no_places : (p : ℕ → Bool) (n i : ℕ) → ((j : ℕ) → p j ≡ false) → places p n i ≡ []
+no_places p zero i none = refl
+no_places p (suc n) i none = ap (λ b. cond b (i ∷ places p n (suc i)) (places p n (suc i))) (none i) ∙ no_places p n (suc i) none
+
+-- the first place, and then those of a test that holds at the others alone
+first_place : (p q : ℕ → Bool) (k n i : ℕ) → i ≤ k → k < i + n → p k ≡ true → q k ≡ false → ((j : ℕ) → j < k → p j ≡ false) → ((j : ℕ) → j < i + n → j ≢ k → q j ≡ p j)
+    → places p n i ≡ k ∷ places q n i
+first_place p q k zero i l m here gone before same = absurd (omega (arith, l, m))
+first_place p q k (suc n) i l m here gone before same =
+    cases (λ less. first_place p q k n (suc i) (omega (arith, less)) (omega (arith, m)) here gone before (λ j b o. same j (omega (arith, b)) o)) (nat_eq i k) refl
+  where
+    cases : (i < k → places p n (suc i) ≡ k ∷ places q n (suc i)) → (b : Bool) → nat_eq i k ≡ b → places p (suc n) i ≡ k ∷ places q (suc n) i
+    cases next true e =
+        let at : i ≡ k = eqb-true i k e in
+        let later : places p n (suc i) ≡ places q n (suc i) = same_places p q n (suc i) (λ j a b. sym (same j (omega (arith, b)) (λ s. absurd (omega (arith, a, at, s))))) in
+        ap (λ b. cond b (i ∷ places p n (suc i)) (places p n (suc i))) (ap p at ∙ here)
+        ∙ (λ x. at x ∷ later x)
+        ∙ ap (λ b. k ∷ cond b (i ∷ places q n (suc i)) (places q n (suc i))) (sym (ap q at ∙ gone))
+    cases next false e =
+        let other : i ≢ k = λ s. both_ways (nat_eq i k) e (ap (nat_eq i) (sym s) ∙ eq-eqb i i refl) in
+        let less : i < k = omega (arith, l, other) in
+        let off : p i ≡ false = before i less in
+        let still : q i ≡ false = same i (omega arith) other ∙ off in
+        ap (λ b. cond b (i ∷ places p n (suc i)) (places p n (suc i))) off
+        ∙ next less
+        ∙ ap (λ b. k ∷ cond b (i ∷ places q n (suc i)) (places q n (suc i))) (sym still)
+
+-- these roles, by their bits
+abbrev pub roles_of : ℕ → List ℕ
+roles_of roles = places (has_bit roles) 64 0
+
+-- those whose bit is 1 watch
+pub watchers_are : (roles : ℕ) (r : Ref) (ws : List Watch) → AreWatchers roles r ws → watchers_from 64 0 r ws ≡ roles_of roles
+watchers_are roles r ws watch = watching_places 64 0 r ws ∙ same_places (λ j. has_watch r j ws) (has_bit roles) 64 0 (λ j a b. watch j b)
+
+-- where no bit is 1
+pub no_roles : roles_of 0 ≡ []
+no_roles = no_places (has_bit 0) 64 0 (λ j. ap (λ n. nat_eq n 1) (bit_at-zero j))
+
+-- the first role is taken away: what is left is less, and the roles are the first one and what is left
+module _ (roles : ℕ) (some : 0 < roles) (small : roles < 2 ^ 64) where
+  abbrev first : ℕ
+  first = trailing_zeros w64 roles
+
+  abbrev left : ℕ
+  left = bit_and roles (bit_not w64 (1 * 2 ^ first % 2 ^ 64))
+
+  gone : bit_at left first ≡ 0
+  gone = bit_at_clear_same w64 roles first (bit_at-trailing_zeros w64 roles some small).0
+
+  pub left_less : left < roles
+  left_less = cases (nat_eq left roles) refl
+    where
+      cases : (b : Bool) → nat_eq left roles ≡ b → left < roles
+      cases true e = absurd (let both : bit_at left first ≡ bit_at roles first = ap (λ x. bit_at x first) (eqb-true left roles e) in let set = (bit_at-trailing_zeros w64 roles some small).1 in omega (arith, both, set, gone))
+      cases false e =
+          let other : left ≢ roles = λ s. both_ways (nat_eq left roles) e (ap (nat_eq left) (sym s) ∙ eq-eqb left left refl) in
+          omega (arith, other, and_le_l roles (bit_not w64 (1 * 2 ^ first % 2 ^ 64)))
+
+  pub first_role : roles_of roles ≡ first ∷ roles_of left
+  first_role =
+      let lowest = bit_at-trailing_zeros w64 roles some small in
+      first_place (has_bit roles) (has_bit left) first 64 0 (omega arith) lowest.0 (ap (λ n. nat_eq n 1) lowest.1) (ap (λ n. nat_eq n 1) gone)
+      (λ j l. ap (λ n. nat_eq n 1) (lowest.2 j l))
+      (λ j l other. ap (λ n. nat_eq n 1) (bit_at_clear_other w64 roles first lowest.0 j l other))
+
+-- the loop over the roles that watch
+pub told_next : (tell : ℕ → Message) (before after whole : List Message) (k : ℕ) (is js : List ℕ) → js ≡ k ∷ is → after ≡ before ++ tell k ∷ [] → before ++ map tell js ≡ whole → after ++ map tell is ≡ whole
+told_next tell before after whole k is js e a b =
+    ap (λ ys. ys ++ map tell is) a
+    ∙ append_assoc before (tell k ∷ []) (map tell is)
+    ∙ ap (λ ks. before ++ map tell ks) (sym e)
     ∙ b
 
-unwatched_on : (bit : ℕ) → bit ≡ 0 → nat_eq bit 1 ≡ false
-unwatched_on bit e = ap (λ n. nat_eq n 1) e
-
--- where no bit is 1, no role watches
-pub none_watch : (n i : ℕ) (r : Ref) (ws : List Watch) → i + n ≤ 64 → AreWatchers 0 r ws → watchers_from n i r ws ≡ []
-none_watch zero i r ws few watch = refl
-none_watch (suc n) i r ws few watch =
-    let within : i < 64 = omega arith in
-    let rest : suc i + n ≤ 64 = omega arith in
-    let off : has_watch r i ws ≡ false = watch i within ∙ unwatched_on (bit_at 0 i) (bit_at-zero i) in
-    ap (λ b. cond b (i ∷ watchers_from n (suc i) r ws) (watchers_from n (suc i) r ws)) off ∙ none_watch n (suc i) r ws rest watch
-
--- nothing is sent where no bit is 1
-pub told_none : (tell : ℕ → Message) (sent : List Message) (most roles : ℕ) (r : Ref) (ws : List Watch) → most ≤ 64 → roles ≡ 0 → AreWatchers roles r ws
-    → sent ≡ sent ++ map tell (watchers_from most 0 r ws)
-told_none tell sent most roles r ws few e watch =
-    let within : 0 + most ≤ 64 = omega arith in
-    sym (append-nil sent) ∙ ap (λ is. sent ++ map tell is) (sym (none_watch most 0 r ws within (subst (λ n. AreWatchers n r ws) e watch)))
+-- all of them were told
+pub told_all : (tell : ℕ → Message) (sent whole : List Message) (rest : ℕ) → rest ≡ 0 → sent ++ map tell (roles_of rest) ≡ whole → sent ≡ whole
+told_all tell sent whole rest e b = sym (append-nil sent) ∙ ap (λ is. sent ++ map tell is) (sym (ap roles_of e ∙ no_roles)) ∙ b
 
 one_more : {M : Type 0} (xs ys : List M) → xs ++ ys ≡ (xs ++ []) ++ ys
 one_more xs zs = ap (λ ys. ys ++ zs) (sym (append-nil xs))

@@ -32,7 +32,8 @@ insert_cases g true b r s ss ts here all more = and_from _ _ here all
 insert_cases g false true r s ss ts here all more = all
 insert_cases g false false r s ss ts here all more = and_from _ _ (and_parts (ref_ok g s) _ all).0 more
 
-inserted : (g : Grammar) (r : Ref) (ss : List Ref) → ref_ok g r ≡ true → refs_ok g ss ≡ true → refs_ok g (insert_ref r ss) ≡ true
+-- a valid reference among valid ones
+pub inserted : (g : Grammar) (r : Ref) (ss : List Ref) → ref_ok g r ≡ true → refs_ok g ss ≡ true → refs_ok g (insert_ref r ss) ≡ true
 inserted g r [] here all = and_from _ _ here refl
 inserted g r (s ∷ ss) here all = insert_cases g (ref_lt r s) (ref_eq r s) r s ss (insert_ref r ss) here all (inserted g r ss here (and_parts (ref_ok g s) _ all).1)
 
@@ -48,7 +49,8 @@ pub filtered : (g : Grammar) (p : Ref → Bool) (rs : List Ref) → refs_ok g rs
 filtered g p [] all = refl
 filtered g p (r ∷ rs) all = let (x, y) = and_parts (ref_ok g r) _ all in keep_cases g (p r) r (filter p rs) x (filtered g p rs y)
 
-body_mentions : (g : Grammar) (b : Body) → body_ok g b ≡ true → refs_ok g (mentions b) ≡ true
+-- the references of a valid body
+pub body_mentions : (g : Grammar) (b : Body) → body_ok g b ≡ true → refs_ok g (mentions b) ≡ true
 body_mentions g (Same r) ok = and_from _ _ ok refl
 body_mentions g (Is h rs) ok = (and_parts _ (refs_ok g rs) ok).1
 

@@ -13,7 +13,7 @@ use Rattle.aw_store.specs.declared.equation.Equation.{Equation}
 use Rattle.aw_react.specs.InOrder.{has_ref}
 use Rattle.aw_react.specs.Loads.{Given, may_give, given_on, next_given, walk}
 use Rattle.aw_react.specs.Sites.{Site}
-use Rattle.aw_site.specs.Senders.{Gives, GivesFirst, seen_with}
+use Rattle.aw_site.specs.Walks.{Gives, GivesFirst, seen_with}
 
 -- one more reference on the stack
 pub reverse-push : {A : Type 0} (xs ys : List A) (x : A) → ys ≡ xs ++ x ∷ [] → reverse ys ≡ x ∷ reverse xs

@@ -1,11 +1,13 @@
 -- What is put among the references to be asked for, one list after the other.
 use Rattle.std.proofs.Common.{◌≡◌, ℕ, ◌+◌, ◌-◌, ◌<◌, Bool, true, false, cond, List, [], ◌∷◌, ◌++◌, length, drop, get_or, map, nat_eq, filter, refl, ap, sym, subst, ◌∙◌, arith}
+use Rattle.std.specs.Prelude.{◌&&◌, not, is_none}
 use Rattle.std.proofs.lemmas.List.{append-nil}
 use Rattle.std.proofs.lemmas.List.Elements.{filter-append}
 use Rattle.aw_term.specs.Names.{Ref}
 use Rattle.aw_term.specs.Rules.{Grammar}
+use Rattle.aw_base.specs.ChoiceFits.{ref_ok}
 use Rattle.aw_grammar.specs.GrammarOf.{grammar_of}
-use Rattle.aw_store.specs.Equations.{mentions}
+use Rattle.aw_store.specs.Equations.{find, mentions}
 use Rattle.aw_store.specs.EquationView.{body_of, equation_of}
 use Rattle.aw_store.specs.declared.equation.Equation.{Equation}
 use Rattle.aw_store.specs.declared.facts.Facts.{Ghosts}
@@ -13,9 +15,10 @@ use Rattle.aw_apply.specs.Made.{Call}
 use Rattle.aw_joint.specs.Joint.{called_held}
 use Rattle.aw_react.specs.Asking.{all_mentions, all_inherited, is_wanted}
 use Rattle.aw_react.specs.Homes.{home}
-use Rattle.aw_react.specs.InOrder.{insert_ref, in_order}
+use Rattle.aw_react.specs.InOrder.{has_ref, insert_ref, in_order}
 use Rattle.aw_react.specs.Sites.{Site}
 use Rattle.aw_react.specs.Telling.{calls_in}
+use Rattle.aw_react.specs.ValidNames.{refs_ok}
 use Rattle.aw_subs.specs.declared.subs.Subs.{Subs}
 use Rattle.aw_site.specs.Holders.{ShowsAsked}
 use Rattle.aw_site.specs.Ordered.{AreInOrder}
@@ -24,6 +27,7 @@ use Rattle.aw_site.specs.Senders.{SendsAs}
 use Rattle.aw_site.specs.Wanting.{insert_each, PutsWanted}
 use Rattle.aw_site.specs.declared.sender.Sender.{Sender}
 use Rattle.aw_site.proofs.Ordering.{filtered_in_order, ordered_inserted}
+use Rattle.aw_site.proofs.SentNames.{inserted}
 use Rattle.aw_site.proofs.Steps.{drop_here}
 
 insert_each-append : (xs ys out : List Ref) → insert_each (xs ++ ys) out ≡ insert_each xs (insert_each ys out)
@@ -47,17 +51,32 @@ inherited_split g role c cs = in_cond (nat_eq (home g c.node) role)
     in_cond true = ap (λ rs. rs ++ all_inherited (calls_in g role cs)) (sym (append-nil c.inherited))
     in_cond false = refl
 
-module _ {F : Type 0} (f : Ghosts F) (sender : Sender F) (subs : Subs) where
+-- a reference of another role is wanted where it is not known here
+pub wanted_other : (g : Grammar) (s : Site) (r : Ref) (role : ℕ) (b : Bool) → s.role ≡ role → nat_eq (home g r.node) role ≡ false
+    → b ≡ (is_none (find s.equations r) && not (has_ref r s.asked)) → is_wanted g s r ≡ b
+wanted_other g s r role b same other e =
+    ap (λ n. not (nat_eq (home g r.node) n) && (is_none (find s.equations r) && not (has_ref r s.asked))) same
+    ∙ ap (λ x. not x && (is_none (find s.equations r) && not (has_ref r s.asked))) other
+    ∙ sym e
+
+-- a reference of this role is not
+pub wanted_own : (g : Grammar) (s : Site) (r : Ref) (role : ℕ) → s.role ≡ role → nat_eq (home g r.node) role ≡ true → is_wanted g s r ≡ false
+wanted_own g s r role same own =
+    ap (λ n. not (nat_eq (home g r.node) n) && (is_none (find s.equations r) && not (has_ref r s.asked))) same
+    ∙ ap (λ x. not x && (is_none (find s.equations r) && not (has_ref r s.asked))) own
+
+module _ {F : Type 0} (f : Ghosts F) (sender : Sender F f) (subs : Subs) where
   -- nothing is put
   pub puts_none : (rs : List Ref) → AreInOrder rs → PutsWanted f sender subs [] rs rs
-  puts_none rs up = record { ordered = up; put = λ s sends shows. refl }
+  puts_none rs up = record { ordered = up; put = λ s sends shows. refl; names = λ ok. ok }
 
   -- one reference is put, where it is wanted
-  pub puts_one : (r : Ref) (old new : List Ref) → AreInOrder old → new ≡ insert_ref r old
+  pub puts_one : (r : Ref) (old new : List Ref) → AreInOrder old → new ≡ insert_ref r old → ref_ok (grammar_of sender.grammar.now) r ≡ true
       → ((s : Site) → SendsAs f sender s → ShowsAsked subs s.asked → is_wanted (grammar_of sender.grammar.now) s r ≡ true) → PutsWanted f sender subs (r ∷ []) old new
-  puts_one r old new up e wanted = record {
+  puts_one r old new up e valid wanted = record {
     ordered = subst AreInOrder (sym e) (ordered_inserted r old up);
     put = λ s sends shows. e ∙ sym (ap (λ b. insert_each (cond b (r ∷ []) []) old) (wanted s sends shows));
+    names = λ ok. ap (refs_ok (grammar_of sender.grammar.now)) e ∙ inserted (grammar_of sender.grammar.now) r old valid ok;
   }
 
   -- a reference that is not wanted is left out
@@ -66,6 +85,19 @@ module _ {F : Type 0} (f : Ghosts F) (sender : Sender F) (subs : Subs) where
   puts_not r old up other = record {
     ordered = up;
     put = λ s sends shows. sym (ap (λ b. insert_each (cond b (r ∷ []) []) old) (other s sends shows));
+    names = λ ok. ok;
+  }
+
+  standing : (b : Bool) (r : Ref) (old : List Ref) → insert_ref r old ≡ old → old ≡ insert_each (cond b (r ∷ []) []) old
+  standing true r old e = sym e
+  standing false r old e = refl
+
+  -- a reference that stands there already is not put again
+  pub puts_standing : (r : Ref) (old : List Ref) → AreInOrder old → insert_ref r old ≡ old → PutsWanted f sender subs (r ∷ []) old old
+  puts_standing r old up e = record {
+    ordered = up;
+    put = λ s sends shows. standing (is_wanted (grammar_of sender.grammar.now) s r) r old e;
+    names = λ ok. ok;
   }
 
   -- the later references are put, and then those before them
@@ -78,6 +110,7 @@ module _ {F : Type 0} (f : Ghosts F) (sender : Sender F) (subs : Subs) where
         ∙ ap (insert_each (filter p xs)) (later.put s sends shows)
         ∙ sym (insert_each-append (filter p xs) (filter p ys) old)
         ∙ ap (λ zs. insert_each zs old) (sym (filter-append p xs ys));
+    names = λ ok. first.names (later.names ok);
   }
 
   -- one step of a loop from the last item to the first, where what items mention is what the first mentions before what the others mention

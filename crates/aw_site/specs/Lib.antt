@@ -1,5 +1,6 @@
 pub mod Views
 pub mod Holders
+pub mod Walks
 pub mod Senders
 pub mod Ordered
 pub mod Wanting

@@ -1,14 +1,16 @@
 //! What a site sends, and asks for, made before anything of the site changes.
-ghost use Rattle.std.specs.Prelude.{◌≡◌, ◌++◌, [], IfOk, map as list_map};
+ghost use Rattle.std.specs.Prelude.{◌≡◌, ◌++◌, [], true, IfOk, map as list_map};
 ghost use Rattle.aw_grammar.specs.GrammarOf.{grammar_of};
 ghost use Rattle.aw_store.specs.EquationView.{equation_of};
 ghost use Rattle.aw_msg.specs.MessageView.{message_of};
 ghost use Rattle.aw_react.specs.Asking.{all_mentions};
 ghost use Rattle.aw_react.specs.Sites as P;
+ghost use Rattle.aw_react.specs.ValidNames.{refs_ok, equations_ok, call_ok};
 ghost use Rattle.aw_site.specs.Holders.{ShowsAsked, ShowsWatchers};
 ghost use Rattle.aw_site.specs.Plans.{wanted_of, asks_for, made_mentions, told};
 ghost use Rattle.aw_site.specs.Senders.{SendsAs};
 ghost use Rattle.aw_site.specs.Views.{child_call};
+ghost use Rattle.aw_term.specs.WellFormed.{Each};
 
 use crate::sender::Sender;
 use aw_apply::Made;
@@ -26,8 +28,9 @@ pub struct Plan {
 }
 
 impl<'a, F: Facts> Sender<'a, F> {
-    /// What is sent behind these messages: questions for these references.
+    /// What is sent behind these messages: questions for these valid references.
     fn asking(&self, sent: Vec<Message>, wanted: Vec<Ref>) -> Result<Plan, AllocError>
+        requires { refs_ok (grammar_of self.now.grammar.now) wanted.items ≡ true }
         ensures wanted { IfOk result (λ p. p.wanted.items ≡ wanted.items) }
         ensures sent { IfOk result (λ p. (s : P.Site) → SendsAs ⟦<F as Facts>⟧ self.now s →
             list_map (message_of (grammar_of self.now.grammar.now)) p.sent.items
@@ -38,9 +41,11 @@ impl<'a, F: Facts> Sender<'a, F> {
         Ok(Plan { sent, wanted })
     }
 
-    /// What is sent where these equations and children were made here: calls of the children of other roles, tells of the equations that are
-    /// watched, and questions. The equations are those that come behind the store.
+    /// What is sent where these valid equations and children were made here: calls of the children of other roles, tells of the
+    /// equations that are watched, and questions. The equations are those that come behind the store.
     pub fn plan_made(&self, subs: &Subs, made: &Made) -> Result<Plan, AllocError>
+        requires equations { equations_ok (grammar_of self.now.grammar.now) (list_map equation_of made.now.equations) ≡ true }
+        requires children { Each (λ child. call_ok (grammar_of self.now.grammar.now) (child_call (grammar_of self.now.grammar.now) child) ≡ true) made.now.children }
         ensures wanted { IfOk result (λ p. (s : P.Site) → SendsAs ⟦<F as Facts>⟧ self.now s → ShowsAsked subs.now s.asked →
             p.wanted.items ≡ wanted_of (grammar_of self.now.grammar.now) s (made_mentions (grammar_of self.now.grammar.now) s
             (list_map equation_of made.now.equations) (list_map (child_call (grammar_of self.now.grammar.now)) made.now.children))) }
@@ -57,13 +62,15 @@ impl<'a, F: Facts> Sender<'a, F> {
         self.asking(sent, wanted)
     }
 
-    /// What is sent where a node with these references and these equations came: questions.
+    /// What is sent where a node with these valid references and these valid equations came: questions.
     pub fn plan_came(
         &self,
         subs: &Subs,
         inherited: &[Ref],
         es: &[Equation],
     ) -> Result<Plan, AllocError>
+        requires inherited { refs_ok (grammar_of self.now.grammar.now) inherited.now ≡ true }
+        requires equations { equations_ok (grammar_of self.now.grammar.now) (list_map equation_of es.now) ≡ true }
         ensures wanted { IfOk result (λ p. (s : P.Site) → SendsAs ⟦<F as Facts>⟧ self.now s → ShowsAsked subs.now s.asked →
             p.wanted.items ≡ wanted_of (grammar_of self.now.grammar.now) s (inherited.now ++ all_mentions (list_map equation_of es.now))) }
         ensures sent { IfOk result (λ p. (s : P.Site) → SendsAs ⟦<F as Facts>⟧ self.now s →

@@ -18,7 +18,7 @@ ghost use Rattle.aw_site.specs.Doing.{IsPlanned};
 ghost use Rattle.aw_site.specs.Judged.{IsFresh};
 ghost use Rattle.aw_site.specs.Sendable.{all_short};
 ghost use Rattle.aw_site.specs.Shown.{HoldsAs, Shows};
-ghost use Rattle.aw_site.specs.Senders.{listed};
+ghost use Rattle.aw_site.specs.Walks.{listed};
 ghost use Rattle.aw_site.specs.Views.{kind_of};
 ghost use Rattle.aw_term.specs.Rules as T;
 ghost use Rattle.aw_apply.specs.Messages.{carried};
@@ -57,6 +57,7 @@ fn plan_answer<'g, F: Facts>(
     r: &Ref,
     from: u16,
 ) -> Result<Plan, AllocError>
+    requires { g.now.grammar ≡ space.now.accepted.now.grammar }
     ensures nothing { IfOk result (λ p. p.wanted.items ≡ []) }
     ensures plan { IfOk result (λ p. (s : P.Site) → s.role ≡ space.now.role → s.loads ≡ loads → s.equations ≡ F.map space.now.facts →
         IsPlanned (grammar_of g.now.grammar) (watching s r.now from) (plain_react (grammar_of g.now.grammar) s (Asks r.now from)) p) }
@@ -125,7 +126,7 @@ fn inherited_by(alloc: Global, call: Option<&Placing>) -> Result<Refs, AllocErro
     }
 }
 
-/// What is sent where a call, if there is one, and equations come.
+/// What is sent where a call, if there is one, and equations come, all of which are valid.
 fn plan_came<'g, F: Facts>(
     alloc: Global,
     g: &Accepted,
@@ -135,7 +136,9 @@ fn plan_came<'g, F: Facts>(
     call: Option<&Placing>,
     es: &Equations,
 ) -> Result<Plan, AllocError>
-    requires { g.now.grammar ≡ space.now.accepted.now.grammar }
+    requires grammar { g.now.grammar ≡ space.now.accepted.now.grammar }
+    requires call { MayBeCalledIf (grammar_of g.now.grammar) space.now.role (called_by (grammar_of g.now.grammar) (option_copied call)) }
+    requires ok { MayBeLearnt (grammar_of g.now.grammar) space.now.role (list_map equation_of es.now) }
     ensures { IfOk result (λ p. (s : P.Site) → HoldsAs ⟦<F as Facts>⟧ space.now subs.now loads s → IsPlanned (grammar_of g.now.grammar)
         (holding s (called_by (grammar_of g.now.grammar) (option_copied call.entry)) (list_map equation_of es.now))
         (came (grammar_of g.now.grammar) s (called_by (grammar_of g.now.grammar) (option_copied call.entry)) (list_map equation_of es.now)) p) }

@@ -1,16 +1,20 @@
 //! What a role sends by, and the loads of its messages.
-ghost use Rattle.std.specs.Prelude.{◌≡◌, ◌++◌, List, Option, None, true, IfOk, OnOk, reverse, option_map, map as list_map};
+ghost use Rattle.std.specs.Prelude.{◌≡◌, ◌++◌, List, Option, None, true, IfOk, IfSome, OnOk, nat_eq, reverse, option_map, map as list_map};
 ghost use Rattle.std.specs.Option.{option_copied};
+ghost use Rattle.aw_base.specs.ChoiceFits.{ref_ok};
 ghost use Rattle.aw_grammar.specs.GrammarOf.{grammar_of};
 ghost use Rattle.aw_name.specs.declared.node.Ref.{Ref as RefName};
 ghost use Rattle.aw_store.specs.Equations.{find, mentions};
 ghost use Rattle.aw_store.specs.EquationView.{body_of, equation_of};
+ghost use Rattle.aw_react.specs.Homes.{home};
 ghost use Rattle.aw_react.specs.InOrder.{has_ref};
 ghost use Rattle.aw_react.specs.Loads.{Given, may_give, given_on, next_given, walk, load_of};
 ghost use Rattle.aw_react.specs.Sites as P;
+ghost use Rattle.aw_react.specs.ValidNames.{body_ok, refs_ok, equations_ok};
+ghost use Rattle.aw_site.specs.Walks.{Gives, GivesFirst, listed, seen_with};
 
 use crate::finding::{body_in_both, is_behind};
-use crate::validity::home;
+use crate::validity::valid_home;
 use aw_base::Grammar;
 use aw_name::{Ref, copy_ref};
 use aw_store::{Body, Equation, Equations, Facts};
@@ -21,7 +25,7 @@ use std::alloc::{AllocError, Global};
 const MOST_LOADED: usize = 64;
 
 /// What a role sends by: its grammar, its number, whether its messages carry loads, its store, and equations that are to come behind those of
-/// the store.
+/// the store. All of these equations are valid.
 #[derive(Drop)]
 pub struct Sender<'a, F: Facts> {
     pub alloc: Global,
@@ -30,6 +34,7 @@ pub struct Sender<'a, F: Facts> {
     pub loads: bool,
     pub facts: &'a F,
     pub more: &'a [Equation],
+    pub ghost valid: { equations_ok (grammar_of grammar.now) (F.map facts.now ++ list_map equation_of more.now) ≡ true },
 }
 
 /// Adds copies of references so that the first is the last.
@@ -73,25 +78,36 @@ fn is_seen(first: Option<&Ref>, load: &[Equation], r: &Ref) -> bool
     is_first(first, r) || is_behind(load, r)
 }
 
-ghost use Rattle.aw_site.specs.Senders.{SendsAs, Gives, GivesFirst, listed, seen_with};
-
 impl<'a, F: Facts> Sender<'a, F> {
-    /// Whether a reference may give its equation to a load: it is this role's, and no left side in the message yet.
+    ghost use Rattle.aw_site.specs.Senders.{SendsAs};
+
+    /// Whether a valid reference is this role's. Only the last step of its name is looked at.
+    pub fn is_own(&self, r: &Ref) -> bool
+        requires { ref_ok (grammar_of self.now.grammar.now) r.now ≡ true }
+        ensures { result ≡ nat_eq (home (grammar_of self.now.grammar.now) r.now.node) self.now.role }
+    {
+        valid_home(self.grammar, &r.node) == self.role
+    }
+
+    /// Whether a valid reference may give its equation to a load: it is this role's, and no left side in the message yet.
     fn may_give(&self, first: Option<&Ref>, load: &[Equation], r: &Ref) -> bool
+        requires { ref_ok (grammar_of self.now.grammar.now) r.now ≡ true }
         ensures { (s : P.Site) → SendsAs ⟦<F as Facts>⟧ self.now s →
             result ≡ may_give (grammar_of self.now.grammar.now) s (seen_with load.now (listed (option_copied first.entry))) r.now }
     {
-        home(self.grammar, &r.node) == self.role && !is_seen(first, load, r)
+        self.is_own(r) && !is_seen(first, load, r)
     }
 
-    /// A copy of the body that a reference gives to a load, where it may give one and has an equation here.
+    /// A copy of the body that a valid reference gives to a load, where it may give one and has an equation here. It is valid.
     fn given(
         &self,
         first: Option<&Ref>,
         load: &[Equation],
         r: &Ref,
     ) -> Result<Option<Body>, AllocError>
-        ensures { IfOk result (λ body. (s : P.Site) → SendsAs ⟦<F as Facts>⟧ self.now s → (rs : List RefName) (later : Option Given) →
+        requires { ref_ok (grammar_of self.now.grammar.now) r.now ≡ true }
+        ensures valid { IfOk result (λ body. IfSome body (λ b. body_ok (grammar_of self.now.grammar.now) (body_of b) ≡ true)) }
+        ensures gives { IfOk result (λ body. (s : P.Site) → SendsAs ⟦<F as Facts>⟧ self.now s → (rs : List RefName) (later : Option Given) →
             given_on (may_give (grammar_of self.now.grammar.now) s (seen_with load.now (listed (option_copied first.entry))) r.now) r.now (find s.equations r.now) rs later
             ≡ given_on true r.now (option_map body_of body) rs later) }
     {
@@ -102,7 +118,8 @@ impl<'a, F: Facts> Sender<'a, F> {
         }
     }
 
-    /// The equation of a reference, where it gives one to a load; the references of its body are then looked at before those that stand there.
+    /// The equation of a valid reference, where it gives one to a load; the references of its body are then looked at before those that
+    /// stand there, and are valid too.
     fn give(
         &self,
         first: Option<&Ref>,
@@ -110,6 +127,8 @@ impl<'a, F: Facts> Sender<'a, F> {
         stack: &mut Vec<Ref>,
         r: Ref,
     ) -> Result<Option<Equation>, AllocError>
+        requires { ref_ok (grammar_of self.now.grammar.now) r ≡ true }
+        ensures valid { OnOk result (refs_ok (grammar_of self.now.grammar.now) (reverse stack.old.items) ≡ true → refs_ok (grammar_of self.now.grammar.now) (reverse stack.new.items) ≡ true) }
         ensures gives { IfOk result (λ e. (s : P.Site) → SendsAs ⟦<F as Facts>⟧ self.now s → (later : Option Given) →
             GivesFirst (given_on (may_give (grammar_of self.now.grammar.now) s (seen_with load.now (listed (option_copied first.entry))) r) r (find s.equations r) (reverse stack.old.items) later)
             later e (reverse stack.new.items)) }
@@ -124,15 +143,17 @@ impl<'a, F: Facts> Sender<'a, F> {
         }
     }
 
-    /// The next equation of a load. The references that are to be looked at stand with the next one last; those that give nothing are taken away,
-    /// and where one gives its equation, the references of its body are put in its place.
+    /// The next equation of a load. The valid references that are to be looked at stand with the next one last; those that give nothing
+    /// are taken away, and where one gives its equation, the references of its body are put in its place.
     fn next_given(
         &self,
         first: Option<&Ref>,
         load: &[Equation],
         stack: &mut Vec<Ref>,
     ) -> Result<Option<Equation>, AllocError>
-        ensures { IfOk result (λ e. (s : P.Site) → SendsAs ⟦<F as Facts>⟧ self.now s →
+        requires { refs_ok (grammar_of self.now.grammar.now) (reverse stack.old.items) ≡ true }
+        ensures valid { IfOk result (λ e. IfSome e (λ x. refs_ok (grammar_of self.now.grammar.now) (reverse stack.new.items) ≡ true)) }
+        ensures gives { IfOk result (λ e. (s : P.Site) → SendsAs ⟦<F as Facts>⟧ self.now s →
             Gives (next_given (grammar_of self.now.grammar.now) s (seen_with load.now (listed (option_copied first.entry))) (reverse stack.old.items)) e (reverse stack.new.items)) }
     {
         while let Some(r) = stack.pop() {
@@ -143,13 +164,14 @@ impl<'a, F: Facts> Sender<'a, F> {
         Ok(None)
     }
 
-    /// The equations that references lead to, depth first, a number of them at most.
+    /// The equations that valid references lead to, depth first, a number of them at most.
     fn walk(
         &self,
         first: Option<&Ref>,
         refs: &[Ref],
         most: usize,
     ) -> Result<Vec<Equation>, AllocError>
+        requires { refs_ok (grammar_of self.now.grammar.now) refs.now ≡ true }
         ensures load { IfOk result (λ load. (s : P.Site) → SendsAs ⟦<F as Facts>⟧ self.now s →
             list_map equation_of load.items ≡ walk most (grammar_of self.now.grammar.now) s (listed (option_copied first.entry)) refs.now) }
     {
@@ -165,9 +187,10 @@ impl<'a, F: Facts> Sender<'a, F> {
         Ok(load)
     }
 
-    /// The load of a message with these references: the equations that they lead to, depth first, where this role sends loads. The given
-    /// reference is a left side in the message already.
+    /// The load of a message with these valid references: the equations that they lead to, depth first, where this role sends loads. The
+    /// given reference is a left side in the message already.
     pub fn load(&self, first: Option<&Ref>, refs: &[Ref]) -> Result<Equations, AllocError>
+        requires { refs_ok (grammar_of self.now.grammar.now) refs.now ≡ true }
         ensures { IfOk result (λ load. (s : P.Site) → SendsAs ⟦<F as Facts>⟧ self.now s →
             list_map equation_of load ≡ load_of (grammar_of self.now.grammar.now) s (listed (option_copied first.entry)) refs.now) }
     {

@@ -1,17 +1,19 @@
 //! Equations for the roles that asked for them.
-ghost use Rattle.std.specs.Prelude.{◌≡◌, ◌≤◌, ◌<◌, ◌++◌, ◌∷◌, [], IfOk, OnOk, map as list_map, option_map, if◌then◌else◌};
+ghost use Rattle.std.specs.Prelude.{◌≡◌, ◌<◌, ◌++◌, ◌∷◌, [], true, IfOk, OnOk, map as list_map, option_map};
+ghost use Rattle.std.specs.Int.{trailing_zeros, w64};
 ghost use Rattle.aw_grammar.specs.GrammarOf.{grammar_of};
 ghost use Rattle.aw_store.specs.Equations.{find, mentions};
 ghost use Rattle.aw_store.specs.EquationView.{body_of, equation_of};
 ghost use Rattle.aw_msg.specs.MessageView.{message_of};
 ghost use Rattle.aw_react.specs.Loads.{load_of};
 ghost use Rattle.aw_react.specs.Sites as P;
-ghost use Rattle.aw_react.specs.Telling.{has_watch, watchers_from, tell, tells, tell_back};
+ghost use Rattle.aw_react.specs.Telling.{watchers_from, tell, tells, tell_back};
+ghost use Rattle.aw_react.specs.ValidNames.{body_ok, equation_ok, equations_ok};
 ghost use Rattle.aw_site.specs.Holders.{AreWatchers, ShowsWatchers};
-ghost use Rattle.aw_site.specs.Senders.{SendsAs, listed};
+ghost use Rattle.aw_site.specs.Senders.{SendsAs};
+ghost use Rattle.aw_site.specs.Walks.{listed};
 
 use crate::finding::body_in_both;
-use crate::known::is_among;
 use crate::sender::Sender;
 use aw_msg::{Message, MsgKind};
 use aw_name::{Ref, copy_ref};
@@ -19,12 +21,19 @@ use aw_store::{Body, Equation, Equations, Facts, copy_equation};
 use aw_subs::Subs;
 use std::alloc::AllocError;
 
-/// The most roles of a grammar.
-const MOST_ROLES: u16 = 64;
+/// The first of some roles, of which each has one bit.
+fn first_of(roles: u64) -> u16
+    requires { 0 < roles }
+    ensures first { result ≡ trailing_zeros w64 roles }
+    ensures few { result < 64 }
+{
+    roles.trailing_zeros() as u16
+}
 
 impl<'a, F: Facts> Sender<'a, F> {
-    /// The load of an equation.
+    /// The load of a valid equation.
     fn load_of_body(&self, left: &Ref, body: &Body) -> Result<Equations, AllocError>
+        requires { body_ok (grammar_of self.now.grammar.now) (body_of body.now) ≡ true }
         ensures { IfOk result (λ load. (s : P.Site) → SendsAs ⟦<F as Facts>⟧ self.now s →
             list_map equation_of load ≡ load_of (grammar_of self.now.grammar.now) s (left.now ∷ []) (mentions (body_of body.now))) }
     {
@@ -35,8 +44,9 @@ impl<'a, F: Facts> Sender<'a, F> {
         }
     }
 
-    /// An equation for a role, with its load.
+    /// A valid equation for a role, with its load.
     fn tell(&self, e: &Equation, role: u16) -> Result<Message, AllocError>
+        requires { equation_ok (grammar_of self.now.grammar.now) (equation_of e.now) ≡ true }
         ensures { IfOk result (λ m. (s : P.Site) → SendsAs ⟦<F as Facts>⟧ self.now s →
             message_of (grammar_of self.now.grammar.now) m ≡ tell (grammar_of self.now.grammar.now) s (equation_of e.now) role) }
     {
@@ -45,60 +55,41 @@ impl<'a, F: Facts> Sender<'a, F> {
         Message::new(self.alloc, role, MsgKind::Tell { equation, load })
     }
 
-    /// Adds an equation for a role, where that is one of those that watch its left side.
-    fn push_told_one(
-        &self,
-        sent: &mut Vec<Message>,
-        watchers: u64,
-        e: &Equation,
-        role: u16,
-    ) -> Result<(), AllocError>
-        requires { role < 64 }
-        ensures { OnOk result ((s : P.Site) → SendsAs ⟦<F as Facts>⟧ self.now s → AreWatchers watchers e.now.left s.watchers →
-            list_map (message_of (grammar_of self.now.grammar.now)) sent.new.items ≡ list_map (message_of (grammar_of self.now.grammar.now)) sent.old.items
-            ++ (if has_watch e.now.left role s.watchers then tell (grammar_of self.now.grammar.now) s (equation_of e.now) role ∷ [] else [])) }
-    {
-        if is_among(watchers, role) {
-            sent.push(self.tell(e, role)?)?;
-        }
-        Ok(())
-    }
-
-    /// Adds an equation for each role below a number that is one of those that watch its left side, in the order of roles.
+    /// Adds a valid equation for each of the roles that watch its left side, in the order of roles.
     fn push_told(
         &self,
         sent: &mut Vec<Message>,
         watchers: u64,
         e: &Equation,
-        most: u16,
     ) -> Result<(), AllocError>
-        requires { most ≤ 64 }
+        requires { equation_ok (grammar_of self.now.grammar.now) (equation_of e.now) ≡ true }
         ensures { OnOk result ((s : P.Site) → SendsAs ⟦<F as Facts>⟧ self.now s → AreWatchers watchers e.now.left s.watchers →
             list_map (message_of (grammar_of self.now.grammar.now)) sent.new.items ≡ list_map (message_of (grammar_of self.now.grammar.now)) sent.old.items
-            ++ list_map (tell (grammar_of self.now.grammar.now) s (equation_of e.now)) (watchers_from most 0 e.now.left s.watchers)) }
+            ++ list_map (tell (grammar_of self.now.grammar.now) s (equation_of e.now)) (watchers_from 64 0 e.now.left s.watchers)) }
     {
-        if watchers == 0 {
-            return Ok(());
-        }
-        for role in 0..most {
-            self.push_told_one(sent, watchers, e, role)?;
+        let mut rest = watchers;
+        'telling: while rest != 0 {
+            let role = first_of(rest);
+            rest &= !(1u64 << role);
+            sent.push(self.tell(e, role)?)?;
         }
         Ok(())
     }
 
-    /// Adds each equation for each role that watches its left side.
+    /// Adds each valid equation for each role that watches its left side.
     pub fn push_tells(
         &self,
         sent: &mut Vec<Message>,
         subs: &Subs,
         es: &[Equation],
     ) -> Result<(), AllocError>
+        requires { equations_ok (grammar_of self.now.grammar.now) (list_map equation_of es.now) ≡ true }
         ensures { OnOk result ((s : P.Site) → SendsAs ⟦<F as Facts>⟧ self.now s → ShowsWatchers subs.now s.watchers →
             list_map (message_of (grammar_of self.now.grammar.now)) sent.new.items ≡ list_map (message_of (grammar_of self.now.grammar.now)) sent.old.items
             ++ tells (grammar_of self.now.grammar.now) s (list_map equation_of es.now)) }
     {
         for e in es {
-            self.push_told(sent, subs.watchers_of(&e.left), e, MOST_ROLES)?;
+            self.push_told(sent, subs.watchers_of(&e.left), e)?;
         }
         Ok(())
     }

@@ -12,17 +12,10 @@ ghost use Rattle.aw_site.specs.Parents.{home_before};
 ghost use Rattle.aw_site.specs.Views.{kind_of};
 ghost use Rattle.aw_space.specs.Spaces.{call_of};
 
-use aw_base::{Grammar, content_ok, home_of, home_of_valid, ref_ok, role_of, sort_of};
+use aw_base::{Grammar, content_ok, home_of_valid, ref_ok, role_of, sort_of};
 use aw_msg::{Message, MsgKind};
 use aw_name::{Node, Ref, Step};
 use aw_store::{Body, Equation};
-
-/// The role at which a node is worked on; 0 where its name is not valid.
-pub fn home(g: &Grammar, n: &Node) -> u16
-    ensures { result ≡ home (grammar_of g.now) n.now }
-{
-    home_of(g, n).unwrap_or(0)
-}
 
 /// The role at which a node with a valid name is worked on. Only its last step is looked at.
 pub fn valid_home(g: &Grammar, n: &Node) -> u16

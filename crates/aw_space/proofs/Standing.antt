@@ -20,7 +20,6 @@ use Rattle.aw_grammar.specs.GrammarOf.{grammar_of}
 use Rattle.aw_grammar.specs.GrammarView.{rule_of}
 use Rattle.aw_grammar.proofs.RuleSizes.{patterns_taken, leaves_few}
 use Rattle.aw_store.specs.Equations.{Map}
-use Rattle.aw_store.specs.NamedRefs.{all_named}
 use Rattle.aw_apply.specs.Telling.{weighed_of}
 use Rattle.aw_apply.specs.declared.telling.Weighed.{Weighed}
 use Rattle.aw_apply.specs.declared.telling.Weighed.TheVariants as weighed
@@ -31,15 +30,9 @@ use Rattle.aw_held.specs.InOrder.{place_in}
 use Rattle.aw_held.proofs.HeldViews.{held_here}
 use Rattle.aw_joint.specs.Joint.{by_rule, by_held}
 use Rattle.aw_react.specs.ValidNames.{takes_as}
-use Rattle.aw_space.specs.Sound.{is_own, all_own, all_inherited}
+use Rattle.aw_space.specs.Sound.{is_own, all_own}
 use Rattle.aw_space.specs.Spaces.{is_home}
 use Rattle.aw_space.specs.Weighing.{Weighs}
-use Rattle.aw_space.proofs.Names.{all_named-left, all_named-right}
-
-pub named_here : (ns : List Ref) (hs : List Held) (i : ℕ) (h : Held) → all_named ns (all_inherited hs) ≡ true → slice_get hs i ≡ Some h → all_named ns h.inherited ≡ true
-named_here ns [] i h all e = absurd cc
-named_here ns (x ∷ xs) zero h all e = let s : x ≡ h = cc in subst (λ (y : Held). all_named ns y.inherited ≡ true) s (all_named-left ns x.inherited (all_inherited xs) all)
-named_here ns (x ∷ xs) (suc i) h all e = named_here ns xs i h (all_named-right ns x.inherited (all_inherited xs) all) e
 
 own_here : (g : P.Grammar) (role : ℕ) (hs : List Held) (i : ℕ) (h : Held) → all_own g role hs ≡ true → slice_get hs i ≡ Some h → is_own g role h ≡ true
 own_here g role [] i h all e = absurd cc

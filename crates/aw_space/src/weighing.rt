@@ -7,7 +7,7 @@ ghost use Rattle.aw_term.specs.WellFormed.{all_leaves, all_nesting};
 ghost use Rattle.aw_grammar.specs.declared.rule.Sort.{Sort as SortValue};
 ghost use Rattle.aw_grammar.specs.GrammarView.{rule_of};
 ghost use Rattle.aw_grammar.specs.GrammarOf.{grammar_of};
-ghost use Rattle.aw_store.specs.NamedRefs.{all_named};
+ghost use Rattle.aw_store.specs.NamedRefs.{AreNamed};
 ghost use Rattle.aw_term.specs.Held as P;
 ghost use Rattle.aw_held.specs.HeldView.{held_of, all_of};
 ghost use Rattle.aw_joint.specs.Joint.{by_rule, by_held, outcome_in};
@@ -52,10 +52,11 @@ fn weigh_standing<F: Facts, L: Ledger>(
     facts: &F,
     rule: &Rule,
     held: &Held,
+    slots: &[usize],
     stands: Standing,
     steps: &mut Steps<L>,
 ) -> Result<Weighed, AllocError>
-    requires named { all_named (F.names facts.now) held.now.inherited ≡ true }
+    requires named { AreNamed (F.names facts.now) slots.now held.now.inherited }
     requires same { length rule.now.patterns ≡ length held.now.inherited }
     requires few { length rule.now.patterns ≤ 8 }
     requires shallow { all_nesting (join (map pattern_of rule.now.patterns)) ≤ 32 }
@@ -69,7 +70,7 @@ fn weigh_standing<F: Facts, L: Ledger>(
     match refused_by(stands) {
         Some(answer) => Ok(Weighed::Refused(answer)),
         None => {
-            let tested = test_rule(alloc, facts, rule, held.inherited.as_slice(), steps)?;
+            let tested = test_rule(alloc, facts, rule, slots, steps)?;
             Ok(weigh_guard(&held.node, rule, tested))
         }
     }
@@ -82,11 +83,12 @@ fn weigh_rule<F: Facts, L: Ledger>(
     rule: &Rule,
     sort: u16,
     held: &Held,
+    slots: &[usize],
     args: &[Ground],
     stands: Standing,
     steps: &mut Steps<L>,
 ) -> Result<Weighed, AllocError>
-    requires named { all_named (F.names facts.now) held.now.inherited ≡ true }
+    requires named { AreNamed (F.names facts.now) slots.now held.now.inherited }
     requires same { rule.now.sort ≡ sort → length rule.now.patterns ≡ length held.now.inherited }
     requires few { length rule.now.patterns ≤ 8 }
     requires shallow { all_nesting (join (map pattern_of rule.now.patterns)) ≤ 32 }
@@ -105,7 +107,7 @@ fn weigh_rule<F: Facts, L: Ledger>(
     if args.len() != usize::from(rule.params) {
         return Ok(Weighed::Refused(Answer::Arguments));
     }
-    weigh_standing(alloc, facts, rule, held, stands, steps)
+    weigh_standing(alloc, facts, rule, held, slots, stands, steps)
 }
 
 /// A declared rule at a held node, where it stands so if that is open and of its sort.
@@ -114,6 +116,7 @@ fn weigh_at<F: Facts, L: Ledger>(
     grammar: &Grammar,
     facts: &F,
     held: &Held,
+    slots: &[usize],
     number: u16,
     args: &Grounds,
     stands: Standing,
@@ -121,7 +124,7 @@ fn weigh_at<F: Facts, L: Ledger>(
 ) -> Result<Weighed, AllocError>
     requires takes { takes_as (grammar_of grammar.now) (sort_of (grammar_of grammar.now) held.now.node) held.now.inherited ≡ true }
     requires declared { is_some (slice_get grammar.now.rules number) ≡ true }
-    requires named { all_named (F.names facts.now) held.now.inherited ≡ true }
+    requires named { AreNamed (F.names facts.now) slots.now held.now.inherited }
     requires stands { StandsAt (grammar_of grammar.now) (F.map facts.now) held.now number stands }
     ensures room { IfOk result (λ w. HasRoomFor grammar.now number held.now.node w) }
     ensures value { IfOk result (λ w. Weighs (grammar_of grammar.now) number w
@@ -141,6 +144,7 @@ fn weigh_at<F: Facts, L: Ledger>(
                 rule,
                 sort,
                 held,
+                slots,
                 args.as_slice(),
                 stands,
                 steps,
@@ -180,6 +184,7 @@ pub fn weigh<F: Facts, L: Ledger>(
                 grammar,
                 facts,
                 held.at(at),
+                kept.slots(at),
                 number,
                 args,
                 stands,

@@ -1,5 +1,5 @@
 -- What is noted of references, after one entry was written.
-use Rattle.std.proofs.Common.{◌≡◌, ◌≢◌, ℕ, ◌<◌, ◌≤◌, Bool, true, false, cond, Option, Some, is_some, ap, sym, ◌∙◌, refl, subst, nat_eq, get_or, eq-eqb, w64}
+use Rattle.std.proofs.Common.{◌≡◌, ◌≢◌, ℕ, ◌<◌, ◌≤◌, Bool, true, false, cond, Option, None, Some, is_some, ap, sym, ◌∙◌, refl, subst, nat_eq, get_or, eq-eqb, w64}
 use Rattle.std.specs.Prelude.{◌||◌, ◌&&◌, ◌+◌, ◌*◌, ◌%◌, ◌^◌, List, [], ◌∷◌, ◌++◌, All, length, take, Result, Ok, Err, OnOk, OnErr, bit_or}
 use Rattle.std.specs.HashMap.{HashMap, get}
 use Rattle.std.specs.Int.Bits.{or_zero_l, or_zero_r}
@@ -12,7 +12,7 @@ use Rattle.aw_term.specs.Names.{Ref, ref_eq}
 use Rattle.aw_name.specs.SameRefs.{ref_same}
 use Rattle.aw_term.proofs.RefTests.{ref_eq-true, ref_eq-self}
 use Rattle.aw_subs.specs.declared.subs.Sub.{Sub}
-use Rattle.aw_subs.specs.Entries.{entry_of, asked_in, watchers_in, has_bit, amended, Writes}
+use Rattle.aw_subs.specs.Entries.{entry_of, entry_or, asked_in, watchers_in, has_bit, amended, Writes}
 
 -- an entry, found by the equality that is derived in the program
 pub entry_derived : {S : Type 0} (m : HashMap Ref Sub S) (r : Ref) → get (reference.ghosts).eq m r ≡ entry_of m r
@@ -26,6 +26,10 @@ pub writes_derived : {S : Type 0} (m n : HashMap Ref Sub S) (k : Ref) (w : Sub) 
 writes_derived m n k w writes q =
     sym (entry_derived n q) ∙ writes q ∙ (λ i. cond (ref_same k q i) (Some w) (entry_derived m q i))
 
+-- the same where the entry stays that was there
+pub written_or : {S : Type 0} (m n : HashMap Ref Sub S) (k : Ref) → WritesDerived m n k (entry_or (get (reference.ghosts).eq m k)) → Writes m n k (entry_or (entry_of m k))
+written_or m n k writes = writes_derived m n k (entry_or (entry_of m k)) (subst (λ (o : Option Sub). WritesDerived m n k (entry_or o)) (entry_derived m k) writes)
+
 -- an entry to which no watchers are added has the same, and one that is not asked for now stands as it did
 pub same_watchers : (s : Sub) (asked : Bool) → watchers_in (Some s) ≡ watchers_in (Some (amended s asked 0))
 same_watchers s asked = sym (or_zero_r s.watchers)
@@ -36,6 +40,14 @@ same_asked s bits = cases s.asked
     cases : (b : Bool) → b ≡ (b || false)
     cases true = refl
     cases false = refl
+
+pub or_asked : (o : Option Sub) → asked_in o ≡ asked_in (Some (entry_or o))
+or_asked None = refl
+or_asked (Some s) = refl
+
+pub or_watchers : (o : Option Sub) → watchers_in o ≡ watchers_in (Some (entry_or o))
+or_watchers None = refl
+or_watchers (Some s) = refl
 
 -- what is written after entries that are the same
 pub writes_after : {S : Type 0} (m n p : HashMap Ref Sub S) (k : Ref) (w : Sub) → ((q : Ref) → entry_of n q ≡ entry_of m q) → Writes n p k w → Writes m p k w

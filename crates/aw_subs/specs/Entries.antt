@@ -19,6 +19,11 @@ abbrev pub watchers_in : Option Sub → ℕ
 watchers_in None = 0
 watchers_in (Some s) = s.watchers
 
+-- the entry, or that of a reference that was not asked for and that nobody watches
+abbrev pub entry_or : Option Sub → Sub
+entry_or None = record { asked = false; watchers = 0 }
+entry_or (Some s) = s
+
 -- the reference was asked for
 abbrev pub is_asked : {S : Type 0} → HashMap Ref Sub S → Ref → Bool
 is_asked m r = asked_in (entry_of m r)

@@ -2,7 +2,7 @@
 ghost use Rattle.std.specs.Prelude.{◌≡◌, ℕ, ◌<◌, true, false, not, ◌||◌, ◌&&◌, nat_eq, IfOk, IfSome, OnOk, OnErr, IsOk, None, All};
 ghost use Rattle.aw_name.specs.declared.node.Ref.{Ref as RefName};
 ghost use Rattle.aw_term.specs.Names.{ref_eq};
-ghost use Rattle.aw_subs.specs.Entries.{is_asked, watches, watchers, is_ready, entry_of, amended, Writes};
+ghost use Rattle.aw_subs.specs.Entries.{is_asked, watches, watchers, is_ready, entry_of, entry_or, amended, Writes};
 
 use aw_name::{Ref, copy_ref};
 use std::alloc::{AllocError, Global};
@@ -57,6 +57,15 @@ fn add(subs: &mut HashMap<Ref, Sub>, r: &Ref, sub: Sub) -> Result<(), AllocError
     ensures err { OnErr result ((x : RefName) → entry_of subs.new x ≡ entry_of subs.old x) }
 {
     subs.insert(copy_ref(r)?, sub)?;
+    Ok(())
+}
+
+/// Gives a reference an entry, where it has none. It is looked for once. An error changes nothing.
+fn admit(subs: &mut HashMap<Ref, Sub>, r: &Ref) -> Result<(), AllocError>
+    ensures ok { OnOk result (Writes subs.old subs.new r.now (entry_or (entry_of subs.old r.now))) }
+    ensures err { OnErr result ((x : RefName) → entry_of subs.new x ≡ entry_of subs.old x) }
+{
+    subs.entry(copy_ref(r)?)?.or_insert(NOTHING);
     Ok(())
 }
 
@@ -144,10 +153,7 @@ impl Subs {
         ensures kept { (x : RefName) → is_ready self.old.subs x ≡ true → is_ready self.new.subs x ≡ true }
         ensures ready { OnOk result (is_ready self.new.subs r.now ≡ true) }
     {
-        match noted(&self.subs, r) {
-            Some(_) => Ok(()),
-            None => add(&mut self.subs, r, NOTHING),
-        }
+        admit(&mut self.subs, r)
     }
 
     /// Makes these references ready. It changes neither what was asked for nor the watchers; after an error some of them may be ready.

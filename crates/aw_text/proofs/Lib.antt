@@ -1,4 +1,6 @@
+pub mod ByteRuns
 pub mod Cuts
+pub mod NameCuts
 pub mod NodeNames
 pub mod Numbers
 pub mod Quotes

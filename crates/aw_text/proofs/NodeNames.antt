@@ -1,26 +1,26 @@
 -- A node name that is printed is read again.
-use Rattle.std.proofs.Common.{◌≡◌, ℕ, suc, ◌+◌, ◌-◌, ◌^◌, ◌≤◌, ◌<◌, refl, sym, ◌∙◌, ap, inl, inr, Bool, true, false, cond, not, ◌==◌, ◌&&◌, ◌||◌, List, [], ◌∷◌, ◌++◌, map, length, arith, Option, Some, None, option_map, option_and_then, nat_le, nat_lt, append_assoc, append-nil}
+use Rattle.std.proofs.Common.{◌≡◌, ℕ, suc, ◌+◌, ◌-◌, ◌^◌, ◌≤◌, ◌<◌, refl, sym, ◌∙◌, ap, inl, inr, Bool, true, false, cond, not, ◌==◌, ◌&&◌, ◌||◌, List, [], ◌∷◌, ◌++◌, map, length, arith, Option, Some, None, is_some, option_map, option_and_then, nat_le, nat_lt, append_assoc, append-nil}
 use Rattle.std.proofs.lemmas.Bool.{not-true, and_parts, ltb-true, eq-eqb}
 use Rattle.std.proofs.lemmas.Bool.Decides.{nat_tests, eqb_tells}
 use Rattle.std.proofs.lemmas.List.Folds.{list_all-append}
 use Rattle.std.specs.List.{list_all}
 use Rattle.std.specs.Fmt.{decimal}
-use Rattle.aw_text.specs.Spelling.{cut, with_front, is_name, is_name_byte, is_digit, is_letter, is_step, has_spelling, spelled_steps, spelled_name, parts, parts_of_name, name_from, start_of, step_of, steps_of, child_of, number_of}
+use Rattle.aw_text.specs.Spelling.{cut, with_front, is_name, is_name_byte, is_digit, is_letter, is_step, has_spelling, spelled_steps, spelled_name, parts, parts_of_name, name_from, start_of, step_of, steps_of, child_of, number_of, node_name, is_numeral, if_word, value_after}
 use Rattle.aw_text.proofs.Cuts.{split_after, split_by_cut}
-use Rattle.aw_text.proofs.Numbers.{number_again, decimal_digits}
+use Rattle.aw_text.proofs.Numbers.{numeral_digits, number_again, decimal_digits}
 
 -- no byte is the mark
 abbrev pub lacks : ℕ → List ℕ → Bool
 lacks mark bs = list_all (λ b. not (b == mark)) bs
 
-cut_here : (mark : ℕ) (front rest : List ℕ) → lacks mark front ≡ true → cut mark (front ++ mark ∷ rest) ≡ Some (front, rest)
+pub cut_here : (mark : ℕ) (front rest : List ℕ) → lacks mark front ≡ true → cut mark (front ++ mark ∷ rest) ≡ Some (front, rest)
 cut_here mark [] rest h = ap (λ t. cond t (Some ([], rest)) (option_map (with_front mark) (cut mark rest))) (eq-eqb mark mark refl)
 cut_here mark (b ∷ bs) rest h =
     let each = and_parts (not (b == mark)) (lacks mark bs) h in
     ap (λ t. cond t (Some ([], bs ++ mark ∷ rest)) (option_map (with_front b) (cut mark (bs ++ mark ∷ rest)))) (not-true (b == mark) each.0)
     ∙ ap (option_map (with_front b)) (cut_here mark bs rest each.1)
 
-cut_nowhere : (mark : ℕ) (bs : List ℕ) → lacks mark bs ≡ true → cut mark bs ≡ None
+pub cut_nowhere : (mark : ℕ) (bs : List ℕ) → lacks mark bs ≡ true → cut mark bs ≡ None
 cut_nowhere mark [] h = refl
 cut_nowhere mark (b ∷ bs) h =
     let each = and_parts (not (b == mark)) (lacks mark bs) h in
@@ -31,7 +31,7 @@ cut_nowhere mark (b ∷ bs) h =
 differs : (test : ℕ → Bool) (mark b : ℕ) → test mark ≡ false → test b ≡ true → not (b == mark) ≡ true
 differs test mark b fails holds = elim (eqb_tells b mark) [ inl p ↦ absurd (cc (ap test p.1, fails, holds)) | inr p ↦ ap not p.0 ]
 
-all_differ : (test : ℕ → Bool) (mark : ℕ) (bs : List ℕ) → test mark ≡ false → list_all test bs ≡ true → lacks mark bs ≡ true
+pub all_differ : (test : ℕ → Bool) (mark : ℕ) (bs : List ℕ) → test mark ≡ false → list_all test bs ≡ true → lacks mark bs ≡ true
 all_differ test mark [] fails h = refl
 all_differ test mark (b ∷ bs) fails h =
     let each = and_parts (test b) (list_all test bs) h in
@@ -49,6 +49,44 @@ name_bytes (b ∷ bs) h =
 
 name_lacks : (mark : ℕ) (bs : List ℕ) → is_name_byte mark ≡ false → is_name bs ≡ true → lacks mark bs ≡ true
 name_lacks mark bs fails h = all_differ is_name_byte mark bs fails (name_bytes bs h)
+
+-- Bytes of names alone are no node name.
+no_start : (bs : List ℕ) → list_all is_name_byte bs ≡ true → start_of bs ≡ None
+no_start bs h =
+    let read : List ℕ × List ℕ → Option (List ℕ × ℕ) =
+    λ halves. cond (is_name halves.0) (option_map (λ n. (halves.0, n)) (number_of halves.1)) None in
+    ap (option_and_then read) (cut_nowhere 35 bs (all_differ is_name_byte 35 bs refl h))
+
+pub plain_is_no_node : (bs : List ℕ) → list_all is_name_byte bs ≡ true → node_name bs ≡ false
+plain_is_no_node bs h =
+    let whole : List ℕ × ℕ → Option (List ℕ × ℕ × List (List ℕ × ℕ)) =
+    λ s. option_map (λ trail. (s.0, s.1, trail)) (steps_of []) in
+    ap (λ xs. is_some (name_from xs)) (split_by_cut 47 bs ∙ ap (split_after 47 bs) (cut_nowhere 47 bs (all_differ is_name_byte 47 bs refl h)))
+    ∙ ap (λ o. is_some (option_and_then whole o)) (no_start bs h)
+
+-- And bytes of which one stands in no name are no name and no number.
+digit_is_byte : (b : ℕ) → is_digit b ≡ true → is_name_byte b ≡ true
+digit_is_byte b h = elim (is_letter b) as (λ t. ((t || is_digit b) || b == 95) ≡ true) [ true ↦ refl | false ↦ ap (λ t. t || b == 95) h ]
+
+digits_are_bytes : (bs : List ℕ) → list_all is_digit bs ≡ true → list_all is_name_byte bs ≡ true
+digits_are_bytes [] h = refl
+digits_are_bytes (b ∷ bs) h =
+    let each = and_parts (is_digit b) (list_all is_digit bs) h in
+    ap (λ t. t && list_all is_name_byte bs) (digit_is_byte b each.0) ∙ digits_are_bytes bs each.1
+
+if_no_name : (bs : List ℕ) (t : Bool) → is_name bs ≡ t → list_all is_name_byte bs ≡ false → t ≡ false
+if_no_name bs true e h = absurd (cc (name_bytes bs e, h))
+if_no_name bs false e h = refl
+
+pub joined_is_no_name : (bs : List ℕ) → list_all is_name_byte bs ≡ false → is_name bs ≡ false
+joined_is_no_name bs h = if_no_name bs (is_name bs) refl h
+
+if_no_numeral : (bs : List ℕ) (t : Bool) → is_numeral bs ≡ t → list_all is_name_byte bs ≡ false → t ≡ false
+if_no_numeral bs true e h = absurd (cc (digits_are_bytes bs (numeral_digits bs e), h))
+if_no_numeral bs false e h = refl
+
+pub joined_is_no_number : (bs : List ℕ) → list_all is_name_byte bs ≡ false → number_of bs ≡ None
+joined_is_no_number bs h = ap (λ t. cond t (if_word (value_after 0 bs)) None) (if_no_numeral bs (is_numeral bs) refl h)
 
 -- a part of a node name, and the parts of all steps
 abbrev step_part : List ℕ × ℕ → List ℕ

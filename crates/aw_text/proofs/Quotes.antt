@@ -2,7 +2,7 @@
 use Rattle.std.proofs.Common.{◌≡◌, ℕ, ◌+◌, ◌<◌, refl, sym, ◌∙◌, ap, Bool, true, false, cond, List, [], ◌∷◌, ◌++◌, take, drop, length, arith, Option, Some, None, option_map, option_and_then, nat_le, ◌==◌, suc, subst, inl, inr, ◌&&◌, ◌||◌, not, IfSome, IfOk, Result, Ok, Err, flat_map, append_assoc, length-append}
 use Rattle.std.proofs.lemmas.Bool.{lt-leb, and_parts}
 use Rattle.std.proofs.lemmas.Bool.Decides.{nat_tests, eqb_tells}
-use Rattle.std.specs.List.{list_all}
+use Rattle.std.specs.List.{list_all, prefix_len}
 use Rattle.aw_text.specs.Pieces.{run_len, with_run}
 use Rattle.aw_text.specs.Spelling.{with_front, content_before_quote, text_behind_quote, whole, unquoted, quoted, spelled, escaped, stands_for_itself, is_content, is_content_byte}
 
@@ -60,6 +60,13 @@ whole_run front run None = refl
 whole_run front run (Some text) =
     let same : length front + length (run ++ text.0) ≡ length (front ++ run) + length text.0 = omega (arith, length-append front run, length-append run text.0) in
     λ i. cond (nat_le (same i) 1024) (whole (sym (append_assoc front run text.0) i, text.1)) None
+
+-- as many bytes as come before the first that does not
+pub run_prefix : (bs : List ℕ) → run_len bs ≡ prefix_len stands_for_itself bs
+run_prefix [] = refl
+run_prefix (b ∷ bs) =
+    let one_more : suc (run_len bs) ≡ 1 + prefix_len stands_for_itself bs = omega (arith, run_prefix bs) in
+    ap (λ n. cond (stands_for_itself b) n 0) one_more
 
 no_run : (o : Option (List ℕ × List ℕ)) → o ≡ option_map (with_run []) o
 no_run None = refl

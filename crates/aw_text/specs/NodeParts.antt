@@ -1,8 +1,12 @@
 -- What the code takes off a node name, and what is still to be read.
-use Rattle.std.specs.Prelude.{ℕ, List, [], ◌∷◌, Option, None, option_map, option_copied}
+use Rattle.std.specs.Prelude.{ℕ, List, [], ◌∷◌, Option, Some, None, option_map, option_and_then, option_copied, if◌then◌else◌}
 use Rattle.aw_text.specs.declared.node_name.NodeStart.{NodeStart}
 use Rattle.aw_text.specs.declared.node_name.StepPart.{StepPart}
-use Rattle.aw_text.specs.Spelling.{start_of, step_of, steps_of, parts_behind}
+use Rattle.aw_text.specs.Spelling.{is_name, start_of, step_of, steps_of, parts_behind}
+
+-- two halves of which the first is a name
+abbrev pub if_named : Option (List ℕ × List ℕ) → Option (List ℕ × List ℕ)
+if_named o = option_and_then (λ halves. if is_name halves.0 then Some halves else None) o
 
 -- the whole name, where this is its start
 abbrev pub begins : NodeStart → Option (List ℕ × ℕ × List (List ℕ × ℕ))

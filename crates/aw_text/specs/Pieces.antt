@@ -1,8 +1,13 @@
 -- One piece of what stands behind an opening quote.
-use Rattle.std.specs.Prelude.{ℕ, suc, ◌<◌, ◌≤◌, ◌+◌, ◌++◌, length, List, [], ◌∷◌, Option, Some, None, option_map, if◌then◌else◌}
+use Rattle.std.specs.Prelude.{ℕ, suc, ◌<◌, ◌≤◌, ◌+◌, ◌++◌, length, ◌==◌, List, [], ◌∷◌, Option, Some, None, option_map, if◌then◌else◌}
+use Rattle.std.specs.Int.{w64, trailing_zeros}
 use Rattle.aw_text.specs.declared.quote.Piece.{Piece}
 use Rattle.aw_text.specs.declared.quote.Piece.TheVariants.{Close, Byte, Run, Broken}
 use Rattle.aw_text.specs.Spelling.{content_before_quote, with_front, stands_for_itself}
+
+-- the place of the lowest bit of a mask, or 16 where none is set
+abbrev pub first_set : ℕ → ℕ
+first_set mask = if mask == 0 then 16 else trailing_zeros w64 mask
 
 -- how many bytes at the front stand for themselves
 abbrev pub run_len : List ℕ → ℕ

@@ -2,17 +2,18 @@
 #![tactic(auto)]
 
 mod cut;
+mod lanes;
 mod name;
 mod node_name;
 mod number;
 mod quote;
 
 pub use cut::cut_at;
-pub use name::{content_ok, name_ok};
+pub use name::{content_ok, is_plain_name, name_len, name_ok};
 pub use node_name::{
     NodeStart, StepPart, is_node_name, next_step, node_start, spelled_name_is_read,
 };
-pub use number::{number_value, printed_is_read, push_number};
+pub use number::{is_number, number_value, printed_is_read, push_number};
 pub use quote::{content_value, push_quoted, quoted_is_read, text_end};
 
 #[cfg(test)]

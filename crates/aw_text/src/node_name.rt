@@ -1,10 +1,10 @@
 //! Names of nodes, as `visit#1/admit.1`: a start sort, the number of a case, and steps of a rule and a child.
-ghost use Rattle.std.specs.Prelude.{◌≡◌, ◌<◌, ◌∷◌, ℕ, List, Some, IsTrue, length, is_some, option_map, option_and_then, option_copied, IfSome};
-ghost use Rattle.aw_text.specs.Spelling.{start_of, step_of, steps_of, child_of, parts, parts_behind, parts_of_name, node_name, has_spelling, spelled_name};
-ghost use Rattle.aw_text.specs.NodeParts.{begins, leads, start_in, step_in, behind_first};
+ghost use Rattle.std.specs.Prelude.{◌≡◌, ◌<◌, ◌∷◌, ℕ, List, Some, IsTrue, false, length, is_some, option_map, option_and_then, option_copied, IfSome};
+ghost use Rattle.aw_text.specs.Spelling.{cut, is_name_byte, start_of, step_of, steps_of, child_of, parts, parts_behind, parts_of_name, node_name, has_spelling, spelled_name};
+ghost use Rattle.aw_text.specs.NodeParts.{if_named, begins, leads, start_in, step_in, behind_first};
 
 use crate::cut::cut_at;
-use crate::name::name_ok;
+use crate::name::{is_plain_name, name_len};
 use crate::number::number_value;
 
 /// The start of a node name, and the bytes behind its first slash, which are steps still to be read.
@@ -34,13 +34,32 @@ fn first_part(bytes: &[u8]) -> (&[u8], Option<&[u8]>)
     }
 }
 
+/// The bytes before the first `mark`, where they are a name, and those behind it. Nothing is looked at behind the first byte that
+/// may not stand in a name.
+fn cut_name(bytes: &[u8], mark: u8) -> Option<(&[u8], &[u8])>
+    requires { is_name_byte mark ≡ false }
+    ensures { option_map (λ x. (x.0.now, x.1.now)) result ≡ if_named (cut mark bytes.now) }
+{
+    let len = name_len(bytes);
+    if len == bytes.len() {
+        return None;
+    }
+    if bytes[len] != mark {
+        return None;
+    }
+    let (name, behind) = bytes.split_at(len);
+    let (_, rest) = behind.split_at(1);
+    if is_plain_name(name) {
+        Some((name, rest))
+    } else {
+        None
+    }
+}
+
 fn start_of(part: &[u8]) -> Option<(&[u8], u64)>
     ensures { option_map (λ x. (x.0.now, x.1)) result ≡ start_of part.now }
 {
-    let (name, number) = cut_at(part, b'#')?;
-    if !name_ok(name) {
-        return None;
-    }
+    let (name, number) = cut_name(part, b'#')?;
     let case = number_value(number)?;
     Some((name, case))
 }
@@ -57,10 +76,7 @@ fn child_of(digits: &[u8]) -> Option<u8>
 fn step_of(part: &[u8]) -> Option<(&[u8], u8)>
     ensures { option_map (λ x. (x.0.now, x.1)) result ≡ step_of part.now }
 {
-    let (rule, digit) = cut_at(part, b'.')?;
-    if !name_ok(rule) {
-        return None;
-    }
+    let (rule, digit) = cut_name(part, b'.')?;
     let child = child_of(digit)?;
     Some((rule, child))
 }

@@ -1,5 +1,5 @@
 //! Numbers: `0`, or digits without a leading zero, below 2 ^ 64.
-ghost use Rattle.std.specs.Prelude.{◌≡◌, ◌≤◌, ◌+◌, ◌-◌, ◌*◌, ◌++◌, ◌^◌, ◌<◌, ℕ, Some, OnOk, OnErr, decimal};
+ghost use Rattle.std.specs.Prelude.{◌≡◌, ◌≤◌, ◌+◌, ◌-◌, ◌*◌, ◌++◌, ◌^◌, ◌<◌, ℕ, Some, OnOk, OnErr, is_some, decimal};
 ghost use Rattle.aw_text.specs.Spelling.{is_numeral, number_of, if_word};
 
 use crate::name::{are_digits, is_digit};
@@ -36,6 +36,20 @@ pub fn number_value(b: &[u8]) -> Option<u64>
         value = with_digit(value, *digit)?;
     }
     Some(value)
+}
+
+/// The most digits that always write a number below 2 ^ 64.
+const SURE_DIGITS: usize = 19;
+
+/// Whether the bytes spell a number.
+pub fn is_number(b: &[u8]) -> bool
+    ensures { result ≡ is_some (number_of b.now) }
+{
+    let len = b.len();
+    if len > SURE_DIGITS {
+        return number_value(b).is_some();
+    }
+    is_numeral(b)
 }
 
 /// Adds a number of several digits. An error changes nothing.

@@ -1,9 +1,11 @@
 //! Texts between quotes.
-ghost use Rattle.std.specs.Prelude.{◌≡◌, ◌++◌, ◌<◌, ◌≤◌, length, ℕ, List, Some, IsTrue, OnOk, OnErr, IfOk, IfSome, option_map, option_and_then, option_copied};
+ghost use Rattle.std.specs.Prelude.{◌≡◌, ◌++◌, ◌+◌, ◌<◌, ◌≤◌, length, drop, ℕ, List, Some, IsTrue, OnOk, OnErr, IfOk, IfSome, option_map, option_and_then, option_copied};
 ghost use Rattle.std.specs.Io.{StartsWith};
+ghost use Rattle.std.specs.List.{prefix_len};
 ghost use Rattle.aw_text.specs.Spelling.{spelled, quoted, escaped, stands_for_itself, with_front, content_before_quote, text_behind_quote, unquoted, whole, is_content};
 ghost use Rattle.aw_text.specs.Pieces.{run_len, text_from, IsShorter, IsNoLonger};
 
+use crate::lanes::{LANES, plain_lanes};
 use crate::name::MOST_OF_CONTENT;
 use aw_list::Text;
 use std::alloc::{AllocError, Global};
@@ -30,10 +32,36 @@ fn escaped(code: u8) -> Option<u8>
     }
 }
 
+/// An `x` stands at the place of each byte that stands for itself between quotes, and a comma at every other place.
+static PLAIN_BYTES: [u8; 256] = *b"\
+    ,,,,,,,,,,,,,,,,,,,,,,,,,,,,,,,,\
+    xx,xxxxxxxxxxxxxxxxxxxxxxxxxxxxx\
+    xxxxxxxxxxxxxxxxxxxxxxxxxxxx,xxx\
+    xxxxxxxxxxxxxxxxxxxxxxxxxxxxxxx,\
+    xxxxxxxxxxxxxxxxxxxxxxxxxxxxxxxx\
+    xxxxxxxxxxxxxxxxxxxxxxxxxxxxxxxx\
+    xxxxxxxxxxxxxxxxxxxxxxxxxxxxxxxx\
+    xxxxxxxxxxxxxxxxxxxxxxxxxxxxxxxx";
+
 fn stands_for_itself(byte: u8) -> bool
     ensures { result ≡ stands_for_itself byte }
 {
-    byte >= b' ' && byte != b'"' && byte != b'\\' && byte != 127
+    PLAIN_BYTES[byte as usize] != b','
+}
+
+/// Where the bytes that stand for themselves end that go on at a place, byte by byte.
+fn run_end(bytes: &[u8], from: usize) -> usize
+    requires { from ≤ length bytes.now }
+    ensures { result ≡ from + prefix_len stands_for_itself (drop from bytes.now) }
+{
+    let mut end = from;
+    while end < bytes.len() {
+        if !stands_for_itself(bytes[end]) {
+            return end;
+        }
+        end += 1;
+    }
+    end
 }
 
 /// How many bytes at the front stand for themselves.
@@ -42,13 +70,14 @@ fn run_len(bytes: &[u8]) -> usize
     ensures within { result ≤ length bytes.now }
 {
     let mut len = 0;
-    for byte in bytes {
-        if !stands_for_itself(*byte) {
-            return len;
+    while bytes.len() - len >= LANES {
+        let run = plain_lanes(bytes, len);
+        if run < LANES {
+            return len + run;
         }
-        len += 1;
+        len += LANES;
     }
-    len
+    run_end(bytes, len)
 }
 
 fn escaped_piece<'a>(code: u8, rest: &'a [u8]) -> Piece<'a>
@@ -78,6 +107,9 @@ fn next_piece(bytes: &[u8]) -> Piece<'_>
     ensures value { content_before_quote bytes.now ≡ text_from result }
     ensures shorter { IsShorter result (length bytes.now) }
 {
+    if matches!(bytes, [b'"' | b'\\', ..]) {
+        return first_piece(bytes);
+    }
     let len = run_len(bytes);
     if len < 2 {
         return first_piece(bytes);

@@ -1,6 +1,7 @@
 use crate::{
-    content_ok, content_value, cut_at, is_node_name, name_ok, next_step, node_start, number_value,
-    printed_is_read, push_number, push_quoted, quoted_is_read, spelled_name_is_read, text_end,
+    content_ok, content_value, cut_at, is_node_name, is_number, name_len, name_ok, next_step,
+    node_start, number_value, printed_is_read, push_number, push_quoted, quoted_is_read,
+    spelled_name_is_read, text_end,
 };
 use aw_list::Text;
 
@@ -33,11 +34,13 @@ fn names_numbers_and_node_names(rt: HostRuntime) {
     for (bytes, name, number, node) in cases {
         assert_eq!(rt; name_ok(bytes), name);
         assert_eq!(rt; number_value(bytes), number);
+        assert_eq!(rt; is_number(bytes), number.is_some());
         assert_eq!(rt; is_node_name(bytes), node);
     }
     printed_is_read();
     let long = [b'a'; 65];
     assert!(rt; !name_ok(&long));
+    assert!(rt; name_len(&long) == 65 && name_len(b"visit_1#2") == 7);
     assert!(rt; name_ok(long.as_slice().split_at(64).0));
 }
 

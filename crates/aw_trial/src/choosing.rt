@@ -14,6 +14,7 @@ use crate::rules::{params_of, rules_of};
 use crate::tally::Tally;
 use aw_base::sort_of;
 use aw_choice::{Answer, Choice};
+use aw_list::Counted;
 use aw_name::{Node, copy_node};
 use aw_term::{Ground, Grounds};
 use aw_world::{Move, Reply, Workspace, World};
@@ -24,6 +25,25 @@ fn is_taken(reply: &Reply) -> bool
     ensures { result ≡ replies_taken (reply_of reply.now) }
 {
     matches!(reply, Reply::Choice(Answer::Taken))
+}
+
+/// Makes a choice that has memory of its own, and counts it.
+fn make_counted<W: Workspace>(
+    world: &mut World<W>,
+    tally: &mut Tally,
+    choice: Counted<Choice>,
+) -> Result<(), AllocError>
+    requires ok { choice_ok (plain_of world.old) (choice_of choice) ≡ true }
+    requires room { AreUpTo 1000000 tally.old }
+    ensures accepted { world.new.accepted.now ≡ world.old.accepted.now }
+    ensures loads { world.new.loads ≡ world.old.loads }
+    ensures does { OnOk result (Does ⟦<W as Workspace>⟧ world.old tally.old world.new tally.new (make_choice (plain_of world.old) (choice_of choice))) }
+    ensures grows { OnOk result (AddsOne tally.old tally.new) }
+{
+    let reply = world.step(Move::Choose(choice))?;
+    tally.choices += 1;
+    tally.taken += u64::from(is_taken(&reply));
+    Ok(())
 }
 
 /// Makes a choice, and counts it.
@@ -39,10 +59,8 @@ fn make_choice<W: Workspace>(
     ensures does { OnOk result (Does ⟦<W as Workspace>⟧ world.old tally.old world.new tally.new (make_choice (plain_of world.old) (choice_of choice))) }
     ensures grows { OnOk result (AddsOne tally.old tally.new) }
 {
-    let reply = world.step(Move::Choose(choice))?;
-    tally.choices += 1;
-    tally.taken += u64::from(is_taken(&reply));
-    Ok(())
+    let choice = Counted::new(world.allocator(), choice)?;
+    make_counted(world, tally, choice)
 }
 
 /// The argument of a rule with so many parameters: where it has one, a number is drawn.

@@ -10,6 +10,7 @@ use crate::choosing::choose_some;
 use crate::drawing::draw;
 use crate::tally::Tally;
 use aw_choice::Choice;
+use aw_list::Counted;
 use aw_world::{Move, Reply, Workspace, World};
 use std::alloc::AllocError;
 
@@ -26,6 +27,7 @@ fn start_case<W: Workspace>(world: &mut World<W>, tally: &mut Tally) -> Result<(
         sort: 0,
         case: tally.starts,
     };
+    let start = Counted::new(world.allocator(), start)?;
     world.step(Move::Choose(start))?;
     tally.starts += 1;
     Ok(())

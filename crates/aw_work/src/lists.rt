@@ -12,7 +12,7 @@ const MOST: usize = 1 << 32;
 
 /// The places of the two neighbours.
 #[derive(Clone, Copy)]
-pub struct Link {
+struct Link {
     prev: u32,
     next: u32,
 }

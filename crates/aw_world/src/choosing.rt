@@ -15,6 +15,7 @@ use aw_accept::Accepted;
 use aw_base::{home_of, home_of_valid};
 use aw_choice::{Answer, Choice};
 use aw_grammar::Grammar;
+use aw_list::Counted;
 use aw_msg::Messages;
 use aw_name::{Node, Trail};
 use std::alloc::{AllocError, Global};
@@ -78,7 +79,7 @@ fn is_taken(answer: &Answer) -> bool
 }
 
 /// Adds a choice where it was taken; there is room for it.
-fn note(taken: &mut Vec<Choice>, choice: Choice, is_taken: bool)
+fn note(taken: &mut Vec<Counted<Choice>>, choice: Counted<Choice>, is_taken: bool)
     requires { vec_len taken.old < vec_capacity taken.old }
     ensures { taken.new.items ≡ (if is_taken then taken.old.items ++ choice ∷ [] else taken.old.items) }
 {
@@ -95,8 +96,8 @@ pub fn choose<W: Workspace>(
     accepted: &Accepted,
     sites: &mut Vec<W>,
     messages: &mut Messages,
-    taken: &mut Vec<Choice>,
-    choice: Choice,
+    taken: &mut Vec<Counted<Choice>>,
+    choice: Counted<Choice>,
 ) -> Result<Answer, AllocError>
     requires placed { ArePlaced ⟦<W as Workspace>⟧ accepted.now.grammar sites.old.items }
     requires ok { choice_ok (grammar_of accepted.now.grammar) (choice_of choice) ≡ true }
@@ -106,8 +107,9 @@ pub fn choose<W: Workspace>(
     ensures err { OnErr result (StaysSeenForAllDelivered ⟦<W as Workspace>⟧ accepted.now.grammar sites.old.items messages.old taken.old.items sites.new.items messages.new taken.new.items) }
 {
     taken.reserve(1)?;
-    let at = role_of(*sites.allocator(), accepted.grammar(), &choice);
-    let answer = choose_at(accepted, sites, usize::from(at), &choice, messages)?;
+    let made = choice.get();
+    let at = role_of(*sites.allocator(), accepted.grammar(), made);
+    let answer = choose_at(accepted, sites, usize::from(at), made, messages)?;
     let is_taken = is_taken(&answer);
     note(taken, choice, is_taken);
     Ok(answer)

@@ -18,6 +18,7 @@ use crate::moves::{Move, Reply};
 use crate::workspace::Workspace;
 use aw_accept::Accepted;
 use aw_choice::Choice;
+use aw_list::Counted;
 use aw_msg::{Message, Messages};
 use std::alloc::{AllocError, Global};
 
@@ -30,7 +31,7 @@ pub struct World<'g, W: Workspace> {
     pub(crate) sites: Vec<W>,
     pub(crate) messages: Messages,
     pub(crate) marks: Marks,
-    pub(crate) taken: Vec<Choice>,
+    pub(crate) taken: Vec<Counted<Choice>>,
     pub ghost placed: { ArePlaced ⟦<W as Workspace>⟧ accepted.now.grammar sites.items },
     pub ghost marked: { length marks.delivered.items ≤ length messages },
     pub ghost reached: { ∥ IsReached ⟦<W as Workspace>⟧ accepted.now.grammar loads sites.items messages marks.delivered.items taken.items ∥₁ },
@@ -42,7 +43,7 @@ fn step<W: Workspace>(
     sites: &mut Vec<W>,
     messages: &mut Messages,
     marks: &mut Marks,
-    taken: &mut Vec<Choice>,
+    taken: &mut Vec<Counted<Choice>>,
     event: Move,
 ) -> Result<Reply, AllocError>
     requires placed { ArePlaced ⟦<W as Workspace>⟧ accepted.now.grammar sites.old.items }

@@ -1,4 +1,4 @@
-use Rattle.std.proofs.Common.{◌≡◌, ◌+◌, ◌<◌, [], length, map, ap, sym, ◌∙◌, arith, suc}
+use Rattle.std.proofs.Common.{◌≡◌, ◌+◌, ◌<◌, [], length, map, refl, ap, sym, ◌∙◌, arith, suc}
 use Rattle.std.proofs.lemmas.Bool.{leb-true}
 use Rattle.std.proofs.lemmas.List.{length-map}
 use Rattle.std.proofs.lemmas.Option.{slice_get_within}
@@ -72,8 +72,19 @@ guard_con-returns-else-is_con-clause-step g t c = λ r f.
     end_differs k names c.args.slot c.in-Found.end bs q (chase k r) go (Con c.args.con) (length ps) r (c.in-Found.ensures r f) (sym c.is_con.ensures ∙ c.if-is_con.false)
     ∙ ap (λ n. and_then (Yes bs) (behind q (as_named (guard_end (chase k r) go (Con c.args.con) n r)))) (sym (count_join (map pattern_of ps) ∙ length-map ps pattern_of))
 
-pub guard_parts-guard_at-requires : goal.guard_parts-guard_at-requires
-guard_parts-guard_at-requires g t c κs within =
+pub guard_part-guard_at-requires : goal.guard_part-guard_at-requires
+guard_part-guard_at-requires g t c κs within =
+    (omega (arith, c.decreases), (within, (c.requires.live, (omega (arith, c.requires.shallow, c.push-in-Lit.ensures.length), c.requires.room))))
+
+pub guard_part-returns-in-Lit-clause-step : goal.guard_part-returns-in-Lit-clause-step
+guard_part-returns-in-Lit-clause-step g t c = λ r f.
+    let k = g.F.Facts.map c.args.f.now in
+    let names = g.F.Facts.names c.args.f.now in
+    c.guard_at.ensures.step r f
+    ∙ ap (λ z. and_then (Yes (names_at names c.args.bound.now)) (behind z (as_named (guard k (pattern_of c.args.part.now) r)))) c.push-in-Lit.ensures.steps
+
+pub guard_parts-guard_part-requires : goal.guard_parts-guard_part-requires
+guard_parts-guard_part-requires g t c κs within =
     let ps = c.args.parts.now in
     let i = c.loop-i.i in
     let p = c.index-parts-i.result in
@@ -83,8 +94,8 @@ guard_parts-guard_at-requires g t c κs within =
       (
         within,
         (
-          slice_get_within _ _ w.0 (c.child.ensures ∙ w.1),
-          (omega (arith, c.requires.shallow, nesting_at ps i p lt c.index-parts-i.is, c.push.ensures.length), omega (arith, c.loop-i.invariant.1, c.requires.room, leaves_at ps i p lt c.index-parts-i.is)),
+          slice_get_within _ _ w.0 (c.child-child.ensures ∙ w.1),
+          (omega (arith, c.requires.shallow, nesting_at ps i p lt c.index-parts-i.is), omega (arith, c.loop-i.invariant.1, c.requires.room, leaves_at ps i p lt c.index-parts-i.is)),
         ),
       ),
     )
@@ -101,9 +112,9 @@ guard_parts-returns-in_default g t c =
     let lt : i < length ps = c.loop-i-test.true in
     let w = name_at rs i (omega (arith, lt, c.requires.same)) in
     record {
-      step = sym (not_yes names c.guard_at.new.bound c.guard_at.result _ c.in_default.not-Yes)
-          ∙ one_more k q _ (i + 1) i ps rs p w.0 (names_at names c.loop-i.bound) _ _ lt c.index-parts-i.is w.1 c.push.ensures.steps (c.guard_at.ensures.step w.0 (c.child.ensures ∙ w.1)) c.loop-i.invariant.0;
-      room = omega (arith, c.loop-i.invariant.1, c.guard_at.ensures.room, leaves_at ps i p lt c.index-parts-i.is);
+      step = sym (not_yes names c.guard_part.new.bound c.guard_part.result _ c.in_default.not-Yes)
+          ∙ one_more k q _ (i + 1) i ps rs p w.0 (names_at names c.loop-i.bound) _ _ lt c.index-parts-i.is w.1 refl (c.guard_part.ensures.step w.0 (c.child-child.ensures ∙ w.1)) c.loop-i.invariant.0;
+      room = omega (arith, c.loop-i.invariant.1, c.guard_part.ensures.room, leaves_at ps i p lt c.index-parts-i.is);
     }
 
 pub guard_parts-loop-i-preserved : goal.guard_parts-loop-i-preserved
@@ -118,7 +129,7 @@ guard_parts-loop-i-preserved g t c =
     let lt : i < length ps = c.loop-i-test.true in
     let next : i + 1 + 1 ≡ suc (i + 1) = omega arith in
     let w = name_at rs i (omega (arith, lt, c.requires.same)) in (
-      ap (λ n. and_then (Yes (names_at names c.guard_at.new.bound)) (behind q (as_named (from k n (i + 1) ps rs)))) next
-          ∙ one_more k q _ (i + 1) i ps rs p w.0 (names_at names c.loop-i.bound) _ _ lt c.index-parts-i.is w.1 c.push.ensures.steps (c.in-Yes.ensures.step w.0 (c.child.ensures ∙ w.1)) c.loop-i.invariant.0,
-      omega (arith, c.loop-i.invariant.1, c.guard_at.ensures.room, leaves_at ps i p lt c.index-parts-i.is),
+      ap (λ n. and_then (Yes (names_at names c.guard_part.new.bound)) (behind q (as_named (from k n (i + 1) ps rs)))) next
+          ∙ one_more k q _ (i + 1) i ps rs p w.0 (names_at names c.loop-i.bound) _ _ lt c.index-parts-i.is w.1 refl (c.in-Yes.ensures.step w.0 (c.child-child.ensures ∙ w.1)) c.loop-i.invariant.0,
+      omega (arith, c.loop-i.invariant.1, c.guard_part.ensures.room, leaves_at ps i p lt c.index-parts-i.is),
     )

@@ -18,10 +18,13 @@ invariant-guard_parts-loop-i g l =
     × (length l.bound + length (all_leaves (join (map pattern_of (drop l.i l.parts)))) ≤ length l.fn.bound + length (all_leaves (join (map pattern_of l.parts))))
 
 abbrev pub decreases-guard_at : goal.decreases-guard_at
-decreases-guard_at g l = 3 * symbols (pattern_of l.pattern.now)
+decreases-guard_at g l = 4 * symbols (pattern_of l.pattern.now)
 
 abbrev pub decreases-guard_con : goal.decreases-guard_con
-decreases-guard_con g l = 3 * all_symbols (join (map pattern_of l.parts.now)) + 2
+decreases-guard_con g l = 4 * all_symbols (join (map pattern_of l.parts.now)) + 3
 
 abbrev pub decreases-guard_parts : goal.decreases-guard_parts
-decreases-guard_parts g l = 3 * all_symbols (join (map pattern_of l.parts.now)) + 1
+decreases-guard_parts g l = 4 * all_symbols (join (map pattern_of l.parts.now)) + 2
+
+abbrev pub decreases-guard_part : goal.decreases-guard_part
+decreases-guard_part g l = 4 * symbols (pattern_of l.part.now) + 1

@@ -2,9 +2,18 @@ use Rattle.std.proofs.Common.{◌+◌, ◌∙◌, ℕ, sym, ap, arith, drop}
 use Rattle.std.specs.Ordering.{ordering_then}
 use Rattle.std.specs.Cmp.Lexicographic.{slice_cmp}
 use Rattle.aw_name.specs.declared.node.Step.{Step}
-use Rattle.aw_name.specs.Steps.{step_cmp}
-use Rattle.aw_name.proofs.StepLoops.{begun, ended, decides, defers}
+use Rattle.aw_name.specs.Steps.{step_cmp, step_total}
+use Rattle.aw_name.proofs.StepLoops.{begun, ended, decides, defers, skipped, tied}
 use Rattle.aw_name.proofs.node.compare_steps.Goals as goal
+
+pub loop-i-init : goal.loop-i-init
+loop-i-init c =
+    let front = c.common_blocks-i in
+    record {
+      end = c.min-i-end.ensures;
+      within = omega (arith, c.min-i-end.ensures, front.ensures.first, front.ensures.second);
+      rest = skipped step_cmp (λ s. tied _ (step_total.antisymm s s)) c.args.a.now c.args.b.now front.result front.ensures.first front.ensures.second front.ensures.same;
+    }
 
 pub returns-then-is_ne : goal.returns-then-is_ne
 returns-then-is_ne c =

@@ -1,24 +1,20 @@
 use Rattle.std.proofs.Common.{sym, subst}
 use Rattle.std.specs.Prelude.{OnOk, OnErr}
-use Rattle.aw_sched.specs.declared.event.Event.TheVariants.{Choose}
 use Rattle.aw_sched.specs.Answers.{event_seen}
 use Rattle.aw_replay.specs.Telling.{Does, Tells, DoesSome}
 use Rattle.aw_replay.proofs.telling.tell.Goals as goal
 
 pub returns-in-Choose-clause-does : goal.returns-in-Choose-clause-does
 returns-in-Choose-clause-does g c =
-    subst (λ e. OnOk c.choice_lines.result (Does g.W.Workspace c.args.world.now c.choice_lines.new.world (event_seen e))) (sym c.in-Choose.is)
-    (subst (λ x. OnOk c.choice_lines.result (Does g.W.Workspace c.args.world.now c.choice_lines.new.world (event_seen (Choose x)))) c.get.ensures c.choice_lines.ensures.does)
+    subst (λ e. OnOk c.choice_lines.result (Does g.W.Workspace c.args.world.now c.choice_lines.new.world (event_seen e))) (sym c.in-Choose.is) c.choice_lines.ensures.does
 
 pub returns-in-Choose-clause-tells : goal.returns-in-Choose-clause-tells
 returns-in-Choose-clause-tells g c =
-    subst (λ e. OnOk c.choice_lines.result (Tells g.W.Workspace c.args.world.now (event_seen e) c.choice_lines.new.text)) (sym c.in-Choose.is)
-    (subst (λ x. OnOk c.choice_lines.result (Tells g.W.Workspace c.args.world.now (event_seen (Choose x)) c.choice_lines.new.text)) c.get.ensures c.choice_lines.ensures.tells)
+    subst (λ e. OnOk c.choice_lines.result (Tells g.W.Workspace c.args.world.now (event_seen e) c.choice_lines.new.text)) (sym c.in-Choose.is) c.choice_lines.ensures.tells
 
 pub returns-in-Choose-clause-some : goal.returns-in-Choose-clause-some
 returns-in-Choose-clause-some g c =
-    subst (λ e. OnErr c.choice_lines.result (DoesSome g.W.Workspace c.args.world.now c.choice_lines.new.world (event_seen e))) (sym c.in-Choose.is)
-    (subst (λ x. OnErr c.choice_lines.result (DoesSome g.W.Workspace c.args.world.now c.choice_lines.new.world (event_seen (Choose x)))) c.get.ensures c.choice_lines.ensures.some)
+    subst (λ e. OnErr c.choice_lines.result (DoesSome g.W.Workspace c.args.world.now c.choice_lines.new.world (event_seen e))) (sym c.in-Choose.is) c.choice_lines.ensures.some
 
 pub returns-in-Deliver-clause-does : goal.returns-in-Deliver-clause-does
 returns-in-Deliver-clause-does g c =

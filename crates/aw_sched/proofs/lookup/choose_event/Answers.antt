@@ -15,7 +15,7 @@ pub returns-after-chosen_args-clause-gives : goal.returns-after-chosen_args-clau
 returns-after-chosen_args-clause-gives c =
     let g = c.args.g.now in
     let n = c.args.node.now in
-    let args = map written_of c.args.args.now in
+    let args = map written_of c.args.args in
     let line = ChooseLine n c.args.rule.now args in
     let says = SaysNode (grammar_of g) (is_long n) (node_named (words_of g) (grammar_of g) n) in
     let said : says Faulty = subst says c.in-Faulty.is c.in_ok-said_node.ensures.ok in
@@ -32,15 +32,15 @@ returns-in_ok-of_choice-in-Ok-chosen_args-clause-gives c =
     let node = c.in-Valid.node in
     let says = SaysNode (grammar_of g) (is_long n) (node_named (words_of g) (grammar_of g) n) in
     let said : says (Valid node) = subst says c.in-Valid.is c.in_ok-said_node.ensures.ok in
-    let line = ChooseLine n c.args.rule.now (map written_of c.args.args.now) in
+    let line = ChooseLine n c.args.rule.now (map written_of c.args.args) in
     subst (λ e. GivesEvent (line_kind (declarations_of g) line) (event_of (declarations_of g) line) (Ok e)) (sym c.in_ok-of_choice-in-Ok-chosen_args.ensures)
-    (choose_good g n c.args.rule.now (map written_of c.args.args.now) node c.in-Ok-chosen_args.rule c.in-Ok-chosen_args.args said.0 said.1.0 c.in-Ok-chosen_args.ensures)
+    (choose_good g n c.args.rule.now (map written_of c.args.args) node c.in-Ok-chosen_args.rule c.in-Ok-chosen_args.args said.0 said.1.0 c.in-Ok-chosen_args.ensures)
 
 pub returns-in-Err-chosen_args-clause-gives : goal.returns-in-Err-chosen_args-clause-gives
 returns-in-Err-chosen_args-clause-gives c =
     let g = c.args.g.now in
     let n = c.args.node.now in
-    let args = map written_of c.args.args.now in
+    let args = map written_of c.args.args in
     let line = ChooseLine n c.args.rule.now args in
     let says = SaysNode (grammar_of g) (is_long n) (node_named (words_of g) (grammar_of g) n) in
     let said : says (Valid c.in-Valid.node) = subst says c.in-Valid.is c.in_ok-said_node.ensures.ok in

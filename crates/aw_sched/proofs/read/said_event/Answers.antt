@@ -15,7 +15,7 @@ returns-in-Ok-clause-reads c =
     let g = c.args.g.now in
     let d = declarations_of g in
     let t = types_of c.args.t.now.types in
-    let line = line_seen c.args.line.now in
+    let line = line_seen c.args.line in
     let gives = c.in-Ok.ensures.gives in
     let same : by_kind t d line (line_kind d line) ≡ by_type t (grammar_of g) (event_seen c.in-Ok.event) =
     ap (by_kind t d line) gives.0 ∙ ap (λ (h : P.Grammar). by_type t h (event_of d line)) (sym (declared_grammar g)) ∙ ap (by_type t (grammar_of g)) gives.1 in

@@ -12,7 +12,27 @@ use Rattle.aw_site.specs.Chosen.{worked}
 use Rattle.aw_site.proofs.ChosenSites.{answered, equations_behind, plan_prepared}
 use Rattle.aw_site.proofs.Coming.{sends_as}
 use Rattle.aw_site.proofs.Holding.{seen_by}
+use Rattle.aw_site.proofs.ValidPlans.{holds_valid, made_valid, AreValid}
 use Rattle.aw_site.proofs.choosing.prepare.Goals as goal
+
+pub invariant_of-sender : goal.invariant_of-sender
+invariant_of-sender g c =
+    let space = c.args.space.now in
+    let made = c.in_ok-outcome.outcome.made in
+    let valid = made_valid g.F.Facts space c.args.g.now.grammar (choice_of c.args.choice.now) made c.requires.grammar c.requires.ok c.requires.here c.in_ok-outcome.ensures.made in
+    record { valid = holds_valid g.F.Facts space c.args.g.now.grammar _ _ made.equations _ c.requires.grammar c.grammar.ensures.value c.facts.ensures c.as_slice.ensures valid.0 }
+
+pub plan_made-requires-clause-equations : goal.plan_made-requires-clause-equations
+plan_made-requires-clause-equations g c =
+    let made = c.in_ok-outcome.outcome.made in
+    (subst (λ (x : program.Grammar). AreValid (grammar_of x) made) (sym c.grammar.ensures.value)
+    (made_valid g.F.Facts c.args.space.now c.args.g.now.grammar (choice_of c.args.choice.now) made c.requires.grammar c.requires.ok c.requires.here c.in_ok-outcome.ensures.made)).0
+
+pub plan_made-requires-clause-children : goal.plan_made-requires-clause-children
+plan_made-requires-clause-children g c =
+    let made = c.in_ok-outcome.outcome.made in
+    (subst (λ (x : program.Grammar). AreValid (grammar_of x) made) (sym c.grammar.ensures.value)
+    (made_valid g.F.Facts c.args.space.now c.args.g.now.grammar (choice_of c.args.choice.now) made c.requires.grammar c.requires.ok c.requires.here c.in_ok-outcome.ensures.made)).1
 
 pub returns-clause-prepares : goal.returns-clause-prepares
 returns-clause-prepares g c = λ s h.

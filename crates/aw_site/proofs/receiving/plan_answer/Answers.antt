@@ -1,7 +1,11 @@
 use Rattle.std.proofs.Common.{◌∙◌, [], sym, ap, refl}
 use Rattle.aw_grammar.specs.GrammarOf.{grammar_of}
 use Rattle.aw_site.proofs.Coming.{sends_as, none_behind, planned_answer}
+use Rattle.aw_site.proofs.ValidPlans.{holds_valid}
 use Rattle.aw_site.proofs.receiving.plan_answer.Goals as goal
+
+pub invariant_of-sender : goal.invariant_of-sender
+invariant_of-sender g c = record { valid = holds_valid g.F.Facts c.args.space.now c.args.g.now.grammar _ _ [] _ c.requires c.grammar.ensures.value c.facts.ensures refl refl }
 
 pub returns-clause-plan : goal.returns-clause-plan
 returns-clause-plan g c = λ s role loads equations.

@@ -7,7 +7,25 @@ use Rattle.aw_space.specs.Placings.{placed_call}
 use Rattle.aw_site.specs.Came.{holding}
 use Rattle.aw_site.proofs.Coming.{both_ok, sends_as, came_behind, planned_came}
 use Rattle.aw_site.proofs.Holding.{equations_by}
+use Rattle.aw_react.specs.ValidNames.{refs_ok, equations_ok}
+use Rattle.aw_space.specs.Placings.{called_by}
+use Rattle.aw_site.proofs.ValidPlans.{holds_valid, inherited_valid}
 use Rattle.aw_site.proofs.receiving.plan_came.Goals as goal
+
+pub invariant_of-sender : goal.invariant_of-sender
+invariant_of-sender g c =
+    record {
+      valid = holds_valid g.F.Facts c.args.space.now c.args.g.now.grammar _ _ c.args.es.now _ c.requires.grammar c.grammar.ensures.value c.facts.ensures c.as_slice.ensures c.requires.ok.ok;
+    }
+
+pub plan_came-requires-clause-inherited : goal.plan_came-requires-clause-inherited
+plan_came-requires-clause-inherited g c =
+    let gr = grammar_of c.args.g.now.grammar in
+    (λ i. refs_ok (grammar_of (c.grammar.ensures.value i)) ((c.as_slice-2.ensures ∙ c.in_ok-inherited.ensures gr) i))
+    ∙ inherited_valid gr c.args.space.now.role (called_by gr (option_copied c.args.call)) c.requires.call
+
+pub plan_came-requires-clause-equations : goal.plan_came-requires-clause-equations
+plan_came-requires-clause-equations g c = (λ i. equations_ok (grammar_of (c.grammar.ensures.value i)) (map equation_of (c.as_slice-3.ensures i))) ∙ c.requires.ok.ok
 
 pub returns : goal.returns
 returns g c =
@@ -18,7 +36,7 @@ returns g c =
     both_ok c.plan_came.result _ _ _
     (λ p wanted sent s h.
     let t = holding s call es in
-    let equations = equations_by g.F.Facts c.args.space.now c.args.subs.now c.args.loads s c.args.g.now.grammar c.requires h in
+    let equations = equations_by g.F.Facts c.args.space.now c.args.subs.now c.args.loads s c.args.g.now.grammar c.requires.grammar h in
     let sends = sends_as g.F.Facts _ t k c.args.es.now (h.role ∙ sym c.role.ensures) h.flag (λ x. came_behind s k call c.args.es.now x equations) (ap g.F.Facts.map c.facts.ensures) c.as_slice.ensures in
     planned_came gr (grammar_of c.grammar.result.now) s call es _ p (ap grammar_of c.grammar.ensures.value)
     (λ i. (c.as_slice-2.ensures ∙ c.in_ok-inherited.ensures gr) i ++ all_mentions (map equation_of (c.as_slice-3.ensures i)))

@@ -3,7 +3,7 @@ use Rattle.std.specs.Prelude.{◌||◌}
 use Rattle.std.specs.Option.{option_copied}
 use Rattle.aw_store.specs.Equations.{find}
 use Rattle.aw_store.specs.EquationView.{equation_of}
-use Rattle.aw_site.specs.Senders.{listed}
+use Rattle.aw_site.specs.Walks.{listed}
 use Rattle.aw_site.proofs.Walking.{seen_found}
 use Rattle.aw_site.proofs.sender.is_seen.Goals as goal
 

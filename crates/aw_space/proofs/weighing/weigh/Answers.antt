@@ -8,7 +8,7 @@ use Rattle.aw_held.specs.HeldView.{held_of, all_of}
 use Rattle.aw_held.proofs.HeldViews.{held_nowhere}
 use Rattle.aw_joint.specs.Joint.{by_held, outcome_in}
 use Rattle.aw_space.specs.Weighing.{Weighs, HasRoomFor}
-use Rattle.aw_space.proofs.Standing.{named_here, node_here, takes_here, weighs_here}
+use Rattle.aw_space.proofs.Standing.{node_here, takes_here, weighs_here}
 use Rattle.aw_space.proofs.weighing.weigh.Goals as goal
 
 pub weigh_at-requires-clause-takes : goal.weigh_at-requires-clause-takes
@@ -19,9 +19,7 @@ weigh_at-requires-clause-takes g c =
 
 pub weigh_at-requires-clause-named : goal.weigh_at-requires-clause-named
 weigh_at-requires-clause-named g c =
-    let hs = c.args.held.now.items in
-    let here = c.at.ensures in
-    named_here (g.F.Facts.names c.args.facts.now) hs c.in-Some.at c.at.result.now c.requires.sound.named here
+    c.slots.ensures (grammar_of c.args.grammar.now) c.args.held.now.items c.at.result.now (g.F.Facts.map c.args.facts.now) (g.F.Facts.names c.args.facts.now) c.at.ensures c.requires.stands
 
 pub weigh_at-requires-clause-stands : goal.weigh_at-requires-clause-stands
 weigh_at-requires-clause-stands g c = c.in_ok-stands-in-Some.ensures (grammar_of c.args.grammar.now) c.args.held.now.items c.at.result.now c.at.ensures c.requires.stands

@@ -1,10 +1,14 @@
-use Rattle.std.proofs.Common.{◌≡◌, ◌+◌, drop}
-use Rattle.aw_text.specs.Pieces.{run_len}
+use Rattle.std.proofs.Common.{◌≡◌, ◌+◌, ◌-◌, ◌≤◌, length, drop}
+use Rattle.std.specs.List.{prefix_len}
+use Rattle.aw_text.specs.Spelling.{stands_for_itself}
 use Rattle.aw_text.proofs.quote.run_len.Given as goal
 
-abbrev pub invariant-loop-byte : goal.invariant-loop-byte
-invariant-loop-byte l =
+abbrev pub invariant-loop-len : goal.invariant-loop-len
+invariant-loop-len l =
     record {
-      count : l.len ≡ l.byte-index;
-      rest : l.len + run_len (drop l.byte-index l.bytes) ≡ run_len l.bytes;
+      within : l.len ≤ length l.bytes;
+      rest : l.len + prefix_len stands_for_itself (drop l.len l.bytes) ≡ prefix_len stands_for_itself l.bytes;
     }
+
+abbrev pub decreases-loop-len : goal.decreases-loop-len
+decreases-loop-len l = length l.bytes - l.len

@@ -1,20 +1,22 @@
-use Rattle.std.proofs.Common.{◌∙◌, sym, ap}
+use Rattle.std.proofs.Common.{◌<◌, length, rules, subst, sym}
+use Rattle.std.proofs.lemmas.List.Elements.{All-set}
 use Rattle.aw_grammar.specs.GrammarOf.{grammar_of, words_of}
-use Rattle.aw_base.specs.NodeNames.{Named, node_read}
-use Rattle.aw_base.proofs.ReadFronts.{read_whole}
+use Rattle.aw_base.specs.ReadFronts.{IsReadOver}
 use Rattle.aw_base.proofs.node_reader.NodeReader.read.Goals as goal
 
-pub returns-in_ok-node-clause-read : goal.returns-in_ok-node-clause-read
-returns-in_ok-node-clause-read c =
+pub read-requires : goal.read-requires
+read-requires c =
     let w = words_of c.args.g.now in
     let g = grammar_of c.args.g.now in
-    let r = c.follow.new.self in
-    let whole = c.in_ok-follow.ensures.whole c.if-branch.true in
-    ap (node_read w g) (sym whole.0) ∙ read_whole w g r.text.items r.start r.case r.steps.items whole.1.0 whole.1.1 c.follow.ensures.read.few
-    ∙ ap Named (sym c.in_ok-node.ensures.value)
+    let place = c.place_of-place.result in
+    let within : place < length c.has_place.new.self.names.items = search rules in
+    subst (IsReadOver w g) (sym c.index_mut.ensures.value) ((c.has_place.ensures.kept w g c.requires).each place c.index_mut.result.now within)
 
-pub returns-in_ok-node-clause-kept : goal.returns-in_ok-node-clause-kept
-returns-in_ok-node-clause-kept c = c.node.ensures.kept (words_of c.args.g.now) (grammar_of c.args.g.now) c.follow.ensures.read
+pub returns-then-has_place-clause-kept : goal.returns-then-has_place-clause-kept
+returns-then-has_place-clause-kept c =
+    let w = words_of c.args.g.now in
+    let g = grammar_of c.args.g.now in
+    record { each = All-set (IsReadOver w g) c.has_place.new.self.names.items c.place_of-place.result c.read.new.self c.read.ensures.kept (c.has_place.ensures.kept w g c.requires).each }
 
-pub returns-in_err-node-clause-kept : goal.returns-in_err-node-clause-kept
-returns-in_err-node-clause-kept c = c.node.ensures.kept (words_of c.args.g.now) (grammar_of c.args.g.now) c.follow.ensures.read
+pub returns-else-has_place-clause-kept : goal.returns-else-has_place-clause-kept
+returns-else-has_place-clause-kept c = c.has_place.ensures.kept (words_of c.args.g.now) (grammar_of c.args.g.now) c.requires

@@ -1,9 +1,7 @@
-use Rattle.std.proofs.Common.{refl, sym, ap, ◌∙◌}
-use Rattle.std.specs.Ordering.{is_eq}
-use Rattle.std.specs.Cmp.Lexicographic.{pointwise, slice_cmp, lists_ties}
+use Rattle.std.proofs.Common.{refl, ap, ◌∙◌}
+use Rattle.std.specs.Cmp.Lexicographic.{pointwise}
 use Rattle.aw_name.specs.Digest.{digest_of}
 use Rattle.aw_name.specs.Same.{step_eq}
-use Rattle.aw_name.specs.Steps.{step_cmp, step_ties}
 use Rattle.aw_name.proofs.Digests.{digests_differ}
 use Rattle.aw_name.proofs.node.TrailPartialEq.eq.Goals as goal
 
@@ -18,5 +16,4 @@ pub returns-then-self-other : goal.returns-then-self-other
 returns-then-self-other c =
     let mine = c.as_slice.ensures ∙ c.self.view_is in
     let theirs = c.as_slice-then-self-other.ensures ∙ c.other.view_is in
-    c.is_eq.ensures ∙ ap is_eq c.compare_steps.ensures ∙ (λ i. is_eq (slice_cmp step_cmp (mine i) (theirs i)))
-    ∙ sym (lists_ties step_cmp step_ties c.args.self.now c.args.other.now)
+    c.are_same_steps.ensures ∙ (λ i. pointwise step_eq (mine i) (theirs i))

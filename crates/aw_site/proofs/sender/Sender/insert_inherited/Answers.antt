@@ -1,10 +1,19 @@
-use Rattle.std.proofs.Common.{map}
+use Rattle.std.proofs.Common.{◌≡◌, ◌-◌, true, length, map, arith}
 use Rattle.aw_grammar.specs.GrammarOf.{grammar_of}
 use Rattle.aw_react.specs.Asking.{all_inherited}
 use Rattle.aw_react.specs.Telling.{calls_in}
+use Rattle.aw_react.specs.ValidNames.{call_ok}
+use Rattle.aw_apply.specs.declared.making.MadeChild.{MadeChild}
+use Rattle.aw_site.proofs.Named.{each_at}
 use Rattle.aw_site.specs.Views.{child_call}
 use Rattle.aw_site.proofs.Wanting.{puts_more, inherited_split}
 use Rattle.aw_site.proofs.sender.Sender.insert_inherited.Goals as goal
+
+pub insert_child_refs-requires-clause-valid : goal.insert_child_refs-requires-clause-valid
+insert_child_refs-requires-clause-valid g c =
+    let gr = grammar_of c.args.self.now.grammar.now in
+    each_at (λ (x : MadeChild). call_ok gr (child_call gr x) ≡ true) c.args.children.now (length c.args.children.now - 1 - c.loop-i.i) c.index-children-children.result
+    (omega (arith, c.loop-i-test.true)) c.index-children-children.is c.requires.valid
 
 pub loop-i-preserved : goal.loop-i-preserved
 loop-i-preserved g c =

@@ -1,16 +1,14 @@
 use Rattle.std.proofs.Common.{◌∙◌, sym}
-use Rattle.std.proofs.lemmas.Result.{on_ok_weaker}
-use Rattle.aw_site.proofs.Wanting.{puts_one, puts_not}
+use Rattle.aw_grammar.specs.GrammarOf.{grammar_of}
+use Rattle.aw_site.proofs.Wanting.{puts_not, wanted_own}
 use Rattle.aw_site.proofs.sender.Sender.insert_wanted.Goals as goal
 
-pub returns-then-is_wanted : goal.returns-then-is_wanted
-returns-then-is_wanted g c =
-    on_ok_weaker c.insert_ref.result
-    (λ e. puts_one g.F.Facts c.args.self.now c.args.subs.now c.args.r.now c.args.wanted.now.items c.insert_ref.new.refs.items c.requires e
-    (λ s sends shows. sym (c.is_wanted.ensures s sends shows) ∙ c.if-is_wanted.true))
-    c.insert_ref.ensures
+pub returns-then-is_own : goal.returns-then-is_own
+returns-then-is_own g c =
+    let sender = c.args.self.now in
+    let r = c.args.r.now in
+    puts_not g.F.Facts sender c.args.subs.now r c.args.wanted.now.items c.requires.ordered
+    (λ s sends shows. wanted_own (grammar_of sender.grammar.now) s r sender.role sends.role (sym c.is_own.ensures ∙ c.if-is_own.true))
 
-pub returns-else-is_wanted : goal.returns-else-is_wanted
-returns-else-is_wanted g c =
-    puts_not g.F.Facts c.args.self.now c.args.subs.now c.args.r.now c.args.wanted.now.items c.requires
-    (λ s sends shows. sym (c.is_wanted.ensures s sends shows) ∙ c.if-is_wanted.false)
+pub insert_other-requires-clause-other : goal.insert_other-requires-clause-other
+insert_other-requires-clause-other g c = sym c.is_own.ensures ∙ c.if-is_own.false

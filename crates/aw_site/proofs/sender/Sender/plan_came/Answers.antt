@@ -6,7 +6,11 @@ use Rattle.aw_msg.specs.MessageView.{message_of}
 use Rattle.aw_react.specs.Asking.{all_mentions}
 use Rattle.aw_site.specs.Plans.{asks_for}
 use Rattle.aw_site.proofs.Wanting.{puts_both, wanted_put}
+use Rattle.aw_react.specs.ValidNames.{refs_ok}
 use Rattle.aw_site.proofs.sender.Sender.plan_came.Goals as goal
+
+pub asking-requires : goal.asking-requires
+asking-requires g c = c.in_ok-insert_refs.ensures.names (c.in_ok-insert_mentions.ensures.names (ap (refs_ok (grammar_of c.args.self.now.grammar.now)) c.new-wanted.ensures.items))
 
 pub returns-clause-wanted : goal.returns-clause-wanted
 returns-clause-wanted g c =

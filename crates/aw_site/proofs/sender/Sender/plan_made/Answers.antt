@@ -8,7 +8,11 @@ use Rattle.aw_react.specs.Telling.{tells, calls_out, calls_in}
 use Rattle.aw_site.specs.Plans.{asks_for, wanted_of}
 use Rattle.aw_site.specs.Views.{child_call}
 use Rattle.aw_site.proofs.Wanting.{puts_both, wanted_put}
+use Rattle.aw_react.specs.ValidNames.{refs_ok}
 use Rattle.aw_site.proofs.sender.Sender.plan_made.Goals as goal
+
+pub asking-requires : goal.asking-requires
+asking-requires g c = c.in_ok-insert_mentions.ensures.names (c.in_ok-insert_inherited.ensures.names (ap (refs_ok (grammar_of c.args.self.now.grammar.now)) c.new-wanted.ensures.items))
 
 pub returns-clause-wanted : goal.returns-clause-wanted
 returns-clause-wanted g c =

@@ -6,7 +6,11 @@ use Rattle.aw_site.proofs.Steps.{drop_here}
 use Rattle.aw_react.specs.Asking.{ask_message}
 use Rattle.aw_site.specs.Plans.{asks_for}
 use Rattle.aw_site.proofs.SentLists.{pushed_more, pushed_all, push_map}
+use Rattle.aw_site.proofs.Named.{ref_at}
 use Rattle.aw_site.proofs.sender.Sender.push_asks.Goals as goal
+
+pub ask-requires : goal.ask-requires
+ask-requires g c = ref_at (grammar_of c.args.self.now.grammar.now) c.args.wanted.now c.loop-r.r-index c.r-item.result c.loop-r-test.true c.r-item.is c.requires
 
 pub loop-r-preserved : goal.loop-r-preserved
 loop-r-preserved g c = λ s sends.

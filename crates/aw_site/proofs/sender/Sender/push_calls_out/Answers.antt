@@ -1,11 +1,19 @@
-use Rattle.std.proofs.Common.{map, refl}
+use Rattle.std.proofs.Common.{◌≡◌, true, map, refl}
 use Rattle.std.proofs.lemmas.List.{drop_all}
 use Rattle.aw_grammar.specs.GrammarOf.{grammar_of}
 use Rattle.aw_site.proofs.Steps.{drop_here}
 use Rattle.aw_react.specs.Telling.{calls_out}
 use Rattle.aw_site.specs.Views.{child_call}
 use Rattle.aw_site.proofs.SentLists.{pushed_more, pushed_all, calls_split}
+use Rattle.aw_apply.specs.declared.making.MadeChild.{MadeChild}
+use Rattle.aw_react.specs.ValidNames.{call_ok}
+use Rattle.aw_site.proofs.Named.{each_at}
 use Rattle.aw_site.proofs.sender.Sender.push_calls_out.Goals as goal
+
+pub push_call_out-requires : goal.push_call_out-requires
+push_call_out-requires g c =
+    let gr = grammar_of c.args.self.now.grammar.now in
+    each_at (λ (x : MadeChild). call_ok gr (child_call gr x) ≡ true) c.args.children.now c.loop-child.child-index c.child-item.result c.loop-child-test.true c.child-item.is c.requires
 
 pub loop-child-preserved : goal.loop-child-preserved
 loop-child-preserved g c = λ s sends.

@@ -6,7 +6,11 @@ use Rattle.aw_site.proofs.Steps.{drop_here}
 use Rattle.aw_store.specs.EquationView.{equation_of}
 use Rattle.aw_react.specs.Telling.{tells}
 use Rattle.aw_site.proofs.SentLists.{pushed_more, pushed_all, tells_split, tells_one}
+use Rattle.aw_site.proofs.Named.{equation_at}
 use Rattle.aw_site.proofs.sender.Sender.push_tells.Goals as goal
+
+pub push_told-requires : goal.push_told-requires
+push_told-requires g c = equation_at (grammar_of c.args.self.now.grammar.now) c.args.es.now c.loop-e.e-index c.e-item.result c.loop-e-test.true c.e-item.is c.requires
 
 pub loop-e-preserved : goal.loop-e-preserved
 loop-e-preserved g c = λ s sends watch.
