@@ -1,8 +1,12 @@
+pub mod Lexing
+pub mod NodeFronts
 pub mod ReadForms
 pub mod ReaderLemmas
 pub mod ReadsSpelled
+pub mod SaysTokens
 pub mod SomeTerms
 pub mod SoundForms
 pub mod SoundTerms
 pub mod SpelledIfRead
 pub mod Steps
+pub mod TokensBehind

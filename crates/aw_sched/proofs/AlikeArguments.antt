@@ -16,12 +16,10 @@ use Rattle.aw_grammar.specs.Kinds.{has_arity, con_called, count_parts, has_ariti
 use Rattle.aw_base.specs.ChoiceFits.{grounds_ok, args_ok}
 use Rattle.aw_grammar.specs.Named.{number_named}
 use Rattle.aw_grammar.proofs.Numbers.{number_is_place}
+use Rattle.aw_sched.specs.Arguments.{names_of}
 use Rattle.aw_sched.specs.Events.{args_are_past}
 use Rattle.aw_sched.specs.Grounds.{known_ground, known_parts, known_grounds}
 use Rattle.aw_sched.proofs.LookedUp.{found_below, named_within}
-
-abbrev pub names_of : List declared.Con → List (List ℕ)
-names_of cons = map (λ (c : declared.Con). c.name) cons
 
 abbrev pub arities_of : List declared.Con → List ℕ
 arities_of cons = map (λ (c : declared.Con). c.arity) cons

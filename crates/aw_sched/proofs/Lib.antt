@@ -1,9 +1,13 @@
 pub mod AlikeArguments
+pub mod ChoiceLines
+pub mod KnownChoice
 pub mod KnownGrounds
 pub mod KnownLaw
+pub mod LexedLines
 pub mod LineLaws
 pub mod LookedUp
 pub mod PlainLines
+pub mod ReadArguments
 pub mod ReadEvents
 pub mod ReadLines
 pub mod SoundLines

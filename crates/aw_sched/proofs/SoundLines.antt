@@ -8,10 +8,10 @@ use Rattle.aw_form.specs.Forms.{name, number, node, only, terms_in_braces}
 use Rattle.aw_form.specs.Sound.{IsSound}
 use Rattle.aw_form.proofs.SoundForms.{name_sound, braces_sound}
 use Rattle.aw_form.proofs.Steps.{bound, chosen}
-use Rattle.aw_sched.specs.Lines.{Line, StartLine, ChooseLine, DeliverLine, SettleLine, ListLine, start_line, choose_line, deliver_line, list_line, by_word, line_of}
+use Rattle.aw_sched.specs.Lines.{Line, StartLine, ChooseLine, DeliverLine, SettleLine, ListLine, start_line, choice_at, choose_line, deliver_line, list_line, by_word, line_of}
 use Rattle.aw_sched.specs.LineSeen.{HasContents}
 
-only_is : (x y : Line) (ls : List Lexeme) → only x ls ≡ Some y → x ≡ y
+pub only_is : (x y : Line) (ls : List Lexeme) → only x ls ≡ Some y → x ≡ y
 only_is x y [] h = cc
 only_is x y (l ∷ ls) h = cc
 
@@ -35,12 +35,14 @@ node_rest (Number m ∷ ls) x h s = cc
 node_rest (Quoted m ∷ ls) x h s = cc
 node_rest (Mark m ∷ ls) x h s = cc
 
-sound_choose : (ls : List Lexeme) (line : Line) → Each IsSound ls → choose_line ls ≡ Some line → HasContents line
-sound_choose ls line s h =
-    bound (node ls) _ line h (λ n f1 e1.
-    bound (name n.1) _ line e1 (λ rule f2 e2.
+pub sound_choice : (n : List ℕ) (ls : List Lexeme) (line : Line) → Each IsSound ls → choice_at n ls ≡ Some line → HasContents line
+sound_choice n ls line s h =
+    bound (name ls) _ line h (λ rule f2 e2.
     bound (terms_in_braces rule.1) _ line e2 (λ args f3 e3.
-    from_only (ChooseLine n.0 rule.0 args.0) line args.1 (braces_sound rule.1 args (name_sound n.1 rule (node_rest ls n f1 s) f2).1 f3).0 e3)))
+    from_only (ChooseLine n rule.0 args.0) line args.1 (braces_sound rule.1 args (name_sound ls rule s f2).1 f3).0 e3))
+
+sound_choose : (ls : List Lexeme) (line : Line) → Each IsSound ls → choose_line ls ≡ Some line → HasContents line
+sound_choose ls line s h = bound (node ls) _ line h (λ n f1 e1. sound_choice n.0 n.1 line (node_rest ls n f1 s) e1)
 
 sound_word : (w : List ℕ) (ls : List Lexeme) (line : Line) → Each IsSound ls → by_word w ls ≡ Some line → HasContents line
 sound_word w ls line s h =

@@ -1,4 +1,6 @@
 pub mod Answers
+pub mod Arguments
+pub mod ChoiceFronts
 pub mod Events
 pub mod Grounds
 pub mod KindNames

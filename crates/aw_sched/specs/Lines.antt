@@ -20,13 +20,18 @@ start_line ls = do
   case ← number sort.1
   only (StartLine sort.0 case.0) case.1
 
--- `choose NODE RULE`, and then nothing or `{..}`
+-- a choice at this node: `RULE`, and then nothing or `{..}`
+abbrev pub choice_at : List ℕ → List Lexeme → Option Line
+choice_at n ls = do
+  rule ← name ls
+  args ← terms_in_braces rule.1
+  only (ChooseLine n rule.0 args.0) args.1
+
+-- `choose NODE`, and then the choice there
 abbrev pub choose_line : List Lexeme → Option Line
 choose_line ls = do
   n ← node ls
-  rule ← name n.1
-  args ← terms_in_braces rule.1
-  only (ChooseLine n.0 rule.0 args.0) args.1
+  choice_at n.0 n.1
 
 -- `deliver MESSAGE`
 abbrev pub deliver_line : List Lexeme → Option Line

@@ -1,9 +1,11 @@
 //! Schedules: the events that a text asks for, or the first line that is at fault.
 #![tactic(auto)]
 
+mod choice_line;
 pub mod event;
 pub mod fault;
 mod ground;
+mod known;
 mod law;
 pub mod line;
 mod lookup;

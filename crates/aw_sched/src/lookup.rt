@@ -21,14 +21,19 @@ use std::alloc::Global;
 
 /// What the name of a node says.
 #[derive(Drop)]
-enum NodeSaid {
+pub(crate) enum NodeSaid {
     Valid(Node),
     /// It has more than 250 steps.
     Long,
     Faulty,
 }
 
-fn said_node(nodes: &mut NodeReader, g: &Grammar, node: &[u8]) -> Result<NodeSaid, LineFault>
+/// The node of this name, or why it is none.
+pub(crate) fn said_node(
+    nodes: &mut NodeReader,
+    g: &Grammar,
+    node: &[u8],
+) -> Result<NodeSaid, LineFault>
     requires { IsReaderOf g.now nodes.old }
     ensures kept { IsReaderOf g.now nodes.new }
     ensures ok { IfOk result (SaysNode (grammar_of g.now) (is_long node.now) (node_named (words_of g.now) (grammar_of g.now) node.now)) }

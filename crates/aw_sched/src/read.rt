@@ -16,8 +16,10 @@ ghost use Rattle.aw_sched.specs.Schedules.{by_form, by_kind, by_type, event_fits
 ghost use Rattle.aw_sched.specs.Answers.{Answers, HasTypes, MayCome, event_seen};
 ghost use Rattle.aw_sched.specs.LineEvents.{AddsLine, ReadsLine, fault_at};
 
+use crate::choice_line::choice_front;
 use crate::event::{Event, Events};
 use crate::fault::{LineFault, SchedFault, SchedKind};
+use crate::known::known_choice;
 use crate::line::SchedLine;
 use crate::lookup::event_of;
 use crate::parse::parse_line;
@@ -116,6 +118,37 @@ fn plain_event(line: &[u8]) -> Option<Event>
     }
 }
 
+/// The event of a line that is `choose `, the name of a node and a choice there, without a fault. Only what stands behind the name is
+/// read by its tokens: where the bytes name a node, they are one token, and nothing else has to judge them. Any other line, also one
+/// with a fault, is left to be read by all of its tokens.
+fn choice_event(
+    found: &mut Tokens,
+    nodes: &mut NodeReader,
+    g: &Grammar,
+    t: &Typed,
+    line: &[u8],
+) -> Option<Event>
+    requires made { IsMadeFor (grammar_of g.now) t.now }
+    requires nodes { IsReaderOf g.now nodes.old }
+    ensures kept { IsReaderOf g.now nodes.new }
+    ensures reads { IfSome result (λ event. read_line (types_of t.now.types) (declarations_of g.now) line.now ≡ Gives (event_seen event)) }
+    ensures fits { IfSome result (MayCome (grammar_of g.now)) }
+    ensures types { IfSome result (HasTypes (types_of t.now.types) (grammar_of g.now)) }
+{
+    let (node, rest) = choice_front(line)?;
+    let Ok(()) = read_tokens(found, rest) else {
+        return None;
+    };
+    let alloc = found.allocator();
+    let Ok(event) = known_choice(alloc, nodes, g, node, rest, found.as_slice()) else {
+        return None;
+    };
+    match typed_event(g, t, event) {
+        Ok(event) => event,
+        Err(_) => None,
+    }
+}
+
 /// What a line gives: by its bytes alone where these tell it, and else by its tokens.
 fn line_event(
     found: &mut Tokens,
@@ -132,6 +165,9 @@ fn line_event(
     ensures types { IfOk result (λ found. IfSome found (HasTypes (types_of t.now.types) (grammar_of g.now))) }
 {
     if let Some(event) = plain_event(line) {
+        return Ok(Some(event));
+    }
+    if let Some(event) = choice_event(found, nodes, g, t, line) {
         return Ok(Some(event));
     }
     if is_passed_over(line) {

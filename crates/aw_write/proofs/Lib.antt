@@ -1,7 +1,6 @@
 pub mod Declaring
 pub mod Formed
 pub mod Leading
-pub mod Lexing
 pub mod NamedRules
 pub mod NamedTerms
 pub mod Placed
@@ -12,7 +11,6 @@ pub mod PushingRules
 pub mod PushingTerms
 pub mod ReadFaces
 pub mod SaysTerms
-pub mod SaysTokens
 pub mod SpelledSpecs
 pub mod SpelledTypes
 pub mod Typing

@@ -9,8 +9,8 @@ use Rattle.aw_form.specs.Lexemes.{Lexeme, Name, Number, Mark}
 use Rattle.aw_form.specs.Terms.{spelling, spellings, spellings_behind}
 use Rattle.aw_spec.specs.Lines.{Line, RoleLine, ConLine, SortLine, StartLine, OfferLine, UseLine, TypeLine, ShapeLine, CarryLine, DependsLine, FreeLine, RuleLine, ScheduleLine, as_words, in_parentheses, in_angles, params_spelling, child_spelling, behind_child, children_spelling, rule_spelling, line_spelling}
 use Rattle.aw_write.specs.LineTexts.{term_text, parts_text, parts_behind, terms_text, names_text, params_text, child_text, children_behind, children_text, rule_text, line_text}
-use Rattle.aw_write.proofs.Lexing.{Ends}
-use Rattle.aw_write.proofs.SaysTokens.{Says, moved, says_nothing, says_blank, says_name, says_number, says_text, says_mark, says_last_name, says_last_number}
+use Rattle.aw_form.proofs.Lexing.{Ends}
+use Rattle.aw_form.proofs.SaysTokens.{Says, moved, says_nothing, says_blank, says_name, says_number, says_text, says_mark, says_last_name, says_last_number}
 
 -- a name is a name
 abbrev pub IsName : List ℕ → Type 0

@@ -1,14 +1,14 @@
 -- Tokens at the front of bytes: names, numbers, texts and marks.
-use Rattle.std.proofs.Common.{◌≡◌, ℕ, suc, ◌+◌, ◌-◌, ◌<◌, ◌^◌, refl, sym, ◌∙◌, ap, Bool, true, false, cond, ◌==◌, ◌&&◌, ◌||◌, not, List, [], ◌∷◌, ◌++◌, take, length, arith, Some, None, is_some, option_map, append_assoc, length-append, nat_le, flat_map, subst, inl, inr}
+use Rattle.std.proofs.Common.{◌≡◌, ℕ, suc, ◌+◌, ◌-◌, ◌<◌, ◌^◌, refl, sym, ◌∙◌, ap, Bool, true, false, cond, ◌==◌, ◌&&◌, ◌||◌, not, List, [], ◌∷◌, ◌++◌, take, length, arith, Option, Some, None, is_some, option_map, append_assoc, length-append, nat_le, flat_map, subst, inl, inr}
 use Rattle.std.proofs.Math.Seq.{take-append_seam}
 use Rattle.std.proofs.lemmas.Bool.{and_parts}
 use Rattle.std.proofs.lemmas.Bool.Decides.{nat_tests, eqb_tells}
 use Rattle.std.proofs.lemmas.List.Folds.{list_all-append}
 use Rattle.std.specs.List.{list_all}
 use Rattle.std.specs.Fmt.{decimal}
-use Rattle.aw_text.specs.Spelling.{is_letter, is_digit, is_name, is_name_byte, is_content, is_content_byte, number_of, node_name, quoted, spelled, text_behind_quote}
+use Rattle.aw_text.specs.Spelling.{is_letter, is_digit, is_name, is_name_byte, is_content, is_content_byte, is_numeral, if_word, value_after, number_of, node_name, quoted, spelled, text_behind_quote}
 use Rattle.aw_text.proofs.NodeNames.{lacks}
-use Rattle.aw_text.proofs.Numbers.{number_again, decimal_digits}
+use Rattle.aw_text.proofs.Numbers.{decimal_digits, numeral_digits}
 use Rattle.aw_text.proofs.Quotes.{text_again}
 use Rattle.aw_lex.specs.declared.token.TokenKind.{TokenKind}
 use Rattle.aw_lex.specs.declared.token.TokenKind.TheVariants as kinds
@@ -34,13 +34,13 @@ pub record Begins (b : ℕ) : Type 0 where
   pub quote : (b == 34) ≡ false
   pub word : is_word_byte b ≡ true
 
-letter_begins : (b : ℕ) → is_letter b ≡ true → Begins b
+pub letter_begins : (b : ℕ) → is_letter b ≡ true → Begins b
 letter_begins b h = record { blank = grind (arith, nat_tests); mark = grind (arith, nat_tests); quote = grind (arith, nat_tests); word = grind (arith, nat_tests) }
 
 digit_begins : (b : ℕ) → is_digit b ≡ true → Begins b
 digit_begins b h = record { blank = grind (arith, nat_tests); mark = grind (arith, nat_tests); quote = grind (arith, nat_tests); word = grind (arith, nat_tests) }
 
-word_front : (b : ℕ) (w bs : List ℕ) (kind : TokenKind) → Begins b → list_all is_word_byte w ≡ true → Ends bs → kind_of_word (b ∷ w) ≡ Some kind →
+pub word_front : (b : ℕ) (w bs : List ℕ) (kind : TokenKind) → Begins b → list_all is_word_byte w ≡ true → Ends bs → kind_of_word (b ∷ w) ≡ Some kind →
     front_of ((b ∷ w) ++ bs) ≡ front.Token kind (length (b ∷ w))
 word_front b w bs kind begins h e k =
     let all = b ∷ (w ++ bs) in
@@ -56,13 +56,13 @@ word_front b w bs kind begins h e k =
     ∙ ap (front_of_word (length (b ∷ w))) k
 
 -- what holds of a byte that passes a test holds of all that do
-all_pass : (p q : ℕ → Bool) → ((b : ℕ) → p b ≡ true → q b ≡ true) → (bs : List ℕ) → list_all p bs ≡ true → list_all q bs ≡ true
+pub all_pass : (p q : ℕ → Bool) → ((b : ℕ) → p b ≡ true → q b ≡ true) → (bs : List ℕ) → list_all p bs ≡ true → list_all q bs ≡ true
 all_pass p q f [] h = refl
 all_pass p q f (b ∷ bs) h =
     let each = and_parts (p b) (list_all p bs) h in
     ap (λ t. t && list_all q bs) (f b each.0) ∙ all_pass p q f bs each.1
 
-name_is_word : (b : ℕ) → is_name_byte b ≡ true → is_word_byte b ≡ true
+pub name_is_word : (b : ℕ) → is_name_byte b ≡ true → is_word_byte b ≡ true
 name_is_word b h = ap (λ t. ((t || b == 35) || b == 47) || b == 46) h
 
 name_is_kept : (b : ℕ) → is_name_byte b ≡ true → not (b == 10) ≡ true
@@ -74,7 +74,7 @@ letter_is_kept b h = grind (arith, nat_tests)
 digit_is_kept : (b : ℕ) → is_digit b ≡ true → not (b == 10) ≡ true
 digit_is_kept b h = grind (arith, nat_tests)
 
-digit_is_word : (b : ℕ) → is_digit b ≡ true → is_word_byte b ≡ true
+pub digit_is_word : (b : ℕ) → is_digit b ≡ true → is_word_byte b ≡ true
 digit_is_word b h = (digit_begins b h).word
 
 pub name_front : (n bs : List ℕ) → is_name n ≡ true → Ends bs → front_of (n ++ bs) ≡ front.Token kinds.Name (length n)
@@ -103,18 +103,26 @@ never_both : (a b : Bool) → (a && (false && b)) ≡ false
 never_both true b = refl
 never_both false b = refl
 
-digits_front : (ds bs : List ℕ) → list_all is_digit ds ≡ true → is_some (number_of ds) ≡ true → Ends bs → front_of (ds ++ bs) ≡ front.Token kinds.Number (length ds)
-digits_front [] bs h k e = cc
-digits_front (d ∷ ds) bs h k e =
-    let each = and_parts (is_digit d) (list_all is_digit ds) h in
+pub if_true : {A : Type 0} (t : Bool) (o : Option A) → is_some (cond t o None) ≡ true → t ≡ true
+if_true true o h = refl
+if_true false o h = cc
+
+pub number_digits : (ds : List ℕ) → is_some (number_of ds) ≡ true → list_all is_digit ds ≡ true
+number_digits ds h = numeral_digits ds (if_true (is_numeral ds) (if_word (value_after 0 ds)) h)
+
+pub number_front : (ds bs : List ℕ) → is_some (number_of ds) ≡ true → Ends bs → front_of (ds ++ bs) ≡ front.Token kinds.Number (length ds)
+number_front [] bs h e = cc
+number_front (d ∷ ds) bs h e =
+    let each = and_parts (is_digit d) (list_all is_digit ds) (number_digits (d ∷ ds) h) in
     let bytes = list_all is_name_byte ds in
     let rest = cond (node_name (d ∷ ds)) (Some kinds.Node) None in
     let none : is_name (d ∷ ds) ≡ false = ap (λ t. nat_le (length (d ∷ ds)) 64 && (t && bytes)) (no_letter d each.0) ∙ never_both (nat_le (length (d ∷ ds)) 64) bytes in
     word_front d ds bs kinds.Number (digit_begins d each.0) (all_pass is_digit is_word_byte digit_is_word ds each.1) e
-    (ap (λ t. cond t (Some kinds.Name) (cond (is_some (number_of (d ∷ ds))) (Some kinds.Number) rest)) none ∙ ap (λ t. cond t (Some kinds.Number) rest) k)
+    (ap (λ t. cond t (Some kinds.Name) (cond (is_some (number_of (d ∷ ds))) (Some kinds.Number) rest)) none ∙ ap (λ t. cond t (Some kinds.Number) rest) h)
 
-pub number_front : (n : ℕ) (bs : List ℕ) → n < 2 ^ 64 → Ends bs → front_of (decimal n ++ bs) ≡ front.Token kinds.Number (length (decimal n))
-number_front n bs h e = digits_front (decimal n) bs (decimal_digits n h) (ap is_some (number_again n h)) e
+pub some_number : (ds : List ℕ) → is_some (number_of ds) ≡ true → 0 < length ds
+some_number [] h = cc
+some_number (d ∷ ds) h = omega arith
 
 pub number_unbroken : (n : ℕ) → n < 2 ^ 64 → lacks 10 (decimal n) ≡ true
 number_unbroken n h = all_pass is_digit (λ x. not (x == 10)) digit_is_kept (decimal n) (decimal_digits n h)
