@@ -3,3 +3,5 @@ pub mod HeldView
 pub mod Row
 pub mod Picked
 pub mod Rows
+pub mod Chunks
+pub mod ChunkRows

@@ -6,7 +6,7 @@ use Rattle.aw_held.specs.declared.holding.Holding.TheInside.{Inside}
 
 -- so many more fit into both lists, and have a number
 abbrev pub room_of : Inside → ℕ
-room_of a = min (min (vec_capacity a.order - vec_len a.order) (vec_capacity a.nodes - vec_len a.nodes)) (2 ^ 32 - vec_len a.nodes)
+room_of a = min (min a.order.room (vec_capacity a.nodes - vec_len a.nodes)) (2 ^ 32 - vec_len a.nodes)
 
 -- the nodes in the order of the numbers
 abbrev pub row_of : Inside → Row

@@ -5,7 +5,7 @@ ghost use Rattle.aw_held.specs.InOrder.{done_at};
 ghost use Rattle.aw_held.specs.Picked.{picked, AreKnown, AreApart};
 
 use crate::held::Held;
-use crate::inserting::insert_number;
+use crate::order::Order;
 use aw_choice::Choice;
 use std::alloc::{AllocError, Global};
 use std::marker::Model;
@@ -14,10 +14,10 @@ use std::marker::Model;
 const MOST: usize = 1 << 32;
 
 /// Held nodes in their order. A node stays where it was put first, and its number stands at its place: one that is put in
-/// between moves small numbers, and no node. Contracts see the nodes in their order, and how many more there is room for.
+/// between moves a few small numbers, and no node. Contracts see the nodes in their order, and how many more there is room for.
 #[derive(Drop)]
 pub struct Holding {
-    order: Vec<u32>,
+    order: Order,
     nodes: Vec<Held>,
     /// The place at which a node was put in or developed last.
     near: usize,
@@ -40,26 +40,27 @@ impl Model for Holding {
 }
 
 /// The node at a place, over its number.
-fn node_at<'n>(order: &[u32], nodes: &'n [Held], place: usize) -> &'n Held
-    requires place { place < length order.now }
-    requires known { AreKnown order.now nodes.now }
-    ensures { slice_get (picked order.now nodes.now) place ≡ Some result.now }
+fn node_at<'n>(order: &Order, nodes: &'n [Held], place: usize) -> &'n Held
+    requires place { place < length order.now.items }
+    requires known { AreKnown order.now.items nodes.now }
+    ensures { slice_get (picked order.now.items nodes.now) place ≡ Some result.now }
 {
-    &nodes[order[place] as usize]
+    let which = order.at(place);
+    &nodes[which as usize]
 }
 
 /// Puts a node after the others, and its number at a place. There is room for it.
-fn put_number(order: &mut Vec<u32>, nodes: &mut Vec<Held>, place: usize, new: Held)
+fn put_number(order: &mut Order, nodes: &mut Vec<Held>, place: usize, new: Held)
     requires place { place ≤ length order.old.items }
     requires known { AreKnown order.old.items nodes.old.items }
     requires apart { AreApart order.old.items }
-    requires room { vec_len order.old < vec_capacity order.old }
+    requires room { 0 < order.old.room }
     requires nodes { vec_len nodes.old < vec_capacity nodes.old }
     requires number { vec_len nodes.old < 2 ^ 32 }
     ensures items { picked order.new.items nodes.new.items ≡ insert (picked order.old.items nodes.old.items) place new }
     ensures known { AreKnown order.new.items nodes.new.items }
     ensures apart { AreApart order.new.items }
-    ensures order { (vec_len order.new ≡ vec_len order.old + 1) × (vec_capacity order.old ≤ vec_capacity order.new) }
+    ensures order { order.old.room ≤ order.new.room + 1 }
     ensures nodes { (vec_len nodes.new ≡ vec_len nodes.old + 1) × (vec_capacity nodes.old ≤ vec_capacity nodes.new) }
 {
     let number = nodes.len() as u32;
@@ -67,17 +68,18 @@ fn put_number(order: &mut Vec<u32>, nodes: &mut Vec<Held>, place: usize, new: He
         Ok(()) => {}
         Err(_) => unreachable!(),
     }
-    insert_number(order, place, number);
+    order.insert(place, number);
 }
 
 /// Notes the choice that developed the node at a place.
-fn mark_at(order: &[u32], nodes: &mut [Held], place: usize, done: Choice)
-    requires place { place < length order.now }
-    requires known { AreKnown order.now nodes.old }
-    requires apart { AreApart order.now }
-    ensures { picked order.now nodes.new ≡ done_at done place (picked order.now nodes.old) }
+fn mark_at(order: &Order, nodes: &mut [Held], place: usize, done: Choice)
+    requires place { place < length order.now.items }
+    requires known { AreKnown order.now.items nodes.old }
+    requires apart { AreApart order.now.items }
+    ensures { picked order.now.items nodes.new ≡ done_at done place (picked order.now.items nodes.old) }
 {
-    let node = &mut nodes[order[place] as usize];
+    let number = order.at(place);
+    let node = &mut nodes[number as usize];
     node.done = Some(done);
 }
 
@@ -87,7 +89,7 @@ impl Holding {
         ensures { result.items ≡ [] }
     {
         Holding {
-            order: Vec::new(alloc),
+            order: Order::new(alloc),
             nodes: Vec::new(alloc),
             near: 0,
         }
@@ -115,7 +117,7 @@ impl Holding {
         requires { place < length self.now.items }
         ensures { slice_get self.now.items place ≡ Some result.now }
     {
-        node_at(self.order.as_slice(), self.nodes.as_slice(), place)
+        node_at(&self.order, self.nodes.as_slice(), place)
     }
 
     /// The node at a place, from 0; `None` past the last.
@@ -158,12 +160,7 @@ impl Holding {
         ensures items { self.new.items ≡ done_at done place self.old.items }
         ensures room { self.new.room ≡ self.old.room }
     {
-        mark_at(
-            self.order.as_slice(),
-            self.nodes.as_mut_slice(),
-            place,
-            done,
-        );
+        mark_at(&self.order, self.nodes.as_mut_slice(), place, done);
         self.near = place;
     }
 }

@@ -17,7 +17,7 @@ fn put_first(numbers: &mut [u32], number: u32)
 }
 
 /// Puts a number at a place, where there is room. Those behind it move up at once.
-pub fn insert_number(numbers: &mut Vec<u32>, at: usize, number: u32)
+pub(crate) fn insert_number(numbers: &mut Vec<u32>, at: usize, number: u32)
     requires within { at ≤ vec_len numbers.old }
     requires room { vec_len numbers.old < vec_capacity numbers.old }
     ensures items { numbers.new.items ≡ insert numbers.old.items at number }

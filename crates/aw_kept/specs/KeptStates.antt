@@ -48,7 +48,7 @@ StaysKept g hs k l names late later kept = IsKeptBut g hs k names late kept → 
 
 -- there is room for so many more nodes, which can have numbers, and for so many more rules to wait
 pub record HasRoom (kept : Kept) (nodes waits : ℕ) : Type 0 where
-  pub places : vec_len kept.numbers + nodes ≤ vec_capacity kept.numbers
+  pub places : nodes ≤ kept.numbers.room
   pub entries : vec_len kept.records + nodes ≤ vec_capacity kept.records
   pub few : vec_len kept.records + nodes ≤ 2 ^ 32
   pub spare : waits ≤ kept.work.spare

@@ -1,5 +1,5 @@
 //! What is kept for the held nodes of a role.
-ghost use Rattle.std.specs.Prelude.{◌≡◌, ◌<◌, ◌≤◌, ◌+◌, ◌++◌, ◌∷◌, [], ℕ, List, Some, true, OnOk, insert, is_some, slice_get, vec_len, vec_capacity};
+ghost use Rattle.std.specs.Prelude.{◌≡◌, ◌<◌, ◌≤◌, ◌+◌, ◌++◌, ◌∷◌, [], ℕ, List, Some, true, OnOk, insert, is_some, length, slice_get, vec_len, vec_capacity};
 ghost use Rattle.aw_term.specs.Names.{Ref as RefName};
 ghost use Rattle.aw_term.specs.Rules.{Grammar as PlainGrammar};
 ghost use Rattle.aw_choice.specs.declared.choice.Choice.{Choice as ChoiceValue};
@@ -18,7 +18,7 @@ use crate::record::{Record, place_of};
 use crate::testing::{look_again, set_mark, test_all};
 use aw_apply::Steps;
 use aw_base::Grammar;
-use aw_held::insert_number;
+use aw_held::Order;
 use aw_store::Facts;
 use aw_work::{Pair, Work};
 use std::alloc::{AllocError, Global};
@@ -31,7 +31,7 @@ const MOST: usize = 1 << 32;
 /// place of the node, stays; its record is found by the number, and never moves.
 #[derive(Drop)]
 pub struct Kept {
-    pub(crate) numbers: Vec<u32>,
+    pub(crate) numbers: Order,
     pub(crate) records: Vec<Record>,
     pub(crate) work: Work,
 }
@@ -42,7 +42,7 @@ impl Kept {
         ensures { (g : PlainGrammar) (k : Map) (names : List RefName) → IsKept g [] k names result }
     {
         Kept {
-            numbers: Vec::new(alloc),
+            numbers: Order::new(alloc),
             records: Vec::new(alloc),
             work: Work::new(alloc),
         }
@@ -72,7 +72,7 @@ impl Kept {
         facts: &F,
         steps: &mut Steps<L>,
     )
-        requires within { at ≤ vec_len self.old.numbers }
+        requires within { at ≤ length self.old.numbers.items }
         requires fits { IsFitKept (grammar_of grammar.now) (F.names facts.now) self.old }
         requires fit { IsFit (grammar_of grammar.now) (F.names facts.now) entry }
         requires fresh { IsFresh entry }
@@ -87,19 +87,19 @@ impl Kept {
         let number = self.records.len();
         let mut entry = entry;
         test_all(&mut entry, number, grammar, facts, &mut self.work, steps);
-        insert_number(&mut self.numbers, at, number as u32);
+        self.numbers.insert(at, number as u32);
         put_last(&mut self.records, entry);
     }
 
     /// Lets go what is kept of the node at this place, which was developed, with its memory: none of its rules waits any more.
     pub fn close(&mut self, at: usize)
-        requires { at < vec_len self.old.numbers }
+        requires { at < length self.old.numbers.items }
         ensures kept { (g : PlainGrammar) (hs : List HeldValue) (k : Map) (names late : List RefName) (c : ChoiceValue) →
             IsKeptBut g hs k names late self.old → IsKeptBut g (done_at c at hs) k names late self.new }
         ensures room { (n w : ℕ) → HasRoom self.old n w → HasRoom self.new n w }
         ensures fewer { (q : ℕ) → waiting_at q self.new.work.waiting ≤ waiting_at q self.old.work.waiting }
     {
-        let number = self.numbers[at];
+        let number = self.numbers.at(at);
         self.work.drop_node(number as usize);
         if let Some(entry) = self.records.get_mut(number as usize) {
             entry.marks.clear();

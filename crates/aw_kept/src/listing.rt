@@ -1,5 +1,5 @@
 //! The items of a worklist, and how a rule stands that is asked for, from what is kept.
-ghost use Rattle.std.specs.Prelude.{◌≡◌, ◌<◌, ◌++◌, List, Some, true, IfOk, OnOk, length, map as list_map, slice_get, vec_len};
+ghost use Rattle.std.specs.Prelude.{◌≡◌, ◌<◌, ◌++◌, List, Some, true, IfOk, OnOk, length, map as list_map, slice_get};
 ghost use Rattle.aw_term.specs.Names.{Ref as RefName};
 ghost use Rattle.aw_term.specs.Rules.{Grammar as PlainGrammar};
 ghost use Rattle.aw_choice.specs.ChoiceView.{item_of, refusal_of};
@@ -75,11 +75,11 @@ fn push_marks<F: Facts>(
 impl Kept {
     /// The slots of the references that the node at this place inherits, in their order.
     pub fn slots(&self, at: usize) -> &[usize]
-        requires { at < vec_len self.now.numbers }
+        requires { at < length self.now.numbers.items }
         ensures { (g : PlainGrammar) (hs : List HeldValue) (h : HeldValue) (k : Map) (names : List RefName) → slice_get hs at ≡ Some h → IsKept g hs k names self.now →
             AreNamed names result.now h.inherited }
     {
-        match self.records.get(self.numbers[at] as usize) {
+        match self.records.get(self.numbers.at(at) as usize) {
             Some(record) => record.slots.as_slice(),
             None => &[],
         }
@@ -93,12 +93,12 @@ impl Kept {
         number: u16,
         facts: &F,
     ) -> Result<Standing, AllocError>
-        requires within { at < vec_len self.now.numbers }
+        requires within { at < length self.now.numbers.items }
         requires live { AreLiveAt (F.names facts.now) at self.now }
         ensures { IfOk result (λ s. (g : PlainGrammar) (hs : List HeldValue) (h : HeldValue) → slice_get hs at ≡ Some h → IsKept g hs (F.map facts.now) (F.names facts.now) self.now →
             StandsAt g (F.map facts.now) h number s) }
     {
-        match self.records.get(self.numbers[at] as usize) {
+        match self.records.get(self.numbers.at(at) as usize) {
             Some(record) => standing_in(facts, record.marks.as_slice(), number),
             None => Ok(Standing::Ready),
         }
@@ -113,12 +113,12 @@ impl Kept {
         facts: &F,
         items: &mut Vec<Item>,
     ) -> Result<(), AllocError>
-        requires within { at < vec_len self.now.numbers }
+        requires within { at < length self.now.numbers.items }
         requires live { AreLiveAt (F.names facts.now) at self.now }
         ensures { OnOk result ((g : PlainGrammar) (hs : List HeldValue) (h : HeldValue) → slice_get hs at ≡ Some h → h.node ≡ node.now → IsKept g hs (F.map facts.now) (F.names facts.now) self.now →
             list_map item_of items.new.items ≡ list_map item_of items.old.items ++ open_items g (state_of h.done) (F.map facts.now) (held_of g h)) }
     {
-        match self.records.get(self.numbers[at] as usize) {
+        match self.records.get(self.numbers.at(at) as usize) {
             Some(record) => push_marks(items, facts, node, record.marks.as_slice()),
             None => Ok(()),
         }

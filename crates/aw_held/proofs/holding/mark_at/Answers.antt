@@ -9,13 +9,13 @@ use Rattle.aw_held.proofs.holding.mark_at.Goals as goal
 
 pub returns : goal.returns
 returns c =
-    let ns = c.args.order.now in
+    let ns = c.args.order.now.items in
     let hs = c.args.nodes.now in
     let i = c.args.place in
-    let n = get_or ns i 0 in
-    let here = slice_get-get_or ns i 0 c.requires.place in
-    let x = get_or hs n c.index-nodes-order.result in
+    let n = c.at-number.result in
+    let here = c.at-number.ensures in
+    let x = get_or hs n c.index-nodes-number.result in
     let y : Held = record x { done = Some c.args.done } in
-    let there : slice_get (picked ns hs) i ≡ Some x = picked_at ns hs i n c.requires.known here ∙ slice_get-get_or hs n c.index-nodes-order.result (c.requires.known i n here) in
+    let there : slice_get (picked ns hs) i ≡ Some x = picked_at ns hs i n c.requires.known here ∙ slice_get-get_or hs n c.index-nodes-number.result (c.requires.known i n here) in
     picked_set ns hs i n y c.requires.known c.requires.apart here
     ∙ set_done c.args.done (picked ns hs) i x (omega (arith, c.requires.place, length_picked ns hs c.requires.known)) (sym (get_or_from_slice_get (picked ns hs) i x x there))

@@ -4,7 +4,7 @@ use Rattle.aw_kept.specs.KeptStates.{IsKept}
 use Rattle.aw_space.proofs.opening.put_open.Goals as goal
 
 pub open-requires-clause-within : goal.open-requires-clause-within
-open-requires-clause-within g c = omega (arith, c.put_between-at.ensures.within, c.requires.stands.beside, c.args.kept.now.numbers.ok)
+open-requires-clause-within g c = omega (arith, c.put_between-at.ensures.within, c.requires.stands.beside)
 
 pub returns-clause-stands : goal.returns-clause-stands
 returns-clause-stands g c =

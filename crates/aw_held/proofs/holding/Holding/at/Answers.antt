@@ -10,5 +10,4 @@ node_at-requires-clause-place c =
       c.requires,
       ap (λ (r : Row). length r.items) c.self.view_is,
       length_picked c.self.inside.order.items c.self.inside.nodes.items c.self.invariant.known,
-      ap length c.as_slice.ensures.value,
     )

@@ -8,7 +8,6 @@ returns c =
     omega (
       arith,
       c.len.ensures,
-      c.self.inside.order.ok,
       ap (λ (r : Row). length r.items) c.self.view_is,
       length_picked c.self.inside.order.items c.self.inside.nodes.items c.self.invariant.known,
     )

@@ -14,10 +14,10 @@ pub returns-in-Some-clause-kept : goal.returns-in-Some-clause-kept
 returns-in-Some-clause-kept c g hs k names late done f =
     let ns = c.args.self.now.numbers.items in
     let xs = c.args.self.now.records.items in
-    let n = c.index-number.result.now in
+    let n = c.at-number.result in
     let x = c.in-Some.entry.now in
     let y : Record = record { slots = x.slots; sort = x.sort; deep = x.deep; marks = c.shrink_to_fit.new.self } in
-    let here = slice_get_read ns (length ns) c.args.at n refl (omega (arith, c.requires, c.args.self.now.numbers.ok)) c.index-number.ensures in
+    let here = c.at-number.ensures in
     let within : n < length xs = f.fits.known c.args.at n here in
     let value : x ≡ get_or xs n x = search rules in
     let old = slice_get_read xs (length xs) n x refl within value in
@@ -29,14 +29,14 @@ returns-in-Some-clause-room c n w r = record {
   places = r.places;
   entries = r.entries;
   few = r.few;
-  spare = omega (arith, r.spare, c.drop_node.ensures.spare, ap length c.drop_node.ensures.waiting, others_fewer c.index-number.result.now c.args.self.now.work.waiting);
+  spare = omega (arith, r.spare, c.drop_node.ensures.spare, ap length c.drop_node.ensures.waiting, others_fewer c.at-number.result c.args.self.now.work.waiting);
 }
 
 pub returns-in_default-clause-kept : goal.returns-in_default-clause-kept
 returns-in_default-clause-kept c g hs k names late done f =
     let ns = c.args.self.now.numbers.items in
-    let n = c.index-number.result.now in
-    let here = slice_get_read ns (length ns) c.args.at n refl (omega (arith, c.requires, c.args.self.now.numbers.ok)) c.index-number.ensures in
+    let n = c.at-number.result in
+    let here = c.at-number.ensures in
     absurd (omega (arith, f.fits.known c.args.at n here, c.in_default.ensures.item.3))
 
 pub returns-in_default-clause-room : goal.returns-in_default-clause-room
@@ -44,11 +44,11 @@ returns-in_default-clause-room c n w r = record {
   places = r.places;
   entries = r.entries;
   few = r.few;
-  spare = omega (arith, r.spare, c.drop_node.ensures.spare, ap length c.drop_node.ensures.waiting, others_fewer c.index-number.result.now c.args.self.now.work.waiting);
+  spare = omega (arith, r.spare, c.drop_node.ensures.spare, ap length c.drop_node.ensures.waiting, others_fewer c.at-number.result c.args.self.now.work.waiting);
 }
 
 pub returns-in-Some-clause-fewer : goal.returns-in-Some-clause-fewer
-returns-in-Some-clause-fewer c q = subst (λ z. waiting_at q z ≤ waiting_at q c.args.self.now.work.waiting) (sym c.drop_node.ensures.waiting) (others_wait_less q c.index-number.result.now c.args.self.now.work.waiting)
+returns-in-Some-clause-fewer c q = subst (λ z. waiting_at q z ≤ waiting_at q c.args.self.now.work.waiting) (sym c.drop_node.ensures.waiting) (others_wait_less q c.at-number.result c.args.self.now.work.waiting)
 
 pub returns-in_default-clause-fewer : goal.returns-in_default-clause-fewer
-returns-in_default-clause-fewer c q = subst (λ z. waiting_at q z ≤ waiting_at q c.args.self.now.work.waiting) (sym c.drop_node.ensures.waiting) (others_wait_less q c.index-number.result.now c.args.self.now.work.waiting)
+returns-in_default-clause-fewer c q = subst (λ z. waiting_at q z ≤ waiting_at q c.args.self.now.work.waiting) (sym c.drop_node.ensures.waiting) (others_wait_less q c.at-number.result c.args.self.now.work.waiting)

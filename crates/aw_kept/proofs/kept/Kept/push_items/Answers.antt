@@ -1,4 +1,4 @@
-use Rattle.std.proofs.Common.{rules, ◌≡◌, ◌∙◌, ◌++◌, None, length, map, ap, refl, sym, slice_get, get_or, arith}
+use Rattle.std.proofs.Common.{rules, ◌≡◌, ◌∙◌, ◌++◌, None, length, map, ap, refl, sym, slice_get, get_or}
 use Rattle.std.proofs.lemmas.Option.{slice_get_read}
 use Rattle.std.proofs.lemmas.Result.{on_ok_weaker}
 use Rattle.aw_choice.specs.ChoiceView.{item_of}
@@ -11,9 +11,9 @@ returns-in-Some g c =
     let names = g.F.Facts.names c.args.facts.now in
     let ns = c.args.self.now.numbers.items in
     let xs = c.args.self.now.records.items in
-    let n = c.index.result.now in
+    let n = c.at.result in
     let x = c.in-Some.record.now in
-    let here = slice_get_read ns (length ns) c.args.at n refl (omega (arith, c.requires.within, c.args.self.now.numbers.ok)) c.index.ensures in
+    let here = c.at.ensures in
     let value : x ≡ get_or xs n x = search rules in
     on_ok_weaker c.push_marks.result (λ pushed gr hs h at same kept.
     pushed
@@ -25,7 +25,7 @@ pub returns-in-None : goal.returns-in-None
 returns-in-None g c gr hs h at same kept =
     let ns = c.args.self.now.numbers.items in
     let xs = c.args.self.now.records.items in
-    let n = c.index.result.now in
-    let here = slice_get_read ns (length ns) c.args.at n refl (omega (arith, c.requires.within, c.args.self.now.numbers.ok)) c.index.ensures in
+    let n = c.at.result in
+    let here = c.at.ensures in
     let gone : slice_get xs n ≡ None = search rules in
     absurd (past_known xs n (kept.fits.known c.args.at n here) gone)

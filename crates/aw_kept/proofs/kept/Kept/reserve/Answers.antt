@@ -16,7 +16,7 @@ returns-clause-room c =
     let now : Kept = record { numbers = c.reserve.new.self; records = c.reserve-2.new.self; work = c.reserve-3.new.self } in
     on_ok_weaker {P = c.args.waits ≤ c.reserve-3.new.self.spare} {Q = HasRoom now c.args.nodes c.args.waits} c.reserve-3.result
     (λ spare. record {
-      places = c.in_ok-reserve.ensures.ok;
+      places = c.in_ok-reserve.ensures.room;
       entries = c.in_ok-reserve-2.ensures.ok;
       few = omega (arith, c.reserve-2.ensures.len, c.len.ensures, c.saturating_add.ensures);
       spare = spare;

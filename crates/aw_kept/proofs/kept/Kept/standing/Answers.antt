@@ -1,4 +1,4 @@
-use Rattle.std.proofs.Common.{rules, ◌≡◌, None, List, Some, length, refl, subst, slice_get, get_or, arith}
+use Rattle.std.proofs.Common.{rules, ◌≡◌, None, List, Some, length, refl, subst, slice_get, get_or}
 use Rattle.std.proofs.lemmas.Option.{slice_get_read}
 use Rattle.std.proofs.lemmas.Result.{IfOk-weaker}
 use Rattle.aw_term.specs.Rules.{Grammar}
@@ -16,9 +16,9 @@ returns-in-Some g c =
     let kept = c.args.self.now in
     let ns = kept.numbers.items in
     let xs = kept.records.items in
-    let n = c.index.result.now in
+    let n = c.at.result in
     let x = c.in-Some.record.now in
-    let here = slice_get_read ns (length ns) c.args.at n refl (omega (arith, c.requires.within, kept.numbers.ok)) c.index.ensures in
+    let here = c.at.ensures in
     let value : x ≡ get_or xs n x = search rules in
     IfOk-weaker c.standing_in.result (SayOf names c.as_slice.result.now c.args.number)
     (λ (s : Standing). (gr : Grammar) (hs : List Held) (h : Held) → slice_get hs c.args.at ≡ Some h → IsKept gr hs k names kept → StandsAt gr k h c.args.number s)
@@ -30,7 +30,7 @@ pub returns-in-None : goal.returns-in-None
 returns-in-None g c gr hs h at f =
     let ns = c.args.self.now.numbers.items in
     let xs = c.args.self.now.records.items in
-    let n = c.index.result.now in
-    let here = slice_get_read ns (length ns) c.args.at n refl (omega (arith, c.requires.within, c.args.self.now.numbers.ok)) c.index.ensures in
+    let n = c.at.result in
+    let here = c.at.ensures in
     let gone : slice_get xs n ≡ None = search rules in
     absurd (past_known xs n (f.fits.known c.args.at n here) gone)
