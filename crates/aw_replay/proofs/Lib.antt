@@ -4,3 +4,5 @@ pub mod Arms
 pub mod SentLines
 pub mod Endings
 pub mod Replays
+pub mod Tellings
+pub mod Scheduled

@@ -1,2 +1,4 @@
 pub mod CallTexts
+pub mod Faults
+pub mod Replays
 pub mod Telling

@@ -21,7 +21,7 @@ use std::alloc::Global;
 const USUAL: usize = 512;
 
 /// A text, with room for the lines of a usual event where there is memory for it.
-fn roomy_text(alloc: Global) -> Text {
+pub(crate) fn roomy_text(alloc: Global) -> Text {
     match Vec::with_capacity(alloc, USUAL) {
         Ok(bytes) => Text::from_vec(bytes),
         Err(_) => Text::new(alloc),
@@ -31,7 +31,7 @@ fn roomy_text(alloc: Global) -> Text {
 /// Does what an event asks for, and prints its lines, which are gathered in a text that serves one event after another, as do the
 /// names that were written. After an error
 /// some first choices and deliveries of it were made.
-fn tell_event<W: Workspace>(
+pub(crate) fn tell_event<W: Workspace>(
     world: &mut World<W>,
     event: &Event,
     names: &mut NameWriter<'_>,
@@ -95,7 +95,7 @@ fn replay_into<W: Workspace>(
 /// Replays events in a world in which nothing happened yet: the lines of all events, and then the artifacts where every message was
 /// delivered, and otherwise how many were not. It is too large exactly where the text would be longer than an output may be. After an
 /// error some first choices and deliveries of the events were made in the world.
-pub fn replay<W: Workspace>(world: &mut World<W>, events: &[Event]) -> Result<Report, PrintFault>
+pub(crate) fn replay<W: Workspace>(world: &mut World<W>, events: &[Event]) -> Result<Report, PrintFault>
     requires may_come { Each (MayCome (plain_of world.old)) events.now }
     requires new { IsNew ⟦<W as Workspace>⟧ world.old }
     ensures accepted { world.new.accepted.now ≡ world.old.accepted.now }

@@ -16,3 +16,4 @@ pub mod Four
 pub mod OneRoles
 pub mod TypedChoices
 pub mod Promising
+pub mod Scheduled

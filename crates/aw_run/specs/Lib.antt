@@ -13,4 +13,5 @@ pub mod Replies
 pub mod Fronts
 pub mod Unread
 pub mod Promises
+pub mod Scheduled
 pub mod Laws

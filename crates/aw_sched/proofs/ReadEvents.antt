@@ -1,16 +1,23 @@
 -- Events that are read one after the other.
-use Rattle.std.proofs.Common.{◌≡◌, ℕ, suc, refl, ap, ◌∙◌, List, [], ◌∷◌, ◌++◌, map}
+use Rattle.std.proofs.Common.{◌≡◌, ℕ, refl, ap, sym, subst, ◌∙◌, List, [], ◌∷◌, ◌++◌, map}
+use Rattle.std.specs.Prelude.{Err, IfSome, None, Ok, Option, Some}
+use Rattle.aw_term.specs.WellFormed.{Each}
+use Rattle.aw_grammar.specs.declared.grammar.Grammar.{Grammar}
+use Rattle.aw_grammar.specs.GrammarOf.{grammar_of}
+use Rattle.aw_typed.specs.Typing.{types_of}
+use Rattle.aw_typed.specs.declared.data.Typed.{Typed}
 use Rattle.aw_sched.specs.Events as P
-use Rattle.std.specs.Prelude.{Err}
-use Rattle.aw_grammar.specs.Declarations.{Declarations}
-use Rattle.aw_typed.specs.Types.{Types}
-use Rattle.aw_sched.specs.Schedules.{Read, Events, FaultAt, in_front, read_line, read_lines, with_event}
-use Rattle.aw_sched.specs.Answers.{Answers, event_seen}
-use Rattle.aw_sched.specs.LineEvents.{AddsLine, fault_at, with_events}
+use Rattle.aw_sched.specs.Schedules.{LineRead, Read, Events, FaultAt, in_front, with_event}
+use Rattle.aw_sched.specs.Answers.{Answers, HasTypes, MayCome, event_seen}
+use Rattle.aw_sched.specs.LineEvents.{ReadsLine, fault_at, with_events}
+use Rattle.aw_sched.specs.Readers.{AreRead, Passes, ReadsNext, left}
 use Rattle.aw_sched.specs.declared.fault.LineFault.{LineFault}
 use Rattle.aw_sched.specs.declared.fault.LineFault.TheVariants.{Bad, NoMemory}
+use Rattle.aw_sched.specs.declared.fault.SchedFault.{SchedFault}
+use Rattle.aw_sched.specs.declared.fault.SchedFault.TheVariants.{Bad as Told, NoMemory as Unread}
 use Rattle.aw_sched.specs.declared.event.Event.{Event}
 use Rattle.aw_sched.specs.declared.fault.SchedKind.{SchedKind}
+use Rattle.aw_sched.specs.declared.reader.ScheduleReader.{ScheduleReader}
 
 pub with_last : (before : List Event) (e : Event) (later : Read) → with_events (map event_seen (before ++ e ∷ [])) later ≡ with_events (map event_seen before) (with_event (event_seen e) later)
 with_last [] e later = refl
@@ -24,9 +31,62 @@ pub with_none : (before : List P.Event) → with_events before (Events []) ≡ E
 with_none [] = refl
 with_none (e ∷ es) = ap (with_event e) (with_none es)
 
--- the first line at fault
-pub fault_answer : (t : Types) (d : Declarations) (before after : List Event) (n : ℕ) (line : List ℕ) (more : List (List ℕ)) (fault : LineFault) → AddsLine before after (read_line t d line) (Err fault)
-    → Answers (with_events (map event_seen before) (read_lines t d n (line ∷ more))) (Err (fault_at n fault))
-fault_answer t d before after n line more (Bad kind) h =
-    ap (λ r. with_events (map event_seen before) (in_front n r (read_lines t d (suc n) more))) h ∙ with_fault (map event_seen before) n kind
-fault_answer t d before after n line more NoMemory h = tt
+pub with_more : (before more : List Event) (later : Read) → with_events (map event_seen (before ++ more)) later ≡ with_events (map event_seen before) (with_events (map event_seen more) later)
+with_more [] more later = refl
+with_more (e ∷ es) more later = ap (with_event (event_seen e)) (with_more es more later)
+
+-- the fault of a line is that of all that is read from it on
+pub fault_next : (n : ℕ) (read : LineRead) (later after : Read) (fault : LineFault) → ReadsLine read (Err fault) → ReadsNext (in_front n read later) (Err (fault_at n fault)) after
+fault_next n read later after (Bad kind) h = ap (λ r. in_front n r later) h
+fault_next n read later after NoMemory h = tt
+
+each_more : {A : Type 0} (P : A → Type 0) (as' bs : List A) → Each P as' → Each P bs → Each P (as' ++ bs)
+each_more P [] bs front back = back
+each_more P (a ∷ as') bs front back = (front.0, each_more P as' bs front.1 back)
+
+-- to begin with no event was read
+pub none_read : (r : ScheduleReader) → AreRead r [] (left r)
+none_read r = record { read = refl; come = tt; typed = tt }
+
+module _ (r now : ScheduleReader) (es : List Event) (later : Read) (grammar : now.grammar.now ≡ r.grammar.now) (typed : now.typed.now ≡ r.typed.now) (before : AreRead r es (left now)) where
+  -- the events that are read behind these
+  pub more_read : (more : List Event) → AreRead now more later → AreRead r (es ++ more) later
+  more_read more behind = record {
+    read = before.read ∙ ap (with_events (map event_seen es)) behind.read ∙ sym (with_more es more later);
+    come = each_more (MayCome (grammar_of r.grammar.now)) es more before.come (subst (λ (g : Grammar). Each (MayCome (grammar_of g)) more) grammar behind.come);
+    typed = each_more (HasTypes (types_of r.typed.now.types) (grammar_of r.grammar.now)) es more before.typed
+        (subst (λ (g : Grammar). Each (HasTypes (types_of r.typed.now.types) (grammar_of g)) more) grammar
+        (subst (λ (t : Typed). Each (HasTypes (types_of t.types) (grammar_of now.grammar.now)) more) typed behind.typed));
+  }
+
+  -- one event more
+  pub one_read : (e : Event) → left now ≡ with_event (event_seen e) later → MayCome (grammar_of now.grammar.now) e → HasTypes (types_of now.typed.now.types) (grammar_of now.grammar.now) e → AreRead r (es ++ e ∷ []) later
+  one_read e is come fits = more_read (e ∷ []) (record { read = is; come = (come, tt); typed = (fits, tt) })
+
+  -- the next event
+  pub next_read : (now' : ScheduleReader) → later ≡ left now' → (found : Option Event) (e : Event) → found ≡ Some e → ReadsNext (left now) (Ok found) (left now') → IfSome found (MayCome (grammar_of now.grammar.now)) →
+      IfSome found (HasTypes (types_of now.typed.now.types) (grammar_of now.grammar.now)) → AreRead r (es ++ e ∷ []) later
+  next_read now' same found e is next come fits =
+      one_read e (subst (λ o. ReadsNext (left now) (Ok o) (left now')) is next ∙ ap (with_event (event_seen e)) (sym same)) (subst (λ o. IfSome o (MayCome (grammar_of now.grammar.now))) is come)
+      (subst (λ o. IfSome o (HasTypes (types_of now.typed.now.types) (grammar_of now.grammar.now))) is fits)
+
+-- the end behind some events
+pub end_read : (r now : ScheduleReader) (es : List Event) (found : Option Event) (after : Read) → found ≡ None → AreRead r es (left now) → ReadsNext (left now) (Ok found) after → AreRead r es (Events [])
+end_read r now es found after is before next = record {
+  read = before.read ∙ ap (with_events (map event_seen es)) (subst (λ o. ReadsNext (left now) (Ok o) after) is next);
+  come = before.come;
+  typed = before.typed;
+}
+
+-- a fault behind some events
+pub fault_read : (r now : ScheduleReader) (es : List Event) (fault : SchedFault) (after : Read) → AreRead r es (left now) → ReadsNext (left now) (Err fault) after → ReadsNext (left r) (Err fault) after
+fault_read r now es (Told line kind) after before next = before.read ∙ ap (with_events (map event_seen es)) next ∙ with_fault (map event_seen es) line kind
+fault_read r now es Unread after before next = tt
+
+pub fault_passes : (r now : ScheduleReader) (es : List Event) (fault : SchedFault) (after : Read) → AreRead r es (left now) → ReadsNext (left now) (Err fault) after → Passes r (Err fault)
+fault_passes r now es (Told line kind) after before next = fault_read r now es (Told line kind) after before next
+fault_passes r now es Unread after before next = tt
+
+pub fault_answers : (r now : ScheduleReader) (es : List Event) (fault : SchedFault) (after : Read) → AreRead r es (left now) → ReadsNext (left now) (Err fault) after → Answers (left r) (Err fault)
+fault_answers r now es (Told line kind) after before next = fault_read r now es (Told line kind) after before next
+fault_answers r now es Unread after before next = tt

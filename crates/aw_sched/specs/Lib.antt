@@ -9,4 +9,5 @@ pub mod LineEvents
 pub mod LineSeen
 pub mod LineSpelling
 pub mod Lines
+pub mod Readers
 pub mod Schedules

@@ -70,12 +70,6 @@ abbrev pub with_events : List P.Event → Read → Read
 with_events [] read = read
 with_events (e ∷ es) read = with_event e (with_events es read)
 
--- what was read before, and after this line; want of memory says nothing
-abbrev pub AddsLine : List Event → List Event → LineRead → Result Unit LineFault → Type 0
-AddsLine before after read (Ok done) = (n : ℕ) (later : Read) → with_events (map event_seen after) later ≡ with_events (map event_seen before) (in_front n read later)
-AddsLine before after read (Err (Bad kind)) = read ≡ BadLine kind
-AddsLine before after read (Err NoMemory) = Unit {0}
-
 -- the fault of the line with this number
 abbrev pub fault_at : ℕ → LineFault → SchedFault
 fault_at line (Bad kind) = fault.Bad line kind

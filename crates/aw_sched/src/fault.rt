@@ -50,6 +50,17 @@ pub enum SchedFault {
     NoMemory,
 }
 
+impl<T: Drop> From<AllocFailed<T>> for SchedFault {
+    ghost use Rattle.std.specs.Prelude.{◌≡◌};
+    ghost use Rattle.aw_sched.specs.declared.fault.SchedFault.TheVariants.{NoMemory};
+
+    ghost from_gives = { λ _ e. e ≡ NoMemory };
+
+    fn from(_failed: AllocFailed<T>) -> SchedFault {
+        SchedFault::NoMemory
+    }
+}
+
 /// Why a line gives no event.
 #[derive(Clone, Copy, Debug, PartialEq, Eq)]
 pub(crate) enum LineFault {

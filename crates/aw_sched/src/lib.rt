@@ -10,9 +10,10 @@ mod law;
 pub mod line;
 mod lookup;
 pub mod parse;
-pub mod read;
+mod read;
+pub mod reader;
 
 pub use event::{Event, Events};
 pub use fault::{SchedFault, SchedKind};
 pub use law::reading_is_spelling;
-pub use read::read_schedule;
+pub use reader::{ScheduleReader, read_schedule};

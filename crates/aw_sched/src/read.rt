@@ -1,10 +1,9 @@
-//! Reading a schedule, line by line.
-ghost use Rattle.std.specs.Prelude.{◌≡◌, IfOk, IfSome, OnOk, Some};
+//! Reading a line of a schedule.
+ghost use Rattle.std.specs.Prelude.{◌≡◌, IfOk, IfSome, Some};
 ghost use Rattle.aw_typed.specs.Types.{Types};
 ghost use Rattle.aw_typed.specs.Typing.{types_of, IsMadeFor};
 ghost use Rattle.aw_lex.specs.Tokens.{AreSlices};
 ghost use Rattle.aw_term.specs.Rules as rules;
-ghost use Rattle.aw_term.specs.WellFormed.{Each};
 ghost use Rattle.aw_grammar.specs.Declarations.{Declarations};
 ghost use Rattle.aw_grammar.specs.GrammarOf.{declarations_of, grammar_of};
 ghost use Rattle.aw_base.specs.ReadFronts.{IsReaderOf};
@@ -12,20 +11,20 @@ ghost use Rattle.aw_form.specs.Lexemes.{lexemes};
 ghost use Rattle.aw_sched.specs.Lines.{line_of};
 ghost use Rattle.aw_sched.specs.Events.{line_kind};
 ghost use Rattle.aw_sched.specs.LineSeen.{line_seen, HasContents};
-ghost use Rattle.aw_sched.specs.Schedules.{by_form, by_kind, by_type, event_fits, read_line, schedule_of, Gives};
-ghost use Rattle.aw_sched.specs.Answers.{Answers, HasTypes, MayCome, event_seen};
-ghost use Rattle.aw_sched.specs.LineEvents.{AddsLine, ReadsLine, fault_at};
+ghost use Rattle.aw_sched.specs.Schedules.{by_form, by_kind, by_type, event_fits, read_line, Gives};
+ghost use Rattle.aw_sched.specs.Answers.{HasTypes, MayCome, event_seen};
+ghost use Rattle.aw_sched.specs.LineEvents.{ReadsLine};
 
 use crate::choice_line::choice_front;
-use crate::event::{Event, Events};
-use crate::fault::{LineFault, SchedFault, SchedKind};
+use crate::event::Event;
+use crate::fault::{LineFault, SchedKind};
 use crate::known::known_choice;
 use crate::line::SchedLine;
 use crate::lookup::event_of;
 use crate::parse::parse_line;
 use aw_base::{Grammar, NodeReader};
 use aw_form::Unread;
-use aw_lex::{LexFault, Token, Tokens, is_passed_over, next_line, read_tokens};
+use aw_lex::{LexFault, Token, Tokens, is_passed_over, read_tokens};
 use aw_text::number_value;
 use aw_typed::{Typed, arg_ok};
 use std::alloc::Global;
@@ -150,7 +149,7 @@ fn choice_event(
 }
 
 /// What a line gives: by its bytes alone where these tell it, and else by its tokens.
-fn line_event(
+pub(crate) fn line_event(
     found: &mut Tokens,
     nodes: &mut NodeReader,
     g: &Grammar,
@@ -178,69 +177,4 @@ fn line_event(
         Err(LexFault::Bad { .. }) => Err(LineFault::Bad(SchedKind::Token)),
         Err(LexFault::NoMemory) => Err(LineFault::NoMemory),
     }
-}
-
-/// Adds the event of a line, where it gives one. The list of tokens is filled anew for each line, and the name of a node is read
-/// from where it parts from the last one of its case.
-fn add_line(
-    found: &mut Tokens,
-    nodes: &mut NodeReader,
-    g: &Grammar,
-    t: &Typed,
-    events: &mut Events,
-    line: &[u8],
-) -> Result<(), LineFault>
-    requires made { IsMadeFor (grammar_of g.now) t.now }
-    requires come { Each (MayCome (grammar_of g.now)) events.old }
-    requires typed { Each (HasTypes (types_of t.now.types) (grammar_of g.now)) events.old }
-    requires nodes { IsReaderOf g.now nodes.old }
-    ensures kept { IsReaderOf g.now nodes.new }
-    ensures adds { AddsLine events.old events.new (read_line (types_of t.now.types) (declarations_of g.now) line.now) result }
-    ensures fits { OnOk result (Each (MayCome (grammar_of g.now)) events.new) }
-    ensures types { OnOk result (Each (HasTypes (types_of t.now.types) (grammar_of g.now)) events.new) }
-{
-    match line_event(found, nodes, g, t, line)? {
-        Some(event) => {
-            events.push(event)?;
-            Ok(())
-        }
-        None => Ok(()),
-    }
-}
-
-fn fault_at(line: u64, fault: LineFault) -> SchedFault
-    ensures { result ≡ fault_at line fault }
-{
-    match fault {
-        LineFault::Bad(kind) => SchedFault::Bad { line, kind },
-        LineFault::NoMemory => SchedFault::NoMemory,
-    }
-}
-
-/// The events of a schedule, whose choices have arguments of these types; or its first faulty line, counted from 1, and the first
-/// kind of fault there.
-pub fn read_schedule(
-    alloc: Global,
-    g: &Grammar,
-    t: &Typed,
-    text: &[u8],
-) -> Result<Events, SchedFault>
-    requires { IsMadeFor (grammar_of g.now) t.now }
-    ensures answer { Answers (schedule_of (types_of t.now.types) (declarations_of g.now) text.now) result }
-    ensures fits { IfOk result (λ events. Each (MayCome (grammar_of g.now)) events) }
-    ensures types { IfOk result (λ events. Each (HasTypes (types_of t.now.types) (grammar_of g.now)) events) }
-{
-    let mut events = Events::new(alloc);
-    let mut found = Tokens::new(alloc);
-    let mut nodes = NodeReader::new(alloc);
-    let mut rest = text;
-    let mut number = 0;
-    while let Some((line, behind)) = next_line(rest) {
-        number += 1;
-        match add_line(&mut found, &mut nodes, g, t, &mut events, line) {
-            Ok(()) => rest = behind,
-            Err(fault) => return Err(fault_at(number, fault)),
-        }
-    }
-    Ok(events)
 }

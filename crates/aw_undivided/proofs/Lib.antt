@@ -1,2 +1,3 @@
 pub mod Chosen
 pub mod Told
+pub mod Scheduled

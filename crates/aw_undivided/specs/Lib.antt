@@ -1,3 +1,4 @@
 pub mod ChoicesIn
 pub mod Choosing
 pub mod Laws
+pub mod Scheduled

@@ -7,4 +7,4 @@ mod laws;
 mod running;
 
 pub use laws::undivided_laws;
-pub use running::run_undivided;
+pub use running::{run_schedule, run_undivided};

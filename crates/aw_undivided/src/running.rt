@@ -3,14 +3,16 @@ ghost use Rattle.std.specs.Prelude.{◌≡◌, ◌<◌, length, map, Err, IfOk};
 ghost use Rattle.aw_grammar.specs.GrammarOf.{grammar_of};
 ghost use Rattle.aw_sched.specs.Answers.{event_seen, MayCome};
 ghost use Rattle.aw_term.specs.WellFormed.{Each};
+ghost use Rattle.aw_sched.specs.Readers.{IsReading};
 ghost use Rattle.aw_undivided.specs.ChoicesIn.{undivided_text};
+ghost use Rattle.aw_undivided.specs.Scheduled.{RunsUndivided};
 
 use crate::choosing::choices_among;
 use crate::laws::undivided_laws;
 use aw_accept::Accepted;
 use aw_out::{OUTPUT_LIMIT, PrintFault, Report};
-use aw_replay::replay_between_sites;
-use aw_sched::Event;
+use aw_replay::{Kept, ReplayFault, replay_between_sites, replay_schedule};
+use aw_sched::{Event, ScheduleReader};
 use aw_united::{unite_accepted, united_laws};
 use std::alloc::Global;
 
@@ -31,4 +33,20 @@ pub fn run_undivided(
     united_laws();
     undivided_laws();
     replay_between_sites(alloc, &one, false, choices.as_slice())
+}
+
+/// What the undivided run tells of the choices among the events that are left of a schedule, which is read while it is told.
+pub fn run_schedule(
+    alloc: Global,
+    accepted: &Accepted,
+    reader: &mut ScheduleReader<'_>,
+) -> Result<Report, ReplayFault>
+    requires reading { IsReading reader.old }
+    requires same { reader.old.grammar.now ≡ accepted.now.grammar }
+    ensures { RunsUndivided accepted.now reader.old result }
+{
+    let one = unite_accepted(alloc, accepted)?;
+    united_laws();
+    undivided_laws();
+    replay_schedule(alloc, &one, false, Kept::Choices, reader)
 }

@@ -1,0 +1,10 @@
+use Rattle.aw_sched.specs.Answers.{event_seen}
+use Rattle.aw_replay.proofs.Tellings.{past_limit, tells_more}
+use Rattle.aw_replay.proofs.replay.Replay.tell.Goals as goal
+
+pub returns-clause-tells : goal.returns-clause-tells
+returns-clause-tells g c =
+    tells_more g.W.Workspace c.args.self.now c.new.self (event_seen c.args.event.now) c.tell_event.result c.tell_event.ensures.accepted c.tell_event.ensures.loads c.tell_event.ensures.does c.tell_event.ensures.prints
+
+pub returns-clause-too_large : goal.returns-clause-too_large
+returns-clause-too_large g c large = past_limit g.W.Workspace c.args.self.now (event_seen c.args.event.now) c.new.self.report c.tell_event.result c.tell_event.ensures.prints large

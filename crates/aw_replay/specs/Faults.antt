@@ -1,0 +1,17 @@
+-- Faults of a schedule and of printing as those of a replay.
+use Rattle.aw_out.specs.declared.error.PrintFault.{PrintFault}
+use Rattle.aw_out.specs.declared.error.PrintFault.TheVariants as print
+use Rattle.aw_sched.specs.declared.fault.SchedFault.{SchedFault}
+use Rattle.aw_sched.specs.declared.fault.SchedFault.TheVariants as read
+use Rattle.aw_replay.specs.declared.scheduled.ReplayFault.{ReplayFault}
+use Rattle.aw_replay.specs.declared.scheduled.ReplayFault.TheVariants.{Bad, TooLarge, NoMemory}
+
+-- a faulty line, or want of memory to read it
+abbrev pub of_schedule : SchedFault → ReplayFault
+of_schedule (read.Bad line kind) = Bad line kind
+of_schedule read.NoMemory = NoMemory
+
+-- too long a text, or want of memory to print it
+abbrev pub of_printing : PrintFault → ReplayFault
+of_printing print.TooLarge = TooLarge
+of_printing print.NoMemory = NoMemory

@@ -1,0 +1,109 @@
+-- A replay under way, and a schedule that is replayed while it is read.
+use Rattle.std.specs.Prelude.{◌≡◌, ◌<◌, ℕ, Bool, true, false, List, [], ◌∷◌, ◌++◌, filter, length, map}
+use Rattle.std.specs.declared.result.Result.{Result}
+use Rattle.std.specs.declared.result.Result.TheVariants.{Ok, Err}
+use Rattle.aw_term.specs.Artifacts.{Words}
+use Rattle.aw_term.specs.Rules.{Grammar}
+use Rattle.aw_term.specs.WellFormed.{Each}
+use Rattle.aw_accept.specs.declared.accepted.Accepted.{Accepted}
+use Rattle.aw_choice.specs.Events.{Event}
+use Rattle.aw_grammar.specs.GrammarOf.{grammar_of, words_of}
+use Rattle.aw_merge.specs.Headline.{HeadlineHolds}
+use Rattle.aw_out.specs.declared.error.PrintFault.{PrintFault}
+use Rattle.aw_out.specs.declared.error.PrintFault.TheVariants as fault
+use Rattle.aw_out.specs.Report.{Bounded}
+use Rattle.aw_react.specs.Outputs.{MayStand, after_events, all_lines, output_of}
+use Rattle.aw_react.specs.Worlds.{empty_world}
+use Rattle.aw_sched.specs.Answers.{MayCome, event_seen}
+use Rattle.aw_sched.specs.Readers.{AreRead, left}
+use Rattle.aw_sched.specs.Schedules.{Events, FaultAt}
+use Rattle.aw_sched.specs.declared.event.Event as E
+use Rattle.aw_sched.specs.declared.event.Event.TheVariants as event
+use Rattle.aw_sched.specs.declared.reader.ScheduleReader.{ScheduleReader}
+use Rattle.aw_world.specs.declared.workspace.Workspace.{Ghosts}
+use Rattle.aw_world.specs.Shown.{Shows}
+use Rattle.aw_replay.specs.Telling.{SettlingEnds}
+use Rattle.aw_replay.specs.declared.replay.Replay.{Replay}
+use Rattle.aw_replay.specs.declared.scheduled.Kept.{Kept}
+use Rattle.aw_replay.specs.declared.scheduled.Kept.TheVariants.{All, Choices}
+use Rattle.aw_replay.specs.declared.scheduled.ReplayFault.{ReplayFault}
+use Rattle.aw_replay.specs.declared.scheduled.ReplayFault.TheVariants.{Bad, TooLarge, NoMemory}
+
+-- the most bytes of an output
+abbrev pub most : ℕ
+most = 67108864
+
+-- the lines of events from the world in which no site holds anything
+abbrev pub lines_from_empty : Accepted → Bool → List Event → List ℕ
+lines_from_empty a carried es = all_lines (words_of a.grammar) (grammar_of a.grammar) (empty_world (grammar_of a.grammar) carried) es
+
+-- the whole output of events
+abbrev pub whole_output : Accepted → Bool → List Event → List ℕ
+whole_output a carried es = output_of (words_of a.grammar) (grammar_of a.grammar) carried es
+
+module _ {W : Type 0} (f : Ghosts W) where
+  -- names are written by the grammar of the world
+  abbrev pub IsNamed : Replay W f → Type 0
+  IsNamed r = r.names.grammar.now ≡ r.world.accepted.now.grammar
+
+  -- These events were replayed, of this grammar, with loads or without: the world is that behind them, and their lines were told.
+  pub record HasTold (r : Replay W f) (a : Accepted) (carried : Bool) (es : List Event) : Type 0 where
+    pub accepted : r.world.accepted.now ≡ a
+    pub loads : r.world.loads ≡ carried
+    pub shows : Shows f r.world (after_events (grammar_of a.grammar) (empty_world (grammar_of a.grammar) carried) es)
+    pub told : r.report ≡ record { text = lines_from_empty a carried es; limit = most }
+
+  -- whatever events were replayed before, this one was replayed behind them
+  abbrev pub TellsMore : Replay W f → Replay W f → Event → Type 0
+  TellsMore old new e = (a : Accepted) (carried : Bool) (es : List Event) → HasTold old a carried es → HasTold new a carried (es ++ e ∷ [])
+
+  -- whatever events were replayed before, their lines and those of this one are too long together
+  abbrev pub IsPastLimit : Replay W f → Event → Type 0
+  IsPastLimit old e = (a : Accepted) (carried : Bool) (es : List Event) → HasTold old a carried es → most < length (lines_from_empty a carried (es ++ e ∷ []))
+
+  -- whatever events were replayed, their whole output is told; or it is too long
+  abbrev pub Ends : Replay W f → Result Bounded PrintFault → Type 0
+  Ends r (Ok report) = (a : Accepted) (carried : Bool) (es : List Event) → HasTold r a carried es → report ≡ record { text = whole_output a carried es; limit = most }
+  Ends r (Err fault.TooLarge) = (a : Accepted) (carried : Bool) (es : List Event) → HasTold r a carried es → most < length (whole_output a carried es)
+  Ends r (Err fault.NoMemory) = Unit {0}
+
+  -- Whatever events were replayed, if they may stand: however late, repeated or reordered their deliveries are, what is told is the
+  -- same, and behind each settling no message is undelivered.
+  abbrev pub HasHeadline : Replay W f → Type 0
+  HasHeadline r = (a : Accepted) (carried : Bool) (es : List Event) → HasTold r a carried es → Each (MayStand (grammar_of a.grammar)) es →
+      ∥ HeadlineHolds (words_of a.grammar) (grammar_of a.grammar) carried es ∥₁ × SettlingEnds (grammar_of a.grammar) carried es
+
+-- ---- while a schedule is read
+-- whether an event is replayed: all are, or choices alone
+abbrev pub is_kept : Kept → E.Event → Bool
+is_kept All e = true
+is_kept Choices (event.Choose c) = true
+is_kept Choices (event.Deliver message) = false
+is_kept Choices event.Settle = false
+is_kept Choices (event.List role) = false
+
+-- those of the events that are replayed, in their order, as the definitions speak of them
+abbrev pub kept_of : Kept → List E.Event → List Event
+kept_of kept es = map event_seen (filter (is_kept kept) es)
+
+-- what may be read by the one grammar, and is replayed, may come in the other
+abbrev pub MayReplay : Kept → Grammar → Grammar → Type 0
+MayReplay kept read replayed = (e : E.Event) → MayCome read e → is_kept kept e ≡ true → MayCome replayed e
+
+-- All that was left of the schedule was read, and what is kept of it replayed; or the events up to one whose lines are too long with
+-- those before; or there is a fault.
+abbrev pub TellsLeft : {W : Type 0} (f : Ghosts W) → Kept → ScheduleReader → Replay W f → ScheduleReader → Replay W f → Result Unit ReplayFault → Type 0
+TellsLeft f kept reader old later new (Ok done) = (es : List E.Event) × AreRead reader es (Events []) ×
+    ((a : Accepted) (carried : Bool) (before : List Event) → HasTold f old a carried before → HasTold f new a carried (before ++ kept_of kept es))
+TellsLeft f kept reader old later new (Err TooLarge) = (es : List E.Event) × AreRead reader es (left later) ×
+    ((a : Accepted) (carried : Bool) (before : List Event) → HasTold f old a carried before → most < length (lines_from_empty a carried (before ++ kept_of kept es)))
+TellsLeft f kept reader old later new (Err (Bad line kind)) = left reader ≡ FaultAt line kind
+TellsLeft f kept reader old later new (Err NoMemory) = Unit {0}
+
+-- The output of all events that were left of a schedule and are kept; or that it is too long; or the first faulty line, counted from
+-- 1, and the first kind of fault there, whatever stands before it. Want of memory says nothing.
+abbrev pub Replays : Accepted → Bool → Kept → ScheduleReader → Result Bounded ReplayFault → Type 0
+Replays a carried kept reader (Ok report) = (es : List E.Event) × AreRead reader es (Events []) × (report ≡ record { text = whole_output a carried (kept_of kept es); limit = most })
+Replays a carried kept reader (Err TooLarge) = (es : List E.Event) × AreRead reader es (Events []) × (most < length (whole_output a carried (kept_of kept es)))
+Replays a carried kept reader (Err (Bad line kind)) = left reader ≡ FaultAt line kind
+Replays a carried kept reader (Err NoMemory) = Unit {0}

@@ -1,0 +1,134 @@
+//! A schedule that is replayed while it is read.
+ghost use Rattle.std.specs.Prelude.{◌≡◌};
+ghost use Rattle.aw_grammar.specs.GrammarOf.{grammar_of};
+ghost use Rattle.aw_sched.specs.Readers.{IsReading};
+ghost use Rattle.aw_replay.specs.Replays.{IsNamed, MayReplay, Replays, TellsLeft, is_kept};
+
+use crate::replay::Replay;
+use aw_accept::Accepted;
+use aw_out::{PrintFault, Report};
+use aw_sched::{Event, SchedFault, SchedKind, ScheduleReader};
+use aw_world::{SiteWorld, Workspace};
+use std::alloc::{AllocError, Global};
+use std::mem;
+
+/// Which events of a schedule are replayed. The others are read for their faults alone.
+#[derive(Clone, Copy, Debug, PartialEq, Eq)]
+pub enum Kept {
+    All,
+    Choices,
+}
+
+/// Whether an event is replayed.
+fn is_kept(kept: Kept, event: &Event) -> bool
+    ensures { result ≡ is_kept kept event.now }
+{
+    match kept {
+        Kept::All => true,
+        Kept::Choices => matches!(event, Event::Choose(_)),
+    }
+}
+
+/// Why a schedule is not replayed.
+#[derive(Clone, Copy, Debug, PartialEq, Eq)]
+pub enum ReplayFault {
+    /// The first faulty line of the schedule, counted from 1, and the first kind of fault there.
+    Bad { line: u64, kind: SchedKind },
+    /// The output would be longer than an output may be.
+    TooLarge,
+    NoMemory,
+}
+
+impl From<SchedFault> for ReplayFault {
+    ghost use Rattle.std.specs.Prelude.{◌≡◌};
+    ghost use Rattle.aw_replay.specs.Faults.{of_schedule};
+
+    ghost from_gives = { λ fault e. e ≡ of_schedule fault };
+
+    fn from(fault: SchedFault) -> ReplayFault {
+        match fault {
+            SchedFault::Bad { line, kind } => ReplayFault::Bad { line, kind },
+            SchedFault::NoMemory => ReplayFault::NoMemory,
+        }
+    }
+}
+
+impl From<PrintFault> for ReplayFault {
+    ghost use Rattle.std.specs.Prelude.{◌≡◌};
+    ghost use Rattle.aw_replay.specs.Faults.{of_printing};
+
+    ghost from_gives = { λ fault e. e ≡ of_printing fault };
+
+    fn from(fault: PrintFault) -> ReplayFault {
+        match fault {
+            PrintFault::TooLarge => ReplayFault::TooLarge,
+            PrintFault::NoMemory => ReplayFault::NoMemory,
+        }
+    }
+}
+
+impl From<AllocError> for ReplayFault {
+    ghost use Rattle.std.specs.Prelude.{◌≡◌};
+    ghost use Rattle.aw_replay.specs.declared.scheduled.ReplayFault.TheVariants.{NoMemory};
+
+    ghost from_gives = { λ _ e. e ≡ NoMemory };
+
+    fn from(_failed: AllocError) -> ReplayFault {
+        ReplayFault::NoMemory
+    }
+}
+
+/// Reads the events that are left, and replays each that is kept before the next is read. It stops where a line is faulty, or all
+/// lines together would be longer than an output may be.
+fn tell_left<W: Workspace>(
+    reader: &mut ScheduleReader<'_>,
+    kept: Kept,
+    replay: &mut Replay<'_, W>,
+) -> Result<(), ReplayFault>
+    requires reading { IsReading reader.old }
+    requires named { IsNamed ⟦<W as Workspace>⟧ replay.old }
+    requires may { MayReplay kept (grammar_of reader.old.grammar.now) (grammar_of replay.old.world.accepted.now.grammar) }
+    ensures reading { IsReading reader.new }
+    ensures grammar { reader.new.grammar.now ≡ reader.old.grammar.now }
+    ensures typed { reader.new.typed.now ≡ reader.old.typed.now }
+    ensures named { IsNamed ⟦<W as Workspace>⟧ replay.new }
+    ensures tells { TellsLeft ⟦<W as Workspace>⟧ kept reader.old replay.old reader.new replay.new result }
+{
+    while let Some(event) = reader.next()? {
+        if is_kept(kept, &event) {
+            replay.tell(&event)?;
+        }
+    }
+    Ok(())
+}
+
+/// Replays the events that are left of a schedule and are kept, between sites that hold nothing, one for each role: the lines of all
+/// events, and then the artifacts where every message was delivered, and otherwise how many were not. Messages carry loads, or none
+/// does. An event is let go before the next is read, so that a schedule takes no memory beside its text. Where a line is faulty, nothing
+/// else is told, whatever stands before it.
+///
+/// The memory of the world is not given back: a program that replays ends then, and to take apart what each site holds, piece by piece,
+/// takes long.
+pub fn replay_schedule(
+    alloc: Global,
+    accepted: &Accepted,
+    loads: bool,
+    kept: Kept,
+    reader: &mut ScheduleReader<'_>,
+) -> Result<Report, ReplayFault>
+    requires reading { IsReading reader.old }
+    requires may { MayReplay kept (grammar_of reader.old.grammar.now) (grammar_of accepted.now.grammar) }
+    ensures { Replays accepted.now loads kept reader.old result }
+{
+    let mut replay = Replay::new(SiteWorld::new(alloc, accepted, loads)?);
+    match tell_left(reader, kept, &mut replay) {
+        Ok(()) => Ok(replay.finish()?),
+        Err(fault) => {
+            mem::forget(replay);
+            if fault == ReplayFault::TooLarge {
+                reader.pass()?;
+            }
+            Err(fault)
+        }
+    }
+}
