@@ -1,15 +1,33 @@
 -- Events that are replayed while they are read.
 use Rattle.std.proofs.Common.{◌≡◌, ◌<◌, ℕ, Bool, true, false, List, [], ◌∷◌, ◌++◌, length, map, Ok, Err, refl, sym, ap, subst, ◌∙◌, append_assoc, append-nil, map-append}
-use Rattle.std.specs.Prelude.{filter}
+use Rattle.std.specs.Prelude.{◌≢◌, IfSome, None, OnOk, Option, Some, filter}
 use Rattle.std.specs.declared.result.Result.{Result}
 use Rattle.std.proofs.lemmas.List.Elements.{filter-append}
 use Rattle.aw_accept.specs.declared.accepted.Accepted.{Accepted}
 use Rattle.aw_choice.specs.Events as P
-use Rattle.aw_sched.specs.Answers.{event_seen}
+use Rattle.aw_grammar.specs.GrammarOf.{grammar_of}
+use Rattle.aw_out.specs.Report.{Bounded}
+use Rattle.aw_out.specs.declared.error.PrintFault.{PrintFault}
+use Rattle.aw_out.specs.declared.error.PrintFault.TheVariants as print
+use Rattle.aw_sched.specs.Answers.{HasTypes, MayCome, event_seen}
+use Rattle.aw_sched.specs.LineEvents.{with_events}
+use Rattle.aw_sched.specs.Readers.{AreRead, Passes, ReadsNext, left}
+use Rattle.aw_sched.specs.Schedules.{Events, Read}
 use Rattle.aw_sched.specs.declared.event.Event.{Event}
-use Rattle.aw_replay.specs.Replays.{is_kept, kept_of}
+use Rattle.aw_sched.specs.declared.fault.SchedFault.{SchedFault}
+use Rattle.aw_sched.specs.declared.fault.SchedFault.TheVariants as read
+use Rattle.aw_sched.specs.declared.reader.ScheduleReader.{ScheduleReader}
+use Rattle.aw_sched.proofs.ReadEvents.{end_read, fault_read, more_read, next_read, none_read, with_fault}
+use Rattle.aw_typed.specs.Typing.{types_of}
+use Rattle.aw_world.specs.declared.workspace.Workspace.{Ghosts}
+use Rattle.aw_replay.specs.Faults.{after_end, of_printing, of_schedule}
+use Rattle.aw_replay.specs.Replays.{Ends, HasTold, IsKeptPastLimit, IsPastLimit, Replays, TellsKept, TellsLeft, TellsMore, is_kept, kept_of, lines_from_empty, most, whole_output}
+use Rattle.aw_replay.specs.declared.replay.Replay.{Replay}
 use Rattle.aw_replay.specs.declared.scheduled.Kept.{Kept}
 use Rattle.aw_replay.specs.declared.scheduled.Kept.TheVariants.{All}
+use Rattle.aw_replay.specs.declared.scheduled.ReplayFault.{ReplayFault}
+use Rattle.aw_replay.specs.declared.scheduled.ReplayFault.TheVariants.{Bad, TooLarge, NoMemory}
+use Rattle.aw_replay.proofs.Tellings.{longer}
 
 -- what is kept of some events and of those behind them
 pub kept_more : (kept : Kept) (es fs : List Event) → kept_of kept (es ++ fs) ≡ kept_of kept es ++ kept_of kept fs
@@ -36,3 +54,67 @@ kept_none kept before es e no =
 pub all_kept : (es : List Event) → kept_of All es ≡ map event_seen es
 all_kept [] = refl
 all_kept (e ∷ es) = ap (λ t. event_seen e ∷ t) (all_kept es)
+
+-- ---- one event
+module _ {W : Type 0} (f : Ghosts W) (kept : Kept) where
+  pub kept_told : (old new : Replay W f) (e : Event) (result : Result Unit PrintFault) → is_kept kept e ≡ true → OnOk result (TellsMore f old new (event_seen e)) → OnOk result (TellsKept f kept old new e)
+  kept_told old new e (Ok done) yes tells = λ a carried before es h. subst (HasTold f new a carried) (kept_last kept before es e yes) (tells a carried (before ++ kept_of kept es) h)
+  kept_told old new e (Err fault) yes tells = tt
+
+  pub passed_told : (r : Replay W f) (e : Event) → is_kept kept e ≡ false → TellsKept f kept r r e
+  passed_told r e no a carried before es h = subst (HasTold f r a carried) (kept_none kept before es e no) h
+
+  pub kept_past : (old : Replay W f) (e : Event) → is_kept kept e ≡ true → IsPastLimit f old (event_seen e) → IsKeptPastLimit f kept old e
+  kept_past old e yes past a carried before es h = subst (λ xs. most < length (lines_from_empty a carried xs)) (kept_last kept before es e yes) (past a carried (before ++ kept_of kept es) h)
+
+  -- ---- all that is left
+  -- so many events were read, and replayed where they are kept
+  abbrev pub AreTold : ScheduleReader → Replay W f → ScheduleReader → Replay W f → Type 0
+  AreTold reader old now new =
+      (es : List Event) × AreRead reader es (left now) × ((a : Accepted) (carried : Bool) (before : List P.Event) → HasTold f old a carried before → HasTold f new a carried (before ++ kept_of kept es))
+
+  pub none_told : (reader : ScheduleReader) (old : Replay W f) → AreTold reader old reader old
+  none_told reader old = ([], none_read reader, λ a carried before h. subst (HasTold f old a carried) (sym (append-nil before)) h)
+
+  module _ (reader now later : ScheduleReader) (old mid : Replay W f) (told : AreTold reader old now mid) (grammar : now.grammar.now ≡ reader.grammar.now) (typed : now.typed.now ≡ reader.typed.now) where
+    module _ (found : Option Event) (e : Event) (is : found ≡ Some e) (next : ReadsNext (left now) (Ok found) (left later)) (come : IfSome found (MayCome (grammar_of now.grammar.now)))
+        (fits : IfSome found (HasTypes (types_of now.typed.now.types) (grammar_of now.grammar.now))) where
+      read_too = next_read reader now told.0 (left later) grammar typed told.1 later refl found e is next come fits
+
+      pub one_told : (new : Replay W f) → TellsKept f kept mid new e → AreTold reader old later new
+      one_told new tells = (told.0 ++ e ∷ [], read_too, λ a carried before h. tells a carried before told.0 (told.2 a carried before h))
+
+      pub print_fault : (new : Replay W f) (fault : PrintFault) → (fault ≡ print.TooLarge → IsKeptPastLimit f kept mid e) → TellsLeft f kept reader old later new (Err (of_printing fault))
+      print_fault new print.TooLarge past = (told.0 ++ e ∷ [], read_too, λ a carried before h. past refl a carried before told.0 (told.2 a carried before h))
+      print_fault new print.NoMemory past = tt
+
+    pub all_told : (found : Option Event) (after : Read) → found ≡ None → ReadsNext (left now) (Ok found) after → TellsLeft f kept reader old later mid (Ok tt)
+    all_told found after is next = (told.0, end_read reader now told.0 found after is told.1 next, told.2)
+
+    pub read_fault : (new : Replay W f) (fault : SchedFault) (after : Read) → ReadsNext (left now) (Err fault) after → TellsLeft f kept reader old later new (Err (of_schedule fault))
+    read_fault new (read.Bad line kind) after next = fault_read reader now told.0 (read.Bad line kind) after told.1 next
+    read_fault new read.NoMemory after next = tt
+
+  -- ---- the whole
+  module _ (a : Accepted) (carried : Bool) (reader later : ScheduleReader) (old new : Replay W f) (begun : HasTold f old a carried []) where
+    pub whole_told : TellsLeft f kept reader old later new (Ok tt) → (result : Result Bounded PrintFault) → Ends f new result → Replays a carried kept reader (after_end result)
+    whole_told told (Ok report) ends = (told.0, told.1, ends a carried (kept_of kept told.0) (told.2 a carried [] begun))
+    whole_told told (Err print.TooLarge) ends = (told.0, told.1, ends a carried (kept_of kept told.0) (told.2 a carried [] begun))
+    whole_told told (Err print.NoMemory) ends = tt
+
+    pub whole_past : later.grammar.now ≡ reader.grammar.now → later.typed.now ≡ reader.typed.now → TellsLeft f kept reader old later new (Err TooLarge) → Passes later (Ok tt) → Replays a carried kept reader (Err TooLarge)
+    whole_past grammar typed told passed = (
+      told.0 ++ passed.0,
+      more_read reader later told.0 (Events []) grammar typed told.1 passed.0 passed.1,
+      subst (λ xs. most < length (whole_output a carried xs)) (sym (kept_more kept told.0 passed.0)) (longer a carried (kept_of kept told.0) (kept_of kept passed.0) (told.2 a carried [] begun)),
+    )
+
+    pub fault_behind : TellsLeft f kept reader old later new (Err TooLarge) → (fault : SchedFault) → Passes later (Err fault) → Replays a carried kept reader (Err (of_schedule fault))
+    fault_behind told (read.Bad line kind) passed = told.1.read ∙ ap (with_events (map event_seen told.0)) passed ∙ with_fault (map event_seen told.0) line kind
+    fault_behind told read.NoMemory passed = tt
+
+    pub other_fault : (fault : ReplayFault) → fault ≢ TooLarge → TellsLeft f kept reader old later new (Err fault) → Replays a carried kept reader (Err fault)
+    other_fault (Bad line kind) no told = told
+    other_fault TooLarge no told = absurd (no refl)
+    other_fault NoMemory no told = tt
+

@@ -1,4 +1,7 @@
 -- Faults of a schedule and of printing as those of a replay.
+use Rattle.std.specs.declared.result.Result.{Result}
+use Rattle.std.specs.declared.result.Result.TheVariants.{Ok, Err}
+use Rattle.aw_out.specs.Report.{Bounded}
 use Rattle.aw_out.specs.declared.error.PrintFault.{PrintFault}
 use Rattle.aw_out.specs.declared.error.PrintFault.TheVariants as print
 use Rattle.aw_sched.specs.declared.fault.SchedFault.{SchedFault}
@@ -15,3 +18,8 @@ of_schedule read.NoMemory = NoMemory
 abbrev pub of_printing : PrintFault → ReplayFault
 of_printing print.TooLarge = TooLarge
 of_printing print.NoMemory = NoMemory
+
+-- what comes of a replay whose ending was told
+abbrev pub after_end : Result Bounded PrintFault → Result Bounded ReplayFault
+after_end (Ok report) = Ok report
+after_end (Err fault) = Err (of_printing fault)

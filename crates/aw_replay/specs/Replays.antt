@@ -90,6 +90,14 @@ kept_of kept es = map event_seen (filter (is_kept kept) es)
 abbrev pub MayReplay : Kept → Grammar → Grammar → Type 0
 MayReplay kept read replayed = (e : E.Event) → MayCome read e → is_kept kept e ≡ true → MayCome replayed e
 
+-- whatever events were read before, and replayed where they are kept, so was this one behind them
+abbrev pub TellsKept : {W : Type 0} (f : Ghosts W) → Kept → Replay W f → Replay W f → E.Event → Type 0
+TellsKept f kept old new e = (a : Accepted) (carried : Bool) (before : List Event) (es : List E.Event) → HasTold f old a carried (before ++ kept_of kept es) → HasTold f new a carried (before ++ kept_of kept (es ++ e ∷ []))
+
+-- whatever events were read before, the lines of those that are kept and of this one are too long together
+abbrev pub IsKeptPastLimit : {W : Type 0} (f : Ghosts W) → Kept → Replay W f → E.Event → Type 0
+IsKeptPastLimit f kept old e = (a : Accepted) (carried : Bool) (before : List Event) (es : List E.Event) → HasTold f old a carried (before ++ kept_of kept es) → most < length (lines_from_empty a carried (before ++ kept_of kept (es ++ e ∷ [])))
+
 -- All that was left of the schedule was read, and what is kept of it replayed; or the events up to one whose lines are too long with
 -- those before; or there is a fault.
 abbrev pub TellsLeft : {W : Type 0} (f : Ghosts W) → Kept → ScheduleReader → Replay W f → ScheduleReader → Replay W f → Result Unit ReplayFault → Type 0

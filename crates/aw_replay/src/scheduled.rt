@@ -1,8 +1,10 @@
 //! A schedule that is replayed while it is read.
-ghost use Rattle.std.specs.Prelude.{◌≡◌};
+ghost use Rattle.std.specs.Prelude.{◌≡◌, Err, OnOk, true};
 ghost use Rattle.aw_grammar.specs.GrammarOf.{grammar_of};
+ghost use Rattle.aw_sched.specs.Answers.{MayCome};
 ghost use Rattle.aw_sched.specs.Readers.{IsReading};
-ghost use Rattle.aw_replay.specs.Replays.{IsNamed, MayReplay, Replays, TellsLeft, is_kept};
+ghost use Rattle.aw_world.specs.WorldView.{plain_of};
+ghost use Rattle.aw_replay.specs.Replays.{IsKeptPastLimit, IsNamed, MayReplay, Replays, TellsKept, TellsLeft, is_kept};
 
 use crate::replay::Replay;
 use aw_accept::Accepted;
@@ -78,6 +80,26 @@ impl From<AllocError> for ReplayFault {
     }
 }
 
+/// Replays an event where it is kept.
+fn tell_kept<W: Workspace>(
+    kept: Kept,
+    event: &Event,
+    replay: &mut Replay<'_, W>,
+) -> Result<(), PrintFault>
+    requires named { IsNamed ⟦<W as Workspace>⟧ replay.old }
+    requires may { is_kept kept event.now ≡ true → MayCome (plain_of replay.old.world) event.now }
+    ensures named { IsNamed ⟦<W as Workspace>⟧ replay.new }
+    ensures accepted { replay.new.world.accepted.now ≡ replay.old.world.accepted.now }
+    ensures tells { OnOk result (TellsKept ⟦<W as Workspace>⟧ kept replay.old replay.new event.now) }
+    ensures too_large { result ≡ Err PrintFault.TooLarge → IsKeptPastLimit ⟦<W as Workspace>⟧ kept replay.old event.now }
+{
+    if is_kept(kept, event) {
+        replay.tell(event)
+    } else {
+        Ok(())
+    }
+}
+
 /// Reads the events that are left, and replays each that is kept before the next is read. It stops where a line is faulty, or all
 /// lines together would be longer than an output may be.
 fn tell_left<W: Workspace>(
@@ -87,7 +109,7 @@ fn tell_left<W: Workspace>(
 ) -> Result<(), ReplayFault>
     requires reading { IsReading reader.old }
     requires named { IsNamed ⟦<W as Workspace>⟧ replay.old }
-    requires may { MayReplay kept (grammar_of reader.old.grammar.now) (grammar_of replay.old.world.accepted.now.grammar) }
+    requires may { MayReplay kept (grammar_of reader.old.grammar.now) (plain_of replay.old.world) }
     ensures reading { IsReading reader.new }
     ensures grammar { reader.new.grammar.now ≡ reader.old.grammar.now }
     ensures typed { reader.new.typed.now ≡ reader.old.typed.now }
@@ -95,9 +117,9 @@ fn tell_left<W: Workspace>(
     ensures tells { TellsLeft ⟦<W as Workspace>⟧ kept reader.old replay.old reader.new replay.new result }
 {
     while let Some(event) = reader.next()? {
-        if is_kept(kept, &event) {
-            replay.tell(&event)?;
-        }
+        let told = tell_kept(kept, &event, replay);
+        drop(event);
+        told?;
     }
     Ok(())
 }
