@@ -5,4 +5,4 @@ pub mod SentLines
 pub mod Endings
 pub mod Replays
 pub mod Tellings
-pub mod Scheduled
+pub mod WhileRead

@@ -7,7 +7,7 @@ use Rattle.aw_choice.specs.Events.{Event}
 use Rattle.aw_grammar.specs.GrammarOf.{grammar_of, words_of}
 use Rattle.aw_out.specs.Report.{Bounded, printed}
 use Rattle.aw_out.specs.declared.error.PrintFault.{PrintFault}
-use Rattle.aw_out.specs.declared.error.PrintFault.TheVariants.{TooLarge}
+use Rattle.aw_out.specs.declared.error.PrintFault.TheVariants.{NoMemory, TooLarge}
 use Rattle.aw_react.specs.Outputs.{after_event, after_events, all_lines, ending, event_lines}
 use Rattle.aw_react.specs.Worlds.{World, empty_world}
 use Rattle.aw_term.specs.Artifacts.{Words}
@@ -94,6 +94,10 @@ module _ {W : Type 0} (f : Ghosts W) where
       let past : most < length (lines_from_empty a carried es) + length (ending w g v) = subst (λ (x : Accepted). most < length (lines_from_empty a carried es) + length (ending (words_of x.grammar) (grammar_of x.grammar) v)) h.accepted here in
       let all : length (whole_output a carried es) ≡ length (lines_from_empty a carried es) + length (ending w g v) = length-append (lines_from_empty a carried es) (ending w g v) in
       omega (arith, past, all)
+
+  pub ends_fault : (r : Replay W f) (new : Bounded) (fault : PrintFault) → PrintsEnding f r.world r.report new (Err fault) → Ends f r (Err fault)
+  ends_fault r new TooLarge prints = ends_past r new (Err TooLarge) prints refl
+  ends_fault r new NoMemory prints = tt
 
   pub has_headline : (r : Replay W f) → HasHeadline f r
   has_headline r a carried es h may = (replay_headline a carried es may, settling_ends a carried es may)

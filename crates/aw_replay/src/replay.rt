@@ -28,9 +28,9 @@ impl<'g, W: Workspace> Replay<'g, W> {
     /// No event was replayed, in a world in which nothing happened yet.
     pub fn new(world: World<'g, W>) -> Replay<'g, W>
         requires { IsNew ⟦<W as Workspace>⟧ world }
-        ensures world { result.world ≡ world }
+        ensures world { result.world ≡ world.entry }
         ensures named { IsNamed ⟦<W as Workspace>⟧ result }
-        ensures told { HasTold ⟦<W as Workspace>⟧ result world.accepted.now world.loads [] }
+        ensures told { HasTold ⟦<W as Workspace>⟧ result world.entry.accepted.now world.entry.loads [] }
     {
         let alloc = world.allocator();
         Replay {
@@ -67,11 +67,13 @@ impl<'g, W: Workspace> Replay<'g, W> {
     /// piece, takes long.
     pub fn finish(self) -> Result<Report, PrintFault>
         requires { IsNamed ⟦<W as Workspace>⟧ self }
-        ensures ends { Ends ⟦<W as Workspace>⟧ self result }
-        ensures headline { HasHeadline ⟦<W as Workspace>⟧ self }
+        ensures ends { Ends ⟦<W as Workspace>⟧ self.entry result }
+        ensures headline { HasHeadline ⟦<W as Workspace>⟧ self.entry }
     {
         let Replay {
-            world, mut report, ..
+            world,
+            mut report,
+            ..
         } = self;
         let told = print_ending(&world, &mut report);
         mem::forget(world);

@@ -145,11 +145,13 @@ pub fn replay_schedule(
     let mut replay = Replay::new(SiteWorld::new(alloc, accepted, loads)?);
     match tell_left(reader, kept, &mut replay) {
         Ok(()) => Ok(replay.finish()?),
+        Err(ReplayFault::TooLarge) => {
+            mem::forget(replay);
+            reader.pass()?;
+            Err(ReplayFault::TooLarge)
+        }
         Err(fault) => {
             mem::forget(replay);
-            if fault == ReplayFault::TooLarge {
-                reader.pass()?;
-            }
             Err(fault)
         }
     }

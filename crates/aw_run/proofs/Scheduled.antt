@@ -22,7 +22,7 @@ use Rattle.aw_replay.specs.Replays.{MayReplay, Replays, most, whole_output}
 use Rattle.aw_replay.specs.declared.scheduled.Kept.TheVariants.{All}
 use Rattle.aw_replay.specs.declared.scheduled.ReplayFault.{ReplayFault}
 use Rattle.aw_replay.specs.declared.scheduled.ReplayFault.TheVariants as fault
-use Rattle.aw_replay.proofs.Scheduled.{all_kept}
+use Rattle.aw_replay.proofs.WhileRead.{all_kept}
 use Rattle.aw_undivided.specs.Scheduled.{RunsUndivided}
 use Rattle.aw_run.specs.Output.{BadSchedule, PastOutputLimit, Writes, within_limit}
 use Rattle.aw_run.specs.Promises.{Promises}

@@ -55,7 +55,8 @@ fn reply_to_schedule(
     ensures reply { IfOk result (λ reply. RepliesTo telling accepted.now typed.now before loads (lines_of schedule.now) reply) }
     ensures promises { IfOk result (λ reply. KeepsPromises accepted.now typed.now loads (lines_of schedule.now)) }
 {
-    let mut reader = ScheduleReader::new(alloc, accepted.grammar(), typed, schedule);
+    let g = accepted.grammar();
+    let mut reader = ScheduleReader::new(alloc, g, typed, schedule);
     match tell_left(alloc, telling, accepted, loads, &mut reader) {
         Ok(report) => Ok(Reply {
             status: Status::Done,

@@ -1,7 +1,7 @@
 use Rattle.std.proofs.Common.{◌≡◌, length}
 use Rattle.aw_sched.specs.Readers.{IsReading}
 use Rattle.aw_replay.specs.Replays.{IsNamed}
-use Rattle.aw_replay.proofs.Scheduled.{AreTold}
+use Rattle.aw_replay.proofs.WhileRead.{AreTold}
 use Rattle.aw_replay.proofs.scheduled.tell_left.Given as goal
 
 -- some events were read, and what is kept of them was replayed

@@ -4,7 +4,7 @@ use Rattle.aw_replay.proofs.replay.Replay.tell.Goals as goal
 
 pub returns-clause-tells : goal.returns-clause-tells
 returns-clause-tells g c =
-    tells_more g.W.Workspace c.args.self.now c.new.self (event_seen c.args.event.now) c.tell_event.result c.tell_event.ensures.accepted c.tell_event.ensures.loads c.tell_event.ensures.does c.tell_event.ensures.prints
+    tells_more g.W.Workspace c.args.self.now (record { world = c.tell_event.new.world; names = c.tell_event.new.names; text = c.tell_event.new.text; report = c.tell_event.new.report }) (event_seen c.args.event.now) c.tell_event.result c.tell_event.ensures.accepted c.tell_event.ensures.loads c.tell_event.ensures.does c.tell_event.ensures.prints
 
 pub returns-clause-too_large : goal.returns-clause-too_large
-returns-clause-too_large g c large = past_limit g.W.Workspace c.args.self.now (event_seen c.args.event.now) c.new.self.report c.tell_event.result c.tell_event.ensures.prints large
+returns-clause-too_large g c large = past_limit g.W.Workspace c.args.self.now (event_seen c.args.event.now) c.tell_event.new.report c.tell_event.result c.tell_event.ensures.prints large

@@ -1,7 +1,8 @@
 -- Events that are replayed while they are read.
-use Rattle.std.proofs.Common.{◌≡◌, ◌<◌, ℕ, Bool, true, false, List, [], ◌∷◌, ◌++◌, length, map, Ok, Err, refl, sym, ap, subst, ◌∙◌, append_assoc, append-nil, map-append}
+use Rattle.std.proofs.Common.{◌≡◌, ◌<◌, ℕ, Bool, true, false, List, [], ◌∷◌, ◌++◌, length, map, Ok, Err, refl, sym, ap, subst, ◌∙◌, append_assoc, append-nil}
 use Rattle.std.specs.Prelude.{◌≢◌, IfSome, None, OnOk, Option, Some, filter}
 use Rattle.std.specs.declared.result.Result.{Result}
+use Rattle.std.proofs.lemmas.List.{map-append}
 use Rattle.std.proofs.lemmas.List.Elements.{filter-append}
 use Rattle.aw_accept.specs.declared.accepted.Accepted.{Accepted}
 use Rattle.aw_choice.specs.Events as P
@@ -34,21 +35,21 @@ pub kept_more : (kept : Kept) (es fs : List Event) → kept_of kept (es ++ fs) �
 kept_more kept es fs = ap (map event_seen) (filter-append (is_kept kept) es fs) ∙ map-append event_seen (filter (is_kept kept) es) (filter (is_kept kept) fs)
 
 filtered_one : (p : Event → Bool) (e : Event) → p e ≡ true → filter p (e ∷ []) ≡ e ∷ []
-filtered_one p e yes = rw yes refl
+filtered_one p e stays = rw stays refl
 
 filtered_none : (p : Event → Bool) (e : Event) → p e ≡ false → filter p (e ∷ []) ≡ []
-filtered_none p e no = rw no refl
+filtered_none p e goes = rw goes refl
 
 -- an event that is kept
 pub kept_last : (kept : Kept) (before : List P.Event) (es : List Event) (e : Event) → is_kept kept e ≡ true → (before ++ kept_of kept es) ++ event_seen e ∷ [] ≡ before ++ kept_of kept (es ++ e ∷ [])
-kept_last kept before es e yes =
+kept_last kept before es e stays =
     append_assoc before (kept_of kept es) (event_seen e ∷ [])
-    ∙ ap (λ t. before ++ t) (ap (λ t. kept_of kept es ++ map event_seen t) (sym (filtered_one (is_kept kept) e yes)) ∙ sym (kept_more kept es (e ∷ [])))
+    ∙ ap (λ t. before ++ t) (ap (λ t. kept_of kept es ++ map event_seen t) (sym (filtered_one (is_kept kept) e stays)) ∙ sym (kept_more kept es (e ∷ [])))
 
 -- an event that is not
 pub kept_none : (kept : Kept) (before : List P.Event) (es : List Event) (e : Event) → is_kept kept e ≡ false → before ++ kept_of kept es ≡ before ++ kept_of kept (es ++ e ∷ [])
-kept_none kept before es e no =
-    ap (λ t. before ++ t) (sym (append-nil (kept_of kept es)) ∙ ap (λ t. kept_of kept es ++ map event_seen t) (sym (filtered_none (is_kept kept) e no)) ∙ sym (kept_more kept es (e ∷ [])))
+kept_none kept before es e goes =
+    ap (λ t. before ++ t) (sym (append-nil (kept_of kept es)) ∙ ap (λ t. kept_of kept es ++ map event_seen t) (sym (filtered_none (is_kept kept) e goes)) ∙ sym (kept_more kept es (e ∷ [])))
 
 -- all events are kept
 pub all_kept : (es : List Event) → kept_of All es ≡ map event_seen es
@@ -58,14 +59,14 @@ all_kept (e ∷ es) = ap (λ t. event_seen e ∷ t) (all_kept es)
 -- ---- one event
 module _ {W : Type 0} (f : Ghosts W) (kept : Kept) where
   pub kept_told : (old new : Replay W f) (e : Event) (result : Result Unit PrintFault) → is_kept kept e ≡ true → OnOk result (TellsMore f old new (event_seen e)) → OnOk result (TellsKept f kept old new e)
-  kept_told old new e (Ok done) yes tells = λ a carried before es h. subst (HasTold f new a carried) (kept_last kept before es e yes) (tells a carried (before ++ kept_of kept es) h)
-  kept_told old new e (Err fault) yes tells = tt
+  kept_told old new e (Ok done) stays tells = λ a carried before es h. subst (HasTold f new a carried) (kept_last kept before es e stays) (tells a carried (before ++ kept_of kept es) h)
+  kept_told old new e (Err fault) stays tells = tt
 
   pub passed_told : (r : Replay W f) (e : Event) → is_kept kept e ≡ false → TellsKept f kept r r e
-  passed_told r e no a carried before es h = subst (HasTold f r a carried) (kept_none kept before es e no) h
+  passed_told r e goes a carried before es h = subst (HasTold f r a carried) (kept_none kept before es e goes) h
 
   pub kept_past : (old : Replay W f) (e : Event) → is_kept kept e ≡ true → IsPastLimit f old (event_seen e) → IsKeptPastLimit f kept old e
-  kept_past old e yes past a carried before es h = subst (λ xs. most < length (lines_from_empty a carried xs)) (kept_last kept before es e yes) (past a carried (before ++ kept_of kept es) h)
+  kept_past old e stays past a carried before es h = subst (λ xs. most < length (lines_from_empty a carried xs)) (kept_last kept before es e stays) (past a carried (before ++ kept_of kept es) h)
 
   -- ---- all that is left
   -- so many events were read, and replayed where they are kept
@@ -79,6 +80,7 @@ module _ {W : Type 0} (f : Ghosts W) (kept : Kept) where
   module _ (reader now later : ScheduleReader) (old mid : Replay W f) (told : AreTold reader old now mid) (grammar : now.grammar.now ≡ reader.grammar.now) (typed : now.typed.now ≡ reader.typed.now) where
     module _ (found : Option Event) (e : Event) (is : found ≡ Some e) (next : ReadsNext (left now) (Ok found) (left later)) (come : IfSome found (MayCome (grammar_of now.grammar.now)))
         (fits : IfSome found (HasTypes (types_of now.typed.now.types) (grammar_of now.grammar.now))) where
+      read_too : AreRead reader (told.0 ++ e ∷ []) (left later)
       read_too = next_read reader now told.0 (left later) grammar typed told.1 later refl found e is next come fits
 
       pub one_told : (new : Replay W f) → TellsKept f kept mid new e → AreTold reader old later new
@@ -114,7 +116,6 @@ module _ {W : Type 0} (f : Ghosts W) (kept : Kept) where
     fault_behind told read.NoMemory passed = tt
 
     pub other_fault : (fault : ReplayFault) → fault ≢ TooLarge → TellsLeft f kept reader old later new (Err fault) → Replays a carried kept reader (Err fault)
-    other_fault (Bad line kind) no told = told
-    other_fault TooLarge no told = absurd (no refl)
-    other_fault NoMemory no told = tt
-
+    other_fault (Bad line kind) other told = told
+    other_fault TooLarge other told = absurd (other refl)
+    other_fault NoMemory other told = tt
