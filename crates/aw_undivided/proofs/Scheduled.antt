@@ -11,7 +11,7 @@ use Rattle.aw_grammar.specs.declared.grammar.Grammar.{Grammar}
 use Rattle.aw_grammar.specs.GrammarOf.{grammar_of, words_of}
 use Rattle.aw_joint.specs.Laws.{IsAccepted}
 use Rattle.aw_out.specs.Report.{Bounded}
-use Rattle.aw_replay.specs.Replays.{MayReplay, Replays, is_kept, most}
+use Rattle.aw_replay.specs.Replays.{MayReplay, Replays, is_kept, kept_of, most, whole_output}
 use Rattle.aw_replay.specs.declared.scheduled.Kept.TheVariants.{Choices}
 use Rattle.aw_replay.specs.declared.scheduled.ReplayFault.{ReplayFault}
 use Rattle.aw_replay.specs.declared.scheduled.ReplayFault.TheVariants.{Bad, TooLarge, NoMemory}
@@ -51,6 +51,7 @@ kept_same (Lists role ∷ es) = kept_same es
 module _ (a one : Accepted) (words : words_of one.grammar ≡ united_words (words_of a.grammar)) (grammar : grammar_of one.grammar ≡ united (grammar_of a.grammar))
     (law : (w : Words) (g : P.Grammar) → IsAccepted w g → UnitedTellsUndivided w g) (reader : ScheduleReader) (is : reader.grammar.now ≡ a.grammar) where
   module _ (es : List Event) (read : AreRead reader es (Events [])) where
+    text_same : whole_output one false (kept_of Choices es) ≡ undivided_text a.grammar (map event_seen es)
     text_same = told a one words grammar es (filter (is_kept Choices) es) (kept_same es) (subst (λ (d : Grammar). Each (MayCome (grammar_of d)) es) is read.come) law
 
   pub runs : (result : Result Bounded ReplayFault) → Replays one false Choices reader result → RunsUndivided a reader result
