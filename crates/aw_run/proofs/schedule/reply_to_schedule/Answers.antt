@@ -1,4 +1,4 @@
-use Rattle.std.proofs.Common.{arith, ◌≡◌, ◌∙◌, ◌≤◌, ℕ, List, length, refl, sym, ap, subst}
+use Rattle.std.proofs.Common.{arith, ◌≡◌, ◌∙◌, ◌≤◌, ℕ, List, length, refl, sym, ap, subst, Err}
 use Rattle.std.proofs.lemmas.Result.{IfOk-weaker}
 use Rattle.aw_lex.specs.Lines.{lines_of}
 use Rattle.aw_grammar.specs.declared.grammar.Grammar.{Grammar}
@@ -8,6 +8,7 @@ use Rattle.aw_replay.specs.Replays.{most}
 use Rattle.aw_sched.specs.Readers.{left}
 use Rattle.aw_sched.specs.Schedules.{FaultAt, read_lines}
 use Rattle.aw_typed.specs.Typing.{types_of}
+use Rattle.aw_run.specs.Scheduled.{TellsLeft}
 use Rattle.aw_run.proofs.LineCounts.{schedule-within}
 use Rattle.aw_run.proofs.Scheduled.{past, promised, refused, refused_promised, replied}
 use Rattle.aw_run.proofs.Verdicts.{bad-event}
@@ -43,7 +44,7 @@ returns-in-Err-TooLarge-clause-reply c =
     let lines = lines_of c.args.schedule.now in
     let all : left c.new-reader.result ≡ read_lines (types_of t.types) (declarations_of a.grammar) 1 lines =
     c.new-reader.ensures.left ∙ ap (λ (g : Grammar). read_lines (types_of t.types) (declarations_of g) 1 lines) c.grammar-g.ensures.value in
-    let told = c.in-Err-TooLarge.ensures in
+    let told = subst (λ z. TellsLeft c.args.telling a c.args.loads c.new-reader.result (Err z)) c.in-Err-TooLarge.field-0-is c.in-Err-TooLarge.ensures in
     past c.args.telling a t c.args.before c.args.loads lines c.new-reader.result all told.0 told.1 told.2 _ c.silent.ensures
 
 pub returns-in-Err-TooLarge-clause-promises : goal.returns-in-Err-TooLarge-clause-promises
@@ -53,7 +54,8 @@ returns-in-Err-TooLarge-clause-promises c =
     let lines = lines_of c.args.schedule.now in
     let all : left c.new-reader.result ≡ read_lines (types_of t.types) (declarations_of a.grammar) 1 lines =
     c.new-reader.ensures.left ∙ ap (λ (g : Grammar). read_lines (types_of t.types) (declarations_of g) 1 lines) c.grammar-g.ensures.value in
-    promised c.args.telling a t c.args.before c.args.loads lines c.new-reader.result all c.requires.made (c.new-reader.ensures.grammar ∙ c.grammar-g.ensures.value) c.new-reader.ensures.typed c.in-Err-TooLarge.ensures.0 c.in-Err-TooLarge.ensures.1
+    let told = subst (λ z. TellsLeft c.args.telling a c.args.loads c.new-reader.result (Err z)) c.in-Err-TooLarge.field-0-is c.in-Err-TooLarge.ensures in
+    promised c.args.telling a t c.args.before c.args.loads lines c.new-reader.result all c.requires.made (c.new-reader.ensures.grammar ∙ c.grammar-g.ensures.value) c.new-reader.ensures.typed told.0 told.1
 
 pub overflow_add-before : goal.overflow_add-before
 overflow_add-before c =
