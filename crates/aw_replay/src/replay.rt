@@ -1,5 +1,5 @@
 //! A replay, event by event.
-ghost use Rattle.std.specs.Prelude.{◌≡◌, [], Err, IfOk, OnOk};
+ghost use Rattle.std.specs.Prelude.{◌≡◌, [], Err, OnOk};
 ghost use Rattle.aw_sched.specs.Answers.{event_seen, MayCome};
 ghost use Rattle.aw_world.specs.WorldView.{plain_of};
 ghost use Rattle.aw_replay.specs.Replays.{Ends, HasHeadline, HasTold, IsNamed, IsPastLimit, TellsMore};

@@ -12,7 +12,7 @@ use Rattle.aw_base.specs.ChoiceFits.{args_ok}
 use Rattle.aw_sched.specs.Events as P
 use Rattle.aw_sched.specs.Events.{args_are_past, args_unknown, ground_named}
 use Rattle.aw_sched.specs.Answers.{event_seen}
-use Rattle.aw_sched.specs.Schedules.{LineRead, Nothing, Gives, Faulty as BadLine, Read, with_event, in_front}
+use Rattle.aw_sched.specs.Schedules.{LineRead, Nothing, Gives, Faulty as BadLine, Read, with_event}
 use Rattle.aw_sched.specs.declared.fault.SchedFault.{SchedFault}
 use Rattle.aw_sched.specs.declared.fault.SchedFault.TheVariants as fault
 use Rattle.aw_sched.specs.declared.event.Event.{Event}

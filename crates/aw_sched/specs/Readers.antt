@@ -1,5 +1,5 @@
 -- What a reader of a schedule has still to read.
-use Rattle.std.specs.Prelude.{◌≡◌, ◌+◌, ◌<◌, ◌^◌, ℕ, suc, List, [], Option, None, Some, Result, Ok, Err, length, map}
+use Rattle.std.specs.Prelude.{◌≡◌, ◌+◌, ◌<◌, ◌^◌, suc, List, [], Option, None, Some, Result, Ok, Err, length, map}
 use Rattle.aw_term.specs.WellFormed.{Each}
 use Rattle.aw_lex.specs.Lines.{lines_of}
 use Rattle.aw_grammar.specs.GrammarOf.{declarations_of, grammar_of}

@@ -2,7 +2,6 @@ use Rattle.std.proofs.Common.{rules, ◌≡◌, [], sym, subst, Ok, Err}
 use Rattle.aw_accept.specs.declared.accepted.Accepted.{Accepted}
 use Rattle.aw_replay.specs.Faults.{of_printing, of_schedule}
 use Rattle.aw_replay.specs.Replays.{HasTold, Replays, TellsLeft}
-use Rattle.aw_replay.specs.declared.scheduled.ReplayFault.TheVariants.{TooLarge}
 use Rattle.aw_replay.proofs.WhileRead.{fault_behind, whole_past, whole_told}
 use Rattle.aw_replay.proofs.scheduled.replay_schedule.Goals as goal
 

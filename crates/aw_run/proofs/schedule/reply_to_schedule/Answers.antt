@@ -1,4 +1,4 @@
-use Rattle.std.proofs.Common.{arith, ◌≡◌, ◌∙◌, ◌≤◌, ℕ, List, length, refl, sym, ap, subst, Err}
+use Rattle.std.proofs.Common.{arith, ◌≡◌, ◌∙◌, ◌≤◌, length, refl, sym, ap, subst, Err}
 use Rattle.std.proofs.lemmas.Result.{IfOk-weaker}
 use Rattle.aw_lex.specs.Lines.{lines_of}
 use Rattle.aw_grammar.specs.declared.grammar.Grammar.{Grammar}

@@ -1,12 +1,11 @@
-use Rattle.std.proofs.Common.{rules, ◌≡◌, ◌∷◌, ◌++◌, [], ◌∙◌, refl, sym, subst, ap, map, Err}
+use Rattle.std.proofs.Common.{rules, ◌≡◌, ◌∙◌, refl, sym, subst, map, Err}
 use Rattle.aw_grammar.specs.declared.grammar.Grammar.{Grammar}
-use Rattle.aw_grammar.specs.GrammarOf.{declarations_of, grammar_of}
+use Rattle.aw_grammar.specs.GrammarOf.{grammar_of}
 use Rattle.aw_term.specs.WellFormed.{Each}
 use Rattle.aw_typed.specs.Typing.{types_of}
 use Rattle.aw_typed.specs.declared.data.Typed.{Typed}
 use Rattle.aw_sched.specs.Answers.{Answers, HasTypes, MayCome, event_seen}
 use Rattle.aw_sched.specs.Readers.{AreRead, left}
-use Rattle.aw_sched.specs.Schedules.{schedule_of}
 use Rattle.aw_sched.proofs.ReadEvents.{end_read, fault_answers, next_read, none_read, with_none}
 use Rattle.aw_sched.proofs.reader.read_schedule.Goals as goal
 

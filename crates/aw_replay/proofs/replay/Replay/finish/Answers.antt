@@ -1,4 +1,4 @@
-use Rattle.std.proofs.Common.{rules, ◌≡◌, refl, sym, subst, Ok, Err}
+use Rattle.std.proofs.Common.{rules, ◌≡◌, sym, subst, Err}
 use Rattle.aw_replay.specs.Replays.{Ends}
 use Rattle.aw_replay.specs.Telling.{PrintsEnding}
 use Rattle.aw_replay.proofs.Tellings.{ends_fault, ends_told, has_headline}

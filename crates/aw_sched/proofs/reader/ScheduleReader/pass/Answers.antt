@@ -1,6 +1,5 @@
 use Rattle.std.proofs.Common.{rules, ◌≡◌, ◌∷◌, ◌++◌, [], ◌∙◌, refl, sym, subst, Err}
 use Rattle.aw_sched.specs.Readers.{Passes, left}
-use Rattle.aw_sched.specs.declared.fault.SchedFault.TheVariants.{Bad, NoMemory}
 use Rattle.aw_sched.proofs.ReadEvents.{end_read, fault_passes, next_read, none_read}
 use Rattle.aw_sched.proofs.reader.ScheduleReader.pass.Goals as goal
 
