@@ -12,5 +12,5 @@ mod telling;
 
 pub use between_sites::replay_between_sites;
 pub use replay::Replay;
-pub use replaying::tell_events;
+pub use replaying::{replay, tell_events};
 pub use scheduled::{Kept, ReplayFault, replay_schedule};

@@ -95,7 +95,7 @@ fn replay_into<W: Workspace>(
 /// Replays events in a world in which nothing happened yet: the lines of all events, and then the artifacts where every message was
 /// delivered, and otherwise how many were not. It is too large exactly where the text would be longer than an output may be. After an
 /// error some first choices and deliveries of the events were made in the world.
-pub(crate) fn replay<W: Workspace>(
+pub fn replay<W: Workspace>(
     world: &mut World<W>,
     events: &[Event],
 ) -> Result<Report, PrintFault>
