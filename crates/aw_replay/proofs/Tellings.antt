@@ -16,7 +16,7 @@ use Rattle.aw_world.specs.declared.workspace.Workspace.{Ghosts}
 use Rattle.aw_world.specs.Shown.{Shows}
 use Rattle.aw_replay.specs.Replays.{Ends, HasHeadline, HasTold, IsPastLimit, TellsMore, lines_from_empty, most, whole_output}
 use Rattle.aw_replay.specs.Telling.{Does, PrintsEnding, PrintsEvent}
-use Rattle.aw_replay.specs.declared.replay.Replay.{Replay}
+use Rattle.aw_replay.specs.declared.stepwise.Replay.{Replay}
 use Rattle.aw_replay.proofs.Replays.{replay_headline, settling_ends}
 
 -- the world behind an event that comes last

@@ -23,7 +23,7 @@ use Rattle.aw_typed.specs.Typing.{types_of}
 use Rattle.aw_world.specs.declared.workspace.Workspace.{Ghosts}
 use Rattle.aw_replay.specs.Faults.{after_end, of_printing, of_schedule}
 use Rattle.aw_replay.specs.Replays.{Ends, HasTold, IsKeptPastLimit, IsPastLimit, Replays, TellsKept, TellsLeft, TellsMore, is_kept, kept_of, lines_from_empty, most, whole_output}
-use Rattle.aw_replay.specs.declared.replay.Replay.{Replay}
+use Rattle.aw_replay.specs.declared.stepwise.Replay.{Replay}
 use Rattle.aw_replay.specs.declared.scheduled.Kept.{Kept}
 use Rattle.aw_replay.specs.declared.scheduled.Kept.TheVariants.{All}
 use Rattle.aw_replay.specs.declared.scheduled.ReplayFault.{ReplayFault}

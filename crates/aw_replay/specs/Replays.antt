@@ -22,7 +22,7 @@ use Rattle.aw_sched.specs.declared.reader.ScheduleReader.{ScheduleReader}
 use Rattle.aw_world.specs.declared.workspace.Workspace.{Ghosts}
 use Rattle.aw_world.specs.Shown.{Shows}
 use Rattle.aw_replay.specs.Telling.{SettlingEnds}
-use Rattle.aw_replay.specs.declared.replay.Replay.{Replay}
+use Rattle.aw_replay.specs.declared.stepwise.Replay.{Replay}
 use Rattle.aw_replay.specs.declared.scheduled.Kept.{Kept}
 use Rattle.aw_replay.specs.declared.scheduled.Kept.TheVariants.{All, Choices}
 use Rattle.aw_replay.specs.declared.scheduled.ReplayFault.{ReplayFault}

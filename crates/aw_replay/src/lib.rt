@@ -4,13 +4,13 @@
 mod between_sites;
 mod ending;
 mod lines;
-mod replay;
 mod replaying;
 mod scheduled;
 mod sent;
+mod stepwise;
 mod telling;
 
 pub use between_sites::replay_between_sites;
-pub use replay::Replay;
 pub use replaying::{replay, tell_events};
 pub use scheduled::{Kept, ReplayFault, replay_schedule};
+pub use stepwise::Replay;

@@ -95,10 +95,7 @@ fn replay_into<W: Workspace>(
 /// Replays events in a world in which nothing happened yet: the lines of all events, and then the artifacts where every message was
 /// delivered, and otherwise how many were not. It is too large exactly where the text would be longer than an output may be. After an
 /// error some first choices and deliveries of the events were made in the world.
-pub fn replay<W: Workspace>(
-    world: &mut World<W>,
-    events: &[Event],
-) -> Result<Report, PrintFault>
+pub fn replay<W: Workspace>(world: &mut World<W>, events: &[Event]) -> Result<Report, PrintFault>
     requires may_come { Each (MayCome (plain_of world.old)) events.now }
     requires new { IsNew ⟦<W as Workspace>⟧ world.old }
     ensures accepted { world.new.accepted.now ≡ world.old.accepted.now }

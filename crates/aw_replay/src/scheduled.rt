@@ -6,7 +6,7 @@ ghost use Rattle.aw_sched.specs.Readers.{IsReading};
 ghost use Rattle.aw_world.specs.WorldView.{plain_of};
 ghost use Rattle.aw_replay.specs.Replays.{IsKeptPastLimit, IsNamed, MayReplay, Replays, TellsKept, TellsLeft, is_kept};
 
-use crate::replay::Replay;
+use crate::stepwise::Replay;
 use aw_accept::Accepted;
 use aw_out::{PrintFault, Report};
 use aw_sched::{Event, SchedFault, SchedKind, ScheduleReader};

@@ -2,7 +2,7 @@ use Rattle.std.proofs.Common.{rules, ◌≡◌, sym, subst, Err}
 use Rattle.aw_replay.specs.Replays.{Ends}
 use Rattle.aw_replay.specs.Telling.{PrintsEnding}
 use Rattle.aw_replay.proofs.Tellings.{ends_fault, ends_told, has_headline}
-use Rattle.aw_replay.proofs.replay.Replay.finish.Goals as goal
+use Rattle.aw_replay.proofs.stepwise.Replay.finish.Goals as goal
 
 pub returns-in_err-told-clause-ends : goal.returns-in_err-told-clause-ends
 returns-in_err-told-clause-ends g c =

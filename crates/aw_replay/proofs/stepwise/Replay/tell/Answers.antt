@@ -1,6 +1,6 @@
 use Rattle.aw_sched.specs.Answers.{event_seen}
 use Rattle.aw_replay.proofs.Tellings.{past_limit, tells_more}
-use Rattle.aw_replay.proofs.replay.Replay.tell.Goals as goal
+use Rattle.aw_replay.proofs.stepwise.Replay.tell.Goals as goal
 
 pub returns-clause-tells : goal.returns-clause-tells
 returns-clause-tells g c =
