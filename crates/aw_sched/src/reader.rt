@@ -90,7 +90,10 @@ impl<'a> ScheduleReader<'a> {
     /// Reads what is left for its faults alone.
     pub fn pass(&mut self) -> Result<(), SchedFault>
         requires { IsReading self.old }
-        ensures { Passes self.old result }
+        ensures reading { IsReading self.new }
+        ensures grammar { self.new.grammar.now ≡ self.old.grammar.now }
+        ensures typed { self.new.typed.now ≡ self.old.typed.now }
+        ensures passes { Passes self.old result }
     {
         while let Some(event) = self.next()? {
             drop(event);

@@ -23,10 +23,10 @@ returns-in_err-pass-in-Err-TooLarge c =
     let past = subst (λ z. TellsLeft _ c.args.kept c.args.reader.now c.new-replay.result c.tell_left.new.reader c.tell_left.new.replay (Err z)) c.in-Err-TooLarge.field-0-is c.in-Err-TooLarge.ensures.tells in
     let same : c.from_residual-in_err-pass-in-Err-TooLarge.result ≡ Err (of_schedule c.in_err-pass-in-Err-TooLarge.field-0.0) = search rules in
     subst (Replays c.args.accepted.now c.args.loads c.args.kept c.args.reader.now) (sym same)
-    (fault_behind _ c.args.kept c.args.accepted.now c.args.loads c.args.reader.now c.tell_left.new.reader c.new-replay.result c.tell_left.new.replay begun past c.in_err-pass-in-Err-TooLarge.field-0.0 c.in_err-pass-in-Err-TooLarge.ensures)
+    (fault_behind _ c.args.kept c.args.accepted.now c.args.loads c.args.reader.now c.tell_left.new.reader c.new-replay.result c.tell_left.new.replay begun past c.in_err-pass-in-Err-TooLarge.field-0.0 c.in_err-pass-in-Err-TooLarge.ensures.passes)
 
 pub returns-in_ok-pass-in-Err-TooLarge : goal.returns-in_ok-pass-in-Err-TooLarge
 returns-in_ok-pass-in-Err-TooLarge c =
     let begun = subst (λ (a : Accepted). HasTold _ c.new-replay.result a c.args.loads []) c.in_ok-new.ensures.accepted (subst (λ l. HasTold _ c.new-replay.result c.in_ok-new.field-0.accepted.now l []) c.in_ok-new.ensures.loads c.new-replay.ensures.told) in
     let past = subst (λ z. TellsLeft _ c.args.kept c.args.reader.now c.new-replay.result c.tell_left.new.reader c.tell_left.new.replay (Err z)) c.in-Err-TooLarge.field-0-is c.in-Err-TooLarge.ensures.tells in
-    whole_past _ c.args.kept c.args.accepted.now c.args.loads c.args.reader.now c.tell_left.new.reader c.new-replay.result c.tell_left.new.replay begun c.tell_left.ensures.grammar c.tell_left.ensures.typed past c.in_ok-pass-in-Err-TooLarge.ensures
+    whole_past _ c.args.kept c.args.accepted.now c.args.loads c.args.reader.now c.tell_left.new.reader c.new-replay.result c.tell_left.new.replay begun c.tell_left.ensures.grammar c.tell_left.ensures.typed past c.in_ok-pass-in-Err-TooLarge.ensures.passes

@@ -11,8 +11,8 @@ loop-event-init c = record {
   read = ([], none_read c.args.self.now);
 }
 
-pub returns-in_err-event : goal.returns-in_err-event
-returns-in_err-event c =
+pub returns-in_err-event-clause-passes : goal.returns-in_err-event-clause-passes
+returns-in_err-event-clause-passes c =
     let i = c.loop-event.invariant.read in
     let same : c.from_residual.result ≡ Err c.in_err-event.field-0.0 = search rules in
     subst (Passes c.args.self.now) (sym same) (fault_passes c.args.self.now c.loop-event.self i.0 c.in_err-event.field-0.0 (left c.next.new.self) i.1 c.in_err-event.ensures.next)
@@ -31,7 +31,7 @@ loop-event-preserved c =
       );
     }
 
-pub returns : goal.returns
-returns c =
+pub returns-clause-passes : goal.returns-clause-passes
+returns-clause-passes c =
     let i = c.loop-event.invariant.read in
     (i.0, end_read c.args.self.now c.loop-event.self i.0 c.in_ok-event.field-0 (left c.next.new.self) (search rules) i.1 c.in_ok-event.ensures.next)
