@@ -3,12 +3,13 @@ ghost use Rattle.std.specs.Prelude.{◌≡◌, ℕ, ◌≤◌, ◌<◌, ◌+◌,
 ghost use Rattle.aw_term.specs.Artifacts.{Words, node_text};
 ghost use Rattle.aw_grammar.specs.GrammarOf.{words_of};
 ghost use Rattle.aw_base.specs.NameFronts.{front, AreFronts};
-ghost use Rattle.aw_base.specs.WrittenNames.{IsWritten, AreWritten};
+ghost use Rattle.std.specs.Io.{StartsWith};
+ghost use Rattle.aw_base.specs.WrittenNames.{IsWritten, AreWritten, IsItemFront, item_front};
 
 use crate::texts::{add_step, sort_name};
 use aw_grammar::Grammar;
 use aw_list::Text;
-use aw_name::{Node, Step, Trail, copy_node};
+use aw_name::{Node, Step, Trail, copy_node, is_same_node};
 use aw_text::push_number;
 use std::alloc::{AllocError, Global};
 
@@ -78,7 +79,7 @@ fn begin(written: &mut Written, g: &Grammar) -> Result<(), AllocError>
     written.ends.clear();
     written.text.truncate(0);
     written.text.push_bytes(sort_name(g, written.node.start))?;
-    written.text.push_bytes(b"#")?;
+    written.text.push(b'#')?;
     push_number(&mut written.text, written.node.case)?;
     written.ends.push(written.text.len())?;
     Ok(())
@@ -227,6 +228,46 @@ fn has_place(others: &mut Vec<Written>, g: &Grammar, place: usize) -> bool
     true
 }
 
+/// What stands before the rule in the line of an item at this node, as `item visit#1/admit.1 `, where it is known.
+#[derive(Debug, Drop)]
+struct ItemFront {
+    node: Node,
+    text: Text,
+    is_known: bool,
+}
+
+/// Nothing is known. It takes no memory.
+fn no_front(alloc: Global) -> ItemFront
+    ensures { (w : Words) → IsItemFront w result }
+{
+    ItemFront {
+        node: Node {
+            start: 0,
+            case: 0,
+            steps: Trail::new(alloc),
+        },
+        text: Text::new(alloc),
+        is_known: false,
+    }
+}
+
+/// Takes notice that this front was written for a node. It is kept when the one before was of the same node, as then more such lines
+/// mostly follow. Where there is no memory for it, it is not kept.
+fn note_front(item: &mut ItemFront, g: &Grammar, n: &Node, front: &[u8])
+    requires { front.now ≡ item_front (words_of g.now) n.now }
+    ensures { IsItemFront (words_of g.now) item.new }
+{
+    if is_same_node(&item.node, n) {
+        item.text.truncate(0);
+        item.is_known = item.text.push_bytes(front).is_ok();
+        return;
+    }
+    item.is_known = false;
+    if let Ok(node) = copy_node(n) {
+        item.node = node;
+    }
+}
+
 /// Writes names of nodes. What it wrote last is kept, for each of a number of cases: the names of one line, and of lines that follow
 /// one another, mostly begin alike where they are of one case, and what they have in common is copied.
 #[derive(Debug, Drop)]
@@ -236,8 +277,11 @@ pub struct NameWriter<'g> {
     first: Written,
     /// The last names of other cases, each at the place that its number tells.
     others: Vec<Written>,
+    /// What the line of an item began with that was written last.
+    item: ItemFront,
     ghost first_sound: { IsWritten (words_of grammar.now) first },
     ghost others_sound: { AreWritten (words_of grammar.now) others.items },
+    ghost item_sound: { IsItemFront (words_of grammar.now) item },
 }
 
 impl<'g> NameWriter<'g> {
@@ -249,6 +293,7 @@ impl<'g> NameWriter<'g> {
             grammar,
             first: nothing_written(alloc),
             others: Vec::new(alloc),
+            item: no_front(alloc),
         }
     }
 
@@ -274,5 +319,30 @@ impl<'g> NameWriter<'g> {
             return push_known(&mut self.others[place], self.grammar, text, n);
         }
         push_known(&mut self.first, self.grammar, text, n)
+    }
+
+    fn add_item_front(&mut self, text: &mut Text, n: &Node) -> Result<(), AllocError>
+        ensures ok { OnOk result (text.new ≡ text.old ++ item_front (words_of self.old.grammar.now) n.now) }
+        ensures err { OnErr result (StartsWith text.new text.old) }
+        ensures grammar { self.new.grammar.now ≡ self.old.grammar.now }
+    {
+        text.push_bytes(b"item ")?;
+        self.push_node(text, n)?;
+        text.push(b' ')
+    }
+
+    /// Adds what stands before the rule in the line of an item at a node, as `item visit#1/admit.1 `. An error may leave a part of it.
+    pub(crate) fn push_item_front(&mut self, text: &mut Text, n: &Node) -> Result<(), AllocError>
+        ensures ok { OnOk result (text.new ≡ text.old ++ item_front (words_of self.old.grammar.now) n.now) }
+        ensures err { OnErr result (StartsWith text.new text.old) }
+        ensures grammar { self.new.grammar.now ≡ self.old.grammar.now }
+    {
+        if self.item.is_known && is_same_node(&self.item.node, n) {
+            return text.push_bytes(self.item.text.as_slice());
+        }
+        let before = text.len();
+        self.add_item_front(text, n)?;
+        note_front(&mut self.item, self.grammar, n, &text.as_slice()[before..]);
+        Ok(())
     }
 }

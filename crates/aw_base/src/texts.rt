@@ -1,5 +1,5 @@
 //! Texts of names, references, answers and items of a worklist. A number that is not declared prints as an empty name.
-ghost use Rattle.std.specs.Prelude.{◌≡◌, ◌++◌, [], codes, decimal, flat_map, map, OnOk, OnErr, IfOk};
+ghost use Rattle.std.specs.Prelude.{◌≡◌, ◌++◌, [], ◌∷◌, codes, decimal, flat_map, map, OnOk, OnErr, IfOk};
 ghost use Rattle.std.specs.Io.{StartsWith};
 ghost use Rattle.aw_term.specs.Rules.{get};
 ghost use Rattle.aw_term.specs.Artifacts.{step_text, steps_text, node_text, slot_text, ref_text, listed, place_text, answer_text, standing_text, item_text};
@@ -54,14 +54,25 @@ pub fn rule_name(g: &Grammar, rule: u16) -> &[u8]
     }
 }
 
+/// Adds the number of a child behind a point. One digit, as each child has, goes a shorter way.
+fn add_child(text: &mut Text, child: u8) -> Result<(), AllocError>
+    ensures ok { OnOk result (text.new ≡ text.old ++ (codes "." ++ decimal child)) }
+    ensures err { OnErr result (StartsWith text.new text.old) }
+{
+    if child < 10 {
+        return text.push_bytes(&[b'.', b'0' + child]);
+    }
+    text.push(b'.')?;
+    push_number(text, u64::from(child))
+}
+
 pub(crate) fn add_step(text: &mut Text, g: &Grammar, step: &Step) -> Result<(), AllocError>
     ensures ok { OnOk result (text.new ≡ text.old ++ step_text (words_of g.now) step.now) }
     ensures err { OnErr result (StartsWith text.new text.old) }
 {
-    text.push_bytes(b"/")?;
+    text.push(b'/')?;
     text.push_bytes(rule_name(g, step.rule))?;
-    text.push_bytes(b".")?;
-    push_number(text, u64::from(step.child))
+    add_child(text, step.child)
 }
 
 fn add_steps(text: &mut Text, g: &Grammar, steps: &[Step]) -> Result<(), AllocError>
@@ -79,9 +90,21 @@ fn add_node(text: &mut Text, g: &Grammar, n: &Node) -> Result<(), AllocError>
     ensures err { OnErr result (StartsWith text.new text.old) }
 {
     text.push_bytes(sort_name(g, n.start))?;
-    text.push_bytes(b"#")?;
+    text.push(b'#')?;
     push_number(text, n.case)?;
     add_steps(text, g, n.steps.as_slice())
+}
+
+/// Adds a letter between a colon and a number. A number of one digit, as most are, goes a shorter way.
+fn add_lettered(text: &mut Text, letter: u8, number: u16) -> Result<(), AllocError>
+    ensures ok { OnOk result (text.new ≡ text.old ++ (codes ":" ++ (letter ∷ decimal number))) }
+    ensures err { OnErr result (StartsWith text.new text.old) }
+{
+    if number < 10 {
+        return text.push_bytes(&[b':', letter, b'0' + number as u8]);
+    }
+    text.push_bytes(&[b':', letter])?;
+    push_number(text, u64::from(number))
 }
 
 fn add_slot(text: &mut Text, slot: Slot) -> Result<(), AllocError>
@@ -89,14 +112,8 @@ fn add_slot(text: &mut Text, slot: Slot) -> Result<(), AllocError>
     ensures err { OnErr result (StartsWith text.new text.old) }
 {
     match slot {
-        Slot::Result(number) => {
-            text.push_bytes(b":r")?;
-            push_number(text, u64::from(number))
-        }
-        Slot::Part(number) => {
-            text.push_bytes(b":p")?;
-            push_number(text, u64::from(number))
-        }
+        Slot::Result(number) => add_lettered(text, b'r', number),
+        Slot::Part(number) => add_lettered(text, b'p', number),
     }
 }
 
@@ -188,11 +205,11 @@ fn add_refusal(
     add_ref(text, names, r)
 }
 
-fn add_mismatch(text: &mut Text, place: &Place) -> Result<(), AllocError>
-    ensures ok { OnOk result (text.new ≡ text.old ++ (codes "mismatch " ++ place_text (place_of place.now))) }
+fn add_mismatch(text: &mut Text, word: &[u8], place: &Place) -> Result<(), AllocError>
+    ensures ok { OnOk result (text.new ≡ text.old ++ (word.now ++ place_text (place_of place.now))) }
     ensures err { OnErr result (StartsWith text.new text.old) }
 {
-    text.push_bytes(b"mismatch ")?;
+    text.push_bytes(word)?;
     add_place(text, place)
 }
 
@@ -208,28 +225,29 @@ fn add_answer(text: &mut Text, names: &mut NameWriter<'_>, a: &Answer) -> Result
         Answer::NotItsRule => text.push_bytes(b"wrong rule"),
         Answer::Arguments => text.push_bytes(b"arguments"),
         Answer::Waits(r) => add_refusal(text, b"waits ", names, r),
-        Answer::Differs(place) => add_mismatch(text, place),
+        Answer::Differs(place) => add_mismatch(text, b"mismatch ", place),
         Answer::Circle(r) => add_refusal(text, b"circle ", names, r),
         Answer::TooDeep => text.push_bytes(b"deep"),
         Answer::Taken => text.push_bytes(b"taken"),
     }
 }
 
+/// Adds how an item stands, behind a blank.
 fn add_standing(
     text: &mut Text,
     names: &mut NameWriter<'_>,
     state: &Standing,
 ) -> Result<(), AllocError>
-    ensures ok { OnOk result (text.new ≡ text.old ++ standing_text (words_of names.old.grammar.now) (refusal_of state.now)) }
+    ensures ok { OnOk result (text.new ≡ text.old ++ (codes " " ++ standing_text (words_of names.old.grammar.now) (refusal_of state.now))) }
     ensures err { OnErr result (StartsWith text.new text.old) }
     ensures grammar { names.new.grammar.now ≡ names.old.grammar.now }
 {
     match state {
-        Standing::Ready => text.push_bytes(b"ready"),
-        Standing::Waits(r) => add_refusal(text, b"waits ", names, r),
-        Standing::Differs(place) => add_mismatch(text, place),
-        Standing::Circle(r) => add_refusal(text, b"circle ", names, r),
-        Standing::TooDeep => text.push_bytes(b"deep"),
+        Standing::Ready => text.push_bytes(b" ready"),
+        Standing::Waits(r) => add_refusal(text, b" waits ", names, r),
+        Standing::Differs(place) => add_mismatch(text, b" mismatch ", place),
+        Standing::Circle(r) => add_refusal(text, b" circle ", names, r),
+        Standing::TooDeep => text.push_bytes(b" deep"),
     }
 }
 
@@ -238,11 +256,8 @@ fn add_item(text: &mut Text, names: &mut NameWriter<'_>, i: &Item) -> Result<(),
     ensures err { OnErr result (StartsWith text.new text.old) }
     ensures grammar { names.new.grammar.now ≡ names.old.grammar.now }
 {
-    text.push_bytes(b"item ")?;
-    names.push_node(text, &i.node)?;
-    text.push_bytes(b" ")?;
+    names.push_item_front(text, &i.node)?;
     text.push_bytes(rule_name(names.grammar(), i.rule))?;
-    text.push_bytes(b" ")?;
     add_standing(text, names, &i.state)
 }
 

@@ -6,9 +6,6 @@ pub returns-clause-err : goal.returns-clause-err
 returns-clause-err c =
     let new = c.add_standing.new.text in
     on_err_weaker c.add_standing.result
-    (λ h. behind c.args.text.now _ c.push_bytes.new.self new c.in_ok-push_bytes.ensures.ok
-    (behind c.push_bytes.new.self _ c.push_node.new.text new c.in_ok-push_node.ensures.ok
-    (behind c.push_node.new.text _ c.push_bytes-2.new.self new c.in_ok-push_bytes-2.ensures.ok
-    (behind c.push_bytes-2.new.self _ c.push_bytes-3.new.self new c.in_ok-push_bytes-3.ensures.ok
-    (behind c.push_bytes-3.new.self _ c.push_bytes-4.new.self new c.in_ok-push_bytes-4.ensures.ok h)))))
+    (λ h. behind c.args.text.now _ c.push_item_front.new.text new c.in_ok-push_item_front.ensures.ok
+    (behind c.push_item_front.new.text _ c.push_bytes.new.self new c.in_ok-push_bytes.ensures.ok h))
     c.add_standing.ensures.err

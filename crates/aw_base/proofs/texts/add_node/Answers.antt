@@ -7,6 +7,6 @@ returns-clause-err c =
     let new = c.add_steps.new.text in
     on_err_weaker c.add_steps.result
     (λ h. behind c.args.text.now _ c.push_bytes.new.self new c.in_ok-push_bytes.ensures.ok
-    (behind c.push_bytes.new.self _ c.push_bytes-2.new.self new c.in_ok-push_bytes-2.ensures.ok
-    (behind c.push_bytes-2.new.self _ c.push_number.new.text new c.in_ok-push_number.ensures.ok h)))
+    (behind c.push_bytes.new.self _ c.push.new.self new c.in_ok-push.ensures.ok
+    (behind c.push.new.self _ c.push_number.new.text new c.in_ok-push_number.ensures.ok h)))
     c.add_steps.ensures.err
