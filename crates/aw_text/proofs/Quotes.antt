@@ -1,7 +1,8 @@
 -- A text between quotes, byte by byte.
-use Rattle.std.proofs.Common.{◌≡◌, ℕ, ◌+◌, ◌<◌, refl, sym, ◌∙◌, ap, Bool, true, false, cond, List, [], ◌∷◌, ◌++◌, take, drop, length, arith, Option, Some, None, option_map, option_and_then, nat_le, ◌==◌, suc, subst, inl, inr, ◌&&◌, ◌||◌, not, IfSome, IfOk, Result, Ok, Err, flat_map, append_assoc, length-append}
+use Rattle.std.proofs.Common.{◌≡◌, ℕ, ◌+◌, ◌<◌, refl, sym, ◌∙◌, ap, Bool, true, false, cond, List, [], ◌∷◌, ◌++◌, take, drop, length, arith, Option, Some, None, option_map, option_and_then, nat_le, ◌==◌, suc, subst, inl, inr, ◌&&◌, ◌||◌, not, IfSome, IfOk, Result, Ok, Err, flat_map, append_assoc, append-nil, length-append, length-drop, length-take-le, get_or, ◌≤◌}
 use Rattle.std.proofs.lemmas.Bool.{lt-leb, and_parts}
 use Rattle.std.proofs.lemmas.Bool.Decides.{nat_tests, eqb_tells}
+use Rattle.std.proofs.lemmas.List.{drop_more}
 use Rattle.std.specs.List.{list_all, prefix_len}
 use Rattle.aw_text.specs.Pieces.{run_len, with_run}
 use Rattle.aw_text.specs.Spelling.{with_front, content_before_quote, text_behind_quote, whole, unquoted, quoted, spelled, escaped, stands_for_itself, is_content, is_content_byte}
@@ -108,6 +109,53 @@ pub run_piece : (bs : List ℕ) → content_before_quote bs ≡ option_map (with
 run_piece [] = refl
 run_piece (b ∷ bs) = run_step b bs (stands_for_itself b) refl (run_piece bs)
 
+-- A content whose bytes all stand for themselves, with the closing quote behind it.
+close_here : (rest : List ℕ) → content_before_quote (34 ∷ rest) ≡ Some ([], rest)
+close_here [] = refl
+close_here (b ∷ bs) = refl
+
+plain_content : (bs : List ℕ) (k : ℕ) → k ≡ run_len bs → k < length bs → get_or bs k 0 ≡ 34 → content_before_quote bs ≡ Some (take k bs, drop (k + 1) bs)
+plain_content bs k n l e =
+    run_piece bs
+    ∙ ap (λ j. option_map (with_run (take j bs)) (content_before_quote (drop j bs))) (sym n)
+    ∙ ap (λ xs. option_map (with_run (take k bs)) (content_before_quote xs)) (drop_more bs k 0 l ∙ ap (λ b. b ∷ drop (k + 1) bs) e)
+    ∙ ap (option_map (with_run (take k bs))) (close_here (drop (k + 1) bs))
+    ∙ ap (λ xs. Some (xs, drop (k + 1) bs)) (append-nil (take k bs))
+
+short_enough : (n : ℕ) → n ≤ 1024 → nat_le n 1024 ≡ true
+short_enough n h = grind (arith, nat_tests)
+
+pub plain_text : (bs : List ℕ) (k : ℕ) → k ≡ run_len bs → k < length bs → get_or bs k 0 ≡ 34 → k ≤ 1024
+    → text_behind_quote bs ≡ Some (take k bs, drop (k + 1) bs)
+plain_text bs k n l e short =
+    let text : List ℕ × List ℕ = (take k bs, drop (k + 1) bs) in
+    let long : length (take k bs) ≡ k = length-take-le k bs (omega (arith, l)) in
+    ap (option_and_then (λ x. cond (nat_le (length x.0) 1024) (Some x) None)) (plain_content bs k n l e)
+    ∙ ap (λ t. cond t (Some text) None) (ap (λ m. nat_le m 1024) long ∙ short_enough k short)
+
+-- the same, where nothing follows the quote
+pub plain_whole : (bs content : List ℕ) (k : ℕ) → text_behind_quote bs ≡ Some (take k bs, drop (k + 1) bs) → k + 1 ≡ length bs → content ≡ take k bs
+    → Some content ≡ option_and_then whole (text_behind_quote bs)
+plain_whole bs content k e n c =
+    let none : length (drop (k + 1) bs) ≡ 0 = omega (arith, length-drop (k + 1) bs, n) in
+    ap Some c ∙ sym (ap (option_and_then whole) e ∙ ap (λ m. cond (m == 0) (Some (take k bs)) None) none)
+
+-- how a content is spelled whose bytes all stand for themselves
+itself_spelled : (b : ℕ) → stands_for_itself b ≡ true → spelled b ≡ b ∷ []
+itself_spelled b h =
+    let plain = not_special b h in
+    let line : (b == 10) ≡ false = grind (arith, nat_tests) in
+    simp (plain.0, plain.1, line)
+
+plain_spelled_step : (b : ℕ) (bs : List ℕ) (t : Bool) → stands_for_itself b ≡ t → cond t (suc (run_len bs)) 0 ≡ suc (length bs)
+    → (run_len bs ≡ length bs → flat_map spelled bs ≡ bs) → spelled b ++ flat_map spelled bs ≡ b ∷ bs
+plain_spelled_step b bs true h e rest = ap (λ xs. xs ++ flat_map spelled bs) (itself_spelled b h) ∙ ap (λ xs. b ∷ xs) (rest (omega (arith, e)))
+plain_spelled_step b bs false h e rest = absurd (omega (arith, e))
+
+pub plain_spelled : (bs : List ℕ) → run_len bs ≡ length bs → flat_map spelled bs ≡ bs
+plain_spelled [] e = refl
+plain_spelled (b ∷ bs) e = plain_spelled_step b bs (stands_for_itself b) refl e (plain_spelled bs)
+
 stands : (b : ℕ) → is_content_byte b ≡ true → (b == 34) ≡ false → (b == 92) ≡ false → (b == 10) ≡ false → stands_for_itself b ≡ true
 stands b h e f g = simp (e, f) (simp g at h)
 
@@ -124,10 +172,6 @@ piece_again b rest h =
         ]
       ]
     ]
-
-close_here : (rest : List ℕ) → content_before_quote (34 ∷ rest) ≡ Some ([], rest)
-close_here [] = refl
-close_here (b ∷ bs) = refl
 
 content_again : (c rest : List ℕ) → list_all is_content_byte c ≡ true → content_before_quote (flat_map spelled c ++ 34 ∷ rest) ≡ Some (c, rest)
 content_again [] rest h = close_here rest

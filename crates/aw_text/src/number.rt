@@ -61,13 +61,16 @@ fn push_digits(text: &mut Text, n: u64) -> Result<(), AllocError>
     text.push_bytes(buffer.format(n).as_bytes())
 }
 
-/// Adds the number. An error changes nothing. One digit, as most numbers are, goes a shorter way.
+/// Adds the number. An error changes nothing. One digit or two, as most numbers have, go a shorter way.
 pub fn push_number(text: &mut Text, n: u64) -> Result<(), AllocError>
     ensures ok { OnOk result (text.new ≡ text.old ++ decimal n) }
     ensures err { OnErr result (text.new ≡ text.old) }
 {
     if n < 10 {
-        return text.push_bytes(&[b'0' + n as u8]);
+        return text.push(b'0' + n as u8);
+    }
+    if n < 100 {
+        return text.push_bytes(&[b'0' + (n / 10) as u8, b'0' + (n % 10) as u8]);
     }
     push_digits(text, n)
 }

@@ -1,5 +1,5 @@
 //! Texts between quotes.
-ghost use Rattle.std.specs.Prelude.{◌≡◌, ◌++◌, ◌+◌, ◌<◌, ◌≤◌, length, drop, ℕ, List, Some, IsTrue, OnOk, OnErr, IfOk, IfSome, option_map, option_and_then, option_copied};
+ghost use Rattle.std.specs.Prelude.{◌≡◌, ◌++◌, ◌+◌, ◌<◌, ◌≤◌, length, take, drop, flat_map, ℕ, List, Some, IsTrue, OnOk, OnErr, IfOk, IfSome, option_map, option_and_then, option_copied};
 ghost use Rattle.std.specs.Io.{StartsWith};
 ghost use Rattle.std.specs.List.{prefix_len};
 ghost use Rattle.aw_text.specs.Spelling.{spelled, quoted, escaped, stands_for_itself, with_front, content_before_quote, text_behind_quote, unquoted, whole, is_content};
@@ -128,8 +128,33 @@ fn content_if_last(content: Text, behind: &[u8]) -> Option<Text>
     }
 }
 
+/// How long the content is that stands behind an opening quote, where all its bytes stand for themselves, as nearly every content's
+/// do. `None` tells nothing.
+fn plain_len(bytes: &[u8]) -> Option<usize>
+    ensures text { IfSome result (λ len. text_behind_quote bytes.now ≡ Some (take len bytes.now, drop (len + 1) bytes.now)) }
+    ensures within { IfSome result (λ len. len < length bytes.now) }
+{
+    let len = run_len(bytes);
+    if len < bytes.len() && bytes[len] == b'"' && len <= MOST_OF_CONTENT {
+        Some(len)
+    } else {
+        None
+    }
+}
+
 /// Behind an opening quote: the bytes behind the closing one; `None` where no text stands there.
 pub fn text_end(bytes: &[u8]) -> Option<&[u8]>
+    ensures value { option_copied result ≡ option_map (λ text. text.1) (text_behind_quote bytes.now) }
+    ensures shorter { IfSome result (λ rest. length rest.now < length bytes.now) }
+{
+    match plain_len(bytes) {
+        Some(len) => Some(&bytes[len + 1..]),
+        None => end_by_pieces(bytes),
+    }
+}
+
+/// The same of any text, piece by piece.
+fn end_by_pieces(bytes: &[u8]) -> Option<&[u8]>
     ensures value { option_copied result ≡ option_map (λ text. text.1) (text_behind_quote bytes.now) }
     ensures shorter { IfSome result (λ rest. length rest.now < length bytes.now) }
 {
@@ -152,7 +177,18 @@ pub fn text_end(bytes: &[u8]) -> Option<&[u8]>
     None
 }
 
+/// The content behind an opening quote, where nothing follows the text.
 fn read_whole(alloc: Global, bytes: &[u8]) -> Result<Option<Text>, AllocError>
+    ensures { IfOk result (λ content. content ≡ option_and_then whole (text_behind_quote bytes.now)) }
+{
+    match plain_len(bytes) {
+        Some(len) if len + 1 == bytes.len() => Ok(Some(Text::from_bytes(alloc, &bytes[..len])?)),
+        _ => read_by_pieces(alloc, bytes),
+    }
+}
+
+/// The same of any text, piece by piece.
+fn read_by_pieces(alloc: Global, bytes: &[u8]) -> Result<Option<Text>, AllocError>
     ensures { IfOk result (λ content. content ≡ option_and_then whole (text_behind_quote bytes.now)) }
 {
     let mut content = Text::new(alloc);
@@ -197,15 +233,35 @@ fn push_spelled(text: &mut Text, byte: u8) -> Result<(), AllocError>
     }
 }
 
+/// Adds a content as it is spelled between quotes. One of which all bytes stand for themselves is added at once.
+fn add_spelled(text: &mut Text, content: &[u8]) -> Result<(), AllocError>
+    ensures ok { OnOk result (text.new ≡ text.old ++ flat_map spelled content.now) }
+    ensures err { OnErr result (StartsWith text.new text.old) }
+{
+    if run_len(content) == content.len() {
+        return text.push_bytes(content);
+    }
+    add_by_bytes(text, content)
+}
+
+/// The same byte by byte.
+fn add_by_bytes(text: &mut Text, content: &[u8]) -> Result<(), AllocError>
+    ensures ok { OnOk result (text.new ≡ text.old ++ flat_map spelled content.now) }
+    ensures err { OnErr result (StartsWith text.new text.old) }
+{
+    for byte in content {
+        push_spelled(text, *byte)?;
+    }
+    Ok(())
+}
+
 fn add_quoted(text: &mut Text, content: &[u8]) -> Result<(), AllocError>
     ensures ok { OnOk result (text.new ≡ text.old ++ quoted content.now) }
     ensures err { OnErr result (StartsWith text.new text.old) }
 {
-    text.push_bytes(b"\"")?;
-    for byte in content {
-        push_spelled(text, *byte)?;
-    }
-    text.push_bytes(b"\"")
+    text.push(b'"')?;
+    add_spelled(text, content)?;
+    text.push(b'"')
 }
 
 /// Adds the text with this content, in quotes. An error changes nothing.

@@ -1,7 +1,7 @@
 use Rattle.std.proofs.Common.{◌∙◌, sym, ap, arith}
 use Rattle.aw_text.specs.Spelling.{content_before_quote}
 use Rattle.aw_text.proofs.Quotes.{whole_after, whole_at_start, whole_one_more, whole_run, whole_too_long}
-use Rattle.aw_text.proofs.quote.read_whole.Goals as goal
+use Rattle.aw_text.proofs.quote.read_by_pieces.Goals as goal
 
 pub loop-rest-init : goal.loop-rest-init
 loop-rest-init c = ap (λ xs. whole_after xs (content_before_quote c.args.bytes.now)) c.new-content.ensures ∙ whole_at_start (content_before_quote c.args.bytes.now)

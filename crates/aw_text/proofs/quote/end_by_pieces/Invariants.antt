@@ -1,7 +1,7 @@
 use Rattle.std.proofs.Common.{◌≡◌, option_map, length, ◌≤◌, ◌+◌}
 use Rattle.aw_text.specs.Spelling.{content_before_quote, text_behind_quote}
 use Rattle.aw_text.proofs.Quotes.{end_after}
-use Rattle.aw_text.proofs.quote.text_end.Given as goal
+use Rattle.aw_text.proofs.quote.end_by_pieces.Given as goal
 
 abbrev pub invariant-loop-len : goal.invariant-loop-len
 invariant-loop-len l =

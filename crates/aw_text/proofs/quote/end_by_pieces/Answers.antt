@@ -1,7 +1,7 @@
 use Rattle.std.proofs.Common.{◌∙◌, sym, ap, arith}
 use Rattle.aw_text.specs.Spelling.{content_before_quote}
 use Rattle.aw_text.proofs.Quotes.{end_after, end_at_start, end_one_more, end_run, end_too_long}
-use Rattle.aw_text.proofs.quote.text_end.Goals as goal
+use Rattle.aw_text.proofs.quote.end_by_pieces.Goals as goal
 
 pub loop-len-init : goal.loop-len-init
 loop-len-init c = record { rest = end_at_start (content_before_quote c.args.bytes.now); length = omega arith }
