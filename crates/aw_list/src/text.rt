@@ -161,6 +161,17 @@ impl Text {
         }
     }
 
+    /// Adds so many bytes at the end as are known where this is called, as those of a word in quotes. An error changes nothing.
+    pub fn push_array<const N: usize>(&mut self, bytes: &[u8; N]) -> Result<(), AllocError>
+        ensures ok { OnOk result (self.new ≡ self.old ++ bytes.now) }
+        ensures err { OnErr result (self.new ≡ self.old) }
+    {
+        match &mut self.bytes {
+            Bytes::Long(many) => many.extend_from_slice(bytes),
+            Bytes::Short(_) => self.push_short(bytes),
+        }
+    }
+
     /// Adds the bytes at the end. An error changes nothing. A single byte, as marks and short numbers are, goes a shorter way.
     pub fn push_bytes(&mut self, bytes: &[u8]) -> Result<(), AllocError>
         ensures ok { OnOk result (self.new ≡ self.old ++ bytes.now) }
