@@ -1,3 +1,4 @@
 pub mod Lookups
 pub mod Same
 pub mod FirstTold
+pub mod Guesses

@@ -6,10 +6,15 @@ use indexmap::IndexSet;
 use std::alloc::{AllocError, Global};
 use std::marker::Model;
 
-/// Names in a row, each once. Contracts see the list of the names.
+/// How many guesses an index keeps.
+const GUESSES: usize = 64;
+
+/// Names in a row, each once. Beside them stand guesses at their places, which look-ups try first: a guess is right where the name
+/// at that place is the one sought, and any other costs no more than that comparison. Contracts see the list of the names.
 #[derive(Debug, Drop)]
 pub struct NameIndex {
     names: IndexSet<Vec<u8>>,
+    guesses: [u8; 64],
 }
 
 impl Model for NameIndex {
@@ -21,6 +26,21 @@ impl Model for NameIndex {
     ghost view = { λ x. map (λ name. name.items) x.names.keys };
 }
 
+/// Which guess is for a name: a number made of its length, its first byte and its last two, since names that are alike mostly
+/// differ there.
+fn guess_of(name: &[u8]) -> usize
+    ensures { result < 64 }
+{
+    let n = name.len();
+    if n < 2 {
+        return n;
+    }
+    let first = usize::from(name[0]);
+    let before = usize::from(name[n - 2]);
+    let last = usize::from(name[n - 1]);
+    (n % GUESSES + first * 7 + before * 10 + last) % GUESSES
+}
+
 impl NameIndex {
     /// An index of no names.
     pub fn new(alloc: Global) -> NameIndex
@@ -28,6 +48,7 @@ impl NameIndex {
     {
         NameIndex {
             names: IndexSet::new(alloc),
+            guesses: [0; 64],
         }
     }
 
@@ -37,6 +58,7 @@ impl NameIndex {
     {
         Ok(NameIndex {
             names: IndexSet::with_capacity(alloc, n)?,
+            guesses: [0; 64],
         })
     }
 
@@ -45,6 +67,12 @@ impl NameIndex {
         ensures place { result ≡ place_of name.now self.now }
         ensures within { IfSome result (λ i. i < length self.now) }
     {
+        let guess = usize::from(self.guesses[guess_of(name)]);
+        if let Some(known) = self.names.as_slice().get(guess) {
+            if known.as_slice() == name {
+                return Some(guess);
+            }
+        }
         self.names.get_index_of(name)
     }
 
@@ -81,7 +109,9 @@ impl NameIndex {
         ensures ok { OnOk result (self.new ≡ self.old ++ name.now ∷ []) }
         ensures err { OnErr result (self.new ≡ self.old) }
     {
+        let place = self.names.len();
         self.names.insert(name.to_vec(*self.names.allocator())?)?;
+        self.guesses[guess_of(name)] = (place % 256) as u8;
         Ok(())
     }
 
@@ -91,7 +121,10 @@ impl NameIndex {
         ensures ok { OnOk result (self.new ≡ (if stands name.now self.old then self.old else self.old ++ name.now ∷ [])) }
         ensures err { OnErr result (self.new ≡ self.old) }
     {
-        let new = self.names.insert(name.to_vec(*self.names.allocator())?)?;
+        let (place, new) = self
+            .names
+            .insert_full(name.to_vec(*self.names.allocator())?)?;
+        self.guesses[guess_of(name)] = (place % 256) as u8;
         Ok(new)
     }
 
