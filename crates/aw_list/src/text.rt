@@ -167,7 +167,7 @@ impl Text {
         ensures err { OnErr result (self.new ≡ self.old) }
     {
         match &mut self.bytes {
-            Bytes::Long(many) => many.extend_from_slice(bytes),
+            Bytes::Long(row) => row.extend_from_slice(bytes),
             Bytes::Short(_) => self.push_short(bytes),
         }
     }
