@@ -1,4 +1,6 @@
 pub mod AlikeArguments
+pub mod ByteFronts
+pub mod ChoiceFronts
 pub mod ChoiceLines
 pub mod KnownChoice
 pub mod KnownGrounds

@@ -1,10 +1,9 @@
 -- Arguments that are read from lexemes at once, part by part.
-use Rattle.std.proofs.Common.{◌≡◌, ℕ, suc, ◌+◌, ◌-◌, ◌≤◌, ◌<◌, refl, sym, ap, ◌∙◌, true, false, ◌&&◌, ◌||◌, List, [], ◌∷◌, ◌++◌, Some, get_or, append_assoc, append-nil, arith}
-use Rattle.std.specs.Prelude.{map, length, max, option_map, option_and_then, take, drop, nat_lt, unwrap_or}
+use Rattle.std.proofs.Common.{◌≡◌, ℕ, suc, ◌+◌, ◌≤◌, ◌<◌, refl, sym, ap, ◌∙◌, true, false, ◌&&◌, ◌||◌, List, [], ◌∷◌, ◌++◌, Some, subst, append_assoc, append-nil, arith}
+use Rattle.std.specs.Prelude.{map, length, max, option_map, option_and_then, nat_lt, Result, Ok, Err, IfOk}
 use Rattle.std.specs.List.{AllZip}
 use Rattle.std.proofs.lemmas.Bool.{and_from}
 use Rattle.std.proofs.lemmas.Bool.Decides.{nat_tests}
-use Rattle.std.proofs.lemmas.List.{take_all}
 use Rattle.aw_term.specs.Trees as P
 use Rattle.aw_term.specs.Views.{ground_of}
 use Rattle.aw_term.specs.declared.ground.Ground.{Ground}
@@ -14,14 +13,12 @@ use Rattle.aw_grammar.specs.Written.{Written, Word, Apply, Literal, side_by_side
 use Rattle.aw_grammar.specs.Terms.{symbols_in, symbols_in_parts, symbols_in_all, depth_of, depth_of_parts, depth_of_all}
 use Rattle.aw_grammar.specs.Kinds.{has_arity, con_called, has_arities, parts_have_arities, all_have_arities}
 use Rattle.aw_grammar.proofs.TermLemmas.{count_side}
-use Rattle.aw_lex.specs.declared.token.Token.{Token}
-use Rattle.aw_lex.specs.declared.token.TokenKind.{TokenKind}
-use Rattle.aw_lex.specs.declared.token.TokenKind.TheVariants as kinds
-use Rattle.aw_text.specs.Spelling.{number_of, unquoted}
-use Rattle.aw_form.specs.Lexemes.{Lexeme, Name, Number, Quoted, Mark, said, slice, lexemes}
+use Rattle.aw_form.specs.Lexemes.{Lexeme, Name, Number, Quoted, Mark}
 use Rattle.aw_form.specs.Laws.{AreWritten}
 use Rattle.aw_form.specs.Terms.{spelling, spellings, spellings_behind}
-use Rattle.aw_sched.specs.Arguments.{names_of, IsCon, Means, ReadsArgument, ReadsArguments, ReadsAll}
+use Rattle.aw_sched.specs.Arguments.{names_of, IsCon, Means}
+use Rattle.aw_sched.specs.ByteArguments.{Says, SaysBefore, TakesArgument, TakesArguments, TakesAll}
+use Rattle.aw_sched.proofs.ByteFronts.{says_nothing, says_same}
 use Rattle.aw_sched.specs.Grounds.{known_grounds}
 use Rattle.aw_sched.specs.LineSpelling.{args_spelling}
 use Rattle.aw_sched.proofs.KnownGrounds.{word_known, apply_known}
@@ -110,78 +107,56 @@ spelled_last (u ∷ us) t later =
     ∙ sym (append_assoc (spelling u) (Mark 44 ∷ with_commas us) (spelling t ++ later))
 
 -- arguments that were read so far, each with a comma behind it, and what is left
-pub record ReadSoFar (cons : List Con) (depth room : ℕ) (ls : List Lexeme) (xs : List Ground) (left : ℕ) (rest : List Lexeme) : Type 0 where
+pub record ReadSoFar (cons : List Con) (depth room : ℕ) (bytes : List ℕ) (xs : List Ground) (left : ℕ) (rest : List ℕ) : Type 0 where
   pub terms : List Written
   pub means : AllZip (Means cons depth) terms xs
-  pub spelled : ls ≡ with_commas terms ++ rest
+  pub spelled : SaysBefore bytes (with_commas terms) rest
   pub symbols : left + symbols_in_all terms ≡ room
 
-pub none_yet : (cons : List Con) (depth room : ℕ) (ls : List Lexeme) (xs : List Ground) → xs ≡ [] → ReadSoFar cons depth room ls xs room ls
-none_yet cons depth room ls [] e = record { terms = []; means = tt; spelled = refl; symbols = omega arith }
-none_yet cons depth room ls (x ∷ xs) e = cc
+pub none_yet : (cons : List Con) (depth room : ℕ) (bytes : List ℕ) (xs : List Ground) → xs ≡ [] → ReadSoFar cons depth room bytes xs room bytes
+none_yet cons depth room bytes [] e = record { terms = []; means = tt; spelled = says_same bytes; symbols = omega arith }
+none_yet cons depth room bytes (x ∷ xs) e = cc
 
-pub one_more : (cons : List Con) (depth room : ℕ) (ls : List Lexeme) (xs ys : List Ground) (x : Ground) (left less : ℕ) (rest behind more : List Lexeme)
-    → ReadSoFar cons depth room ls xs left rest → ReadsArgument cons depth left rest x less behind → behind ≡ Mark 44 ∷ more → ys ≡ xs ++ x ∷ []
-    → ReadSoFar cons depth room ls ys less more
-one_more cons depth room ls xs ys x left less rest behind more so_far next comma all =
+pub one_more : (cons : List Con) (depth room : ℕ) (bytes : List ℕ) (xs ys : List Ground) (x : Ground) (left less : ℕ) (rest behind more : List ℕ)
+    → ReadSoFar cons depth room bytes xs left rest → TakesArgument cons depth left rest x less behind → SaysBefore behind (Mark 44 ∷ []) more → ys ≡ xs ++ x ∷ []
+    → ReadSoFar cons depth room bytes ys less more
+one_more cons depth room bytes xs ys x left less rest behind more so_far next comma all =
     let t = next.term in
     let ts = so_far.terms in
     record {
       terms = ts ++ t ∷ [];
       means = rw all (means_last cons depth ts xs t x so_far.means next.means);
-      spelled = so_far.spelled ∙ ap (λ k. with_commas ts ++ k) (next.spelled ∙ ap (λ k. spelling t ++ k) comma) ∙ sym (comma_last ts t more);
+      spelled = λ ls s. subst (Says bytes) (sym (comma_last ts t ls)) (so_far.spelled (spelling t ++ Mark 44 ∷ ls) (next.spelled (Mark 44 ∷ ls) (comma ls s)));
       symbols = omega (arith, symbols_last ts t, so_far.symbols, next.symbols);
     }
 
-pub at_close : (cons : List Con) (close depth room : ℕ) (ls : List Lexeme) (xs ys : List Ground) (x : Ground) (left less : ℕ) (rest behind more : List Lexeme)
-    → ReadSoFar cons depth room ls xs left rest → ReadsArgument cons depth left rest x less behind → behind ≡ Mark close ∷ more → ys ≡ xs ++ x ∷ []
-    → ReadsArguments cons close depth room ls ys less more
-at_close cons close depth room ls xs ys x left less rest behind more so_far next closed all =
+pub at_close : (cons : List Con) (close depth room : ℕ) (bytes : List ℕ) (xs ys : List Ground) (x : Ground) (left less : ℕ) (rest behind more : List ℕ)
+    → ReadSoFar cons depth room bytes xs left rest → TakesArgument cons depth left rest x less behind → SaysBefore behind (Mark close ∷ []) more → ys ≡ xs ++ x ∷ []
+    → TakesArguments cons close depth room bytes ys less more
+at_close cons close depth room bytes xs ys x left less rest behind more so_far next closed all =
     let t = next.term in
     let ts = so_far.terms in
+    let inside = spellings (side_by_side (ts ++ t ∷ [])) in
     record {
       terms = ts ++ t ∷ [];
       means = rw all (means_last cons depth ts xs t x so_far.means next.means);
-      spelled = so_far.spelled ∙ ap (λ k. with_commas ts ++ k) (next.spelled ∙ ap (λ k. spelling t ++ k) closed) ∙ sym (spelled_last ts t (Mark close ∷ more));
+      spelled = λ ls s. subst (Says bytes) (sym (spelled_last ts t (Mark close ∷ ls)) ∙ sym (append_assoc inside (Mark close ∷ []) ls))
+          (so_far.spelled (spelling t ++ Mark close ∷ ls) (next.spelled (Mark close ∷ ls) (closed ls s)));
       symbols = omega (arith, symbols_last ts t, so_far.symbols, next.symbols);
       some = omega (arith, so_far.symbols, next.symbols, some_symbols t);
     }
 
--- what the first of some tokens says, and those behind it
-abbrev pub others : List Token → List Token
-others tokens = take (length tokens - 1) (drop 1 tokens)
-
-front_is : (line : List ℕ) (tokens : List Token) (d : Token) (kind : TokenKind) → 1 ≤ length tokens → (get_or tokens 0 d).kind ≡ kind
-    → lexemes line tokens ≡ said kind (slice line (get_or tokens 0 d)) ∷ lexemes line (others tokens)
-front_is line [] d kind h e = absurd (omega (arith, h))
-front_is line (t ∷ ts) d kind h e =
-    ap (λ k. said k (slice line t) ∷ lexemes line ts) e ∙ ap (λ us. said kind (slice line t) ∷ lexemes line us) (sym (take_all (length (t ∷ ts) - 1) ts (omega arith)))
-
-pub mark_front : (line : List ℕ) (tokens : List Token) (d : Token) (b byte : ℕ) → 1 ≤ length tokens → (get_or tokens 0 d).kind ≡ kinds.Mark b → b ≡ byte
-    → lexemes line tokens ≡ Mark byte ∷ lexemes line (others tokens)
-mark_front line tokens d b byte h e same = front_is line tokens d (kinds.Mark b) h e ∙ ap (λ m. Mark m ∷ lexemes line (others tokens)) same
-
-pub number_front : (line : List ℕ) (tokens : List Token) (d : Token) (bytes : List ℕ) (n : ℕ) → 1 ≤ length tokens → (get_or tokens 0 d).kind ≡ kinds.Number
-    → bytes ≡ slice line (get_or tokens 0 d) → n ≡ unwrap_or (number_of bytes) 0 → lexemes line tokens ≡ Number n ∷ lexemes line (others tokens)
-number_front line tokens d bytes n h e same value =
-    front_is line tokens d kinds.Number h e ∙ ap (λ k. Number k ∷ lexemes line (others tokens)) (ap (λ bs. unwrap_or (number_of bs) 0) (sym same) ∙ sym value)
-
-pub text_front : (line : List ℕ) (tokens : List Token) (d : Token) (bytes text : List ℕ) → 1 ≤ length tokens → (get_or tokens 0 d).kind ≡ kinds.Text
-    → bytes ≡ slice line (get_or tokens 0 d) → unquoted bytes ≡ Some text → lexemes line tokens ≡ Quoted text ∷ lexemes line (others tokens)
-text_front line tokens d bytes text h e same value =
-    front_is line tokens d kinds.Text h e ∙ ap (λ t. Quoted t ∷ lexemes line (others tokens)) (ap (λ bs. unwrap_or (unquoted bs) []) (sym same) ∙ ap (λ o. unwrap_or o []) value)
-
 -- a literal is read
-pub number_read : (cons : List Con) (depth room left n : ℕ) (ls rest : List Lexeme) → 0 < depth → left + 1 ≡ room → ls ≡ Number n ∷ rest → ReadsArgument cons depth room ls (grounds.Num n) left rest
-number_read cons depth room left n ls rest some e front = record {
+pub number_read : (cons : List Con) (depth room left n : ℕ) (bytes rest : List ℕ) → 0 < depth → left + 1 ≡ room → SaysBefore bytes (Number n ∷ []) rest → TakesArgument cons depth room bytes (grounds.Num n) left rest
+number_read cons depth room left n bytes rest some e front = record {
   term = Literal (P.Num n);
   means = record { written = tt; shallow = omega (arith, some); known = refl; arities = refl };
   spelled = front;
   symbols = e;
 }
 
-pub text_read : (cons : List Con) (depth room left : ℕ) (text : List ℕ) (ls rest : List Lexeme) → 0 < depth → left + 1 ≡ room → ls ≡ Quoted text ∷ rest → ReadsArgument cons depth room ls (grounds.Text text) left rest
-text_read cons depth room left text ls rest some e front = record {
+pub text_read : (cons : List Con) (depth room left : ℕ) (text bytes rest : List ℕ) → 0 < depth → left + 1 ≡ room → SaysBefore bytes (Quoted text ∷ []) rest → TakesArgument cons depth room bytes (grounds.Text text) left rest
+text_read cons depth room left text bytes rest some e front = record {
   term = Literal (P.Text text);
   means = record { written = tt; shallow = omega (arith, some); known = refl; arities = refl };
   spelled = front;
@@ -189,9 +164,9 @@ text_read cons depth room left text ls rest some e front = record {
 }
 
 -- a constructor without parts is read
-pub word_read : (cons : List Con) (depth room left : ℕ) (name : List ℕ) (con parts : ℕ) (none : List Ground) (rest : List Lexeme) → 0 < depth → left + 1 ≡ room
-    → IsCon cons name con parts → parts ≡ 0 → none ≡ [] → ReadsArgument cons depth room (Name name ∷ rest) (grounds.Con con none) left rest
-word_read cons depth room left name con parts none rest some e is no_parts empty = record {
+pub word_read : (cons : List Con) (depth room left : ℕ) (name : List ℕ) (con parts : ℕ) (none : List Ground) (bytes rest : List ℕ) → 0 < depth → left + 1 ≡ room
+    → IsCon cons name con parts → parts ≡ 0 → none ≡ [] → SaysBefore bytes (Name name ∷ []) rest → TakesArgument cons depth room bytes (grounds.Con con none) left rest
+word_read cons depth room left name con parts none bytes rest some e is no_parts empty front = record {
   term = Word name;
   means = record {
     written = tt;
@@ -199,16 +174,17 @@ word_read cons depth room left name con parts none rest some e is no_parts empty
     known = word_known (names_of cons) name con none is.number empty;
     arities = ap (λ n. has_arity n (con_called name cons)) (sym no_parts) ∙ is.arity;
   };
-  spelled = refl;
+  spelled = front;
   symbols = e;
 }
 
 -- a constructor with parts is read
-pub parts_read : (cons : List Con) (depth room within inside left : ℕ) (name : List ℕ) (con parts : ℕ) (xs : List Ground) (behind ls rest : List Lexeme) → within + 1 ≡ depth → inside + 1 ≡ room
-    → IsCon cons name con parts → length xs ≡ parts → behind ≡ Mark 40 ∷ ls → ReadsArguments cons 41 within inside ls xs left rest
-    → ReadsArgument cons depth room (Name name ∷ behind) (grounds.Con con xs) left rest
-parts_read cons depth room within inside left name con parts xs behind ls rest d e is number front read =
+pub parts_read : (cons : List Con) (depth room within inside left : ℕ) (name : List ℕ) (con parts : ℕ) (xs : List Ground) (bytes behind first rest : List ℕ) → within + 1 ≡ depth → inside + 1 ≡ room
+    → IsCon cons name con parts → length xs ≡ parts → SaysBefore bytes (Name name ∷ []) behind → SaysBefore behind (Mark 40 ∷ []) first → TakesArguments cons 41 within inside first xs left rest
+    → TakesArgument cons depth room bytes (grounds.Con con xs) left rest
+parts_read cons depth room within inside left name con parts xs bytes behind first rest d e is number front opened read =
     let ts = read.terms in
+    let all = spellings (side_by_side ts) ++ Mark 41 ∷ [] in
     record {
       term = Apply name (side_by_side ts);
       means = record {
@@ -218,30 +194,47 @@ parts_read cons depth room within inside left name con parts xs behind ls rest d
         arities = and_from _ _ (ap (λ n. has_arity n (con_called name cons)) (count_side ts ∙ length_all cons within ts xs read.means ∙ number) ∙ is.arity)
             (arities_side cons ts ∙ arities_all cons within ts xs read.means);
       };
-      spelled = ap (λ k. Name name ∷ k) (front ∙ ap (λ k. Mark 40 ∷ k) (read.spelled ∙ sym (append_assoc (spellings (side_by_side ts)) (Mark 41 ∷ []) rest)));
+      spelled = λ ls s. front (Mark 40 ∷ (all ++ ls)) (opened (all ++ ls) (read.spelled ls s));
       symbols = omega (arith, e, symbols_side ts, read.symbols);
     }
 
--- no arguments, or some between braces, behind which nothing is left
-pub none_read : (cons : List Con) (xs : List Ground) → xs ≡ [] → ReadsAll cons [] xs
-none_read cons [] e = record { terms = []; written = tt; spelled = refl; within = refl; known = refl; arities = refl }
-none_read cons (x ∷ xs) e = cc
+-- an argument whose name was read
+pub takes_behind_name : {E : Type 0} (cons : List Con) (depth room left : ℕ) (name bytes behind rest : List ℕ) (r : Result Ground E)
+    → IfOk r (λ x. (bs : List ℕ) → SaysBefore bs (Name name ∷ []) behind → TakesArgument cons depth room bs x left rest)
+    → SaysBefore bytes (Name name ∷ []) behind → IfOk r (λ x. TakesArgument cons depth room bytes x left rest)
+takes_behind_name cons depth room left name bytes behind rest (Ok x) h front = h bytes front
+takes_behind_name cons depth room left name bytes behind rest (Err e) h front = tt
 
-spelled_some : (ls rest : List Lexeme) (ts : List Written) → 0 < symbols_in_all ts → ls ≡ spellings (side_by_side ts) ++ Mark 125 ∷ rest → rest ≡ [] → Mark 123 ∷ ls ≡ args_spelling ts
-spelled_some ls rest [] some e f = absurd (omega (arith, some))
-spelled_some ls rest (t ∷ ts) some e f = ap (λ k. Mark 123 ∷ k) (e ∙ ap (λ k. spellings (side_by_side (t ∷ ts)) ++ Mark 125 ∷ k) f)
+-- no arguments, or some between braces, behind which nothing is left
+pub none_read : (cons : List Con) (xs : List Ground) (bytes : List ℕ) → xs ≡ [] → SaysBefore bytes [] [] → TakesAll cons bytes xs
+none_read cons [] bytes e blank = record {
+  spelled = [];
+  says = blank [] says_nothing;
+  reads = record { terms = []; written = tt; spelled = refl; within = refl; known = refl; arities = refl };
+}
+none_read cons (x ∷ xs) bytes e blank = cc
+
+spelled_some : (ts : List Written) → 0 < symbols_in_all ts → Mark 123 ∷ (spellings (side_by_side ts) ++ Mark 125 ∷ []) ≡ args_spelling ts
+spelled_some [] some = absurd (omega (arith, some))
+spelled_some (t ∷ ts) some = refl
 
 few_is : (number symbols depth : ℕ) → number ≤ 8 → symbols ≤ 256 → depth ≤ 32 → (nat_lt 8 number || (nat_lt 256 symbols || nat_lt 32 depth)) ≡ false
 few_is number symbols depth a b c = grind (arith, nat_tests)
 
-pub some_read : (cons : List Con) (left : ℕ) (all ls rest : List Lexeme) (xs : List Ground) → all ≡ Mark 123 ∷ ls → ReadsArguments cons 125 32 256 ls xs left rest → rest ≡ [] → length xs ≤ 8 → ReadsAll cons all xs
-some_read cons left all ls rest xs front read end few =
+pub some_read : (cons : List Con) (left : ℕ) (bytes first rest : List ℕ) (xs : List Ground) → SaysBefore bytes (Mark 123 ∷ []) first → TakesArguments cons 125 32 256 first xs left rest → SaysBefore rest [] [] → length xs ≤ 8
+    → TakesAll cons bytes xs
+some_read cons left bytes first rest xs opened read end few =
     let ts = read.terms in
+    let inside = spellings (side_by_side ts) ++ Mark 125 ∷ [] in
     record {
-      terms = ts;
-      written = written_all cons 32 ts xs read.means;
-      spelled = front ∙ spelled_some ls rest ts (omega (arith, read.symbols, read.some)) read.spelled end;
-      within = few_is (length ts) (symbols_in_all ts) (depth_of_all ts) (omega (arith, few, length_all cons 32 ts xs read.means)) (omega (arith, read.symbols)) (shallow_all cons 32 ts xs read.means);
-      known = known_all cons 32 ts xs read.means;
-      arities = arities_all cons 32 ts xs read.means;
+      spelled = Mark 123 ∷ inside;
+      says = subst (λ k. Says bytes (Mark 123 ∷ k)) (append-nil inside) (opened (inside ++ []) (read.spelled [] (end [] says_nothing)));
+      reads = record {
+        terms = ts;
+        written = written_all cons 32 ts xs read.means;
+        spelled = spelled_some ts (omega (arith, read.symbols, read.some));
+        within = few_is (length ts) (symbols_in_all ts) (depth_of_all ts) (omega (arith, few, length_all cons 32 ts xs read.means)) (omega (arith, read.symbols)) (shallow_all cons 32 ts xs read.means);
+        known = known_all cons 32 ts xs read.means;
+        arities = arities_all cons 32 ts xs read.means;
+      };
     }

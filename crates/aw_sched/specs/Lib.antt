@@ -1,9 +1,12 @@
 pub mod Answers
 pub mod Arguments
+pub mod ByteArguments
 pub mod ChoiceFronts
 pub mod Events
 pub mod Grounds
 pub mod KindNames
+pub mod KnownChoices
+pub mod LastNodes
 pub mod Laws
 pub mod LineEvents
 pub mod LineSeen

@@ -7,6 +7,7 @@ use Rattle.aw_base.specs.ReadFronts.{IsReaderOf}
 use Rattle.aw_typed.specs.Typing.{types_of, IsMadeFor}
 use Rattle.aw_sched.specs.Schedules.{Read, Events, FaultAt, read_lines, with_event}
 use Rattle.aw_sched.specs.Answers.{HasTypes, MayCome, event_seen}
+use Rattle.aw_sched.specs.LastNodes.{IsLast}
 use Rattle.aw_sched.specs.LineEvents.{with_events}
 use Rattle.aw_sched.specs.declared.event.Event.{Event}
 use Rattle.aw_sched.specs.declared.fault.SchedFault.{SchedFault}
@@ -21,6 +22,7 @@ left r = read_lines (types_of r.typed.now.types) (declarations_of r.grammar.now)
 pub record IsReading (r : ScheduleReader) : Type 0 where
   pub made : IsMadeFor (grammar_of r.grammar.now) r.typed.now
   pub nodes : IsReaderOf r.grammar.now r.nodes
+  pub last : IsLast r.grammar.now r.last
   pub counted : r.line + length r.rest.now < 2 ^ 64
 
 -- An event in front of what is left then; the end; or the fault. Want of memory says nothing.

@@ -1,30 +1,16 @@
-//! A choice without a fault, made at once: its node from its bytes, and its arguments from tokens, without written terms between.
-ghost use Rattle.std.specs.Prelude.{◌≡◌, ◌<◌, ◌∷◌, IfOk, Some};
-ghost use Rattle.aw_text.specs.Spelling.{unquoted};
-ghost use Rattle.aw_typed.specs.Types.{Types};
-ghost use Rattle.aw_lex.specs.Tokens.{AreSlices};
-ghost use Rattle.aw_grammar.specs.GrammarOf.{declarations_of, grammar_of, words_of};
+//! A choice without a fault, made at once from the bytes of its line, without tokens and written terms between.
+ghost use Rattle.std.specs.Prelude.{◌≡◌, ◌<◌, ◌∷◌, [], ℕ, List, IfOk, Some};
+ghost use Rattle.aw_grammar.specs.GrammarOf.{words_of};
 ghost use Rattle.aw_grammar.specs.Named.{number_named};
-ghost use Rattle.aw_base.specs.NodeNames.{node_named};
-ghost use Rattle.aw_base.specs.ReadFronts.{IsReaderOf};
-ghost use Rattle.aw_form.specs.Lexemes.{Name, lexemes};
-ghost use Rattle.aw_sched.specs.Lines.{choice_at};
-ghost use Rattle.aw_sched.specs.Events.{is_long};
-ghost use Rattle.aw_sched.specs.LineEvents.{SaysNode};
-ghost use Rattle.aw_sched.specs.declared.lookup.NodeSaid.TheVariants.{Valid};
-ghost use Rattle.aw_sched.specs.Schedules.{by_form, by_type};
-ghost use Rattle.aw_sched.specs.Answers.{MayCome, event_seen};
-ghost use Rattle.aw_sched.specs.Arguments.{IsCon, ReadsArgument, ReadsArguments, ReadsAll};
+ghost use Rattle.aw_form.specs.Lexemes.{Name};
+ghost use Rattle.aw_sched.specs.Arguments.{IsCon};
+ghost use Rattle.aw_sched.specs.ByteArguments.{IsMarkByte, SaysBefore, TakesAll, TakesArgument, TakesArguments};
+ghost use Rattle.aw_sched.specs.KnownChoices.{IsKnownChoice};
 
 use crate::event::Event;
-use crate::lookup::{NodeSaid, said_node};
-use aw_base::{
-    Choice, Grammar, Ground, Grounds, MOST_ARGUMENTS, MOST_NESTING, MOST_SYMBOLS, Node, NodeReader,
-    Text,
-};
-use aw_form::{Unread, bytes_of, end, name};
-use aw_lex::{Token, TokenKind};
-use aw_text::{content_value, number_value};
+use crate::front::{behind_blanks, name_front, number_front, text_front};
+use aw_base::{Choice, Grammar, Ground, Grounds, MOST_ARGUMENTS, MOST_NESTING, MOST_SYMBOLS, Node};
+use aw_form::Unread;
 use std::alloc::Global;
 
 /// The constructor of a name, and how many parts it has.
@@ -55,191 +41,138 @@ fn rule_named(g: &Grammar, name: &[u8]) -> Result<(u16, usize), Unread>
     }
 }
 
-/// The content of a text that is quoted.
-fn content_of(alloc: Global, bytes: &[u8]) -> Result<Text, Unread>
-    ensures { IfOk result (λ text. unquoted bytes.now ≡ Some text) }
-{
-    match content_value(alloc, bytes)? {
-        Some(content) => Ok(content),
-        None => Err(Unread::Form),
-    }
+/// What is left of a line, while the arguments of a choice are read from it, and of the room for symbols in them.
+#[derive(Drop)]
+struct ArgumentReader<'a> {
+    alloc: Global,
+    grammar: &'a Grammar,
+    rest: &'a [u8],
+    room: u16,
 }
 
-/// An argument that begins with this name, what is left of the room for symbols, and the tokens behind it.
-#[cycle(argument)]
-fn read_constructor<'a>(
-    alloc: Global,
-    g: &Grammar,
-    depth: u8,
-    room: u16,
-    name: &[u8],
-    line: &[u8],
-    behind: &'a [Token],
-) -> Result<(Ground, u16, &'a [Token]), Unread>
-    requires depth { 0 < depth }
-    requires room { 0 < room }
-    ensures { IfOk result (λ x. ReadsArgument g.now.cons depth room (Name name.now ∷ lexemes line.now behind.entry.now) x.0 x.1 (lexemes line.now x.2.now)) }
-{
-    let (con, arity) = con_named(g, name)?;
-    let [token, inside @ ..] = behind else {
-        return Err(Unread::Form);
-    };
-    match token.kind {
-        TokenKind::Mark(b'(') => {
-            let (parts, left, rest) = read_arguments(
-                alloc,
-                g,
-                b')',
-                arity,
-                depth - 1,
-                room - 1,
-                line,
-                inside,
-            )?;
-            if parts.len() == arity {
-                Ok((Ground::Con(con, parts), left, rest))
-            } else {
-                Err(Unread::Form)
+impl<'a> ArgumentReader<'a> {
+    /// The argument that begins with this name, which was read.
+    #[cycle(argument)]
+    fn constructor(&mut self, depth: u8, name: &[u8]) -> Result<Ground, Unread>
+        requires depth { 0 < depth }
+        requires room { 0 < self.old.room }
+        ensures grammar { self.new.grammar.now ≡ self.old.grammar.now }
+        ensures reads { IfOk result (λ x. (bytes : List ℕ) → SaysBefore bytes (Name name.now ∷ []) self.old.rest.now → TakesArgument self.old.grammar.now.cons depth self.old.room bytes x self.new.room self.new.rest.now) }
+    {
+        let (con, arity) = con_named(self.grammar, name)?;
+        self.room -= 1;
+        match behind_blanks(self.rest) {
+            [b'(', inside @ ..] => {
+                self.rest = inside;
+                let parts = self.arguments(b')', arity, depth - 1)?;
+                if parts.len() == arity {
+                    Ok(Ground::Con(con, parts))
+                } else {
+                    Err(Unread::Form)
+                }
             }
+            _ if arity == 0 => Ok(Ground::Con(con, Grounds::new(self.alloc))),
+            _ => Err(Unread::Form),
         }
-        _ if arity == 0 => Ok((Ground::Con(con, Grounds::new(alloc)), room - 1, behind)),
-        _ => Err(Unread::Form),
     }
-}
 
-/// An argument of at most this depth, what it leaves of the room for symbols, and the tokens behind it.
-#[cycle(argument)]
-fn read_argument<'a>(
-    alloc: Global,
-    g: &Grammar,
-    depth: u8,
-    room: u16,
-    line: &[u8],
-    tokens: &'a [Token],
-) -> Result<(Ground, u16, &'a [Token]), Unread>
-    ensures { IfOk result (λ x. ReadsArgument g.now.cons depth room (lexemes line.now tokens.entry.now) x.0 x.1 (lexemes line.now x.2.now)) }
-{
-    let [token, behind @ ..] = tokens else {
-        return Err(Unread::Form);
-    };
-    if depth == 0 || room == 0 {
-        return Err(Unread::Form);
-    }
-    let bytes = bytes_of(line, *token);
-    match token.kind {
-        TokenKind::Name => read_constructor(alloc, g, depth, room, bytes, line, behind),
-        TokenKind::Number => {
-            let number = number_value(bytes).unwrap_or(0);
-            Ok((Ground::Num(number), room - 1, behind))
-        }
-        TokenKind::Text => Ok((Ground::Text(content_of(alloc, bytes)?), room - 1, behind)),
-        TokenKind::Node | TokenKind::Mark(_) => Err(Unread::Form),
-    }
-}
-
-/// One argument or more, with a comma between each two, up to a closing mark; what they leave of the room for symbols, and the tokens
-/// behind the mark. There is memory for so many from the start.
-#[cycle(argument)]
-fn read_arguments<'a>(
-    alloc: Global,
-    g: &Grammar,
-    close: u8,
-    count: usize,
-    depth: u8,
-    room: u16,
-    line: &[u8],
-    tokens: &'a [Token],
-) -> Result<(Grounds, u16, &'a [Token]), Unread>
-    ensures { IfOk result (λ x. ReadsArguments g.now.cons close depth room (lexemes line.now tokens.entry.now) x.0 x.1 (lexemes line.now x.2.now)) }
-{
-    let mut found = Grounds::from_vec(Vec::with_capacity(alloc, count)?);
-    let mut left = room;
-    let mut rest = tokens;
-    'reading: loop {
-        let (argument, less, behind) = read_argument(alloc, g, depth, left, line, rest)?;
-        found.push(argument)?;
-        let [token, more @ ..] = behind else {
+    /// The next argument, of at most this depth.
+    #[cycle(argument)]
+    fn argument(&mut self, depth: u8) -> Result<Ground, Unread>
+        ensures grammar { self.new.grammar.now ≡ self.old.grammar.now }
+        ensures reads { IfOk result (λ x. TakesArgument self.old.grammar.now.cons depth self.old.room self.old.rest.now x self.new.room self.new.rest.now) }
+    {
+        if depth == 0 || self.room == 0 {
             return Err(Unread::Form);
-        };
-        match token.kind {
-            TokenKind::Mark(b',') => {
-                left = less;
-                rest = more;
+        }
+        let bytes = behind_blanks(self.rest);
+        match bytes {
+            [b'"', ..] => {
+                let (text, rest) = text_front(self.alloc, bytes)?;
+                self.room -= 1;
+                self.rest = rest;
+                Ok(Ground::Text(text))
             }
-            TokenKind::Mark(mark) if mark == close => return Ok((found, less, more)),
-            _ => return Err(Unread::Form),
+            [b'0'..=b'9', ..] => {
+                let Some((number, rest)) = number_front(bytes) else {
+                    return Err(Unread::Form);
+                };
+                self.room -= 1;
+                self.rest = rest;
+                Ok(Ground::Num(number))
+            }
+            _ => {
+                let Some((name, rest)) = name_front(bytes) else {
+                    return Err(Unread::Form);
+                };
+                self.rest = rest;
+                self.constructor(depth, name)
+            }
+        }
+    }
+
+    /// One argument or more, with a comma between each two, up to a closing mark. There is memory for so many from the start.
+    #[cycle(argument)]
+    fn arguments(&mut self, close: u8, count: usize, depth: u8) -> Result<Grounds, Unread>
+        requires { IsMarkByte close }
+        ensures grammar { self.new.grammar.now ≡ self.old.grammar.now }
+        ensures reads { IfOk result (λ xs. TakesArguments self.old.grammar.now.cons close depth self.old.room self.old.rest.now xs self.new.room self.new.rest.now) }
+    {
+        let mut found = Grounds::from_vec(Vec::with_capacity(self.alloc, count)?);
+        'reading: loop {
+            let argument = self.argument(depth)?;
+            found.push(argument)?;
+            match behind_blanks(self.rest) {
+                [b',', more @ ..] => self.rest = more,
+                [mark, more @ ..] if *mark == close => {
+                    self.rest = more;
+                    return Ok(found);
+                }
+                _ => return Err(Unread::Form),
+            }
         }
     }
 }
 
 /// All arguments of a choice, behind which nothing stands: none, or some between braces.
-fn read_all(
-    alloc: Global,
-    g: &Grammar,
-    count: usize,
-    line: &[u8],
-    tokens: &[Token],
-) -> Result<Grounds, Unread>
-    ensures { IfOk result (ReadsAll g.now.cons (lexemes line.now tokens.now)) }
+fn read_all(alloc: Global, g: &Grammar, count: usize, line: &[u8]) -> Result<Grounds, Unread>
+    ensures { IfOk result (TakesAll g.now.cons line.now) }
 {
-    let [token, inside @ ..] = tokens else {
-        return Ok(Grounds::new(alloc));
-    };
-    let TokenKind::Mark(b'{') = token.kind else {
-        return Err(Unread::Form);
-    };
-    let (args, _, rest) = read_arguments(
-        alloc,
-        g,
-        b'}',
-        count,
-        MOST_NESTING,
-        MOST_SYMBOLS,
-        line,
-        inside,
-    )?;
-    end(line, rest)?;
-    if args.len() <= MOST_ARGUMENTS {
-        Ok(args)
-    } else {
-        Err(Unread::Form)
+    match behind_blanks(line) {
+        [] => Ok(Grounds::new(alloc)),
+        [b'{', inside @ ..] => {
+            let mut reader = ArgumentReader {
+                alloc,
+                grammar: g,
+                rest: inside,
+                room: MOST_SYMBOLS,
+            };
+            let args = reader.arguments(b'}', count, MOST_NESTING)?;
+            if args.len() <= MOST_ARGUMENTS && behind_blanks(reader.rest).is_empty() {
+                Ok(args)
+            } else {
+                Err(Unread::Form)
+            }
+        }
+        _ => Err(Unread::Form),
     }
 }
 
-/// The node of this name, which is then valid.
-fn valid_node(nodes: &mut NodeReader, g: &Grammar, text: &[u8]) -> Result<Node, Unread>
-    requires { IsReaderOf g.now nodes.old }
-    ensures kept { IsReaderOf g.now nodes.new }
-    ensures said { IfOk result (λ node. SaysNode (grammar_of g.now) (is_long text.now) (node_named (words_of g.now) (grammar_of g.now) text.now) (Valid node)) }
-{
-    match said_node(nodes, g, text) {
-        Ok(NodeSaid::Valid(node)) => Ok(node),
-        Ok(NodeSaid::Long) => Err(Unread::Form),
-        Ok(NodeSaid::Faulty) => Err(Unread::Form),
-        Err(_) => Err(Unread::NoMemory),
-    }
-}
-
-/// The choice at the node of this name of which the tokens behind it spell the rule and the arguments, where there is no fault but of
+/// The choice at this node of which what stands behind the node's name spells the rule and the arguments, where there is no fault but of
 /// types. Any other, also one with a fault, is of no such form, and is left to be read in full.
 pub(crate) fn known_choice(
     alloc: Global,
-    nodes: &mut NodeReader,
     g: &Grammar,
-    text: &[u8],
+    node: Node,
     line: &[u8],
-    tokens: &[Token],
 ) -> Result<Event, Unread>
-    requires slices { AreSlices line.now 0 tokens.now }
-    requires nodes { IsReaderOf g.now nodes.old }
-    ensures kept { IsReaderOf g.now nodes.new }
-    ensures reads { IfOk result (λ event. (t : Types) → by_form t (declarations_of g.now) (choice_at text.now (lexemes line.now tokens.now)) ≡ by_type t (grammar_of g.now) (event_seen event)) }
-    ensures fits { IfOk result (MayCome (grammar_of g.now)) }
+    ensures { IfOk result (IsKnownChoice g.now node line.now) }
 {
-    let (rule, rest) = name(line, tokens)?;
+    let Some((rule, rest)) = name_front(behind_blanks(line)) else {
+        return Err(Unread::Form);
+    };
     let (rule, params) = rule_named(g, rule)?;
-    let args = read_all(alloc, g, params, line, rest)?;
-    let node = valid_node(nodes, g, text)?;
+    let args = read_all(alloc, g, params, rest)?;
     let choice = Choice::Develop { node, rule, args };
     Ok(Event::of_choice(alloc, choice)?)
 }

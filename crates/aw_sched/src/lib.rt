@@ -4,6 +4,7 @@
 mod choice_line;
 pub mod event;
 pub mod fault;
+mod front;
 mod ground;
 mod known;
 mod law;

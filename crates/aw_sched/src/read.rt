@@ -14,8 +14,9 @@ ghost use Rattle.aw_sched.specs.LineSeen.{line_seen, HasContents};
 ghost use Rattle.aw_sched.specs.Schedules.{by_form, by_kind, by_type, event_fits, read_line, Gives};
 ghost use Rattle.aw_sched.specs.Answers.{HasTypes, MayCome, event_seen};
 ghost use Rattle.aw_sched.specs.LineEvents.{ReadsLine};
+ghost use Rattle.aw_sched.specs.LastNodes.{IsLast};
 
-use crate::choice_line::choice_front;
+use crate::choice_line::{LastNode, node_of_choice};
 use crate::event::Event;
 use crate::fault::{LineFault, SchedKind};
 use crate::known::known_choice;
@@ -117,29 +118,28 @@ fn plain_event(line: &[u8]) -> Option<Event>
     }
 }
 
-/// The event of a line that is `choose `, the name of a node and a choice there, without a fault. Only what stands behind the name is
-/// read by its tokens: where the bytes name a node, they are one token, and nothing else has to judge them. Any other line, also one
-/// with a fault, is left to be read by all of its tokens.
-fn choice_event(
-    found: &mut Tokens,
+/// The event of a line that is `choose `, the name of a node and a choice there, without a fault. It is read from the bytes at once:
+/// where they name a node, they are one token, and nothing else has to judge them. Any other line, also one with a fault, is left to be
+/// read by its tokens.
+fn choice_event<'a>(
+    alloc: Global,
     nodes: &mut NodeReader,
+    last: &mut Option<LastNode<'a>>,
     g: &Grammar,
     t: &Typed,
-    line: &[u8],
+    line: &'a [u8],
 ) -> Option<Event>
     requires made { IsMadeFor (grammar_of g.now) t.now }
     requires nodes { IsReaderOf g.now nodes.old }
+    requires last { IsLast g.now last.old }
     ensures kept { IsReaderOf g.now nodes.new }
-    ensures reads { IfSome result (λ event. read_line (types_of t.now.types) (declarations_of g.now) line.now ≡ Gives (event_seen event)) }
+    ensures last { IsLast g.now last.new }
+    ensures reads { IfSome result (λ event. read_line (types_of t.now.types) (declarations_of g.now) line.entry.now ≡ Gives (event_seen event)) }
     ensures fits { IfSome result (MayCome (grammar_of g.now)) }
     ensures types { IfSome result (HasTypes (types_of t.now.types) (grammar_of g.now)) }
 {
-    let (node, rest) = choice_front(line)?;
-    let Ok(()) = read_tokens(found, rest) else {
-        return None;
-    };
-    let alloc = found.allocator();
-    let Ok(event) = known_choice(alloc, nodes, g, node, rest, found.as_slice()) else {
+    let (node, rest) = node_of_choice(nodes, last, g, line)?;
+    let Ok(event) = known_choice(alloc, g, node, rest) else {
         return None;
     };
     match typed_event(g, t, event) {
@@ -149,24 +149,27 @@ fn choice_event(
 }
 
 /// What a line gives: by its bytes alone where these tell it, and else by its tokens.
-pub(crate) fn line_event(
+pub(crate) fn line_event<'a>(
     found: &mut Tokens,
     nodes: &mut NodeReader,
+    last: &mut Option<LastNode<'a>>,
     g: &Grammar,
     t: &Typed,
-    line: &[u8],
+    line: &'a [u8],
 ) -> Result<Option<Event>, LineFault>
     requires made { IsMadeFor (grammar_of g.now) t.now }
     requires nodes { IsReaderOf g.now nodes.old }
+    requires last { IsLast g.now last.old }
     ensures kept { IsReaderOf g.now nodes.new }
-    ensures reads { ReadsLine (read_line (types_of t.now.types) (declarations_of g.now) line.now) result }
+    ensures last { IsLast g.now last.new }
+    ensures reads { ReadsLine (read_line (types_of t.now.types) (declarations_of g.now) line.entry.now) result }
     ensures fits { IfOk result (λ found. IfSome found (MayCome (grammar_of g.now))) }
     ensures types { IfOk result (λ found. IfSome found (HasTypes (types_of t.now.types) (grammar_of g.now))) }
 {
     if let Some(event) = plain_event(line) {
         return Ok(Some(event));
     }
-    if let Some(event) = choice_event(found, nodes, g, t, line) {
+    if let Some(event) = choice_event(found.allocator(), nodes, last, g, t, line) {
         return Ok(Some(event));
     }
     if is_passed_over(line) {

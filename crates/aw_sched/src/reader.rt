@@ -8,6 +8,7 @@ ghost use Rattle.aw_sched.specs.Answers.{Answers, HasTypes, MayCome};
 ghost use Rattle.aw_sched.specs.LineEvents.{fault_at};
 ghost use Rattle.aw_sched.specs.Readers.{IsReading, Passes, ReadsNext, left};
 
+use crate::choice_line::LastNode;
 use crate::event::{Event, Events};
 use crate::fault::{LineFault, SchedFault};
 use crate::read::line_event;
@@ -26,14 +27,15 @@ fn fault_at(line: u64, fault: LineFault) -> SchedFault
 }
 
 /// Reads the events of a schedule one after the other, whose choices have arguments of these types. No event is kept: who reads one
-/// may let it go before the next. The list of tokens is filled anew for each line, and the name of a node is read from where it
-/// parts from the last one of its case.
+/// may let it go before the next. The list of tokens is filled anew for each line that is read by tokens, and the name of a node is
+/// read from where it parts from the last one of its case, and not at all where it is the last one again.
 #[derive(Drop)]
 pub struct ScheduleReader<'a> {
     grammar: &'a Grammar,
     typed: &'a Typed,
     found: Tokens,
     nodes: NodeReader,
+    last: Option<LastNode<'a>>,
     rest: &'a [u8],
     line: u64,
 }
@@ -52,6 +54,7 @@ impl<'a> ScheduleReader<'a> {
             typed: t,
             found: Tokens::new(alloc),
             nodes: NodeReader::new(alloc),
+            last: None,
             rest: text,
             line: 0,
         }
@@ -75,6 +78,7 @@ impl<'a> ScheduleReader<'a> {
             match line_event(
                 &mut self.found,
                 &mut self.nodes,
+                &mut self.last,
                 self.grammar,
                 self.typed,
                 line,

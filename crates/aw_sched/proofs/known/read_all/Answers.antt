@@ -1,14 +1,26 @@
-use Rattle.std.proofs.Common.{◌∙◌, sym, arith}
-use Rattle.aw_form.specs.Lexemes.{lexemes}
-use Rattle.aw_form.proofs.ReadForms.{end_is}
-use Rattle.aw_sched.proofs.ReadArguments.{mark_front, others, some_read}
+use Rattle.std.proofs.Common.{rules, ◌≡◌, ◌∙◌, [], refl, sym, subst, get_or, length, arith}
+use Rattle.std.proofs.lemmas.Bool.{eqb-true}
+use Rattle.std.proofs.lemmas.List.{nil_from_length}
+use Rattle.aw_sched.specs.ByteArguments.{SaysBefore}
+use Rattle.aw_sched.proofs.ByteFronts.{mark_passed, others}
+use Rattle.aw_sched.proofs.ReadArguments.{none_read, some_read}
 use Rattle.aw_sched.proofs.known.read_all.Goals as goal
 
-pub returns-then-len-le-MOST_ARGUMENTS : goal.returns-then-len-le-MOST_ARGUMENTS
-returns-then-len-le-MOST_ARGUMENTS c =
+pub returns-in-empty : goal.returns-in-empty
+returns-in-empty c =
     let line = c.args.line.now in
-    let tokens = c.args.tokens.now in
-    let read = c.in_ok-args in
-    some_read c.args.g.now.cons read.field-0-1 (lexemes line tokens) (lexemes line (others tokens)) (lexemes line read.rest.now) read.args
-    (mark_front line tokens _ c.in-Mark-eq123.field-0 123 c.in-len1-up.len_at_least c.in-Mark-eq123.is (sym c.in-Mark-eq123.field-0-is ∙ c.in-Mark-eq123.field-0-test))
-    read.ensures (end_is (lexemes line read.rest.now) c.in_ok-end.field-0 c.in_ok-end.ensures) (omega (arith, c.len.ensures, c.if-len-le-MOST_ARGUMENTS.true))
+    let bytes = c.behind_blanks.result.now in
+    let none : length bytes ≡ 0 = search rules in
+    none_read c.args.g.now.cons c.new.result line c.new.ensures (subst (SaysBefore line []) (nil_from_length bytes none) c.behind_blanks.ensures)
+
+pub returns-then-is_empty : goal.returns-then-is_empty
+returns-then-is_empty c =
+    let line = c.args.line.now in
+    let bytes = c.behind_blanks.result.now in
+    let after = c.arguments.new.self in
+    let left = c.behind_blanks-then-len-le-MOST_ARGUMENTS in
+    let opened : get_or bytes 0 0 ≡ 123 = search rules in
+    let none : length left.result.now ≡ 0 = eqb-true (length left.result.now) 0 (sym c.is_empty.ensures ∙ c.if-is_empty.true) in
+    some_read c.args.g.now.cons after.room line (others bytes) after.rest.now c.in_ok-args-in-123.args
+    (mark_passed line bytes 0 123 c.behind_blanks.ensures c.in-123.len_at_least opened (refl, refl)) c.in_ok-args-in-123.ensures.reads
+    (subst (SaysBefore after.rest.now []) (nil_from_length left.result.now none) left.ensures) (omega (arith, c.len.ensures, c.if-len-le-MOST_ARGUMENTS.true))

@@ -1,0 +1,88 @@
+//! What stands at the front of what is left of a line: names, numbers, texts and marks, and the blanks before them.
+ghost use Rattle.std.specs.Prelude.{◌≡◌, ◌∷◌, [], true, false, IfOk, IfSome};
+ghost use Rattle.aw_lex.specs.Tokens.{is_word_byte};
+ghost use Rattle.aw_form.specs.Lexemes.{Name, Number, Quoted};
+ghost use Rattle.aw_sched.specs.ByteArguments.{EndsWord, SaysBefore};
+
+use aw_base::Text;
+use aw_form::Unread;
+use aw_lex::TokenKind;
+use aw_lex::front::{Front, front_of, is_blank};
+use aw_text::{content_value, is_plain_name, name_len, number_value};
+use std::alloc::Global;
+
+/// What is left behind the blanks at the front.
+pub(crate) fn behind_blanks(bytes: &[u8]) -> &[u8]
+    ensures { SaysBefore bytes.entry.now [] result.now }
+{
+    let mut rest = bytes;
+    while let [first, behind @ ..] = rest {
+        if is_blank(*first) {
+            rest = behind;
+        } else {
+            return rest;
+        }
+    }
+    rest
+}
+
+/// Whether a word ends before this byte, which may stand behind a name or a number in a choice.
+fn ends_word(byte: u8) -> bool
+    ensures { result ≡ true → is_word_byte byte ≡ false }
+{
+    matches!(
+        byte,
+        b' ' | b'(' | b')' | b',' | b'{' | b'}' | b'\t' | b'\r'
+    )
+}
+
+/// Whether no word goes on in what is left.
+fn is_at_end(bytes: &[u8]) -> bool
+    ensures { result ≡ true → EndsWord bytes.now }
+{
+    match bytes {
+        [byte, ..] => ends_word(*byte),
+        [] => true,
+    }
+}
+
+/// The name at the front, and what is left behind it.
+pub(crate) fn name_front(bytes: &[u8]) -> Option<(&[u8], &[u8])>
+    ensures { IfSome result (λ x. SaysBefore bytes.entry.now (Name x.0.now ∷ []) x.1.now) }
+{
+    let (word, rest) = bytes.split_at(name_len(bytes));
+    if is_plain_name(word) && is_at_end(rest) {
+        Some((word, rest))
+    } else {
+        None
+    }
+}
+
+/// The number at the front, and what is left behind it.
+pub(crate) fn number_front(bytes: &[u8]) -> Option<(u64, &[u8])>
+    ensures { IfSome result (λ x. SaysBefore bytes.entry.now (Number x.0 ∷ []) x.1.now) }
+{
+    let (word, rest) = bytes.split_at(name_len(bytes));
+    if is_at_end(rest) {
+        Some((number_value(word)?, rest))
+    } else {
+        None
+    }
+}
+
+/// The content of the text at the front, and what is left behind it.
+pub(crate) fn text_front(alloc: Global, bytes: &[u8]) -> Result<(Text, &[u8]), Unread>
+    ensures { IfOk result (λ x. SaysBefore bytes.entry.now (Quoted x.0 ∷ []) x.1.now) }
+{
+    let Front::Token(kind, len) = front_of(bytes) else {
+        return Err(Unread::Form);
+    };
+    let TokenKind::Text = kind else {
+        return Err(Unread::Form);
+    };
+    let (text, rest) = bytes.split_at(len);
+    match content_value(alloc, text)? {
+        Some(content) => Ok((content, rest)),
+        None => Err(Unread::Form),
+    }
+}
