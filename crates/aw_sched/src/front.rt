@@ -11,13 +11,13 @@ use aw_lex::front::{Front, front_of, is_blank};
 use aw_text::{content_value, is_plain_name, name_len, number_value};
 use std::alloc::Global;
 
-/// What is left behind the blanks at the front.
+/// What is left behind the blanks at the front. Most bytes are past the space, and are no blanks.
 pub(crate) fn behind_blanks(bytes: &[u8]) -> &[u8]
     ensures { SaysBefore bytes.entry.now [] result.now }
 {
     let mut rest = bytes;
     while let [first, behind @ ..] = rest {
-        if is_blank(*first) {
+        if *first <= b' ' && is_blank(*first) {
             rest = behind;
         } else {
             return rest;
