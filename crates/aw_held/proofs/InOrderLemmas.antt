@@ -8,7 +8,7 @@ use Rattle.aw_term.specs.Names.{Node, node_lt, node_eq}
 use Rattle.aw_term.specs.ByNode.{IsOrderedBy}
 use Rattle.aw_term.specs.WellFormed.{Each, Later}
 use Rattle.aw_term.proofs.Eaches.{each_map}
-use Rattle.aw_name.specs.SameNodes.{node_self}
+use Rattle.aw_name.specs.SameNodes.{node_self, node_is}
 use Rattle.std.proofs.lemmas.Option.{slice_get_within, get_or_from_slice_get}
 use Rattle.aw_term.proofs.NodeOrder.{node_order, node_tied, node-trans, node-no}
 use Rattle.aw_term.proofs.ByNodeLemmas.{other_before, other_after}
@@ -71,6 +71,16 @@ place_here (x ∷ xs) n zero h low at e =
 place_here (x ∷ xs) n (suc i) h low at e =
     ap (λ b. cond b (Some 0) (option_map suc (place_in n xs))) (other_before n x.node (low 0 x (omega arith) (omega arith)))
     ∙ ap (option_map suc) (place_here xs n i h (λ k d a b. low (suc k) d (omega arith) (omega (arith, b))) at e)
+
+-- the place at which the node stands is the node's, where all are in order
+pub place_found : (hs : List Held) (n : Node) (i : ℕ) (h : Held) → IsInOrder hs → slice_get hs i ≡ Some h → node_eq n h.node ≡ true → place_in n hs ≡ Some i
+place_found hs n i h up here e = place_here hs n i h low here e
+  where
+    same : (d : Held) → (get_or hs i d).node ≡ n
+    same d = ap (λ (x : Held). x.node) (get_or_from_slice_get hs i h d here) ∙ sym (node_is n h.node e)
+
+    low : AllWithin (λ h. node_lt h.node n ≡ true) hs 0 i
+    low k d a b = subst (λ m. node_lt (get_or hs k d).node m ≡ true) (same d) (up k i d b (slice_get_within hs i h here))
 
 none_after : (hs : List Held) (n : Node) → Each (λ h. node_lt n h.node ≡ true) hs → place_in n hs ≡ None
 none_after [] n high = refl

@@ -12,4 +12,4 @@ mod placing;
 pub use held::Held;
 pub use holding::Holding;
 pub use order::Order;
-pub use placing::{find_held, put_between};
+pub use placing::{find_from, find_held, put_between};

@@ -1,5 +1,5 @@
 //! Held nodes found, and put in, in the order of their nodes.
-ghost use Rattle.std.specs.Prelude.{◌≡◌, ◌+◌, ◌<◌, ◌≤◌, true, false, insert, length, IfSome};
+ghost use Rattle.std.specs.Prelude.{◌≡◌, ◌+◌, ◌<◌, ◌≤◌, Some, true, false, insert, length, IfSome};
 ghost use Rattle.std.specs.List.{AllWithin};
 ghost use Rattle.aw_term.specs.Names.{node_lt};
 ghost use Rattle.aw_held.specs.InOrder.{IsInOrder, place_in, insert_in, Lacks};
@@ -10,7 +10,7 @@ use aw_name::Node;
 use aw_term::order::{is_before, is_node};
 
 /// Between which places a node goes that no node from a place on is before: all held nodes in front of the first place are before
-/// it, and none from the second on. It is sought downward in steps that double.
+/// it, and none from the second on. It is sought downward in steps that are soon wide.
 fn bounds_below(held: &Holding, node: &Node, from: usize) -> (usize, usize)
     requires ordered { IsInOrder held.now.items }
     requires from { from ≤ length held.now.items }
@@ -27,12 +27,13 @@ fn bounds_below(held: &Holding, node: &Node, from: usize) -> (usize, usize)
             return (at + 1, high);
         }
         high = at;
-        step = step.saturating_mul(2);
+        step = step.saturating_mul(16);
     }
     (0, 0)
 }
 
-/// Between which places a node goes that all nodes in front of a place are before. It is sought upward in steps that double.
+/// Between which places a node goes that all nodes in front of a place are before. It is sought upward in steps that are soon wide,
+/// since what is not near may be anywhere.
 fn bounds_above(held: &Holding, node: &Node, from: usize) -> (usize, usize)
     requires ordered { IsInOrder held.now.items }
     requires from { from ≤ length held.now.items }
@@ -49,7 +50,7 @@ fn bounds_above(held: &Holding, node: &Node, from: usize) -> (usize, usize)
             return (low, at);
         }
         low = at + 1;
-        step = step.saturating_mul(2).saturating_add(1);
+        step = step.saturating_mul(16).saturating_add(1);
     }
     (low, low)
 }
@@ -92,8 +93,8 @@ fn count_before(held: &Holding, node: &Node) -> usize
     low
 }
 
-/// The place of a node, where it is held.
-pub fn find_held(held: &Holding, node: &Node) -> Option<usize>
+/// The place of a node, where it is held, by the order of the nodes.
+fn find_in_order(held: &Holding, node: &Node) -> Option<usize>
     requires { IsInOrder held.now.items }
     ensures place { result ≡ place_in node.now held.now.items }
     ensures within { IfSome result (λ at. at < length held.now.items) }
@@ -103,6 +104,44 @@ pub fn find_held(held: &Holding, node: &Node) -> Option<usize>
         Some(h) if is_node(node, &h.node) => Some(at),
         _ => None,
     }
+}
+
+/// Whether a node is the one at a place.
+fn is_at(held: &Holding, node: &Node, place: usize) -> bool
+    requires { IsInOrder held.now.items }
+    ensures place { result ≡ true → place_in node.now held.now.items ≡ Some place }
+    ensures within { result ≡ true → place < length held.now.items }
+{
+    match held.get(place) {
+        Some(h) => is_node(node, &h.node),
+        None => false,
+    }
+}
+
+/// The place of a node, where it is held. It is looked for first at a place that the caller guesses, and right behind that. Any
+/// guess is as right.
+pub fn find_from(held: &Holding, node: &Node, guess: usize) -> Option<usize>
+    requires { IsInOrder held.now.items }
+    ensures place { result ≡ place_in node.now held.now.items }
+    ensures within { IfSome result (λ at. at < length held.now.items) }
+{
+    if is_at(held, node, guess) {
+        return Some(guess);
+    }
+    let next = guess.saturating_add(1);
+    if is_at(held, node, next) {
+        return Some(next);
+    }
+    find_in_order(held, node)
+}
+
+/// The place of a node, where it is held. It is looked for first at the place that changed last.
+pub fn find_held(held: &Holding, node: &Node) -> Option<usize>
+    requires { IsInOrder held.now.items }
+    ensures place { result ≡ place_in node.now held.now.items }
+    ensures within { IfSome result (λ at. at < length held.now.items) }
+{
+    find_from(held, node, held.near())
 }
 
 /// Puts a node that is not held in its place, and tells that place. There is room for it.

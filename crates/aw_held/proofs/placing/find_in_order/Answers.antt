@@ -3,7 +3,7 @@ use Rattle.std.proofs.lemmas.Option.{slice_get_within, same_Some}
 use Rattle.aw_term.specs.Names.{node_eq}
 use Rattle.aw_held.specs.declared.held.Held.{Held}
 use Rattle.aw_held.proofs.InOrderLemmas.{up_of, place_here, place_gone}
-use Rattle.aw_held.proofs.placing.find_held.Goals as goal
+use Rattle.aw_held.proofs.placing.find_in_order.Goals as goal
 
 pub returns-in-Some-clause-place : goal.returns-in-Some-clause-place
 returns-in-Some-clause-place c =
