@@ -100,10 +100,10 @@ pub fn choose<'g, F: Facts>(
     let before = copy.len();
     let count = plan.sent.len();
     make_room(&plan, subs, outbox, copy)?;
-    match uncounted::follow(space, g, choice, &outcome) {
-        Ok(()) => {
+    match uncounted::conclude(space, g, choice, outcome) {
+        Ok(answer) => {
             carry_out(plan, subs, outbox);
-            Ok((outcome.answer, count))
+            Ok((answer, count))
         }
         Err(refused) => {
             copy.truncate(before);

@@ -14,7 +14,7 @@ ghost use Rattle.aw_space.specs.Spaces.{is_home, outcome, space_after, clash_wit
 
 use aw_accept::Accepted;
 use aw_apply::Steps;
-use aw_choice::{Choice, Worklist};
+use aw_choice::{Answer, Choice, Worklist};
 use aw_space::{Outcome, Placing, Space};
 use aw_store::{Equations, Facts};
 use std::alloc::AllocError;
@@ -53,50 +53,53 @@ pub fn foresee<'g, F: Facts>(
     foresee_in_ledger::<F, Brand>(space, g, choice, Blank::new(1))
 }
 
-fn follow_in_ledger<'g, F: Facts, L: Ledger>(
+fn conclude_in_ledger<'g, F: Facts, L: Ledger>(
     space: &mut Space<'g, F>,
     g: &Accepted,
     choice: &Choice,
-    foreseen: &Outcome,
+    foreseen: Outcome,
     blank: Blank,
-) -> Result<(), AllocError>
+) -> Result<Answer, AllocError>
     requires name { blank.name ≡ L.name }
     requires parts { blank.parts ≡ L.parts }
     requires some { 0 < L.parts }
     requires grammar { g.now.grammar ≡ space.old.accepted.now.grammar }
     requires ok { choice_ok (grammar_of g.now.grammar) (choice_of choice.now) ≡ true }
     requires here { is_home (grammar_of g.now.grammar) space.old.role (node_of (choice_of choice.now)) ≡ true }
-    requires foreseen { IsOutcome foreseen.now (choice_of choice.now) (outcome (grammar_of g.now.grammar) (space_seen ⟦<F as Facts>⟧ space.old) (choice_of choice.now)) }
+    requires foreseen { IsOutcome foreseen (choice_of choice.now) (outcome (grammar_of g.now.grammar) (space_seen ⟦<F as Facts>⟧ space.old) (choice_of choice.now)) }
     ensures grammar { space.new.accepted.now.grammar ≡ space.old.accepted.now.grammar }
     ensures role { space.new.role ≡ space.old.role }
+    ensures answer { IfOk result (λ answer. answer ≡ foreseen.answer) }
     ensures space { OnOk result (space_seen ⟦<F as Facts>⟧ space.new ≡ space_after (grammar_of g.now.grammar) space.old.role (space_seen ⟦<F as Facts>⟧ space.old) (choice_of choice.now)) }
     ensures err { OnErr result (IsUnchanged ⟦<F as Facts>⟧ space.old space.new) }
     ensures facts { KeepsFacts (F.map space.old.facts) (F.map space.new.facts) }
     ensures nodes { KeepsNodesBut (node_of (choice_of choice.now)) (space_seen ⟦<F as Facts>⟧ space.old).held (space_seen ⟦<F as Facts>⟧ space.new).held }
 {
     let mut steps = Steps::<L>::new(blank);
-    space.follow(g, choice, foreseen, &mut steps)
+    space.conclude(g, choice, foreseen, &mut steps)
 }
 
-/// Does what a choice was foreseen to lead to. A refused choice and an error change neither nodes, choices nor equations.
-pub fn follow<'g, F: Facts>(
+/// Does what a choice was foreseen to lead to, and tells the answer. A refused choice and an error change neither nodes, choices nor
+/// equations.
+pub fn conclude<'g, F: Facts>(
     space: &mut Space<'g, F>,
     g: &Accepted,
     choice: &Choice,
-    foreseen: &Outcome,
-) -> Result<(), AllocError>
+    foreseen: Outcome,
+) -> Result<Answer, AllocError>
     requires grammar { g.now.grammar ≡ space.old.accepted.now.grammar }
     requires ok { choice_ok (grammar_of g.now.grammar) (choice_of choice.now) ≡ true }
     requires here { is_home (grammar_of g.now.grammar) space.old.role (node_of (choice_of choice.now)) ≡ true }
-    requires foreseen { IsOutcome foreseen.now (choice_of choice.now) (outcome (grammar_of g.now.grammar) (space_seen ⟦<F as Facts>⟧ space.old) (choice_of choice.now)) }
+    requires foreseen { IsOutcome foreseen (choice_of choice.now) (outcome (grammar_of g.now.grammar) (space_seen ⟦<F as Facts>⟧ space.old) (choice_of choice.now)) }
     ensures grammar { space.new.accepted.now.grammar ≡ space.old.accepted.now.grammar }
     ensures role { space.new.role ≡ space.old.role }
+    ensures answer { IfOk result (λ answer. answer ≡ foreseen.answer) }
     ensures space { OnOk result (space_seen ⟦<F as Facts>⟧ space.new ≡ space_after (grammar_of g.now.grammar) space.old.role (space_seen ⟦<F as Facts>⟧ space.old) (choice_of choice.now)) }
     ensures err { OnErr result (IsUnchanged ⟦<F as Facts>⟧ space.old space.new) }
     ensures facts { KeepsFacts (F.map space.old.facts) (F.map space.new.facts) }
     ensures nodes { KeepsNodesBut (node_of (choice_of choice.now)) (space_seen ⟦<F as Facts>⟧ space.old).held (space_seen ⟦<F as Facts>⟧ space.new).held }
 {
-    follow_in_ledger::<F, Brand>(space, g, choice, foreseen, Blank::new(1))
+    conclude_in_ledger::<F, Brand>(space, g, choice, foreseen, Blank::new(1))
 }
 
 fn take_in_ledger<'g, F: Facts, L: Ledger>(

@@ -1,5 +1,5 @@
 -- The children of a taken rule that are of this role, as the nodes that are held of them.
-use Rattle.std.proofs.Common.{◌≡◌, ℕ, zero, suc, ◌<◌, get_or, arith, Bool, true, false, cond, List, [], ◌∷◌, map, filter, length, Option, Some, None, refl, ap, sym, ◌∙◌, is_some}
+use Rattle.std.proofs.Common.{◌≡◌, ℕ, suc, Bool, true, false, cond, List, [], ◌∷◌, ◌++◌, map, filter, Option, Some, None, refl, ap, sym, ◌∙◌, is_some}
 use Rattle.std.specs.Prelude.{option_map}
 use Rattle.std.proofs.lemmas.Bool.{and_parts, and_from}
 use Rattle.aw_list.proofs.Members.{never}
@@ -111,8 +111,21 @@ lack_each (h ∷ hs) ks lacks differ = (
     both [] a b = tt
     both (x ∷ xs) a b = (lacks_inserted x.node h ks (differs x.node h.node (node_eq x.node h.node) refl (λ t. b.0 (sym (node_is x.node h.node t)))) a.0, both xs a.1 b.1)
 
--- the child at a place has a valid name
-pub named_at : (g : Grammar) (cs : List MadeChild) (i : ℕ) (c : MadeChild) → i < length cs → c ≡ get_or cs i c → are_named g cs ≡ true → is_some (sort_of g c.node) ≡ true
-named_at g [] i c l e all = absurd (omega (arith, l))
-named_at g (x ∷ cs) zero c l e all = ap (λ (y : MadeChild). is_some (sort_of g y.node)) e ∙ (and_parts (is_some (sort_of g x.node)) _ all).0
-named_at g (x ∷ cs) (suc i) c l e all = named_at g cs i c (omega (arith, l)) e (and_parts (is_some (sort_of g x.node)) _ all).1
+-- the first child has a valid name
+pub named_first : (g : Grammar) (c : MadeChild) (cs : List MadeChild) → are_named g (c ∷ cs) ≡ true → is_some (sort_of g c.node) ≡ true
+named_first g c cs all = (and_parts (is_some (sort_of g c.node)) (are_named g cs) all).0
+
+-- and so have those behind it
+pub named_rest : (g : Grammar) (c : MadeChild) (cs : List MadeChild) → are_named g (c ∷ cs) ≡ true → are_named g cs ≡ true
+named_rest g c cs all = (and_parts (is_some (sort_of g c.node)) (are_named g cs) all).1
+
+-- of a child and others, first that child and then those of the others
+pub own_cons : (g : Grammar) (role : ℕ) (c : MadeChild) (cs : List MadeChild) → own_children g role (c ∷ cs) ≡ own_children g role (c ∷ []) ++ own_children g role cs
+own_cons g role c cs = by (is_home g role c.node)
+  where
+    others : List MadeChild
+    others = filter (λ (d : MadeChild). is_home g role d.node) cs
+
+    by : (b : Bool) → map open_child (cond b (c ∷ others) others) ≡ map open_child (cond b (c ∷ []) []) ++ map open_child others
+    by true = refl
+    by false = refl

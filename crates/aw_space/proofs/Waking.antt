@@ -2,7 +2,7 @@
 use Rattle.std.proofs.Common.{◌≡◌, ℕ, zero, suc, ◌+◌, ◌≤◌, Bool, true, false, cond, List, [], ◌∷◌, ◌++◌, length, map, take, drop, get_or, All, Some, None, is_some, slice_get, refl, ap, sym, ◌∙◌, subst, arith}
 use Rattle.std.specs.Prelude.{◌||◌, option_and_then, sum_by}
 use Rattle.std.proofs.lemmas.Bool.{and_parts, and_from}
-use Rattle.std.proofs.lemmas.List.Elements.{All-head, All-tail}
+use Rattle.std.proofs.lemmas.List.Elements.{All-cons, All-head, All-tail}
 use Rattle.std.proofs.lemmas.List.Sums.{sum_by-cons}
 use Rattle.std.proofs.lemmas.Option.{slice_get-get_or}
 use Rattle.aw_term.specs.Names.{Ref, ref_eq}
@@ -25,7 +25,7 @@ use Rattle.aw_kept.proofs.ItemLemmas.{pairs_wait}
 use Rattle.aw_kept.specs.declared.kept.Kept.{Kept}
 use Rattle.aw_kept.specs.KeptStates.{IsFitKept, IsKept, IsKeptBut, AreLate}
 use Rattle.aw_kept.proofs.Growing.{fit_grows, kept_named, kept_grown}
-use Rattle.aw_space.specs.Waking.{AreKnown, IsBound, left_of, lefts_of}
+use Rattle.aw_space.specs.Waking.{IsKnown, IsBound, left_of, lefts_of}
 
 -- it stays fit where names come
 pub fits_named : (g : Grammar) (names more : List Ref) (kept : Kept) → Grows names more → IsFitKept g names kept → IsFitKept g more kept
@@ -69,36 +69,30 @@ grown_by g hs k l names e kept is w =
 
 -- ---- left sides in turn
 
-pub all_here : (k : Map) (es : List program.Equation) (i : ℕ) (e : program.Equation) → slice_get es i ≡ Some e → All (AreKnown k) es → is_some (find k e.left) ≡ true
-all_here k [] i e here known = absurd cc
-all_here k (x ∷ xs) zero e here known = let same : x ≡ e = cc in ap (λ (y : program.Equation). is_some (find k y.left)) (sym same) ∙ All-head (AreKnown k) x xs known
-all_here k (x ∷ xs) (suc i) e here known = all_here k xs i e here (All-tail (AreKnown k) x xs known)
+pub all_here : (k : Map) (rs : List Ref) (i : ℕ) (r : Ref) → slice_get rs i ≡ Some r → All (IsKnown k) rs → is_some (find k r) ≡ true
+all_here k [] i r here known = absurd cc
+all_here k (x ∷ xs) zero r here known = let same : x ≡ r = cc in ap (λ (y : Ref). is_some (find k y)) (sym same) ∙ All-head (IsKnown k) x xs known
+all_here k (x ∷ xs) (suc i) r here known = all_here k xs i r here (All-tail (IsKnown k) x xs known)
 
-dropped : (es : List program.Equation) (i : ℕ) (e : program.Equation) → slice_get es i ≡ Some e → drop i es ≡ e ∷ drop (suc i) es
-dropped [] i e here = absurd cc
-dropped (x ∷ xs) zero e here = let same : x ≡ e = cc in ap (λ y. y ∷ xs) same
-dropped (x ∷ xs) (suc i) e here = dropped xs i e here
+dropped : (rs : List Ref) (i : ℕ) (r : Ref) → slice_get rs i ≡ Some r → drop i rs ≡ r ∷ drop (suc i) rs
+dropped [] i r here = absurd cc
+dropped (x ∷ xs) zero r here = let same : x ≡ r = cc in ap (λ y. y ∷ xs) same
+dropped (x ∷ xs) (suc i) r here = dropped xs i r here
 
-pub one_dropped : (es : List program.Equation) (i : ℕ) (e : program.Equation) → slice_get es i ≡ Some e → map left_of (drop i es) ≡ e.left ∷ map left_of (drop (i + 1) es)
-one_dropped es i e here = let one : suc i ≡ i + 1 = omega arith in ap (map left_of) (dropped es i e here ∙ ap (λ n. e ∷ drop n es) one)
+pub one_dropped : (rs : List Ref) (i : ℕ) (r : Ref) → slice_get rs i ≡ Some r → drop i rs ≡ r ∷ drop (i + 1) rs
+one_dropped rs i r here = let one : suc i ≡ i + 1 = omega arith in dropped rs i r here ∙ ap (λ n. r ∷ drop n rs) one
 
-sum_taken : (most : Ref → ℕ) (es : List program.Equation) (i : ℕ) (e : program.Equation) → slice_get es i ≡ Some e →
-    sum_by most (map left_of (take (suc i) es)) ≡ sum_by most (map left_of (take i es)) + most e.left
-sum_taken most [] i e here = absurd cc
-sum_taken most (x ∷ xs) zero e here = let same : x ≡ e = cc in ap (λ (y : program.Equation). 0 + most y.left) same
-sum_taken most (x ∷ xs) (suc i) e here =
-    omega (arith, sum_by-cons most x.left (map left_of (take (suc i) xs)), sum_by-cons most x.left (map left_of (take i xs)), sum_taken most xs i e here)
+sum_taken : (most : Ref → ℕ) (rs : List Ref) (i : ℕ) (r : Ref) → slice_get rs i ≡ Some r → sum_by most (take (suc i) rs) ≡ sum_by most (take i rs) + most r
+sum_taken most [] i r here = absurd cc
+sum_taken most (x ∷ xs) zero r here = let same : x ≡ r = cc in ap (λ (y : Ref). 0 + most y) same
+sum_taken most (x ∷ xs) (suc i) r here = omega (arith, sum_by-cons most x (take (suc i) xs), sum_by-cons most x (take i xs), sum_taken most xs i r here)
 
-pub one_taken : (most : Ref → ℕ) (es : List program.Equation) (i : ℕ) (e : program.Equation) → slice_get es i ≡ Some e →
-    sum_by most (map left_of (take (i + 1) es)) ≡ sum_by most (map left_of (take i es)) + most e.left
-one_taken most es i e here = let one : i + 1 ≡ suc i = omega arith in ap (λ n. sum_by most (map left_of (take n es))) one ∙ sum_taken most es i e here
+pub one_taken : (most : Ref → ℕ) (rs : List Ref) (i : ℕ) (r : Ref) → slice_get rs i ≡ Some r → sum_by most (take (i + 1) rs) ≡ sum_by most (take i rs) + most r
+one_taken most rs i r here = let one : i + 1 ≡ suc i = omega arith in ap (λ n. sum_by most (take n rs)) one ∙ sum_taken most rs i r here
 
-pub all_dropped : (es : List program.Equation) (i : ℕ) → length es ≤ i → map left_of (drop i es) ≡ []
-all_dropped [] i l = nothing i
-  where
-    nothing : (i : ℕ) → map left_of (drop i []) ≡ []
-    nothing zero = refl
-    nothing (suc i) = refl
+pub all_dropped : (rs : List Ref) (i : ℕ) → length rs ≤ i → drop i rs ≡ []
+all_dropped [] zero l = refl
+all_dropped [] (suc i) l = refl
 all_dropped (x ∷ xs) zero l = absurd (omega (arith, l))
 all_dropped (x ∷ xs) (suc i) l = all_dropped xs i (omega (arith, l))
 
@@ -150,10 +144,12 @@ found_more (x ∷ k) es r e = by (ref_eq r x.left) (found_more k es r e)
     by true go = refl
     by false go = go
 
-pub all_known : (k l : Map) (es : List program.Equation) → l ≡ k ++ map equation_of es → All (AreKnown l) es
-all_known k l es is i d lt =
-    let e = get_or es i d in
-    ap (λ m. is_some (find m e.left)) is ∙ found_more k (map equation_of es) e.left (found_in es i e (slice_get-get_or es i d lt))
+all_in : (P : Ref → Type 0) (es : List program.Equation) → ((i : ℕ) (e : program.Equation) → slice_get es i ≡ Some e → P e.left) → All P (map left_of es)
+all_in P [] f = λ i d l. absurd (omega (arith, l))
+all_in P (x ∷ xs) f = All-cons P x.left (map left_of xs) (f 0 x refl) (all_in P xs (λ i e here. f (suc i) e here))
+
+pub all_known : (k l : Map) (es : List program.Equation) → l ≡ k ++ map equation_of es → All (IsKnown l) (map left_of es)
+all_known k l es is = all_in (IsKnown l) es (λ i e here. ap (λ m. is_some (find m e.left)) is ∙ found_more k (map equation_of es) e.left (found_in es i e here))
 
 pub sum_lefts : (most : Ref → ℕ) (es : List program.Equation) → sum_by most (map left_of es) ≡ sum_by (λ (e : Equation). most e.left) (map equation_of es)
 sum_lefts most [] = refl

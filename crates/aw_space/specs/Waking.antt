@@ -20,9 +20,9 @@ left_of e = e.left
 abbrev pub lefts_of : List Equation → List Ref
 lefts_of es = map (λ (e : Equation). e.left) es
 
--- its left side has an equation
-abbrev pub AreKnown : Map → program.Equation → Type 0
-AreKnown k e = is_some (find k e.left) ≡ true
+-- it has an equation
+abbrev pub IsKnown : Map → Ref → Type 0
+IsKnown k r = is_some (find k r) ≡ true
 
 -- no more rules than this wait for a reference that has an equation
 abbrev pub IsBound : Map → List Ref → Kept → (Ref → ℕ) → Type 0

@@ -12,14 +12,14 @@ ghost use Rattle.aw_react.specs.Receiving.{add_on, add_all, first_clash};
 ghost use Rattle.aw_react.specs.Worklists.{site_worklist};
 ghost use Rattle.aw_kept.specs.Items.{waiting_on};
 ghost use Rattle.aw_kept.specs.KeptStates.{HasRoom, IsFitKept, IsKept, IsKeptBut};
-ghost use Rattle.aw_space.specs.Waking.{AreKnown, IsBound, left_of, lefts_of, turns_cost};
+ghost use Rattle.aw_space.specs.Waking.{IsBound, IsKnown, left_of, lefts_of, turns_cost};
 
 use aw_apply::Steps;
 use aw_grammar::Grammar;
 use aw_kept::Kept;
-use aw_name::Ref;
+use aw_name::{Ref, copy_ref};
 use aw_store::{Added, Equation, Facts};
-use std::alloc::AllocError;
+use std::alloc::{AllocError, Global};
 use std::sync::ledger::Ledger;
 
 /// Adds an equation where its left side, which has this slot, has none, and tests each rule that waited for that. An error
@@ -159,23 +159,33 @@ fn wake<F: Facts, L: Ledger>(
     }
 }
 
-/// Tests each rule that waited for one of the left sides of these equations, which are known now, once for each of them that it
-/// waited for.
+/// Copies of the left sides of equations.
+pub fn copy_lefts(alloc: Global, es: &[Equation]) -> Result<Vec<Ref>, AllocError>
+    ensures { IfOk result (λ lefts. lefts.items ≡ list_map left_of es.now) }
+{
+    let mut lefts = Vec::with_capacity(alloc, es.len())?;
+    for e in es {
+        lefts.push(copy_ref(&e.left)?)?;
+    }
+    Ok(lefts)
+}
+
+/// Tests each rule that waited for one of these references, which have equations now, once for each of them that it waited for.
 pub fn wake_all<F: Facts, L: Ledger>(
     grammar: &Grammar,
     facts: &F,
     kept: &mut Kept,
-    es: &[Equation],
+    lefts: &[Ref],
     steps: &mut Steps<L>,
 )
     requires fits { IsFitKept (grammar_of grammar.now) (F.names facts.now) kept.old }
-    requires known { All (AreKnown (F.map facts.now)) es.now }
-    ensures kept { (hs : List HeldValue) → IsKeptBut (grammar_of grammar.now) hs (F.map facts.now) (F.names facts.now) (list_map left_of es.now) kept.old →
+    requires known { All (IsKnown (F.map facts.now)) lefts.now }
+    ensures kept { (hs : List HeldValue) → IsKeptBut (grammar_of grammar.now) hs (F.map facts.now) (F.names facts.now) lefts.now kept.old →
         IsKept (grammar_of grammar.now) hs (F.map facts.now) (F.names facts.now) kept.new }
     ensures room { (n w : ℕ) → HasRoom kept.old n w → HasRoom kept.new n w }
-    ensures steps { (most : RefName → ℕ) → IsBound (F.map facts.now) (F.names facts.now) kept.old most → steps.new ≤ steps.old + sum_by most (list_map left_of es.now) }
+    ensures steps { (most : RefName → ℕ) → IsBound (F.map facts.now) (F.names facts.now) kept.old most → steps.new ≤ steps.old + sum_by most lefts.now }
 {
-    for e in es {
-        wake(grammar, facts, kept, &e.left, steps);
+    for left in lefts {
+        wake(grammar, facts, kept, left, steps);
     }
 }

@@ -17,13 +17,14 @@ ghost use Rattle.aw_space.specs.Valid.{IsValid};
 use crate::starting::{root, take_start};
 use crate::taking::take_rule;
 use crate::weighing::weigh;
-use aw_apply::{Made, Steps, Weighed, made};
+use aw_apply::{Made, MadeChild, Steps, Weighed, made};
 use aw_choice::{Answer, Choice};
 use aw_grammar::Grammar;
-use aw_held::{Holding, find_held};
+use aw_held::{Holding, find_from, find_held};
 use aw_kept::Kept;
 use aw_list::Items;
-use aw_store::Facts;
+use aw_name::copy_node;
+use aw_store::{Facts, copy_equations};
 use std::alloc::{AllocError, Global};
 use std::sync::ledger::Ledger;
 
@@ -32,6 +33,29 @@ use std::sync::ledger::Ledger;
 pub struct Outcome {
     pub answer: Answer,
     pub made: Made,
+    /// The place at which the node was found, from which it is sought again. Any place would do, and is as right.
+    pub(crate) place: usize,
+}
+
+/// A copy of a child.
+fn copy_child(child: &MadeChild) -> Result<MadeChild, AllocError>
+    ensures { IfOk result (λ copy. copy ≡ child.now) }
+{
+    Ok(MadeChild {
+        node: copy_node(&child.node)?,
+        inherited: child.inherited.clone()?,
+    })
+}
+
+/// Copies of children.
+fn copy_children(alloc: Global, children: &[MadeChild]) -> Result<Vec<MadeChild>, AllocError>
+    ensures { IfOk result (λ copies. copies.items ≡ children.now) }
+{
+    let mut copies = Vec::with_capacity(alloc, children.len())?;
+    for child in children {
+        copies.push(copy_child(child)?)?;
+    }
+    Ok(copies)
 }
 
 impl Outcome {
@@ -47,7 +71,23 @@ impl Outcome {
                 equations: Items::new(alloc),
                 children: Items::new(alloc),
             },
+            place: 0,
         }
+    }
+
+    /// A copy of what it makes.
+    pub(crate) fn copy_made(&self) -> Result<Made, AllocError>
+        ensures { IfOk result (λ made. made ≡ self.now.made) }
+    {
+        let Made {
+            equations,
+            children,
+        } = &self.made;
+        let alloc = equations.allocator();
+        Ok(Made {
+            equations: Items::from_vec(copy_equations(alloc, equations.as_slice())?),
+            children: Items::from_vec(copy_children(alloc, children.as_slice())?),
+        })
     }
 
     /// Whether the choice is taken.
@@ -87,20 +127,22 @@ pub fn foresee<F: Facts, L: Ledger>(
             Ok(Outcome::plainly(alloc, answer))
         }
         Choice::Develop { node, rule, args } => {
+            let found = find_held(held, node);
             match weigh(
-                alloc, grammar, role, held, facts, kept, node, *rule, args, steps,
+                alloc, grammar, role, held, facts, kept, found, node, *rule, args, steps,
             )? {
                 Weighed::Refused(answer) => Ok(Outcome::plainly(alloc, answer)),
                 Weighed::Takes(bound) => Ok(Outcome {
                     answer: Answer::Taken,
                     made: made(alloc, grammar, node, *rule, args, bound)?,
+                    place: found.unwrap_or(0),
                 }),
             }
         }
     }
 }
 
-/// Carries out a choice that is foreseen to be taken. All memory is taken first, so an error changes nothing but the
+/// Carries out a choice that is foreseen to be taken. The place is where its node may be, and any is as right. All memory is taken first, so an error changes nothing but the
 /// names of the store. With the guard that was tested to foresee it, no more are tested than the choice costs.
 pub fn carry_out<F: Facts, L: Ledger>(
     grammar: &Grammar,
@@ -110,7 +152,8 @@ pub fn carry_out<F: Facts, L: Ledger>(
     facts: &mut F,
     kept: &mut Kept,
     choice: &Choice,
-    made: &Made,
+    place: usize,
+    made: Made,
     steps: &mut Steps<L>,
 ) -> Result<(), AllocError>
     requires sound { IsSound (grammar_of grammar.now) role held.old.items (F.map facts.old) (F.names facts.old) }
@@ -118,7 +161,7 @@ pub fn carry_out<F: Facts, L: Ledger>(
     requires ok { choice_ok (grammar_of grammar.now) (choice_of choice.now) ≡ true }
     requires here { is_home (grammar_of grammar.now) role (node_of (choice_of choice.now)) ≡ true }
     requires taken { plain_answer (outcome_in (all_of (grammar_of grammar.now) held.old.items) (F.map facts.old) (grammar_of grammar.now) (choice_of choice.now)) ≡ Taken }
-    requires made { IsMade made.now (choice_of choice.now)
+    requires made { IsMade made (choice_of choice.now)
         (outcome_in (all_of (grammar_of grammar.now) held.old.items) (F.map facts.old) (grammar_of grammar.now) (choice_of choice.now)) }
     requires stands { IsKept (grammar_of grammar.now) held.old.items (F.map facts.old) (F.names facts.old) kept.old }
     ensures space { OnOk result (space_of (grammar_of grammar.now) held.new.items choices.new.items (F.map facts.new)
@@ -137,7 +180,7 @@ pub fn carry_out<F: Facts, L: Ledger>(
                 grammar, held, choices, facts, kept, choice, *sort, *case, steps,
             )
         }
-        Choice::Develop { node, .. } => match find_held(held, node) {
+        Choice::Develop { node, .. } => match find_from(held, node, place) {
             Some(at) => take_rule(
                 grammar, role, held, choices, facts, kept, at, choice, made, steps,
             ),

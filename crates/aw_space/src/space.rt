@@ -19,7 +19,7 @@ use crate::placing::Placing;
 use crate::taking_in::take_in;
 use aw_accept::Accepted;
 use aw_apply::{Made, Steps};
-use aw_choice::{Choice, Worklist};
+use aw_choice::{Answer, Choice, Worklist};
 use aw_held::Holding;
 use aw_kept::Kept;
 use aw_store::{Added, Equation, Equations, Facts};
@@ -176,8 +176,45 @@ impl<'g, F: Facts> Space<'g, F> {
         if !foreseen.is_taken() {
             return Ok(());
         }
-        self.take(g, choice, &foreseen.made, steps)?;
+        let made = foreseen.copy_made()?;
+        self.take(g, choice, foreseen.place, made, steps)?;
         Ok(())
+    }
+
+    /// Does what a choice was foreseen to lead to, and tells the answer. What it makes is taken over, and not copied. A refused
+    /// choice and an error change neither nodes, choices nor equations.
+    pub fn conclude<L: Ledger>(
+        &mut self,
+        g: &Accepted,
+        choice: &Choice,
+        foreseen: Outcome,
+        steps: &mut Steps<L>,
+    ) -> Result<Answer, AllocError>
+        requires grammar { g.now.grammar ≡ self.old.accepted.now.grammar }
+        requires ok { choice_ok (grammar_of g.now.grammar) (choice_of choice.now) ≡ true }
+        requires here { is_home (grammar_of g.now.grammar) self.old.role (node_of (choice_of choice.now)) ≡ true }
+        requires foreseen { IsOutcome foreseen (choice_of choice.now) (outcome (grammar_of g.now.grammar) (space_seen ⟦<F as Facts>⟧ self.old) (choice_of choice.now)) }
+        ensures grammar { self.new.accepted.now.grammar ≡ self.old.accepted.now.grammar }
+        ensures role { self.new.role ≡ self.old.role }
+        ensures answer { IfOk result (λ answer. answer ≡ foreseen.answer) }
+        ensures space { OnOk result (space_seen ⟦<F as Facts>⟧ self.new ≡ space_after (grammar_of g.now.grammar) self.old.role (space_seen ⟦<F as Facts>⟧ self.old) (choice_of choice.now)) }
+        ensures refused { (answer_of foreseen.answer ≡ Taken → ⊥) → IsUnchanged ⟦<F as Facts>⟧ self.old self.new }
+        ensures err { OnErr result (IsUnchanged ⟦<F as Facts>⟧ self.old self.new) }
+        ensures facts { KeepsFacts (F.map self.old.facts) (F.map self.new.facts) }
+        ensures nodes { KeepsNodesBut (node_of (choice_of choice.now)) (space_seen ⟦<F as Facts>⟧ self.old).held (space_seen ⟦<F as Facts>⟧ self.new).held }
+        ensures steps { answer_of foreseen.answer ≡ Taken → steps.new + 1 ≤ steps.old + choice_cost_at ⟦<F as Facts>⟧ (grammar_of g.now.grammar) self.old (choice_of choice.now) }
+        ensures untested { (answer_of foreseen.answer ≡ Taken → ⊥) → steps.new ≡ steps.old }
+    {
+        let taken = foreseen.is_taken();
+        let Outcome {
+            answer,
+            made,
+            place,
+        } = foreseen;
+        if taken {
+            self.take(g, choice, place, made, steps)?;
+        }
+        Ok(answer)
     }
 
     /// Takes a choice that was foreseen to be taken. An error changes neither nodes, choices nor equations.
@@ -185,14 +222,15 @@ impl<'g, F: Facts> Space<'g, F> {
         &mut self,
         g: &Accepted,
         choice: &Choice,
-        made: &Made,
+        place: usize,
+        made: Made,
         steps: &mut Steps<L>,
     ) -> Result<(), AllocError>
         requires grammar { g.now.grammar ≡ self.old.accepted.now.grammar }
         requires ok { choice_ok (grammar_of g.now.grammar) (choice_of choice.now) ≡ true }
         requires here { is_home (grammar_of g.now.grammar) self.old.role (node_of (choice_of choice.now)) ≡ true }
         requires taken { plain_answer (outcome (grammar_of g.now.grammar) (space_seen ⟦<F as Facts>⟧ self.old) (choice_of choice.now)) ≡ Taken }
-        requires made { IsMade made.now (choice_of choice.now) (outcome (grammar_of g.now.grammar) (space_seen ⟦<F as Facts>⟧ self.old) (choice_of choice.now)) }
+        requires made { IsMade made (choice_of choice.now) (outcome (grammar_of g.now.grammar) (space_seen ⟦<F as Facts>⟧ self.old) (choice_of choice.now)) }
         ensures grammar { self.new.accepted.now.grammar ≡ self.old.accepted.now.grammar }
         ensures role { self.new.role ≡ self.old.role }
         ensures space { OnOk result (space_seen ⟦<F as Facts>⟧ self.new ≡ space_after (grammar_of g.now.grammar) self.old.role (space_seen ⟦<F as Facts>⟧ self.old) (choice_of choice.now)) }
@@ -207,6 +245,7 @@ impl<'g, F: Facts> Space<'g, F> {
             &mut self.facts,
             &mut self.kept,
             choice,
+            place,
             made,
             steps,
         )

@@ -16,18 +16,19 @@ ghost use Rattle.aw_space.specs.Costs.{rules_at, waiting_on_lefts};
 ghost use Rattle.aw_space.specs.Openings.{IsReady, all_tests, held_in};
 ghost use Rattle.aw_space.specs.Sound.{all_inherited, all_own};
 ghost use Rattle.aw_space.specs.Spaces.{is_home};
+ghost use Rattle.aw_space.specs.Waking.{left_of};
 
-use crate::learning::wake_all;
+use crate::learning::{copy_lefts, wake_all};
 use crate::making::make_all_ready;
 use crate::opening::{Opening, put_all_open};
-use aw_apply::{Made, MadeChild, Steps};
+use aw_apply::{Made, MadeChild, MadeChildren, Steps};
 use aw_base::home_of_valid;
 use aw_choice::{Choice, copy_choice};
 use aw_grammar::Grammar;
 use aw_held::{Held, Holding};
 use aw_kept::Kept;
-use aw_name::{Node, copy_node};
-use aw_store::{Equation, Facts, add_all_ready, copy_equations};
+use aw_name::{Node, Ref};
+use aw_store::{Equation, Facts, add_all_ready};
 use std::alloc::{AllocError, Global};
 use std::sync::ledger::Ledger;
 
@@ -40,14 +41,15 @@ fn is_here(grammar: &Grammar, role: u16, node: &Node) -> bool
 }
 
 /// A child as an open node.
-fn open(child: &MadeChild) -> Result<Held, AllocError>
-    ensures { IfOk result (λ h. h ≡ open_child child.now) }
+fn open(child: MadeChild) -> Held
+    ensures { result ≡ open_child child }
 {
-    Ok(Held {
-        node: copy_node(&child.node)?,
-        inherited: child.inherited.clone()?,
+    let MadeChild { node, inherited } = child;
+    Held {
+        node,
+        inherited,
         done: None,
-    })
+    }
 }
 
 /// Adds a child as an open node, where it is this role's.
@@ -55,13 +57,13 @@ fn push_own(
     own: &mut Vec<Held>,
     grammar: &Grammar,
     role: u16,
-    child: &MadeChild,
+    child: MadeChild,
 ) -> Result<(), AllocError>
-    requires { is_some (sort_of (grammar_of grammar.now) child.now.node) ≡ true }
-    ensures { OnOk result (own.new.items ≡ own.old.items ++ plain_own (grammar_of grammar.now) role (child.now ∷ [])) }
+    requires { is_some (sort_of (grammar_of grammar.now) child.node) ≡ true }
+    ensures { OnOk result (own.new.items ≡ own.old.items ++ plain_own (grammar_of grammar.now) role (child ∷ [])) }
 {
     if is_here(grammar, role, &child.node) {
-        own.push(open(child)?)?;
+        own.push(open(child))?;
     }
     Ok(())
 }
@@ -71,13 +73,13 @@ fn own_children(
     alloc: Global,
     grammar: &Grammar,
     role: u16,
-    children: &[MadeChild],
+    children: MadeChildren,
 ) -> Result<Vec<Held>, AllocError>
-    requires { are_named (grammar_of grammar.now) children.now ≡ true }
-    ensures { IfOk result (λ own. own.items ≡ plain_own (grammar_of grammar.now) role children.now) }
+    requires { are_named (grammar_of grammar.now) children ≡ true }
+    ensures { IfOk result (λ own. own.items ≡ plain_own (grammar_of grammar.now) role children) }
 {
     let mut own = Vec::new(alloc);
-    for child in children {
+    for child in children.into_vec() {
         push_own(&mut own, grammar, role, child)?;
     }
     Ok(own)
@@ -103,17 +105,17 @@ fn take_ready<F: Facts, L: Ledger>(
     kept: &mut Kept,
     at: usize,
     done: Choice,
-    told: &[Equation],
+    told: &[Ref],
     equations: Vec<Equation>,
     own: Vec<Opening>,
     steps: &mut Steps<L>,
 )
     requires ordered { IsInOrder held.old.items }
     requires at { at < length held.old.items }
-    requires told { equations.items ≡ told.now }
-    requires new { AreNew (F.map facts.old) (list_map equation_of told.now) }
-    requires few { all_few (list_map equation_of told.now) ≡ true }
-    requires ready { (e : PlainEquation) → Contains (list_map equation_of told.now) e → F.is_ready facts.old e }
+    requires told { told.now ≡ list_map left_of equations.items }
+    requires new { AreNew (F.map facts.old) (list_map equation_of equations.items) }
+    requires few { all_few (list_map equation_of equations.items) ≡ true }
+    requires ready { (e : PlainEquation) → Contains (list_map equation_of equations.items) e → F.is_ready facts.old e }
     requires lacks { LackEach (list_map held_in own.items) (done_at done at held.old.items) }
     requires own { All (IsReady (grammar_of grammar.now) (F.names facts.old)) own.items }
     requires place { vec_len own ≤ held.old.room }
@@ -121,11 +123,11 @@ fn take_ready<F: Facts, L: Ledger>(
     requires stands { IsKept (grammar_of grammar.now) held.old.items (F.map facts.old) (F.names facts.old) kept.old }
     ensures held { held.new.items ≡ insert_all_in (list_map held_in own.items) (done_at done at held.old.items) }
     ensures ordered { IsInOrder held.new.items }
-    ensures map { F.map facts.new ≡ F.map facts.old ++ list_map equation_of told.now }
+    ensures map { F.map facts.new ≡ F.map facts.old ++ list_map equation_of equations.items }
     ensures names { Grows (F.names facts.old) (F.names facts.new) }
     ensures stands { IsKept (grammar_of grammar.now) held.new.items (F.map facts.new) (F.names facts.new) kept.new }
     ensures steps { steps.new ≤ steps.old + (all_tests own.items
-        + waiting_on_lefts (list_map equation_of told.now) (site_worklist (grammar_of grammar.now) (F.map facts.old) (all_of (grammar_of grammar.now) held.old.items))) }
+        + waiting_on_lefts (list_map equation_of equations.items) (site_worklist (grammar_of grammar.now) (F.map facts.old) (all_of (grammar_of grammar.now) held.old.items))) }
 {
     held.mark_done(at, done);
     kept.close(at);
@@ -145,41 +147,53 @@ pub fn take_rule<F: Facts, L: Ledger>(
     kept: &mut Kept,
     at: usize,
     choice: &Choice,
-    made: &Made,
+    made: Made,
     steps: &mut Steps<L>,
 ) -> Result<(), AllocError>
     requires ordered { IsInOrder held.old.items }
     requires at { at < length held.old.items }
-    requires named { are_named (grammar_of grammar.now) made.now.children ≡ true }
-    requires new { AreNew (F.map facts.old) (list_map equation_of made.now.equations) }
-    requires few { all_few (list_map equation_of made.now.equations) ≡ true }
-    requires lacks { LackEach (plain_own (grammar_of grammar.now) role made.now.children) (done_at choice.now at held.old.items) }
-    requires own { all_own (grammar_of grammar.now) role (plain_own (grammar_of grammar.now) role made.now.children) ≡ true }
+    requires named { are_named (grammar_of grammar.now) made.children ≡ true }
+    requires new { AreNew (F.map facts.old) (list_map equation_of made.equations) }
+    requires few { all_few (list_map equation_of made.equations) ≡ true }
+    requires lacks { LackEach (plain_own (grammar_of grammar.now) role made.children) (done_at choice.now at held.old.items) }
+    requires own { all_own (grammar_of grammar.now) role (plain_own (grammar_of grammar.now) role made.children) ≡ true }
     requires stands { IsKept (grammar_of grammar.now) held.old.items (F.map facts.old) (F.names facts.old) kept.old }
-    ensures held { OnOk result (held.new.items ≡ insert_all_in (plain_own (grammar_of grammar.now) role made.now.children) (done_at choice.now at held.old.items)) }
+    ensures held { OnOk result (held.new.items ≡ insert_all_in (plain_own (grammar_of grammar.now) role made.children) (done_at choice.now at held.old.items)) }
     ensures ordered { IsInOrder held.new.items }
     ensures choices { OnOk result (choices.new.items ≡ choices.old.items ++ choice.now ∷ []) }
-    ensures map { OnOk result (F.map facts.new ≡ F.map facts.old ++ list_map equation_of made.now.equations) }
+    ensures map { OnOk result (F.map facts.new ≡ F.map facts.old ++ list_map equation_of made.equations) }
     ensures names { Grows (F.names facts.old) (F.names facts.new) }
-    ensures named { OnOk result (all_named (F.names facts.new) (all_inherited (plain_own (grammar_of grammar.now) role made.now.children)) ≡ true) }
+    ensures named { OnOk result (all_named (F.names facts.new) (all_inherited (plain_own (grammar_of grammar.now) role made.children)) ≡ true) }
     ensures err_held { OnErr result (held.new.items ≡ held.old.items) }
     ensures err_choices { OnErr result (choices.new.items ≡ choices.old.items) }
     ensures err_map { OnErr result (F.map facts.new ≡ F.map facts.old) }
     ensures stands { IsKept (grammar_of grammar.now) held.new.items (F.map facts.new) (F.names facts.new) kept.new }
-    ensures steps { steps.new ≤ steps.old + (rules_at (grammar_of grammar.now) (all_of (grammar_of grammar.now) (plain_own (grammar_of grammar.now) role made.now.children))
-        + waiting_on_lefts (list_map equation_of made.now.equations) (site_worklist (grammar_of grammar.now) (F.map facts.old) (all_of (grammar_of grammar.now) held.old.items))) }
+    ensures steps { steps.new ≤ steps.old + (rules_at (grammar_of grammar.now) (all_of (grammar_of grammar.now) (plain_own (grammar_of grammar.now) role made.children))
+        + waiting_on_lefts (list_map equation_of made.equations) (site_worklist (grammar_of grammar.now) (F.map facts.old) (all_of (grammar_of grammar.now) held.old.items))) }
 {
     let alloc = held.allocator();
-    let children = own_children(alloc, grammar, role, made.children.as_slice())?;
-    let equations = copy_equations(alloc, made.equations.as_slice())?;
+    let Made {
+        equations,
+        children,
+    } = made;
+    let children = own_children(alloc, grammar, role, children)?;
+    let told = copy_lefts(alloc, equations.as_slice())?;
     let done = copy_choice(choice)?;
     let taken = copy_choice(choice)?;
     choices.reserve(1)?;
     let own = make_all_ready(grammar, facts, held, kept, children)?;
-    facts.reserve(&made.equations)?;
-    let told = made.equations.as_slice();
+    facts.reserve(&equations)?;
     take_ready(
-        grammar, held, facts, kept, at, done, told, equations, own, steps,
+        grammar,
+        held,
+        facts,
+        kept,
+        at,
+        done,
+        &told,
+        equations.into_vec(),
+        own,
+        steps,
     );
     push_choice(choices, taken);
     Ok(())

@@ -1,5 +1,5 @@
 //! What a choice of a rule leads to at a held node.
-ghost use Rattle.std.specs.Prelude.{◌≡◌, ◌≤◌, ◌+◌, List, Some, true, IfOk, length, map, option_map, slice_get, is_some};
+ghost use Rattle.std.specs.Prelude.{◌≡◌, ◌<◌, ◌≤◌, ◌+◌, List, Some, true, IfOk, IfSome, length, map, option_map, slice_get, is_some};
 ghost use Rattle.aw_term.specs.Trees.{join};
 ghost use Rattle.aw_term.specs.Rules.{sort_of};
 ghost use Rattle.aw_term.specs.Views.{ground_of, pattern_of};
@@ -10,6 +10,7 @@ ghost use Rattle.aw_grammar.specs.GrammarOf.{grammar_of};
 ghost use Rattle.aw_store.specs.NamedRefs.{AreNamed};
 ghost use Rattle.aw_term.specs.Held as P;
 ghost use Rattle.aw_held.specs.HeldView.{held_of, all_of};
+ghost use Rattle.aw_held.specs.InOrder.{place_in};
 ghost use Rattle.aw_joint.specs.Joint.{by_rule, by_held, outcome_in};
 ghost use Rattle.aw_term.specs.Choices.{Develop, after_guard};
 ghost use Rattle.aw_choice.specs.ChoiceView.{answer_of, refusal_of};
@@ -25,7 +26,7 @@ use aw_apply::{Steps, Weighed, test_rule, weigh_guard};
 use aw_base::sort_at;
 use aw_choice::{Answer, Standing};
 use aw_grammar::{Grammar, Rule};
-use aw_held::{Held, Holding, find_held};
+use aw_held::{Held, Holding};
 use aw_kept::Kept;
 use aw_name::Node;
 use aw_store::Facts;
@@ -154,7 +155,7 @@ fn weigh_at<F: Facts, L: Ledger>(
     }
 }
 
-/// A declared rule at a node, where it is held. What is kept tells how it stands there: a refusal tests no guard.
+/// A declared rule at a node, which was found at a place where it is held. What is kept tells how it stands there: a refusal tests no guard.
 pub fn weigh<F: Facts, L: Ledger>(
     alloc: Global,
     grammar: &Grammar,
@@ -162,11 +163,14 @@ pub fn weigh<F: Facts, L: Ledger>(
     held: &Holding,
     facts: &F,
     kept: &Kept,
+    found: Option<usize>,
     node: &Node,
     number: u16,
     args: &Grounds,
     steps: &mut Steps<L>,
 ) -> Result<Weighed, AllocError>
+    requires found { found ≡ place_in node.now held.now.items }
+    requires within { IfSome found (λ at. at < length held.now.items) }
     requires sound { IsSound (grammar_of grammar.now) role held.now.items (F.map facts.now) (F.names facts.now) }
     requires stands { IsKept (grammar_of grammar.now) held.now.items (F.map facts.now) (F.names facts.now) kept.now }
     requires declared { is_some (slice_get grammar.now.rules number) ≡ true }
@@ -176,7 +180,7 @@ pub fn weigh<F: Facts, L: Ledger>(
     ensures steps { steps.new ≤ steps.old + 1 }
     ensures untested { IfOk result (λ w. IsRefused w → steps.new ≡ steps.old) }
 {
-    match find_held(held, node) {
+    match found {
         Some(at) => {
             let stands = kept.standing(at, number, facts)?;
             weigh_at(

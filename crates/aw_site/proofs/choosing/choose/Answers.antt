@@ -32,10 +32,10 @@ returns-in-Ok-clause-site g c = λ s shows.
     let t = worked gr s ch (outcome gr s ch) in
     let x = reaction_of s (choose gr s ch) in
     let planned = (c.in_ok-outcome.ensures.prepares s h).plan in
-    subst (λ (p : Site). Shows g.F.Facts c.follow.new.space c.carry_out.new.subs c.carry_out.new.outbox.items c.args.loads p) (site_reacted s (choose gr s ch))
-    (shown_planned g.F.Facts c.follow.new.space c.carry_out.new.subs c.args.loads c.args.g.now.grammar t x c.in_ok-outcome.field-0.plan
+    subst (λ (p : Site). Shows g.F.Facts c.conclude.new.space c.carry_out.new.subs c.carry_out.new.outbox.items c.args.loads p) (site_reacted s (choose gr s ch))
+    (shown_planned g.F.Facts c.conclude.new.space c.carry_out.new.subs c.args.loads c.args.g.now.grammar t x c.in_ok-outcome.field-0.plan
     c.args.outbox.now.items c.make_room.new.outbox.items c.carry_out.new.outbox.items
-    (c.requires.grammar ∙ sym c.follow.ensures.grammar) (h.role ∙ sym c.follow.ensures.role) h.flag
+    (c.requires.grammar ∙ sym c.conclude.ensures.grammar) (h.role ∙ sym c.conclude.ensures.role) h.flag
     ((λ i. space_on gr (h.role i) (h.holds i) ch (S.outcome gr (h.holds i) ch)) ∙ sym c.in-Ok.ensures.space)
     (c.carry_out.ensures.asked s.asked (c.make_room.ensures.asked s.asked h.asked))
     (c.carry_out.ensures.watchers s.watchers (c.make_room.ensures.watchers s.watchers h.watchers))

@@ -20,7 +20,7 @@ use Rattle.aw_space.proofs.taking.take_rule.Goals as goal
 pub make_all_ready-requires-clause-own : goal.make_all_ready-requires-clause-own
 make_all_ready-requires-clause-own g c =
     let gr = grammar_of c.args.grammar.now in
-    subst (All (IsOpenable gr)) (sym (c.in_ok-children.ensures ∙ ap (own_children gr c.args.role) c.as_slice.ensures)) (own_openable gr c.args.role c.args.made.now.children c.requires.own)
+    subst (All (IsOpenable gr)) (sym (c.in_ok-children.ensures)) (own_openable gr c.args.role c.args.made.children c.requires.own)
 
 pub take_ready-requires-clause-told : goal.take_ready-requires-clause-told
 take_ready-requires-clause-told g c = c.in_ok-equations.ensures ∙ c.as_slice-2.ensures ∙ sym c.as_slice-told.ensures
@@ -28,11 +28,11 @@ take_ready-requires-clause-told g c = c.in_ok-equations.ensures ∙ c.as_slice-2
 pub take_ready-requires-clause-lacks : goal.take_ready-requires-clause-lacks
 take_ready-requires-clause-lacks g c =
     let gr = grammar_of c.args.grammar.now in
-    let is = c.in_ok-own.ensures.own ∙ c.in_ok-children.ensures ∙ ap (own_children gr c.args.role) c.as_slice.ensures in
+    let is = c.in_ok-own.ensures.own ∙ c.in_ok-children.ensures in
     let marked : done_at c.in_ok-done.done c.args.at c.make_all_ready.new.held.items ≡ done_at c.args.choice.now c.args.at c.args.held.now.items =
     ap (λ d. done_at d c.args.at c.make_all_ready.new.held.items) c.in_ok-done.ensures ∙ ap (done_at c.args.choice.now c.args.at) c.make_all_ready.ensures.held in
     subst (λ hs. LackEach hs (done_at c.in_ok-done.done c.args.at c.make_all_ready.new.held.items)) (sym is)
-    (subst (LackEach (own_children gr c.args.role c.args.made.now.children)) (sym marked) c.requires.lacks)
+    (subst (LackEach (own_children gr c.args.role c.args.made.children)) (sym marked) c.requires.lacks)
 
 pub take_ready-requires-clause-own : goal.take_ready-requires-clause-own
 take_ready-requires-clause-own g c =
@@ -52,17 +52,17 @@ returns-in_err-reserve-2-clause-stands g c =
 pub returns-clause-held : goal.returns-clause-held
 returns-clause-held g c =
     let gr = grammar_of c.args.grammar.now in
-    let is = c.in_ok-own.ensures.own ∙ c.in_ok-children.ensures ∙ ap (own_children gr c.args.role) c.as_slice.ensures in
+    let is = c.in_ok-own.ensures.own ∙ c.in_ok-children.ensures in
     c.take_ready.ensures.held
     ∙ ap (λ hs. insert_all_in hs (done_at c.in_ok-done.done c.args.at c.make_all_ready.new.held.items)) is
-    ∙ ap (insert_all_in (own_children gr c.args.role c.args.made.now.children))
+    ∙ ap (insert_all_in (own_children gr c.args.role c.args.made.children))
     (ap (λ d. done_at d c.args.at c.make_all_ready.new.held.items) c.in_ok-done.ensures ∙ ap (done_at c.args.choice.now c.args.at) c.make_all_ready.ensures.held)
 
 pub returns-clause-named : goal.returns-clause-named
 returns-clause-named g c =
     let gr = grammar_of c.args.grammar.now in
-    let is = c.in_ok-own.ensures.own ∙ c.in_ok-children.ensures ∙ ap (own_children gr c.args.role) c.as_slice.ensures in
-    let own = own_children gr c.args.role c.args.made.now.children in
+    let is = c.in_ok-own.ensures.own ∙ c.in_ok-children.ensures in
+    let own = own_children gr c.args.role c.args.made.children in
     all_named-grown _ _ (all_inherited own) c.take_ready.ensures.names
     (all_named-grown _ _ (all_inherited own) c.reserve-2.ensures.names
     (subst (λ hs. all_named (g.F.Facts.names c.make_all_ready.new.facts) (all_inherited hs) ≡ true) is (all_ready_named gr _ c.in_ok-own.own.items c.in_ok-own.ensures.ready)))
@@ -70,8 +70,8 @@ returns-clause-named g c =
 pub returns-clause-steps : goal.returns-clause-steps
 returns-clause-steps g c =
     let gr = grammar_of c.args.grammar.now in
-    let is = c.in_ok-own.ensures.own ∙ c.in_ok-children.ensures ∙ ap (own_children gr c.args.role) c.as_slice.ensures in
-    let es = map equation_of c.args.made.now.equations in
+    let is = c.in_ok-own.ensures.own ∙ c.in_ok-children.ensures in
+    let es = map equation_of c.args.made.equations in
     let hs = c.args.held.now.items in
     omega (
       arith,

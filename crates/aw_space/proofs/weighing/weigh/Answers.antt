@@ -1,4 +1,4 @@
-use Rattle.std.proofs.Common.{sym, ap, subst, map, Some}
+use Rattle.std.proofs.Common.{◌∙◌, sym, ap, subst, map, Some}
 use Rattle.std.proofs.lemmas.Result.{IfOk-weaker}
 use Rattle.aw_term.specs.Choices.{Develop}
 use Rattle.aw_term.specs.Views.{ground_of}
@@ -35,19 +35,19 @@ returns-in_ok-stands-in-Some-clause-value g c =
     IfOk-weaker c.weigh_at.result
     (λ (w : Weighed). Weighs gr c.args.number w (by_held (Some (held_of gr h)) gr k h.node c.args.number args))
     (λ (w : Weighed). Weighs gr c.args.number w (outcome_in (all_of gr hs) k gr (Develop c.args.node.now c.args.number args)))
-    (λ w weighs. weighs_here gr hs c.args.node.now c.in-Some.at h k c.args.number args w (sym c.in-Some.ensures.place) here weighs)
+    (λ w weighs. weighs_here gr hs c.args.node.now c.in-Some.at h k c.args.number args w (sym c.requires.found ∙ c.in-Some.is) here weighs)
     c.weigh_at.ensures.value
 
 pub returns-in-None-clause-value : goal.returns-in-None-clause-value
 returns-in-None-clause-value g c = λ rule here.
     ap (λ o. by_held o (grammar_of c.args.grammar.now) (g.F.Facts.map c.args.facts.now) c.args.node.now c.args.number (map ground_of c.args.args.now))
-    (sym (held_nowhere (grammar_of c.args.grammar.now) c.args.node.now c.args.held.now.items (sym c.in-None.ensures.place)))
+    (sym (held_nowhere (grammar_of c.args.grammar.now) c.args.node.now c.args.held.now.items (sym c.requires.found ∙ c.in-None.is)))
 
 pub returns-in_ok-stands-in-Some-clause-room : goal.returns-in_ok-stands-in-Some-clause-room
 returns-in_ok-stands-in-Some-clause-room g c =
     let hs = c.args.held.now.items in
     let h = c.at.result.now in
     let here = c.at.ensures in
-    let node = node_here (grammar_of c.args.grammar.now) c.args.node.now hs c.in-Some.at h (sym c.in-Some.ensures.place) here in
+    let node = node_here (grammar_of c.args.grammar.now) c.args.node.now hs c.in-Some.at h (sym c.requires.found ∙ c.in-Some.is) here in
     IfOk-weaker c.weigh_at.result (HasRoomFor c.args.grammar.now c.args.number h.node) (HasRoomFor c.args.grammar.now c.args.number c.args.node.now)
     (λ w room. subst (λ n. HasRoomFor c.args.grammar.now c.args.number n w) node room) c.weigh_at.ensures.room

@@ -26,7 +26,7 @@ carry_out-requires-clause-made g c =
     let old = c.args.self.now in
     let r = c.grammar.ensures.value in
     let s = r ∙ c.requires.grammar in
-    subst (IsMade c.args.made.now (choice_of c.args.choice.now))
+    subst (IsMade c.args.made (choice_of c.args.choice.now))
     (sym (λ i. outcome_in (all_of (grammar_of (s i)) old.held.items) (g.F.Facts.map old.facts) (grammar_of (r i)) (choice_of c.args.choice.now))) c.requires.made
 
 pub carry_out-requires-clause-stands : goal.carry_out-requires-clause-stands
