@@ -53,8 +53,8 @@ refused_foretold g o n r args w a x ok weighs is f es cs =
     let rule = asked_rule g n r args ok in
     refused_on o n r args a x (ap (weighed_of rule.0) (sym is) ∙ weighs rule.0 rule.1) f es cs
 
-takes_on : (m : Made) (n : Node) (r : ℕ) (args : List Ground) (rule : Rule) (bound : List Ref) (x : Q.Outcome Ref Ref) → Q.Takes rule bound ≡ x → map equation_of m.equations ≡ (M.made n r rule args bound).equations → m.children ≡ map as_child (M.made n r rule args bound).calls → IsOutcome (record { answer = answer.Taken; made = m }) (Develop n r args) x
-takes_on m n r args rule bound x e es cs = record {
+takes_on : (m : Made) (place : ℕ) (n : Node) (r : ℕ) (args : List Ground) (rule : Rule) (bound : List Ref) (x : Q.Outcome Ref Ref) → Q.Takes rule bound ≡ x → map equation_of m.equations ≡ (M.made n r rule args bound).equations → m.children ≡ map as_child (M.made n r rule args bound).calls → IsOutcome (record { answer = answer.Taken; made = m; place = place }) (Develop n r args) x
+takes_on m place n r args rule bound x e es cs = record {
   answer = ap Q.answer_of e;
   made = record {
     equations = es ∙ ap (λ y. (making (Develop n r args) y).equations) e;
@@ -63,12 +63,12 @@ takes_on m n r args rule bound x e es cs = record {
 }
 
 -- a rule that is taken makes what it makes
-pub taken_foretold : (g : Grammar) (m : Made) (n : Node) (r : ℕ) (args : List Ground) (w : Weighed) (bound : Vec Ref Global) (x : Q.Outcome Ref Ref) → choice_ok g (Develop n r args) ≡ true → Weighs g r w x → w ≡ weighed.Takes bound →
+pub taken_foretold : (g : Grammar) (m : Made) (place : ℕ) (n : Node) (r : ℕ) (args : List Ground) (w : Weighed) (bound : Vec Ref Global) (x : Q.Outcome Ref Ref) → choice_ok g (Develop n r args) ≡ true → Weighs g r w x → w ≡ weighed.Takes bound →
     ((rule : Rule) → slice_get g.rules r ≡ Some rule → map equation_of m.equations ≡ (M.made n r rule args bound.items).equations) → ((rule : Rule) → slice_get g.rules r ≡ Some rule → m.children ≡ map as_child (M.made n r rule args bound.items).calls) →
-    IsOutcome (record { answer = answer.Taken; made = m }) (Develop n r args) x
-taken_foretold g m n r args w bound x ok weighs is es cs =
+    IsOutcome (record { answer = answer.Taken; made = m; place = place }) (Develop n r args) x
+taken_foretold g m place n r args w bound x ok weighs is es cs =
     let rule = asked_rule g n r args ok in
-    takes_on m n r args rule.0 bound.items x (ap (weighed_of rule.0) (sym is) ∙ weighs rule.0 rule.1) (es rule.0 rule.1) (cs rule.0 rule.1)
+    takes_on m place n r args rule.0 bound.items x (ap (weighed_of rule.0) (sym is) ∙ weighs rule.0 rule.1) (es rule.0 rule.1) (cs rule.0 rule.1)
 
 known_on : (o : Outcome) (s k : ℕ) (a : Answer) (x : Q.Outcome Ref Ref) → answer_of a ≡ Q.answer_of x → making (Start s k) x ≡ making (Start s k) Q.Starts → o.answer ≡ a → o.made.equations ≡ [] → o.made.children ≡ [] → IsOutcome o (Start s k) x
 known_on o s k a x e m f es cs = record {

@@ -205,15 +205,16 @@ impl<'g, F: Facts> Space<'g, F> {
         ensures steps { answer_of foreseen.answer ≡ Taken → steps.new + 1 ≤ steps.old + choice_cost_at ⟦<F as Facts>⟧ (grammar_of g.now.grammar) self.old (choice_of choice.now) }
         ensures untested { (answer_of foreseen.answer ≡ Taken → ⊥) → steps.new ≡ steps.old }
     {
-        let taken = foreseen.is_taken();
+        if !foreseen.is_taken() {
+            let Outcome { answer, .. } = foreseen;
+            return Ok(answer);
+        }
         let Outcome {
             answer,
             made,
             place,
         } = foreseen;
-        if taken {
-            self.take(g, choice, place, made, steps)?;
-        }
+        self.take(g, choice, place, made, steps)?;
         Ok(answer)
     }
 

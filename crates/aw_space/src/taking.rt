@@ -190,7 +190,7 @@ pub fn take_rule<F: Facts, L: Ledger>(
         kept,
         at,
         done,
-        &told,
+        told.as_slice(),
         equations.into_vec(),
         own,
         steps,

@@ -46,7 +46,7 @@ returns-in_ok-made-in-Takes-clause-outcome g c =
     let ok = subst (λ ch. choice_ok gr (choice_of ch) ≡ true) c.in-Develop.is c.requires.ok in
     let o : Outcome = record { answer = answer.Taken; made = c.in_ok-made-in-Takes.field-0; place = c.unwrap_or.result } in
     subst (λ ch. IsOutcome o (choice_of ch) (outcome_in (all_of gr c.args.held.now.items) k gr (choice_of ch))) (sym c.in-Develop.is)
-    (taken_foretold gr c.in_ok-made-in-Takes.field-0 c.in-Develop.node c.in-Develop.rule (map ground_of c.in-Develop.args) c.in_ok-answer-in-Develop.field-0 c.in-Takes.bound _ ok c.in_ok-answer-in-Develop.ensures.value c.in-Takes.is
+    (taken_foretold gr c.in_ok-made-in-Takes.field-0 c.unwrap_or.result c.in-Develop.node c.in-Develop.rule (map ground_of c.in-Develop.args) c.in_ok-answer-in-Develop.field-0 c.in-Takes.bound _ ok c.in_ok-answer-in-Develop.ensures.value c.in-Takes.is
     c.in_ok-made-in-Takes.ensures.equations c.in_ok-made-in-Takes.ensures.children)
 
 pub returns-in-Refused-clause-untested : goal.returns-in-Refused-clause-untested

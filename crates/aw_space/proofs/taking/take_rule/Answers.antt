@@ -12,6 +12,7 @@ use Rattle.aw_space.specs.Children.{own_children}
 use Rattle.aw_space.specs.Costs.{rules_at, waiting_on_lefts}
 use Rattle.aw_space.specs.Openings.{IsOpenable, IsReady}
 use Rattle.aw_space.specs.Sound.{all_inherited}
+use Rattle.aw_space.specs.Waking.{left_of}
 use Rattle.aw_space.proofs.Costing.{own_openable}
 use Rattle.aw_space.proofs.Openings.{ready_grows, all_ready_named, all_tests_are}
 use Rattle.aw_space.proofs.Waking.{grown_same}
@@ -23,7 +24,7 @@ make_all_ready-requires-clause-own g c =
     subst (All (IsOpenable gr)) (sym (c.in_ok-children.ensures)) (own_openable gr c.args.role c.args.made.children c.requires.own)
 
 pub take_ready-requires-clause-told : goal.take_ready-requires-clause-told
-take_ready-requires-clause-told g c = c.in_ok-equations.ensures ∙ c.as_slice-2.ensures ∙ sym c.as_slice-told.ensures
+take_ready-requires-clause-told g c = c.as_slice-2.ensures.value ∙ c.in_ok-told.ensures ∙ ap (map left_of) (c.as_slice.ensures ∙ sym c.into_vec.ensures)
 
 pub take_ready-requires-clause-lacks : goal.take_ready-requires-clause-lacks
 take_ready-requires-clause-lacks g c =
@@ -78,7 +79,7 @@ returns-clause-steps g c =
       c.take_ready.ensures.steps,
       all_tests_are gr _ c.in_ok-own.own.items c.in_ok-own.ensures.ready,
       ap (λ xs. rules_at gr (all_of gr xs)) is,
-      ap (λ (xs : List Equation). waiting_on_lefts (map equation_of xs) (site_worklist gr (g.F.Facts.map c.reserve-2.new.self) (all_of gr c.make_all_ready.new.held.items))) c.as_slice-told.ensures,
+      ap (λ (xs : List Equation). waiting_on_lefts (map equation_of xs) (site_worklist gr (g.F.Facts.map c.reserve-2.new.self) (all_of gr c.make_all_ready.new.held.items))) c.into_vec.ensures,
       ap (λ k. waiting_on_lefts es (site_worklist gr k (all_of gr c.make_all_ready.new.held.items))) (c.reserve-2.ensures.map ∙ c.make_all_ready.ensures.map),
       ap (λ xs. waiting_on_lefts es (site_worklist gr (g.F.Facts.map c.args.facts.now) (all_of gr xs))) c.make_all_ready.ensures.held,
     )
