@@ -56,6 +56,10 @@ pub all_kept : (es : List Event) → kept_of All es ≡ map event_seen es
 all_kept [] = refl
 all_kept (e ∷ es) = ap (λ t. event_seen e ∷ t) (all_kept es)
 
+-- what was told in the beginning, of the same grammar with the same loads
+pub begun_for : {W : Type 0} (f : Ghosts W) (r : Replay W f) (a b : Accepted) (x y : Bool) → a ≡ b → x ≡ y → HasTold f r a x [] → HasTold f r b y []
+begun_for f r a b x y same loads told = subst (λ (z : Accepted). HasTold f r z y []) same (subst (λ z. HasTold f r a z []) loads told)
+
 -- ---- one event
 module _ {W : Type 0} (f : Ghosts W) (kept : Kept) where
   pub kept_told : (old new : Replay W f) (e : Event) (result : Result Unit PrintFault) → is_kept kept e ≡ true → OnOk result (TellsMore f old new (event_seen e)) → OnOk result (TellsKept f kept old new e)

@@ -107,10 +107,14 @@ TellsLeft f kept reader old later new (Err TooLarge) = (es : List E.Event) × Ar
 TellsLeft f kept reader old later new (Err (Bad line kind)) = left reader ≡ FaultAt line kind
 TellsLeft f kept reader old later new (Err NoMemory) = Unit {0}
 
--- The output of all events that were left of a schedule and are kept; or that it is too long; or the first faulty line, counted from
--- 1, and the first kind of fault there, whatever stands before it. Want of memory says nothing.
+-- What is told of all events that were left of a schedule, as a text of them; or that it is too long; or the first faulty line, counted
+-- from 1, and the first kind of fault there, whatever stands before it. Want of memory says nothing.
+abbrev pub Tells : (List E.Event → List ℕ) → ScheduleReader → Result Bounded ReplayFault → Type 0
+Tells text reader (Ok report) = (es : List E.Event) × AreRead reader es (Events []) × (report ≡ record { text = text es; limit = most })
+Tells text reader (Err TooLarge) = (es : List E.Event) × AreRead reader es (Events []) × (most < length (text es))
+Tells text reader (Err (Bad line kind)) = left reader ≡ FaultAt line kind
+Tells text reader (Err NoMemory) = Unit {0}
+
+-- the output of those that are kept is told
 abbrev pub Replays : Accepted → Bool → Kept → ScheduleReader → Result Bounded ReplayFault → Type 0
-Replays a carried kept reader (Ok report) = (es : List E.Event) × AreRead reader es (Events []) × (report ≡ record { text = whole_output a carried (kept_of kept es); limit = most })
-Replays a carried kept reader (Err TooLarge) = (es : List E.Event) × AreRead reader es (Events []) × (most < length (whole_output a carried (kept_of kept es)))
-Replays a carried kept reader (Err (Bad line kind)) = left reader ≡ FaultAt line kind
-Replays a carried kept reader (Err NoMemory) = Unit {0}
+Replays a carried kept reader result = Tells (λ es. whole_output a carried (kept_of kept es)) reader result

@@ -126,8 +126,8 @@ fn tell_left<W: Workspace>(
 
 /// Replays the events that are left of a schedule and are kept, between sites that hold nothing, one for each role: the lines of all
 /// events, and then the artifacts where every message was delivered, and otherwise how many were not. Messages carry loads, or none
-/// does. An event is let go before the next is read, so that a schedule takes no memory beside its text. Where a line is faulty, nothing
-/// else is told, whatever stands before it.
+/// does. An event is let go before the next is read, so that beside its text a schedule takes memory for the tokens of one line and the
+/// names that were read last. Where a line is faulty, nothing else is told, whatever stands before it.
 ///
 /// The memory of the world is not given back: a program that replays ends then, and to take apart what each site holds, piece by piece,
 /// takes long.

@@ -2,16 +2,18 @@
 use Rattle.std.proofs.Common.{◌≡◌, ℕ, ◌+◌, ◌≤◌, ◌<◌, Bool, cond, List, [], length, map, Ok, Err, sym, ap, ◌∙◌, subst}
 use Rattle.std.proofs.lemmas.Bool.{lt-ltb, le-ltb}
 use Rattle.std.specs.declared.result.Result.{Result}
+use Rattle.aw_lex.specs.Lines.{lines_of}
 use Rattle.aw_term.specs.WellFormed.{Each}
 use Rattle.aw_grammar.specs.declared.grammar.Grammar.{Grammar}
 use Rattle.aw_grammar.specs.GrammarOf.{declarations_of, grammar_of}
 use Rattle.aw_accept.specs.declared.accepted.Accepted.{Accepted}
+use Rattle.aw_typed.specs.Types.{Types}
 use Rattle.aw_typed.specs.Typing.{types_of, IsMadeFor}
 use Rattle.aw_typed.specs.declared.data.Typed.{Typed}
 use Rattle.aw_sched.specs.Answers.{HasTypes, MayCome, event_seen}
 use Rattle.aw_sched.specs.KindNames.{kind_name as schedule_kind}
 use Rattle.aw_sched.specs.Readers.{AreRead, left}
-use Rattle.aw_sched.specs.Schedules.{Events, FaultAt, read_lines}
+use Rattle.aw_sched.specs.Schedules.{Events, FaultAt, read_lines, schedule_of}
 use Rattle.aw_sched.specs.declared.event.Event.{Event}
 use Rattle.aw_sched.specs.declared.fault.SchedKind.{SchedKind}
 use Rattle.aw_sched.specs.declared.reader.ScheduleReader.{ScheduleReader}
@@ -23,7 +25,6 @@ use Rattle.aw_replay.specs.declared.scheduled.Kept.TheVariants.{All}
 use Rattle.aw_replay.specs.declared.scheduled.ReplayFault.{ReplayFault}
 use Rattle.aw_replay.specs.declared.scheduled.ReplayFault.TheVariants as fault
 use Rattle.aw_replay.proofs.WhileRead.{all_kept}
-use Rattle.aw_undivided.specs.Scheduled.{RunsUndivided}
 use Rattle.aw_run.specs.Output.{BadSchedule, PastOutputLimit, Writes, within_limit}
 use Rattle.aw_run.specs.Promises.{Promises}
 use Rattle.aw_run.specs.Refusals.{at_line}
@@ -32,7 +33,7 @@ use Rattle.aw_run.specs.Scheduled.{KeepsPromises, RepliesTo, TellsLeft, told_of}
 use Rattle.aw_run.specs.declared.reply.Reply.{Reply}
 use Rattle.aw_run.specs.declared.reply.Status.TheVariants.{Done, TooLarge}
 use Rattle.aw_run.specs.declared.words.Telling.{Telling}
-use Rattle.aw_run.specs.declared.words.Telling.TheVariants.{Replayed, Undivided}
+use Rattle.aw_run.specs.declared.words.Telling.TheVariants.{Replayed}
 use Rattle.aw_run.proofs.Outputs.{schedule-good, schedule-bad}
 use Rattle.aw_run.proofs.Promising.{promises_hold, good-schedule, bad-schedule}
 
@@ -41,6 +42,10 @@ within_written text within = ap (λ b. cond b PastOutputLimit (Writes text)) (le
 
 past_limit : (text : List ℕ) → most < length text → within_limit text ≡ PastOutputLimit
 past_limit text past = ap (λ b. cond b PastOutputLimit (Writes text)) (lt-ltb most (length text) past)
+
+-- a reader of one grammar that has a whole schedule left has its lines left, read by the same grammar
+pub read_all : (r : ScheduleReader) (types : Types) (g h : Grammar) (text : List ℕ) → left r ≡ schedule_of types (declarations_of g) text → g ≡ h → left r ≡ read_lines types (declarations_of h) 1 (lines_of text)
+read_all r types g h text e same = e ∙ ap (λ (d : Grammar). read_lines types (declarations_of d) 1 (lines_of text)) same
 
 -- an accepted grammar and its types, and a reader that has a whole schedule behind so many lines before it
 module _ (telling : Telling) (a : Accepted) (t : Typed) (before : ℕ) (loads : Bool) (schedule : List (List ℕ)) (r : ScheduleReader) (all : left r ≡ read_lines (types_of t.types) (declarations_of a.grammar) 1 schedule) where
@@ -74,12 +79,6 @@ module _ (telling : Telling) (a : Accepted) (t : Typed) (before : ℕ) (loads : 
 -- every event may be replayed by the grammar that it was read by
 pub all_may_replay : (a : Accepted) (r : ScheduleReader) → r.grammar.now ≡ a.grammar → MayReplay All (grammar_of r.grammar.now) (grammar_of a.grammar)
 all_may_replay a r same e may kept = subst (λ (g : Grammar). MayCome (grammar_of g) e) same may
-
-pub tells_undivided : (a : Accepted) (loads : Bool) (r : ScheduleReader) (result : Result Bounded ReplayFault) → RunsUndivided a r result → TellsLeft Undivided a loads r result
-tells_undivided a loads r (Ok report) h = h
-tells_undivided a loads r (Err fault.TooLarge) h = h
-tells_undivided a loads r (Err (fault.Bad line kind)) h = h
-tells_undivided a loads r (Err fault.NoMemory) h = tt
 
 pub tells_replayed : (a : Accepted) (loads : Bool) (r : ScheduleReader) (result : Result Bounded ReplayFault) → Replays a loads All r result → TellsLeft Replayed a loads r result
 tells_replayed a loads r (Ok report) h = (h.0, h.1, h.2 ∙ ap (λ (es : List E.Event). record { text = whole_output a loads es; limit = most }) (all_kept h.0))

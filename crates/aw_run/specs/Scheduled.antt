@@ -1,16 +1,13 @@
 -- What is replied to an accepted specification and the schedule behind it.
-use Rattle.std.specs.Prelude.{◌≡◌, ◌<◌, ℕ, Bool, List, [], length, map}
+use Rattle.std.specs.Prelude.{◌≡◌, ℕ, Bool, List, map}
 use Rattle.std.specs.declared.result.Result.{Result}
-use Rattle.std.specs.declared.result.Result.TheVariants.{Ok, Err}
 use Rattle.aw_accept.specs.declared.accepted.Accepted.{Accepted}
 use Rattle.aw_grammar.specs.GrammarOf.{declarations_of, grammar_of, words_of}
 use Rattle.aw_out.specs.Report.{Bounded}
-use Rattle.aw_replay.specs.Replays.{most}
+use Rattle.aw_replay.specs.Replays.{Tells}
 use Rattle.aw_replay.specs.declared.scheduled.ReplayFault.{ReplayFault}
-use Rattle.aw_replay.specs.declared.scheduled.ReplayFault.TheVariants.{Bad, TooLarge, NoMemory}
 use Rattle.aw_sched.specs.Answers.{event_seen}
-use Rattle.aw_sched.specs.Readers.{AreRead, left}
-use Rattle.aw_sched.specs.Schedules.{Events, FaultAt, read_lines}
+use Rattle.aw_sched.specs.Schedules.{read_lines}
 use Rattle.aw_sched.specs.declared.event.Event.{Event}
 use Rattle.aw_sched.specs.declared.reader.ScheduleReader.{ScheduleReader}
 use Rattle.aw_spec.specs.Reading.{Spec}
@@ -35,10 +32,6 @@ KeepsPromises a t loads schedule = (s : Spec) → s.declared ≡ declarations_of
 abbrev pub told_of : Telling → Accepted → (loads : Bool) → List Event → List ℕ
 told_of telling a loads es = told telling (words_of a.grammar) (grammar_of a.grammar) loads (map event_seen es)
 
--- What is told of all events that were left of a schedule; or that it is too long; or the first faulty line, counted from 1, and the first
--- kind of fault there. Want of memory says nothing.
+-- what is told of all events that were left of a schedule
 abbrev pub TellsLeft : Telling → Accepted → (loads : Bool) → ScheduleReader → Result Bounded ReplayFault → Type 0
-TellsLeft telling a loads reader (Ok report) = (es : List Event) × AreRead reader es (Events []) × (report ≡ record { text = told_of telling a loads es; limit = most })
-TellsLeft telling a loads reader (Err TooLarge) = (es : List Event) × AreRead reader es (Events []) × (most < length (told_of telling a loads es))
-TellsLeft telling a loads reader (Err (Bad line kind)) = left reader ≡ FaultAt line kind
-TellsLeft telling a loads reader (Err NoMemory) = Unit {0}
+TellsLeft telling a loads reader result = Tells (told_of telling a loads) reader result

@@ -1,7 +1,7 @@
 use Rattle.std.proofs.Common.{rules, ◌≡◌, sym, subst}
 use Rattle.aw_run.specs.Scheduled.{TellsLeft}
 use Rattle.aw_run.specs.declared.words.Telling.TheVariants.{Replayed, Undivided}
-use Rattle.aw_run.proofs.Scheduled.{all_may_replay, tells_replayed, tells_undivided}
+use Rattle.aw_run.proofs.Scheduled.{all_may_replay, tells_replayed}
 use Rattle.aw_run.proofs.schedule.tell_left.Goals as goal
 
 pub replay_schedule-requires-clause-may : goal.replay_schedule-requires-clause-may
@@ -11,7 +11,7 @@ pub returns-in-Undivided : goal.returns-in-Undivided
 returns-in-Undivided c =
     let is : c.args.telling ≡ Undivided = search rules in
     subst (λ telling. TellsLeft telling c.args.accepted.now c.args.loads c.args.reader.now c.run_schedule.result) (sym is)
-    (tells_undivided c.args.accepted.now c.args.loads c.args.reader.now c.run_schedule.result c.run_schedule.ensures)
+    c.run_schedule.ensures
 
 pub returns-in-Replayed : goal.returns-in-Replayed
 returns-in-Replayed c =
