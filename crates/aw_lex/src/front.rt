@@ -135,6 +135,7 @@ fn text_front(bytes: &[u8]) -> Front
     }
 }
 
+#[inline(always)]
 fn read_front(bytes: &[u8]) -> Front
     ensures { result ≡ front_of bytes.now }
 {
@@ -150,7 +151,8 @@ fn read_front(bytes: &[u8]) -> Front
     }
 }
 
-/// What stands at the front of the bytes, of which there is one at least.
+/// What stands at the front of the bytes, of which there is one at least. The loop over a line's tokens is spared a call for each.
+#[inline(always)]
 pub fn front_of(bytes: &[u8]) -> Front
     ensures value { result ≡ front_of bytes.now }
     ensures fits { Fits result (length bytes.now) }

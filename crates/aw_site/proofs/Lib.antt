@@ -11,6 +11,7 @@ pub mod ParentHomes
 pub mod ParentRoles
 pub mod NamedHomes
 pub mod ChosenSites
+pub mod RefusedChoices
 pub mod Receptions
 pub mod Holding
 pub mod Coming

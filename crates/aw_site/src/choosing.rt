@@ -36,7 +36,7 @@ pub struct Prepared {
     pub plan: Plan,
 }
 
-/// Foresees a choice, and makes what it sends.
+/// Makes what a choice sends that was foreseen.
 fn prepare<'g, F: Facts>(
     alloc: Global,
     g: &Accepted,
@@ -44,14 +44,15 @@ fn prepare<'g, F: Facts>(
     subs: &Subs,
     loads: bool,
     choice: &Choice,
+    outcome: Outcome,
 ) -> Result<Prepared, AllocError>
     requires grammar { g.now.grammar ≡ space.now.accepted.now.grammar }
     requires ok { choice_ok (grammar_of g.now.grammar) (choice_of choice.now) ≡ true }
     requires here { is_home (grammar_of g.now.grammar) space.now.role (node_of (choice_of choice.now)) ≡ true }
+    requires foreseen { IsOutcome outcome (choice_of choice.now) (outcome (grammar_of g.now.grammar) (space_seen ⟦<F as Facts>⟧ space.now) (choice_of choice.now)) }
     ensures prepares { IfOk result (λ p. (s : P.Site) → HoldsAs ⟦<F as Facts>⟧ space.now subs.now loads s → Prepares (grammar_of g.now.grammar) s (choice_of choice.now) p) }
     ensures foreseen { IfOk result (λ p. IsOutcome p.outcome (choice_of choice.now) (outcome (grammar_of g.now.grammar) (space_seen ⟦<F as Facts>⟧ space.now) (choice_of choice.now))) }
 {
-    let outcome = uncounted::foresee(space, g, choice)?;
     let sender = Sender {
         alloc,
         grammar: g.grammar(),
@@ -95,8 +96,13 @@ pub fn choose<'g, F: Facts>(
     ensures facts { KeepsFacts (F.map space.old.facts) (F.map space.new.facts) }
     ensures nodes { KeepsNodesBut (node_of (choice_of choice.now)) (space_seen ⟦<F as Facts>⟧ space.old).held (space_seen ⟦<F as Facts>⟧ space.new).held }
 {
+    let foreseen = uncounted::foresee(space, g, choice)?;
+    if !foreseen.is_taken() {
+        let Outcome { answer, .. } = foreseen;
+        return Ok((answer, 0));
+    }
     let alloc = *outbox.allocator();
-    let Prepared { outcome, plan } = prepare(alloc, g, space, subs, loads, choice)?;
+    let Prepared { outcome, plan } = prepare(alloc, g, space, subs, loads, choice, foreseen)?;
     let before = copy.len();
     let count = plan.sent.len();
     make_room(&plan, subs, outbox, copy)?;

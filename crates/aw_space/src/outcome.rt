@@ -91,7 +91,7 @@ impl Outcome {
     }
 
     /// Whether the choice is taken.
-    pub(crate) fn is_taken(&self) -> bool
+    pub fn is_taken(&self) -> bool
         ensures { IsTrue result ↔ (self.now.answer ≡ Answer.Taken) }
     {
         matches!(self.answer, Answer::Taken)
