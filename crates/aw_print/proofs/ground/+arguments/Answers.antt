@@ -12,9 +12,9 @@ push_ground-returns-then-is_empty t c =
 pub push_ground-returns-in_ok-push_grounds-in-Con : goal.push_ground-returns-in_ok-push_grounds-in-Con
 push_ground-returns-in_ok-push_grounds-in-Con t c =
     let no = λ (e : c.in-Con.parts ≡ []). let f : false ≡ true = c.if-is_empty.ensures.1 e in absurd cc in
-    on_ok_weaker c.push_bytes-in-Con-2.result (λ e.
+    on_ok_weaker c.push-in-Con.result (λ e.
     con_done (words_of c.args.g.now) c.args.ground.now c.in-Con.con c.in-Con.parts c.as_slice-in-Con.result.now c.con_name.result.now c.args.text.now _ _ c.push_grounds.new.text _ c.in-Con.is c.as_slice-in-Con.ensures no c.con_name.ensures
-    c.in_ok-push_bytes-in-Con.ensures.ok c.in_ok-push_bytes-in-Con-2.ensures.ok c.in_ok-push_grounds-in-Con.ensures e) c.push_bytes-in-Con-2.ensures.ok
+    c.in_ok-push_bytes-in-Con.ensures.ok c.in_ok-push-in-Con.ensures.ok c.in_ok-push_grounds-in-Con.ensures e) c.push-in-Con.ensures.ok
 
 pub push_grounds-loop-ground-preserved : goal.push_grounds-loop-ground-preserved
 push_grounds-loop-ground-preserved t c = record {
