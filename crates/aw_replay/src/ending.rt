@@ -19,7 +19,7 @@ fn undelivered_line(alloc: Global, count: u64) -> Result<Text, AllocError>
 {
     let mut text = Text::from_bytes(alloc, b"undelivered ")?;
     push_number(&mut text, count)?;
-    text.push_bytes(b"\n")?;
+    text.push(b'\n')?;
     Ok(text)
 }
 

@@ -33,12 +33,16 @@ fn push_answered(
 }
 
 /// Adds what was replied to a delivery.
-fn push_with(text: &mut Text, number: u64, reply: &[u8]) -> Result<(), AllocError>
+fn push_with<const N: usize>(
+    text: &mut Text,
+    number: u64,
+    reply: &[u8; N],
+) -> Result<(), AllocError>
     ensures { OnOk result (text.new ≡ text.old ++ (codes "deliver " ++ (decimal number ++ reply.now))) }
 {
-    text.push_bytes(b"deliver ")?;
+    text.push_array(b"deliver ")?;
     push_number(text, number)?;
-    text.push_bytes(reply)
+    text.push_array(reply)
 }
 
 /// Adds the line of a delivery.
@@ -57,9 +61,9 @@ fn push_delivered(text: &mut Text, number: u64, reply: &Reply) -> Result<(), All
 pub(crate) fn push_settled(text: &mut Text, count: u64) -> Result<(), AllocError>
     ensures { OnOk result (text.new ≡ text.old ++ (codes "settled " ++ (decimal count ++ codes "\n"))) }
 {
-    text.push_bytes(b"settled ")?;
+    text.push_array(b"settled ")?;
     push_number(text, count)?;
-    text.push_bytes(b"\n")
+    text.push(b'\n')
 }
 
 /// Adds the lines of a delivery and of what it sent.

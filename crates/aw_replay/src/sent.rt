@@ -24,7 +24,7 @@ fn push_equation(
     ensures grammar { names.new.grammar.now ≡ names.old.grammar.now }
 {
     push_ref(text, names, &e.left)?;
-    text.push_bytes(b" = ")?;
+    text.push_array(b" = ")?;
     push_body(text, names, &e.body)
 }
 
@@ -38,7 +38,7 @@ fn push_following(
     ensures grammar { names.new.grammar.now ≡ names.old.grammar.now }
 {
     for e in es {
-        text.push_bytes(b"; ")?;
+        text.push_array(b"; ")?;
         push_equation(text, names, e)?;
     }
     Ok(())
@@ -52,33 +52,33 @@ fn push_load(text: &mut Text, names: &mut NameWriter<'_>, es: &[Equation]) -> Re
     match es {
         [] => Ok(()),
         [first, rest @ ..] => {
-            text.push_bytes(b" with ")?;
+            text.push_array(b" with ")?;
             push_equation(text, names, first)?;
             push_following(text, names, rest)
         }
     }
 }
 
-/// Adds a call, as `call visit#1/admit.1 (visit#1:p2)`, without its load.
+/// Adds a blank and a call, as `call visit#1/admit.1 (visit#1:p2)`, without its load.
 fn push_call(
     text: &mut Text,
     names: &mut NameWriter<'_>,
     node: &Node,
     inherited: &Refs,
 ) -> Result<(), AllocError>
-    ensures text { OnOk result (text.new ≡ text.old ++ call_text (words_of names.old.grammar.now) node.now inherited.now) }
+    ensures text { OnOk result (text.new ≡ text.old ++ (codes " " ++ call_text (words_of names.old.grammar.now) node.now inherited.now)) }
     ensures grammar { names.new.grammar.now ≡ names.old.grammar.now }
 {
-    text.push_bytes(b"call ")?;
+    text.push_array(b" call ")?;
     names.push_node(text, node)?;
-    text.push_bytes(b" (")?;
+    text.push_array(b" (")?;
     push_refs(text, names, inherited.as_slice())?;
-    text.push_bytes(b")")
+    text.push(b')')
 }
 
-/// Adds what a message says.
+/// Adds a blank and what a message says.
 fn push_kind(text: &mut Text, names: &mut NameWriter<'_>, kind: &MsgKind) -> Result<(), AllocError>
-    ensures text { OnOk result (text.new ≡ text.old ++ kind_text (words_of names.old.grammar.now) (kind_with (sort_or_zero (grammar_of names.old.grammar.now)) kind.now)) }
+    ensures text { OnOk result (text.new ≡ text.old ++ (codes " " ++ kind_text (words_of names.old.grammar.now) (kind_with (sort_or_zero (grammar_of names.old.grammar.now)) kind.now))) }
     ensures grammar { names.new.grammar.now ≡ names.old.grammar.now }
 {
     match kind {
@@ -91,13 +91,13 @@ fn push_kind(text: &mut Text, names: &mut NameWriter<'_>, kind: &MsgKind) -> Res
             push_load(text, names, load.as_slice())
         }
         MsgKind::Ask { reference, from } => {
-            text.push_bytes(b"ask ")?;
+            text.push_array(b" ask ")?;
             push_ref(text, names, reference)?;
-            text.push_bytes(b" from ")?;
+            text.push_array(b" from ")?;
             text.push_bytes(role_name(names.grammar(), *from))
         }
         MsgKind::Tell { equation, load } => {
-            text.push_bytes(b"tell ")?;
+            text.push_array(b" tell ")?;
             push_equation(text, names, equation)?;
             push_load(text, names, load.as_slice())
         }
@@ -114,13 +114,12 @@ fn push_message(
     ensures text { OnOk result (text.new ≡ text.old ++ sent_line (words_of names.old.grammar.now) number (message_of (grammar_of names.old.grammar.now) message.now)) }
     ensures grammar { names.new.grammar.now ≡ names.old.grammar.now }
 {
-    text.push_bytes(b"sent ")?;
+    text.push_array(b"sent ")?;
     push_number(text, number as u64)?;
-    text.push_bytes(b" to ")?;
+    text.push_array(b" to ")?;
     text.push_bytes(role_name(names.grammar(), message.to))?;
-    text.push_bytes(b" ")?;
     push_kind(text, names, message.kind.get())?;
-    text.push_bytes(b"\n")
+    text.push(b'\n')
 }
 
 /// Adds the lines of the messages from a number on.

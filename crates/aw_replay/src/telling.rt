@@ -154,9 +154,9 @@ fn list_lines<W: Workspace>(
     ensures names { names.new.grammar.now ≡ names.old.grammar.now }
 {
     let items = world.list(role)?;
-    text.push_bytes(b"list ")?;
+    text.push_array(b"list ")?;
     text.push_bytes(role_name(names.grammar(), role))?;
-    text.push_bytes(b"\n")?;
+    text.push(b'\n')?;
     push_item_lines(text, names, items.as_slice())
 }
 
