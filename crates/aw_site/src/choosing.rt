@@ -44,12 +44,12 @@ fn prepare<'g, F: Facts>(
     subs: &Subs,
     loads: bool,
     choice: &Choice,
-    outcome: Outcome,
+    foreseen: Outcome,
 ) -> Result<Prepared, AllocError>
     requires grammar { g.now.grammar ≡ space.now.accepted.now.grammar }
     requires ok { choice_ok (grammar_of g.now.grammar) (choice_of choice.now) ≡ true }
     requires here { is_home (grammar_of g.now.grammar) space.now.role (node_of (choice_of choice.now)) ≡ true }
-    requires foreseen { IsOutcome outcome (choice_of choice.now) (outcome (grammar_of g.now.grammar) (space_seen ⟦<F as Facts>⟧ space.now) (choice_of choice.now)) }
+    requires foreseen { IsOutcome foreseen (choice_of choice.now) (outcome (grammar_of g.now.grammar) (space_seen ⟦<F as Facts>⟧ space.now) (choice_of choice.now)) }
     ensures prepares { IfOk result (λ p. (s : P.Site) → HoldsAs ⟦<F as Facts>⟧ space.now subs.now loads s → Prepares (grammar_of g.now.grammar) s (choice_of choice.now) p) }
     ensures foreseen { IfOk result (λ p. IsOutcome p.outcome (choice_of choice.now) (outcome (grammar_of g.now.grammar) (space_seen ⟦<F as Facts>⟧ space.now) (choice_of choice.now))) }
 {
@@ -59,10 +59,63 @@ fn prepare<'g, F: Facts>(
         role: space.role(),
         loads,
         facts: space.facts(),
-        more: outcome.made.equations.as_slice(),
+        more: foreseen.made.equations.as_slice(),
     };
-    let plan = sender.plan_made(subs, &outcome.made)?;
-    Ok(Prepared { outcome, plan })
+    let plan = sender.plan_made(subs, &foreseen.made)?;
+    Ok(Prepared {
+        outcome: foreseen,
+        plan,
+    })
+}
+
+/// Does what a choice was foreseen to lead to, and sends what follows from it; the answer, and how many messages were sent, which are added
+/// to the outbox and to a copy. An error changes nothing.
+fn settle<'g, F: Facts>(
+    g: &Accepted,
+    space: &mut Space<'g, F>,
+    subs: &mut Subs,
+    outbox: &mut Vec<Message>,
+    loads: bool,
+    choice: &Choice,
+    foreseen: Outcome,
+    copy: &mut Vec<Message>,
+) -> Result<(Answer, usize), AllocError>
+    requires grammar { g.now.grammar ≡ space.old.accepted.now.grammar }
+    requires ok { choice_ok (grammar_of g.now.grammar) (choice_of choice.now) ≡ true }
+    requires here { is_home (grammar_of g.now.grammar) space.old.role (node_of (choice_of choice.now)) ≡ true }
+    requires foreseen { IsOutcome foreseen (choice_of choice.now) (outcome (grammar_of g.now.grammar) (space_seen ⟦<F as Facts>⟧ space.old) (choice_of choice.now)) }
+    ensures grammar { space.new.accepted.now.grammar ≡ space.old.accepted.now.grammar }
+    ensures role { space.new.role ≡ space.old.role }
+    ensures answer { IfOk result (λ r. (s : P.Site) → Shows ⟦<F as Facts>⟧ space.old subs.old outbox.old.items loads s →
+        answer_of r.0 ≡ answer_to (plain_choose (grammar_of g.now.grammar) s (choice_of choice.now))) }
+    ensures count { IfOk result (λ r. (s : P.Site) → Shows ⟦<F as Facts>⟧ space.old subs.old outbox.old.items loads s →
+        r.1 ≡ length (sent_by (plain_choose (grammar_of g.now.grammar) s (choice_of choice.now)))) }
+    ensures site { OnOk result ((s : P.Site) → Shows ⟦<F as Facts>⟧ space.old subs.old outbox.old.items loads s →
+        Shows ⟦<F as Facts>⟧ space.new subs.new outbox.new.items loads (after_choice s (plain_choose (grammar_of g.now.grammar) s (choice_of choice.now)))) }
+    ensures copy { OnOk result ((s : P.Site) → Shows ⟦<F as Facts>⟧ space.old subs.old outbox.old.items loads s →
+        list_map (message_of (grammar_of g.now.grammar)) copy.new.items
+        ≡ list_map (message_of (grammar_of g.now.grammar)) copy.old.items ++ sent_by (plain_choose (grammar_of g.now.grammar) s (choice_of choice.now))) }
+    ensures err { OnErr result ((s : P.Site) → Shows ⟦<F as Facts>⟧ space.old subs.old outbox.old.items loads s → Shows ⟦<F as Facts>⟧ space.new subs.new outbox.new.items loads s) }
+    ensures err_copy { OnErr result (copy.new.items ≡ copy.old.items) }
+    ensures short { all_short outbox.old.items ≡ true → all_short outbox.new.items ≡ true }
+    ensures facts { KeepsFacts (F.map space.old.facts) (F.map space.new.facts) }
+    ensures nodes { KeepsNodesBut (node_of (choice_of choice.now)) (space_seen ⟦<F as Facts>⟧ space.old).held (space_seen ⟦<F as Facts>⟧ space.new).held }
+{
+    let alloc = *outbox.allocator();
+    let Prepared { outcome, plan } = prepare(alloc, g, space, subs, loads, choice, foreseen)?;
+    let before = copy.len();
+    let count = plan.sent.len();
+    make_room(&plan, subs, outbox, copy)?;
+    match uncounted::conclude(space, g, choice, outcome) {
+        Ok(answer) => {
+            carry_out(plan, subs, outbox);
+            Ok((answer, count))
+        }
+        Err(refused) => {
+            copy.truncate(before);
+            Err(refused)
+        }
+    }
 }
 
 /// Answers a choice; how many messages it sent, which are added to the outbox and to a copy. Only `Taken` changes anything, and an error
@@ -101,19 +154,5 @@ pub fn choose<'g, F: Facts>(
         let Outcome { answer, .. } = foreseen;
         return Ok((answer, 0));
     }
-    let alloc = *outbox.allocator();
-    let Prepared { outcome, plan } = prepare(alloc, g, space, subs, loads, choice, foreseen)?;
-    let before = copy.len();
-    let count = plan.sent.len();
-    make_room(&plan, subs, outbox, copy)?;
-    match uncounted::conclude(space, g, choice, outcome) {
-        Ok(answer) => {
-            carry_out(plan, subs, outbox);
-            Ok((answer, count))
-        }
-        Err(refused) => {
-            copy.truncate(before);
-            Err(refused)
-        }
-    }
+    settle(g, space, subs, outbox, loads, choice, foreseen, copy)
 }

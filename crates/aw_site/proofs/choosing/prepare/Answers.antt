@@ -18,19 +18,19 @@ use Rattle.aw_site.proofs.choosing.prepare.Goals as goal
 pub invariant_of-sender : goal.invariant_of-sender
 invariant_of-sender g c =
     let space = c.args.space.now in
-    let made = c.args.outcome.made in
+    let made = c.args.foreseen.made in
     let valid = made_valid g.F.Facts space c.args.g.now.grammar (choice_of c.args.choice.now) made c.requires.grammar c.requires.ok c.requires.here c.requires.foreseen.made in
     record { valid = holds_valid g.F.Facts space c.args.g.now.grammar _ _ made.equations _ c.requires.grammar c.grammar.ensures.value c.facts.ensures c.as_slice.ensures valid.0 }
 
 pub plan_made-requires-clause-equations : goal.plan_made-requires-clause-equations
 plan_made-requires-clause-equations g c =
-    let made = c.args.outcome.made in
+    let made = c.args.foreseen.made in
     (subst (λ (x : program.Grammar). AreValid (grammar_of x) made) (sym c.grammar.ensures.value)
     (made_valid g.F.Facts c.args.space.now c.args.g.now.grammar (choice_of c.args.choice.now) made c.requires.grammar c.requires.ok c.requires.here c.requires.foreseen.made)).0
 
 pub plan_made-requires-clause-children : goal.plan_made-requires-clause-children
 plan_made-requires-clause-children g c =
-    let made = c.args.outcome.made in
+    let made = c.args.foreseen.made in
     (subst (λ (x : program.Grammar). AreValid (grammar_of x) made) (sym c.grammar.ensures.value)
     (made_valid g.F.Facts c.args.space.now c.args.g.now.grammar (choice_of c.args.choice.now) made c.requires.grammar c.requires.ok c.requires.here c.requires.foreseen.made)).1
 
@@ -40,7 +40,7 @@ returns-clause-prepares g c = λ s h.
     let space = c.args.space.now in
     let ch = choice_of c.args.choice.now in
     let k = g.F.Facts.map space.facts in
-    let made = c.args.outcome.made in
+    let made = c.args.foreseen.made in
     let holds = seen_by g.F.Facts space c.args.subs.now c.args.loads s c.args.g.now.grammar c.requires.grammar h in
     let foretold = subst (λ (x : program.Grammar). IsMade made ch (S.outcome gr (space_of (grammar_of x) space.held.items space.choices.items k) ch)) (sym c.requires.grammar) c.requires.foreseen.made in
     let t = worked gr s ch (outcome gr s ch) in
