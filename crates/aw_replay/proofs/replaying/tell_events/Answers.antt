@@ -1,11 +1,12 @@
-use Rattle.std.proofs.Common.{rules, ℕ, ◌+◌, map, take, drop, ap, sym, ◌∙◌, refl, subst, Ok}
-use Rattle.std.proofs.lemmas.List.{drop_all}
+use Rattle.std.proofs.Common.{rules, ℕ, ◌+◌, List, map, take, drop, ap, sym, ◌∙◌, refl, subst, Ok}
+use Rattle.std.proofs.lemmas.List.{drop_all, take_all}
 use Rattle.aw_accept.specs.declared.accepted.Accepted.{Accepted}
 use Rattle.aw_grammar.specs.GrammarOf.{grammar_of, words_of}
 use Rattle.aw_out.specs.Report.{Prints}
 use Rattle.aw_out.proofs.Printing.{Prints-second, Prints-nothing}
 use Rattle.aw_react.specs.Worlds as V
 use Rattle.aw_sched.specs.Answers.{event_seen, MayCome}
+use Rattle.aw_sched.specs.declared.event.Event.{Event}
 use Rattle.aw_world.specs.Shown.{Shows}
 use Rattle.aw_react.specs.Outputs.{after_event, after_events, event_lines, all_lines, moves_of, all_moves}
 use Rattle.aw_replay.proofs.Events.{each_here, events_more, lines_drop, some_before}
@@ -59,6 +60,11 @@ returns-in_err-tell_event-clause-prints g c = λ v s.
     let new = c.tell_event.new.report in
     let one = subst (λ (a : Accepted). Prints (event_lines (words_of a.grammar) (grammar_of a.grammar) u (event_seen e)) c.loop-event.report new c.tell_event.result) i.accepted (c.tell_event.ensures.prints u (i.after v s)) in
     i.whole v s new c.from_residual.result (stops _ _ _ c.loop-event.report new c.tell_event.result c.from_residual.result _ (lines_drop (words_of d) p u es n (n + 1) e refl c.loop-event-test.true c.event-item.is) c.in_err-tell_event.was (search rules) one)
+
+pub returns-clause-does : goal.returns-clause-does
+returns-clause-does g c = λ v s.
+    let p = grammar_of c.args.world.now.accepted.now.grammar in
+    subst (λ (xs : List Event). Shows g.W.Workspace c.loop-event.world (after_events p v (map event_seen xs))) (take_all c.loop-event.event-index c.args.events.now c.loop-event-test.false) (c.loop-event.invariant.after v s)
 
 pub returns-clause-prints : goal.returns-clause-prints
 returns-clause-prints g c = λ v s.
