@@ -26,6 +26,16 @@ impl Model for NameIndex {
     ghost view = { λ x. map (λ name. name.items) x.names.keys };
 }
 
+/// Which guess is for a name of one byte, or of none.
+fn short_guess(name: &[u8]) -> usize
+    ensures { result < 64 }
+{
+    match name {
+        [only, ..] => usize::from(*only) % GUESSES,
+        [] => 0,
+    }
+}
+
 /// Which guess is for a name: a number made of its length, its first byte and its last two, since names that are alike mostly
 /// differ there.
 fn guess_of(name: &[u8]) -> usize
@@ -33,7 +43,7 @@ fn guess_of(name: &[u8]) -> usize
 {
     let n = name.len();
     if n < 2 {
-        return n;
+        return short_guess(name);
     }
     let first = usize::from(name[0]);
     let before = usize::from(name[n - 2]);

@@ -6,9 +6,8 @@ ghost use Rattle.aw_sched.specs.ByteArguments.{EndsWord, SaysBefore};
 
 use aw_base::Text;
 use aw_form::Unread;
-use aw_lex::TokenKind;
-use aw_lex::front::{Front, front_of, is_blank};
-use aw_text::{content_value, is_plain_name, name_len, number_value};
+use aw_lex::front::is_blank;
+use aw_text::{is_plain_name, name_len, number_value, text_value};
 use std::alloc::Global;
 
 /// What is left behind the blanks at the front. Most bytes are past the space, and are no blanks.
@@ -70,19 +69,12 @@ pub(crate) fn number_front(bytes: &[u8]) -> Option<(u64, &[u8])>
     }
 }
 
-/// The content of the text at the front, and what is left behind it.
+/// The content of the text whose opening quote stands before these bytes, and what is left behind it.
 pub(crate) fn text_front(alloc: Global, bytes: &[u8]) -> Result<(Text, &[u8]), Unread>
-    ensures { IfOk result (λ x. SaysBefore bytes.entry.now (Quoted x.0 ∷ []) x.1.now) }
+    ensures { IfOk result (λ x. SaysBefore (34 ∷ bytes.entry.now) (Quoted x.0 ∷ []) x.1.now) }
 {
-    let Front::Token(kind, len) = front_of(bytes) else {
-        return Err(Unread::Form);
-    };
-    let TokenKind::Text = kind else {
-        return Err(Unread::Form);
-    };
-    let (text, rest) = bytes.split_at(len);
-    match content_value(alloc, text)? {
-        Some(content) => Ok((content, rest)),
+    match text_value(alloc, bytes)? {
+        Some(found) => Ok(found),
         None => Err(Unread::Form),
     }
 }

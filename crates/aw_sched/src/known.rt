@@ -87,8 +87,8 @@ impl<'a> ArgumentReader<'a> {
         }
         let bytes = behind_blanks(self.rest);
         match bytes {
-            [b'"', ..] => {
-                let (text, rest) = text_front(self.alloc, bytes)?;
+            [b'"', inside @ ..] => {
+                let (text, rest) = text_front(self.alloc, inside)?;
                 self.room -= 1;
                 self.rest = rest;
                 Ok(Ground::Text(text))

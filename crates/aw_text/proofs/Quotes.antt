@@ -1,5 +1,5 @@
 -- A text between quotes, byte by byte.
-use Rattle.std.proofs.Common.{◌≡◌, ℕ, ◌+◌, ◌<◌, refl, sym, ◌∙◌, ap, Bool, true, false, cond, List, [], ◌∷◌, ◌++◌, take, drop, length, arith, Option, Some, None, option_map, option_and_then, nat_le, ◌==◌, suc, subst, inl, inr, ◌&&◌, ◌||◌, not, IfSome, IfOk, Result, Ok, Err, flat_map, append_assoc, append-nil, length-append, length-drop, length-take-le, get_or, ◌≤◌}
+use Rattle.std.proofs.Common.{◌≡◌, ℕ, ◌+◌, ◌<◌, refl, sym, ◌∙◌, ap, Bool, true, false, cond, List, [], ◌∷◌, ◌++◌, take, drop, length, arith, Option, Some, None, option_map, option_and_then, nat_le, ◌==◌, suc, subst, inl, inr, ◌&&◌, ◌||◌, not, IfSome, IfOk, Result, Ok, Err, flat_map, append_assoc, append-nil, length-append, length-take-le, get_or, ◌≤◌}
 use Rattle.std.proofs.lemmas.Bool.{lt-leb, and_parts}
 use Rattle.std.proofs.lemmas.Bool.Decides.{nat_tests, eqb_tells}
 use Rattle.std.proofs.lemmas.List.{drop_more}
@@ -29,38 +29,43 @@ end_too_long k None h = refl
 end_too_long k (Some text) h = grind (arith, nat_tests)
 
 -- The same where the content is kept.
-abbrev pub whole_after : List ℕ → Option (List ℕ × List ℕ) → Option (List ℕ)
-whole_after front None = None
-whole_after front (Some text) = cond (nat_le (length front + length text.0) 1024) (whole (front ++ text.0, text.1)) None
+abbrev pub text_after : List ℕ → Option (List ℕ × List ℕ) → Option (List ℕ × List ℕ)
+text_after front None = None
+text_after front (Some text) = cond (nat_le (length front + length text.0) 1024) (Some (front ++ text.0, text.1)) None
 
-whole_limited : (text : List ℕ × List ℕ) (t : Bool) → cond t (whole text) None ≡ option_and_then whole (cond t (Some text) None)
-whole_limited text true = refl
-whole_limited text false = refl
+pub text_at_start : (o : Option (List ℕ × List ℕ)) → text_after [] o ≡ option_and_then (λ text. cond (nat_le (length text.0) 1024) (Some text) None) o
+text_at_start None = refl
+text_at_start (Some text) = ap (λ n. cond (nat_le n 1024) (Some text) None) (omega arith)
 
-pub whole_at_start : (o : Option (List ℕ × List ℕ)) → whole_after [] o ≡ option_and_then whole (option_and_then (λ text. cond (nat_le (length text.0) 1024) (Some text) None) o)
-whole_at_start None = refl
-whole_at_start (Some text) = ap (λ n. cond (nat_le n 1024) (whole text) None) (omega arith) ∙ whole_limited text (nat_le (length text.0) 1024)
-
-pub whole_one_more : (front : List ℕ) (b : ℕ) (o : Option (List ℕ × List ℕ)) → whole_after front (option_map (with_front b) o) ≡ whole_after (front ++ b ∷ []) o
-whole_one_more front b None = refl
-whole_one_more front b (Some text) =
+pub text_one_more : (front : List ℕ) (b : ℕ) (o : Option (List ℕ × List ℕ)) → text_after front (option_map (with_front b) o) ≡ text_after (front ++ b ∷ []) o
+text_one_more front b None = refl
+text_one_more front b (Some text) =
     let same : length front + suc (length text.0) ≡ length (front ++ b ∷ []) + length text.0 = omega (arith, length-append front (b ∷ [])) in
-    λ i. cond (nat_le (same i) 1024) (whole (sym (append_assoc front (b ∷ []) text.0) i, text.1)) None
+    λ i. cond (nat_le (same i) 1024) (Some (sym (append_assoc front (b ∷ []) text.0) i, text.1)) None
 
-pub whole_too_long : (front : List ℕ) (o : Option (List ℕ × List ℕ)) → 1024 < length front → whole_after front o ≡ None
-whole_too_long front None h = refl
-whole_too_long front (Some text) h = ap (λ t. cond t (whole (front ++ text.0, text.1)) None) (lt-leb (length front + length text.0) 1024 (omega (arith, h)))
+pub text_too_long : (front : List ℕ) (o : Option (List ℕ × List ℕ)) → 1024 < length front → text_after front o ≡ None
+text_too_long front None h = refl
+text_too_long front (Some text) h = ap (λ t. cond t (Some (front ++ text.0, text.1)) None) (lt-leb (length front + length text.0) 1024 (omega (arith, h)))
+
+short_enough : (n : ℕ) → n ≤ 1024 → nat_le n 1024 ≡ true
+short_enough n h = grind (arith, nat_tests)
+
+-- the closing quote stands next
+pub text_closes : (front rest : List ℕ) → length front ≤ 1024 → text_after front (Some ([], rest)) ≡ Some (front, rest)
+text_closes front rest h =
+    ap (λ t. cond t (Some (front ++ [], rest)) None) (short_enough (length front + 0) (omega (arith, h)))
+    ∙ ap (λ xs. Some (xs, rest)) (append-nil front)
 
 -- Several bytes that stand for themselves.
 pub end_run : (k : ℕ) (run : List ℕ) (o : Option (List ℕ × List ℕ)) → end_after k (option_map (with_run run) o) ≡ end_after (k + length run) o
 end_run k run None = refl
 end_run k run (Some text) = ap (λ n. cond (nat_le n 1024) (Some text.1) None) (omega (arith, length-append run text.0))
 
-pub whole_run : (front run : List ℕ) (o : Option (List ℕ × List ℕ)) → whole_after front (option_map (with_run run) o) ≡ whole_after (front ++ run) o
-whole_run front run None = refl
-whole_run front run (Some text) =
+pub text_run : (front run : List ℕ) (o : Option (List ℕ × List ℕ)) → text_after front (option_map (with_run run) o) ≡ text_after (front ++ run) o
+text_run front run None = refl
+text_run front run (Some text) =
     let same : length front + length (run ++ text.0) ≡ length (front ++ run) + length text.0 = omega (arith, length-append front run, length-append run text.0) in
-    λ i. cond (nat_le (same i) 1024) (whole (sym (append_assoc front run text.0) i, text.1)) None
+    λ i. cond (nat_le (same i) 1024) (Some (sym (append_assoc front run text.0) i, text.1)) None
 
 -- as many bytes as come before the first that does not
 pub run_prefix : (bs : List ℕ) → run_len bs ≡ prefix_len stands_for_itself bs
@@ -122,9 +127,6 @@ plain_content bs k n l e =
     ∙ ap (option_map (with_run (take k bs))) (close_here (drop (k + 1) bs))
     ∙ ap (λ xs. Some (xs, drop (k + 1) bs)) (append-nil (take k bs))
 
-short_enough : (n : ℕ) → n ≤ 1024 → nat_le n 1024 ≡ true
-short_enough n h = grind (arith, nat_tests)
-
 pub plain_text : (bs : List ℕ) (k : ℕ) → k ≡ run_len bs → k < length bs → get_or bs k 0 ≡ 34 → k ≤ 1024
     → text_behind_quote bs ≡ Some (take k bs, drop (k + 1) bs)
 plain_text bs k n l e short =
@@ -132,13 +134,6 @@ plain_text bs k n l e short =
     let long : length (take k bs) ≡ k = length-take-le k bs (omega (arith, l)) in
     ap (option_and_then (λ x. cond (nat_le (length x.0) 1024) (Some x) None)) (plain_content bs k n l e)
     ∙ ap (λ t. cond t (Some text) None) (ap (λ m. nat_le m 1024) long ∙ short_enough k short)
-
--- the same, where nothing follows the quote
-pub plain_whole : (bs content : List ℕ) (k : ℕ) → text_behind_quote bs ≡ Some (take k bs, drop (k + 1) bs) → k + 1 ≡ length bs → content ≡ take k bs
-    → Some content ≡ option_and_then whole (text_behind_quote bs)
-plain_whole bs content k e n c =
-    let none : length (drop (k + 1) bs) ≡ 0 = omega (arith, length-drop (k + 1) bs, n) in
-    ap Some c ∙ sym (ap (option_and_then whole) e ∙ ap (λ m. cond (m == 0) (Some (take k bs)) None) none)
 
 -- how a content is spelled whose bytes all stand for themselves
 itself_spelled : (b : ℕ) → stands_for_itself b ≡ true → spelled b ≡ b ∷ []

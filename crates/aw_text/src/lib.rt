@@ -14,7 +14,7 @@ pub use node_name::{
     NodeStart, StepPart, is_node_name, next_step, node_start, spelled_name_is_read,
 };
 pub use number::{is_number, number_value, printed_is_read, push_number};
-pub use quote::{content_value, push_quoted, quoted_is_read, text_end};
+pub use quote::{content_value, push_quoted, quoted_is_read, text_end, text_value};
 
 #[cfg(test)]
 mod tests;

@@ -177,25 +177,28 @@ fn end_by_pieces(bytes: &[u8]) -> Option<&[u8]>
     None
 }
 
-/// The content behind an opening quote, where nothing follows the text.
-fn read_whole(alloc: Global, bytes: &[u8]) -> Result<Option<Text>, AllocError>
-    ensures { IfOk result (λ content. content ≡ option_and_then whole (text_behind_quote bytes.now)) }
+/// Behind an opening quote: the content of the text, and the bytes behind the closing quote; `None` where no text stands there.
+pub fn text_value(alloc: Global, bytes: &[u8]) -> Result<Option<(Text, &[u8])>, AllocError>
+    ensures { IfOk result (λ found. option_map (λ text. (text.0, text.1.now)) found ≡ text_behind_quote bytes.now) }
 {
     match plain_len(bytes) {
-        Some(len) if len + 1 == bytes.len() => Ok(Some(Text::from_bytes(alloc, &bytes[..len])?)),
-        _ => read_by_pieces(alloc, bytes),
+        Some(len) => {
+            let content = Text::from_bytes(alloc, &bytes[..len])?;
+            Ok(Some((content, &bytes[len + 1..])))
+        }
+        None => read_by_pieces(alloc, bytes),
     }
 }
 
 /// The same of any text, piece by piece.
-fn read_by_pieces(alloc: Global, bytes: &[u8]) -> Result<Option<Text>, AllocError>
-    ensures { IfOk result (λ content. content ≡ option_and_then whole (text_behind_quote bytes.now)) }
+fn read_by_pieces(alloc: Global, bytes: &[u8]) -> Result<Option<(Text, &[u8])>, AllocError>
+    ensures { IfOk result (λ found. option_map (λ text. (text.0, text.1.now)) found ≡ text_behind_quote bytes.now) }
 {
     let mut content = Text::new(alloc);
     let mut rest = bytes;
     while content.len() <= MOST_OF_CONTENT {
         match next_piece(rest) {
-            Piece::Close(behind) => return Ok(content_if_last(content, behind)),
+            Piece::Close(behind) => return Ok(Some((content, behind))),
             Piece::Byte(byte, behind) => {
                 content.push(byte)?;
                 rest = behind;
@@ -208,6 +211,16 @@ fn read_by_pieces(alloc: Global, bytes: &[u8]) -> Result<Option<Text>, AllocErro
         }
     }
     Ok(None)
+}
+
+/// The content behind an opening quote, where nothing follows the text.
+fn read_whole(alloc: Global, bytes: &[u8]) -> Result<Option<Text>, AllocError>
+    ensures { IfOk result (λ content. content ≡ option_and_then whole (text_behind_quote bytes.now)) }
+{
+    match text_value(alloc, bytes)? {
+        Some((content, behind)) => Ok(content_if_last(content, behind)),
+        None => Ok(None),
+    }
 }
 
 /// The content of a text in quotes; `None` where the bytes are not one text.
