@@ -4,6 +4,7 @@ use Rattle.std.specs.Prelude.{unwrap_or}
 use Rattle.std.proofs.lemmas.List.{take_all}
 use Rattle.std.specs.List.{list_all, prefix_len}
 use Rattle.aw_text.specs.Spelling.{is_name, is_name_byte, number_of, unquoted, text_behind_quote}
+use Rattle.aw_text.proofs.TextEnds.{text_word}
 use Rattle.aw_lex.specs.declared.token.Token.{Token}
 use Rattle.aw_lex.specs.declared.token.TokenKind.{TokenKind}
 use Rattle.aw_lex.specs.declared.token.TokenKind.TheVariants as kinds
@@ -91,6 +92,15 @@ pub text_says : (bs w rest content : List ℕ) → bs ≡ w ++ rest → 0 < leng
 text_says bs w rest content cut some found is ls s =
     let all = token_says w rest kinds.Text some (ap front_of (sym cut) ∙ found) ls s in
     subst (λ x. Says x (Quoted content ∷ ls)) (sym cut) (subst (λ o. Says (w ++ rest) (Quoted (unwrap_or o []) ∷ ls)) is all)
+
+-- the same of the text behind an opening quote
+pub quoted_says : (bs rest content : List ℕ) → text_behind_quote bs ≡ Some (content, rest) → SaysBefore (34 ∷ bs) (Quoted content ∷ []) rest
+quoted_says bs rest content e =
+    let word = text_word bs content rest e in
+    let long : length bs ≡ length word.0 + length rest = ap length word.1 ∙ length-append word.0 rest in
+    let len : 1 + (length bs - length rest) ≡ length (34 ∷ word.0) = omega (arith, long) in
+    text_says (34 ∷ bs) (34 ∷ word.0) rest content (ap (λ xs. 34 ∷ xs) word.1) (omega arith)
+    (ap (λ o. front_of_text bs (option_map (λ text. text.1) o)) e ∙ ap (front.Token kinds.Text) len) word.2
 
 -- what is left behind the first byte
 abbrev pub others : List ℕ → List ℕ

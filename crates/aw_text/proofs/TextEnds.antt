@@ -92,9 +92,11 @@ HasWord bs text = (word : List ℕ) × (bs ≡ word ++ text.1) × (unquoted (34 
 
 word_cut : (bs : List ℕ) (text : List ℕ × List ℕ) → nat_le (length text.0) 1024 ≡ true → IsFront bs text → HasWord bs text
 word_cut bs text short front =
-    let limit : List ℕ × List ℕ → Option (List ℕ × List ℕ) = λ x. cond (nat_le (length x.0) 1024) (Some x) None in
-    (take front.0 bs, sym (take-append-drop front.0 bs) ∙ ap (λ xs. take front.0 bs ++ xs) (sym front.3),
-     ap (λ o. option_and_then whole (option_and_then limit o)) front.2 ∙ ap (λ t. option_and_then whole (cond t (Some (text.0, [])) None)) short)
+    let limit : List ℕ × List ℕ → Option (List ℕ × List ℕ) = λ x. cond (nat_le (length x.0) 1024) (Some x) None in (
+      take front.0 bs,
+      sym (take-append-drop front.0 bs) ∙ ap (λ xs. take front.0 bs ++ xs) (sym front.3),
+      ap (λ o. option_and_then whole (option_and_then limit o)) front.2 ∙ ap (λ t. option_and_then whole (cond t (Some (text.0, [])) None)) short,
+    )
 
 limited_word : (bs : List ℕ) (text : List ℕ × List ℕ) (t : Bool) → nat_le (length text.0) 1024 ≡ t → IsFront bs text
     → IfSome (cond t (Some text) None) (HasWord bs)
