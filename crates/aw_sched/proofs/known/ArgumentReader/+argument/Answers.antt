@@ -1,8 +1,8 @@
 use Rattle.std.proofs.Common.{rules, ◌≡◌, ◌-◌, ◌∙◌, ◌∷◌, [], refl, sym, subst, get_or, arith}
 use Rattle.aw_grammar.specs.declared.grammar.Grammar.{Grammar}
-use Rattle.aw_form.specs.Lexemes.{Name, Number, Quoted}
+use Rattle.aw_form.specs.Lexemes.{Name, Number}
 use Rattle.aw_sched.specs.ByteArguments.{TakesArgument}
-use Rattle.aw_sched.proofs.ByteFronts.{mark_passed, others, says_then}
+use Rattle.aw_sched.proofs.ByteFronts.{mark_passed, others, quote_passed, says_then}
 use Rattle.aw_sched.proofs.ReadArguments.{at_close, number_read, one_more, parts_read, some_symbols, takes_behind_name, text_read, word_read}
 use Rattle.aw_sched.proofs.known.ArgumentReader.+argument.Goals as goal
 
@@ -11,8 +11,10 @@ pub argument-returns-in_ok-text-in-34-clause-reads :
 argument-returns-in_ok-text-in-34-clause-reads t c =
     let self = c.args.self.now in
     let found = c.in_ok-text-in-34 in
+    let bytes = c.behind_blanks-bytes.result.now in
+    let opened : get_or bytes 0 0 ≡ 34 = search rules in
     text_read self.grammar.now.cons c.args.depth self.room (self.room - 1) found.text self.rest.now found.rest.now (omega arith) (omega arith)
-    (says_then self.rest.now c.behind_blanks-bytes.result.now found.rest.now [] (Quoted found.text ∷ []) c.behind_blanks-bytes.ensures found.ensures)
+    (quote_passed self.rest.now bytes found.rest.now found.text 0 c.behind_blanks-bytes.ensures c.in-34.len_at_least opened found.ensures)
 
 pub argument-returns-in-Some-clause-reads : goal.argument-returns-in-Some-clause-reads
 argument-returns-in-Some-clause-reads t c =
