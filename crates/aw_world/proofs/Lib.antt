@@ -17,3 +17,4 @@ pub mod RowsAt
 pub mod HeldRows
 pub mod OwnGrammars
 pub mod Printers
+pub mod OpenNodes

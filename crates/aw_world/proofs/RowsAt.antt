@@ -1,18 +1,16 @@
 -- The row of a node at a place of a workspace.
-use Rattle.std.proofs.Common.{◌≡◌, ℕ, zero, suc, ◌+◌, ◌<◌, arith, false, List, [], ◌∷◌, ◌++◌, length, drop, ap, sym, ◌∙◌, refl, subst, Option, Some, None, slice_get, append_assoc}
+use Rattle.std.proofs.Common.{◌≡◌, ℕ, ◌+◌, ◌<◌, false, List, ◌∷◌, length, drop, ap, sym, ◌∙◌, refl, subst, Option, Some, None, slice_get}
 use Rattle.std.specs.Prelude.{Result, option_and_then, option_map, IsSome}
 use Rattle.std.proofs.lemmas.List.{length-map}
 use Rattle.std.proofs.lemmas.Option.{slice_get-map, slice_get_within}
 use Rattle.aw_term.specs.Artifacts.{row_text}
-use Rattle.aw_term.specs.Configs.{Row, Config, State, Pending, Done}
-use Rattle.aw_term.specs.Names.{Node}
+use Rattle.aw_term.specs.Configs.{Row, Config}
 use Rattle.aw_term.specs.Rules.{get}
-use Rattle.aw_term.specs.Rules as R
 use Rattle.aw_term.proofs.GrammarTests.{grammars_are_one}
 use Rattle.aw_grammar.specs.declared.grammar.Grammar.{Grammar}
 use Rattle.aw_grammar.specs.GrammarOf.{grammar_of, words_of}
 use Rattle.aw_held.specs.declared.held.Held.{Held}
-use Rattle.aw_held.specs.HeldView.{held_of, all_of, state_of}
+use Rattle.aw_held.specs.HeldView.{held_of, all_of}
 use Rattle.aw_out.specs.declared.error.PrintFault.{PrintFault}
 use Rattle.aw_out.specs.Report.{Bounded, Prints}
 use Rattle.aw_react.specs.Homes.{home}
@@ -22,7 +20,7 @@ use Rattle.aw_merge.specs.ReadRows.{IsRead, AreRead}
 use Rattle.aw_world.specs.declared.workspace.Workspace.{Ghosts}
 use Rattle.aw_world.specs.declared.merging.Spot.{Spot}
 use Rattle.aw_world.specs.Merged.{merged, nodes_of, held_at}
-use Rattle.aw_world.specs.Opened.{AreAllInOrder, AreAtHome, open_on, open_nodes}
+use Rattle.aw_world.specs.Opened.{AreAllInOrder, AreAtHome}
 use Rattle.aw_world.specs.PrintedRows.{PrintsRow}
 use Rattle.aw_world.specs.Seen.{ArePlaced, ShowEach}
 use Rattle.aw_world.proofs.Gathered.{gathered}
@@ -76,23 +74,3 @@ module _ {W : Type 0} (f : Ghosts W) (hold : (w : W) (s : Site) → f.shows w s 
   order_length spots order =
       told_length (held_at f ws) spots (merged (nodes_of f ws)) order
       ∙ sym (ap length (gathered f hold (grammar_of d) ws v.sites placed.grammar shown) ∙ length-map (merged (nodes_of f ws)) (held_of (grammar_of d)))
-
--- ---- open nodes
-
-open_more : (s : State) (n : Node) (ns : List Node) → open_on s n [] ++ ns ≡ open_on s n ns
-open_more Pending n ns = refl
-open_more (Done r args) n ns = refl
-
-drop_here : (hs : List Held) (i : ℕ) (h : Held) → slice_get hs i ≡ Some h → drop i hs ≡ h ∷ drop (i + 1) hs
-drop_here [] i h e = absurd cc
-drop_here (x ∷ hs) zero h e = let same : x ≡ h = cc in ap (λ y. y ∷ hs) same
-drop_here (x ∷ hs) (suc i) h e = let z : suc i + 1 ≡ suc (i + 1) = omega arith in drop_here hs i h e ∙ ap (λ j. h ∷ drop j (x ∷ hs)) (sym z)
-
--- one node more was looked at
-pub opened : (g : R.Grammar) (hs : List Held) (i : ℕ) (h : Held) (old new whole : List Node) → slice_get hs i ≡ Some h → new ≡ old ++ open_on (state_of h.done) h.node []
-    → old ++ open_nodes (all_of g (drop i hs)) ≡ whole → new ++ open_nodes (all_of g (drop (i + 1) hs)) ≡ whole
-opened g hs i h old new whole here is so =
-    ap (λ z. z ++ open_nodes (all_of g (drop (i + 1) hs))) is
-    ∙ append_assoc old (open_on (state_of h.done) h.node []) (open_nodes (all_of g (drop (i + 1) hs)))
-    ∙ ap (λ z. old ++ z) (open_more (state_of h.done) h.node (open_nodes (all_of g (drop (i + 1) hs))) ∙ ap (λ z. open_nodes (all_of g z)) (sym (drop_here hs i h here)))
-    ∙ so

@@ -12,3 +12,4 @@ pub mod Opened
 pub mod Shown
 pub mod WorldView
 pub mod SpotRows
+pub mod NodeLists

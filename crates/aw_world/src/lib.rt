@@ -8,6 +8,7 @@ mod making;
 mod marks;
 mod merging;
 mod moves;
+mod opening;
 mod settling;
 mod sites;
 mod workspace;

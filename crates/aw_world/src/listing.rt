@@ -1,29 +1,26 @@
 //! What the workspaces of a world hold.
-ghost use Rattle.std.specs.Prelude.{◌≡◌, ◌++◌, ◌<◌, [], Some, None, true, IfOk, IsSome, OnOk, length, map as list_map};
+ghost use Rattle.std.specs.Prelude.{◌≡◌, ◌<◌, None, true, IfOk, IsSome, length, map as list_map};
 ghost use Rattle.aw_choice.specs.ChoiceView.{item_of};
 ghost use Rattle.aw_grammar.specs.GrammarOf.{grammar_of};
 ghost use Rattle.aw_grammar.specs.declared.grammar.Grammar.{Grammar as GrammarValue};
-ghost use Rattle.aw_held.specs.HeldView.{all_of, state_of};
-ghost use Rattle.aw_held.specs.declared.held.Held.{Held as HeldValue};
 ghost use Rattle.aw_out.specs.Report.{Bounded};
 ghost use Rattle.aw_react.specs.Worlds as V;
 ghost use Rattle.aw_term.specs.SameGrammar.{same_grammar};
-ghost use Rattle.aw_term.specs.Rules.{Grammar as PlainGrammar};
-ghost use Rattle.aw_world.specs.Merged.{merged, nodes_of, held_at};
-ghost use Rattle.aw_world.specs.Opened.{AreAllInOrder, AreAtHome, open_on, open_nodes};
+ghost use Rattle.aw_world.specs.Merged.{held_at};
+ghost use Rattle.aw_world.specs.Opened.{AreAllInOrder, AreAtHome, open_nodes};
 ghost use Rattle.aw_world.specs.Reactions.{PrintsRows, PrintsArtifacts, HasRows};
 ghost use Rattle.aw_world.specs.Seen.{ArePlaced, ShowEach, KeepEach};
 ghost use Rattle.aw_world.specs.SpotRows.{PrintsSpot};
 
 use crate::merging::{Spot, in_order};
+use crate::opening::open_all;
 use crate::workspace::Workspace;
 use crate::world::World;
 use aw_accept::Accepted;
 use aw_base::NameWriter;
 use aw_choice::Worklist;
-use aw_held::Held;
 use aw_list::Items;
-use aw_name::{Node, copy_node};
+use aw_name::Node;
 use aw_out::{PrintFault, Report};
 use aw_print::Printer;
 use std::alloc::{AllocError, Global};
@@ -94,44 +91,6 @@ fn print_all<W: Workspace>(
     Ok(())
 }
 
-/// Adds a node where it is open.
-fn push_open(nodes: &mut Vec<Node>, held: &Held) -> Result<(), AllocError>
-    ensures { OnOk result (nodes.new.items ≡ nodes.old.items ++ open_on (state_of held.now.done) held.now.node []) }
-{
-    match &held.done {
-        Some(_) => Ok(()),
-        None => {
-            nodes.push(copy_node(&held.node)?)?;
-            Ok(())
-        }
-    }
-}
-
-/// Adds the node at a place where it is open.
-fn open_at<W: Workspace>(sites: &[W], spot: &Spot, nodes: &mut Vec<Node>) -> Result<(), AllocError>
-    requires { IsSome (held_at ⟦<W as Workspace>⟧ sites.now spot.now) }
-    ensures { OnOk result ((h : HeldValue) → held_at ⟦<W as Workspace>⟧ sites.now spot.now ≡ Some h → nodes.new.items ≡ nodes.old.items ++ open_on (state_of h.done) h.node []) }
-{
-    let held = sites[spot.site].nodes();
-    push_open(nodes, held.at(spot.place))
-}
-
-/// The open nodes among all.
-fn open_all<W: Workspace>(
-    alloc: Global,
-    sites: &[W],
-    spots: &[Spot],
-) -> Result<Vec<Node>, AllocError>
-    requires { AreAllInOrder ⟦<W as Workspace>⟧ sites.now spots.now }
-    ensures { IfOk result (λ nodes. (g : PlainGrammar) → nodes.items ≡ open_nodes (all_of g (merged (nodes_of ⟦<W as Workspace>⟧ sites.now)))) }
-{
-    let mut nodes = Vec::new(alloc);
-    for spot in spots {
-        open_at(sites, spot, &mut nodes)?;
-    }
-    Ok(nodes)
-}
-
 impl<'g, W: Workspace> World<'g, W> {
     ghost use Rattle.aw_world.specs.Shown.{IsWorklist, Shows, first_open};
 
@@ -167,8 +126,7 @@ impl<'g, W: Workspace> World<'g, W> {
     pub fn pending(&self) -> Result<Nodes, AllocError>
         ensures { IfOk result (λ nodes. (v : V.World) → Shows ⟦<W as Workspace>⟧ self.now v → nodes ≡ open_nodes (V.gather v.sites)) }
     {
-        let spots = self.in_order()?;
-        let nodes = open_all(self.allocator(), self.sites.as_slice(), spots.as_slice())?;
+        let nodes = open_all(self.allocator(), self.sites.as_slice())?;
         Ok(Nodes::from_vec(nodes))
     }
 
