@@ -12,3 +12,4 @@ pub mod Stages
 pub mod TypeSteps
 pub mod KeptTypes
 pub mod MadeFor
+pub mod Feeds

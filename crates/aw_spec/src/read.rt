@@ -1,5 +1,6 @@
 //! Reading the specification at the front of a text.
-ghost use Rattle.std.specs.Prelude.{◌≡◌, ◌≤◌, length, drop, IfOk, None};
+ghost use Rattle.std.specs.Prelude.{◌≡◌, ◌==◌, ◌+◌, ◌<◌, ◌≤◌, ◌^◌, length, drop, IfOk, None};
+ghost use Rattle.std.specs.List.{prefix_len};
 ghost use Rattle.aw_lex.specs.Lines.{lines_of};
 ghost use Rattle.aw_grammar.specs.Declarations.{grammar_in, words_in};
 ghost use Rattle.aw_grammar.specs.GrammarOf.{grammar_of, words_of, declarations_of};
@@ -51,6 +52,32 @@ fn text_of(draft: Draft, loads: bool, lines: u64, rest: usize) -> SpecText
     }
 }
 
+/// How many line feeds stand in front of a text.
+fn leading_feeds(text: &[u8]) -> usize
+    ensures value { result ≡ prefix_len (λ b. b == 10) text.now }
+    ensures within { result ≤ length text.now }
+{
+    let mut count = 0;
+    while count < text.len() {
+        if text[count] != b'\n' {
+            return count;
+        }
+        count += 1;
+    }
+    count
+}
+
+/// The text behind the line feeds in front of it, which are as many empty lines: these are counted, and nothing else is read of them.
+fn past_feeds<'t>(text: &'t [u8], lines: &mut u64) -> &'t [u8]
+    requires { lines.old + length text.now < 2 ^ 64 }
+    ensures lines { lines.new ≡ lines.old + prefix_len (λ b. b == 10) text.now }
+    ensures rest { result.now ≡ drop (prefix_len (λ b. b == 10) text.now) text.now }
+{
+    let feeds = leading_feeds(text);
+    *lines += feeds as u64;
+    &text[feeds..]
+}
+
 fn read_lines(alloc: Global, text: &[u8]) -> Result<SpecText, SpecFault>
     ensures exact { Spells result (specification (lines_of text.now)) }
     ensures within { IfOk result (λ s. s.rest ≤ length text.now) }
@@ -65,7 +92,7 @@ fn read_lines(alloc: Global, text: &[u8]) -> Result<SpecText, SpecFault>
     while let Some((line, behind)) = next_line(rest) {
         lines += 1;
         match reader.read_line(&mut found, line) {
-            Ok(AfterLine::Next) => rest = behind,
+            Ok(AfterLine::Next) => rest = past_feeds(behind, &mut lines),
             Ok(AfterLine::End { loads }) => {
                 return Ok(text_of(reader.draft, loads, lines, text.len() - behind.len()));
             }
