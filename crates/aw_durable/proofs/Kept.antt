@@ -9,8 +9,9 @@ use Rattle.aw_journal.specs.Journal.{Kept}
 use Rattle.aw_journal.specs.declared.journal.AppendFault.{AppendFault}
 use Rattle.aw_journal.specs.declared.journal.AppendFault.TheVariants.{NoMemory}
 use Rattle.aw_node.specs.TypedNodes.{Rules, HandlesAs}
-use Rattle.aw_durable.specs.Appending.{Appends, Fails, FailsAsSeen}
-use Rattle.aw_durable.specs.KeptEvents.{event_by}
+use Rattle.aw_append.specs.Appending.{Appends, Fails}
+use Rattle.aw_append.specs.News.{event_by}
+use Rattle.aw_durable.specs.Answering.{FailsAsSeen}
 
 module _ {D : Type 0} (d : Ghosts D) where
   -- what was done as the reply says was done as each site says that was shown

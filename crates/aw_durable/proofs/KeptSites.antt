@@ -15,7 +15,8 @@ use Rattle.aw_msg.specs.MessageView.{message_of}
 use Rattle.aw_journal.specs.Events.{Event, Took, Got}
 use Rattle.aw_nodes.specs.Told.{told}
 use Rattle.aw_node.specs.TypedNodes.{Rules, handle}
-use Rattle.aw_durable.specs.KeptEvents.{is_news, asked, kept_of, frame_for, is_kept, after_event, site_by, AreKept}
+use Rattle.aw_append.specs.News.{is_news, asked}
+use Rattle.aw_durable.specs.KeptEvents.{kept_of, frame_for, is_kept, after_event, site_by, AreKept}
 use Rattle.aw_durable.specs.KeptSites.{KeptSite, with_event, IsMadeOf}
 
 -- ---- what is no news changes nothing

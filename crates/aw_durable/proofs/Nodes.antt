@@ -13,7 +13,7 @@ use Rattle.aw_session.specs.declared.serving.Stopped.{Stopped}
 use Rattle.aw_session.specs.declared.serving.Stopped.TheVariants as stopped
 use Rattle.aw_session.proofs.Simulations.{all-served-as}
 use Rattle.aw_node.specs.TypedNodes.{Rules}
-use Rattle.aw_durable.specs.Appending.{AnswersAndKeeps, FailsAsSeen}
+use Rattle.aw_durable.specs.Answering.{AnswersAndKeeps, FailsAsSeen}
 use Rattle.aw_durable.specs.Exits.{Origin, Stands, Halts}
 use Rattle.aw_durable.specs.KeptSites.{KeptSite, keeps, after_frame}
 use Rattle.aw_durable.specs.Serving.{GoesOn, StopsNode}

@@ -15,7 +15,8 @@ use Rattle.aw_msg.specs.MessageView.{message_of}
 use Rattle.aw_journal.specs.Events.{Event, Took, Got}
 use Rattle.aw_nodes.specs.Told.{told}
 use Rattle.aw_node.specs.TypedNodes.{Rules}
-use Rattle.aw_durable.specs.KeptEvents.{is_news, is_kept, after_event}
+use Rattle.aw_append.specs.News.{is_news}
+use Rattle.aw_durable.specs.KeptEvents.{is_kept, after_event}
 use Rattle.aw_durable.specs.Laws.{site_event, SitesAreRuns, FirstAreKept}
 use Rattle.aw_durable.proofs.KeptSites.{chosen-by}
 

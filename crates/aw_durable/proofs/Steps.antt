@@ -13,7 +13,8 @@ use Rattle.aw_journal.specs.declared.journal.AppendFault.{AppendFault}
 use Rattle.aw_journal.specs.declared.journal.AppendFault.TheVariants.{DiskFault, Full, NoMemory}
 use Rattle.aw_journal.proofs.Moments.{weaker, runs_on}
 use Rattle.aw_node.specs.TypedNodes.{handle}
-use Rattle.aw_durable.specs.Appending.{Writes, Appends, Tries, Because, AnswersAndKeeps, FailsAsSeen}
+use Rattle.aw_append.specs.Appending.{Writes, Appends, Tries, Because}
+use Rattle.aw_durable.specs.Answering.{AnswersAndKeeps, FailsAsSeen}
 use Rattle.aw_durable.specs.Exits.{IsOldOrBetween, IsLeft, Origin, Stands, Halts, IsWithin}
 use Rattle.aw_durable.specs.KeptEvents.{kept_of}
 use Rattle.aw_durable.specs.KeptSites.{KeptSite, keeps, after_frame, with_event}

@@ -1,29 +1,11 @@
 -- What a node keeps: the choices that it takes, and the messages that are new to it.
-use Rattle.std.specs.Prelude.{◌≡◌, ℕ, Bool, true, false, List, [], ◌∷◌, ◌++◌, length, Option, None, Some, if◌then◌else◌}
-use Rattle.aw_term.specs.Choices.{Taken}
+use Rattle.std.specs.Prelude.{◌≡◌, ℕ, Bool, true, false, List, [], ◌∷◌, ◌++◌, length, Option}
 use Rattle.aw_react.specs.Sites.{Site}
 use Rattle.aw_msg.specs.Frames as F
-use Rattle.aw_msg.specs.Responses as R
+use Rattle.aw_append.specs.News.{is_news, event_by}
 use Rattle.aw_journal.specs.Events.{Event, Took, Got}
 use Rattle.aw_nodes.specs.Told.{told}
 use Rattle.aw_node.specs.TypedNodes.{Rules, handle}
-
--- whether a reply tells of an event: a message was new, or a choice was taken
-abbrev pub is_news : R.Response → Bool
-is_news R.WasNew = true
-is_news (R.Answers Taken) = true
-is_news _ = false
-
--- the event that a frame asks for, if any
-abbrev pub asked : F.Frame → Option Event
-asked (F.Push m) = Some (Got m)
-asked (F.Choose c) = Some (Took c)
-asked (F.Pull place) = None
-asked (F.Listed place) = None
-
--- the event that a frame was by its reply, if it was one
-abbrev pub event_by : F.Frame → R.Response → Option Event
-event_by f x = if is_news x then asked f else None
 
 -- what a site keeps of a frame
 abbrev pub kept_of : Rules → Site → F.Frame → Option Event

@@ -1,4 +1,4 @@
-pub mod Appending
+pub mod Answering
 pub mod Exits
 pub mod Faults
 pub mod KeptEvents

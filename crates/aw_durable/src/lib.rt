@@ -1,7 +1,7 @@
 //! A node that survives a crash at any moment: each event is on the disk before its reply is written.
 #![tactic(auto)]
 
-mod appending;
+mod answering;
 pub mod fault;
 pub mod law;
 pub mod node;

@@ -3,7 +3,7 @@ ghost use Rattle.std.specs.Prelude.{◌≡◌};
 ghost use Rattle.aw_grammar.specs.GrammarOf.{grammar_of};
 ghost use Rattle.aw_typed.specs.Typing.{IsMadeFor};
 
-use crate::appending::answer;
+use crate::answering::answer;
 use aw_accept::Accepted;
 use aw_disk::Disk;
 use aw_journal::{AppendFault, Journal};
@@ -69,7 +69,7 @@ impl<'g, 'd, P, D> KeptNode<'g, 'd, P, D> {
 
 impl<P: Workspace, D: Disk> Handles for KeptNode<'_, '_, P, D> {
     ghost use Rattle.std.specs.Prelude.{◌≢◌, IsTrue};
-    ghost use Rattle.aw_durable.specs.Appending.{AnswersAndKeeps, FailsAsSeen};
+    ghost use Rattle.aw_durable.specs.Answering.{AnswersAndKeeps, FailsAsSeen};
     ghost use Rattle.aw_journal.specs.Journal.{IsSettled};
     ghost use Rattle.aw_journal.specs.declared.journal.AppendFault.TheVariants.{DiskFault, NoMemory};
     ghost use Rattle.aw_node.specs.TypedNodes.{rules_of};

@@ -12,9 +12,9 @@ ghost use Rattle.aw_node.specs.TypedNodes.{rules_of};
 ghost use Rattle.aw_react.specs.Sites.{Site};
 ghost use Rattle.aw_typed.specs.Typing.{IsMadeFor};
 
-use crate::appending::is_news;
 use crate::fault::KeptFault;
 use aw_accept::Accepted;
+use aw_append::is_news;
 use aw_choice::copy_choice;
 use aw_journal::NodeEvent;
 use aw_msg::{Answered, Frame, copy_message};

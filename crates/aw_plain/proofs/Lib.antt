@@ -1,6 +1,3 @@
-pub mod ViewLemmas
-pub mod Counts
-pub mod JobLemmas
 pub mod MatchLemmas
 pub mod GuardLemmas
 pub mod FitLemmas

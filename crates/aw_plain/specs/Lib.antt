@@ -1,9 +1,5 @@
-pub mod TreeView
-pub mod Places
-pub mod Jobs
 pub mod MatchView
 pub mod Narrow
-pub mod RowView
 pub mod GuardView
 pub mod Filled
 pub mod OutcomeView

@@ -1,68 +1,27 @@
 //! What a taken rule does to the rows.
 ghost use Rattle.std.specs.Prelude.{◌≡◌, ◌<◌, ◌≤◌, IfOk, OnOk, OnErr, length, map, option_map};
-ghost use Rattle.aw_term.specs.Trees.{bind};
-ghost use Rattle.aw_term.specs.Configs.{develop as plain_develop, done_row as plain_done, put, row_put, Done};
+ghost use Rattle.aw_term.specs.Configs.{develop as plain_develop, done_row as plain_done, Done};
 ghost use Rattle.aw_term.specs.Choices.{or_same};
 ghost use Rattle.aw_term.specs.Views.{ground_of};
 ghost use Rattle.aw_grammar.specs.GrammarView.{rule_of};
-ghost use Rattle.aw_plain.specs.TreeView.{values_of};
-ghost use Rattle.aw_plain.specs.RowView.{plain_row, plain_state, config_of};
-ghost use Rattle.aw_plain.specs.Changes.{row_fed, row_taken};
+ghost use Rattle.aw_rows.specs.TreeView.{values_of};
+ghost use Rattle.aw_rows.specs.RowView.{plain_row, plain_state, config_of};
+ghost use Rattle.aw_rows.specs.Rounds.{row_fed};
+ghost use Rattle.aw_plain.specs.Changes.{row_taken};
 ghost use Rattle.aw_plain.specs.Ordered.{IsOrdered};
 ghost use Rattle.aw_plain.specs.Cases.{AreApart};
 
 use crate::change::{apply, changes};
 use crate::child::{bindings, child_rows};
 use crate::fill::fill_all;
-use crate::put::{copy_parts, put_all};
-use crate::row::{Row, State, add_rows, copy_state};
+use crate::row::add_rows;
 use crate::taking::Taking;
 use crate::touch::touched;
-use crate::tree::{Tree, Trees};
 use aw_base::{Grammar, Grounds, Rule};
-use aw_list::Items;
 use aw_name::{Node, copy_node};
+use aw_rows::{Row, State, Tree, Trees, copy_parts, copy_state, put_rounds};
 use aw_term::order::is_node;
 use std::alloc::{AllocError, Global};
-
-/// Values with all holes of the node replaced at once.
-fn put_trees(
-    alloc: Global,
-    trees: &[Tree],
-    node: &Node,
-    results: &[Tree],
-) -> Result<Trees, AllocError>
-    ensures { IfOk result (λ ts. values_of ts ≡ map (bind (put node.now (values_of results.now))) (values_of trees.now)) }
-{
-    let mut replaced = Vec::new(alloc);
-    for tree in trees {
-        replaced.push(put_all(alloc, tree, node, results)?)?;
-    }
-    Ok(Items::from_vec(replaced))
-}
-
-/// A row with all holes of the node replaced at once.
-fn put_row(alloc: Global, row: &Row, node: &Node, results: &[Tree]) -> Result<Row, AllocError>
-    ensures { IfOk result (λ r. plain_row r ≡ row_put (put node.now (values_of results.now)) (plain_row row.now)) }
-{
-    Ok(Row {
-        node: copy_node(&row.node)?,
-        sort: row.sort,
-        inherited: put_trees(alloc, row.inherited.as_slice(), node, results)?,
-        results: put_trees(alloc, row.results.as_slice(), node, results)?,
-        state: copy_state(&row.state)?,
-    })
-}
-
-/// Replaces all holes of the node as many times as it has results: a node may be fed by its own results.
-fn put_rounds(alloc: Global, mut row: Row, node: &Node, results: &[Tree]) -> Result<Row, AllocError>
-    ensures { IfOk result (λ r. plain_row r ≡ row_fed node.now (values_of results.now) (plain_row row)) }
-{
-    for _round in 0..results.len() {
-        row = put_row(alloc, &row, node, results)?;
-    }
-    Ok(row)
-}
 
 /// Each of these rows with all holes of the node replaced.
 fn put_each(

@@ -13,17 +13,12 @@ mod order;
 mod outcome;
 mod plain;
 mod print;
-pub mod put;
 mod row;
 mod take;
 mod taking;
 mod touch;
-mod tree;
 
 pub use law::run_laws;
 pub use matching::{Matched, match_tree};
 pub use plain::Plain;
 pub use print::print_rows;
-pub use put::copy_tree;
-pub use row::{Row, State};
-pub use tree::{Tree, Trees};

@@ -1,39 +1,14 @@
 //! Rows of a configuration, in the order of their nodes.
-ghost use Rattle.std.specs.Prelude.{◌≡◌, ◌+◌, ◌<◌, ◌≤◌, ◌++◌, ◌∷◌, IfOk, OnOk, OnErr, length, take, drop, option_map, vec_len, vec_capacity};
+ghost use Rattle.std.specs.Prelude.{◌≡◌, ◌+◌, ◌<◌, ◌≤◌, ◌++◌, ◌∷◌, OnOk, OnErr, length, take, drop, option_map, vec_len, vec_capacity};
 ghost use Rattle.std.specs.Option.{option_copied};
 ghost use Rattle.aw_term.specs.Configs.{insert_row, insert_rows, row_of, Row as PlainRow};
-ghost use Rattle.aw_plain.specs.RowView.{plain_row, config_of};
+ghost use Rattle.aw_rows.specs.RowView.{plain_row, config_of};
 ghost use Rattle.aw_plain.specs.Ordered.{IsOrdered};
 
-use crate::tree::Trees;
-use aw_base::Grounds;
 use aw_name::Node;
+use aw_rows::Row;
 use aw_term::order::{is_before, is_node};
 use std::alloc::AllocError;
-
-/// Whether a choice was taken on a node, and which.
-#[derive(Debug, Clone, PartialEq, Eq, Drop)]
-pub enum State {
-    Pending,
-    Done { rule: u16, args: Grounds },
-}
-
-/// A node with its inherited values and its results.
-#[derive(Debug, Drop)]
-pub struct Row {
-    pub node: Node,
-    pub sort: u16,
-    pub inherited: Trees,
-    pub results: Trees,
-    pub state: State,
-}
-
-/// A copy of a state.
-pub fn copy_state(state: &State) -> Result<State, AllocError>
-    ensures { IfOk result (λ s. s ≡ state.now) }
-{
-    state.clone()
-}
 
 /// The row of a node, where it is held.
 pub fn find_row<'r>(rows: &'r [Row], node: &Node) -> Option<&'r Row>

@@ -28,6 +28,7 @@ use Rattle.aw_react.specs.ValidNames.{message_ok}
 use Rattle.aw_space.specs.Spaces as S
 use Rattle.aw_space.specs.Spaces.{clash_with}
 use Rattle.aw_space.specs.Placings.{MayBeCalled, MayBeLearnt}
+use Rattle.aw_repeat.specs.Views.{kind_of}
 use Rattle.aw_site.specs.declared.plan.Plan.{Plan}
 use Rattle.aw_site.specs.declared.sender.Sender.{Sender}
 use Rattle.aw_site.specs.Came.{came, holding, inherited_by, watching}
@@ -39,7 +40,7 @@ use Rattle.aw_site.specs.Shown.{space_in}
 use Rattle.aw_site.specs.Plans.{wanted_of, asks_for}
 use Rattle.aw_site.specs.Senders.{SendsAs}
 use Rattle.aw_site.specs.Walks.{listed}
-use Rattle.aw_site.specs.Views.{clash_of, kind_of}
+use Rattle.aw_site.specs.Views.{clash_of}
 use Rattle.aw_site.proofs.Clashing.{find_added}
 use Rattle.aw_site.proofs.Receptions.{call_may_come, tell_may_come, bad_name, not_mine, in_conflict, known_already, new_here}
 

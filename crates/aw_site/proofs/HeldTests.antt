@@ -1,6 +1,5 @@
 -- Held nodes of the program, found as plain ones.
-use Rattle.std.proofs.Common.{◌≡◌, ℕ, true, false, cond, List, Option, Some, None, slice_get, refl, ap, sym, ◌∙◌}
-use Rattle.std.specs.Prelude.{is_some}
+use Rattle.std.proofs.Common.{◌≡◌, ℕ, true, false, cond, List, Some, None, slice_get, ap, sym, ◌∙◌}
 use Rattle.std.proofs.lemmas.Option.{same_Some}
 use Rattle.aw_term.specs.Names.{Node, Ref}
 use Rattle.aw_term.specs.Rules.{Grammar}
@@ -12,14 +11,6 @@ use Rattle.aw_held.specs.InOrder.{place_in}
 use Rattle.aw_held.proofs.HeldViews.{held_nowhere, held_here}
 use Rattle.aw_react.specs.Receiving.{refs_eq, call_clash}
 use Rattle.aw_space.specs.Spaces.{call_of}
-
-held_cases : (g : Grammar) (n : Node) (hs : List Held) (o : Option ℕ) → place_in n hs ≡ o → is_some o ≡ is_some (P.held_of n (all_of g hs))
-held_cases g n hs None e = sym (ap is_some (held_nowhere g n hs e))
-held_cases g n hs (Some i) e = sym (ap is_some (held_here g n hs i e).3)
-
--- whether a node is held
-pub held_view : (g : Grammar) (n : Node) (hs : List Held) → is_some (place_in n hs) ≡ is_some (P.held_of n (all_of g hs))
-held_view g n hs = held_cases g n hs (place_in n hs) refl
 
 pub nowhere_free : (g : Grammar) (n : Node) (rs : List Ref) (hs : List Held) → place_in n hs ≡ None → None ≡ call_clash (P.held_of n (all_of g hs)) (call_of g n rs) None
 nowhere_free g n rs hs e = ap (λ o. call_clash o (call_of g n rs) None) (sym (held_nowhere g n hs e))

@@ -21,9 +21,10 @@ use Rattle.aw_space.specs.SpaceView.{space_of}
 use Rattle.aw_space.specs.Seen.{space_seen}
 use Rattle.aw_site.specs.declared.plan.Plan.{Plan}
 use Rattle.aw_site.specs.Doing.{doing_planned, IsPlanned}
-use Rattle.aw_site.specs.Holders.{holder, IsOfRole, ShowsAsked, ShowsWatchers}
+use Rattle.aw_repeat.specs.Holders.{holder, IsOfRole, ShowsAsked, ShowsWatchers}
+use Rattle.aw_repeat.specs.Views.{kind_of}
 use Rattle.aw_site.specs.Shown.{space_in, HoldsAs, Shows}
-use Rattle.aw_site.specs.Views.{clash_of, kind_of}
+use Rattle.aw_site.specs.Views.{clash_of}
 use Rattle.aw_site.specs.declared.clashes.Clash.{Clash}
 use Rattle.aw_site.proofs.Receptions.{clash_same, repeat_same, asks_of_role}
 

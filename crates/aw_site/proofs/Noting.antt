@@ -10,7 +10,7 @@ use Rattle.aw_react.specs.Sites.{Watch}
 use Rattle.aw_react.specs.Telling.{has_watch}
 use Rattle.aw_subs.specs.declared.subs.Subs.{Subs}
 use Rattle.aw_subs.specs.Entries.{is_asked, watches}
-use Rattle.aw_site.specs.Holders.{ShowsAsked, ShowsWatchers}
+use Rattle.aw_repeat.specs.Holders.{ShowsAsked, ShowsWatchers}
 
 both_tests : (b c : Bool) → (b ≡ true → c ≡ true) → (c ≡ true → b ≡ true) → b ≡ c
 both_tests true c f g = sym (f refl)

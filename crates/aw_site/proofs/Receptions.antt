@@ -19,9 +19,9 @@ use Rattle.aw_react.specs.Reacting.{received_on, receive, react}
 use Rattle.aw_react.specs.Sites.{Watch, Site}
 use Rattle.aw_react.specs.ValidNames.{message_ok, names_ok, origin_ok}
 use Rattle.aw_space.specs.Placings.{MayBeCalled, MayBeLearnt}
-use Rattle.aw_site.specs.Holders.{holder, IsOfRole}
+use Rattle.aw_repeat.specs.Holders.{holder, IsOfRole}
+use Rattle.aw_repeat.specs.Views.{kind_of}
 use Rattle.aw_site.specs.Judged.{IsFresh}
-use Rattle.aw_site.specs.Views.{kind_of}
 
 -- ---- the answer
 

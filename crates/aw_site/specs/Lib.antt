@@ -1,5 +1,4 @@
 pub mod Views
-pub mod Holders
 pub mod Walks
 pub mod Senders
 pub mod Ordered

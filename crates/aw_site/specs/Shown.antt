@@ -8,7 +8,7 @@ use Rattle.aw_react.specs.Sites as P
 use Rattle.aw_space.specs.declared.space.Space.{Space}
 use Rattle.aw_space.specs.Spaces as S
 use Rattle.aw_space.specs.Seen.{grammar_in, space_seen}
-use Rattle.aw_site.specs.Holders.{ShowsAsked, ShowsWatchers}
+use Rattle.aw_repeat.specs.Holders.{ShowsAsked, ShowsWatchers}
 
 -- the nodes, choices and equations of a site
 abbrev pub space_in : P.Site → S.Space

@@ -1,20 +1,15 @@
--- The program's messages, children and clashes as plain ones.
+-- The program's children and clashes as plain ones.
 use Rattle.aw_term.specs.Rules.{Grammar}
 use Rattle.aw_apply.specs.Made.{Call}
 use Rattle.aw_apply.specs.Messages as P
 use Rattle.aw_apply.specs.declared.making.MadeChild.{MadeChild}
-use Rattle.aw_msg.specs.MessageView.{kind_with, content_of, sort_or_zero}
-use Rattle.aw_msg.specs.declared.message.MsgKind.{MsgKind}
+use Rattle.aw_msg.specs.MessageView.{content_of}
 use Rattle.aw_space.specs.Spaces.{call_of}
 use Rattle.aw_site.specs.declared.clashes.Clash.{Clash}
 
 -- a child that was made, as a call
 abbrev pub child_call : Grammar → MadeChild → Call
 child_call g c = call_of g c.node c.inherited
-
--- what a message says, with the sort of the called node
-abbrev pub kind_of : Grammar → MsgKind → P.Kind
-kind_of g k = kind_with (sort_or_zero g) k
 
 -- what was kept and what came that contradicts it, as plain ones
 abbrev pub clash_of : Clash → P.Clash

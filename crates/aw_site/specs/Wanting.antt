@@ -8,7 +8,7 @@ use Rattle.aw_react.specs.InOrder.{insert_ref}
 use Rattle.aw_react.specs.Sites.{Site}
 use Rattle.aw_react.specs.ValidNames.{refs_ok}
 use Rattle.aw_subs.specs.declared.subs.Subs.{Subs}
-use Rattle.aw_site.specs.Holders.{ShowsAsked}
+use Rattle.aw_repeat.specs.Holders.{ShowsAsked}
 use Rattle.aw_site.specs.Ordered.{AreInOrder}
 use Rattle.aw_site.specs.Senders.{SendsAs}
 use Rattle.aw_site.specs.declared.sender.Sender.{Sender}

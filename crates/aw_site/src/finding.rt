@@ -4,22 +4,10 @@ ghost use Rattle.aw_store.specs.Equations.{find};
 ghost use Rattle.aw_store.specs.EquationView.{body_of, equation_of};
 
 use aw_name::Ref;
+use aw_repeat::has_equation;
 use aw_store::bodies::find_body;
-use aw_store::{Body, Equation, Facts, Kind, copy_body, equation_at};
+use aw_store::{Body, Equation, Facts, copy_body, equation_at};
 use std::alloc::{AllocError, Global};
-
-/// Whether a reference has an equation in a store. It takes no memory.
-pub fn has_equation<F: Facts>(facts: &F, r: &Ref) -> bool
-    ensures { result ≡ is_some (find (F.map facts.now) r.now) }
-{
-    match facts.slot_of(r) {
-        Some(slot) => match facts.kind(slot) {
-            Kind::Missing => false,
-            Kind::Same(_) | Kind::Con(_, _) | Kind::Num(_) | Kind::Text => true,
-        },
-        None => false,
-    }
-}
 
 /// Whether a reference has an equation in a list.
 pub fn is_behind(more: &[Equation], r: &Ref) -> bool

@@ -7,7 +7,6 @@ mod choosing;
 mod clashes;
 mod finding;
 mod judging;
-mod known;
 mod plan;
 mod received;
 mod receiving;

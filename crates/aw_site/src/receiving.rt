@@ -12,6 +12,7 @@ ghost use Rattle.aw_space.specs.Keeping.{KeepsFacts, KeepsNodes};
 ghost use Rattle.aw_space.specs.Placings.{MayBeCalledIf, MayBeLearnt, called_by};
 ghost use Rattle.aw_space.specs.Seen.{space_seen};
 ghost use Rattle.aw_space.specs.Spaces.{clash_with};
+ghost use Rattle.aw_repeat.specs.Views.{kind_of};
 ghost use Rattle.aw_site.specs.Answers.{sent_for, IsReceived};
 ghost use Rattle.aw_site.specs.Came.{came, holding, inherited_by, watching};
 ghost use Rattle.aw_site.specs.Doing.{IsPlanned};
@@ -19,7 +20,6 @@ ghost use Rattle.aw_site.specs.Judged.{IsFresh};
 ghost use Rattle.aw_site.specs.Sendable.{all_short};
 ghost use Rattle.aw_site.specs.Shown.{HoldsAs, Shows};
 ghost use Rattle.aw_site.specs.Walks.{listed};
-ghost use Rattle.aw_site.specs.Views.{kind_of};
 ghost use Rattle.aw_term.specs.Rules as T;
 ghost use Rattle.aw_apply.specs.Messages.{carried};
 

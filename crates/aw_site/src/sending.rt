@@ -4,7 +4,7 @@ ghost use Rattle.std.specs.Prelude.{◌≡◌, ◌+◌, ◌++◌, ◌∷◌, [],
 ghost use Rattle.aw_term.specs.Names.{Ref as RefName};
 ghost use Rattle.aw_react.specs.Sites.{Watch};
 ghost use Rattle.aw_subs.specs.Entries.{is_ready};
-ghost use Rattle.aw_site.specs.Holders.{ShowsAsked, ShowsWatchers};
+ghost use Rattle.aw_repeat.specs.Holders.{ShowsAsked, ShowsWatchers};
 ghost use Rattle.aw_site.specs.Sendable.{all_short};
 
 use crate::plan::Plan;

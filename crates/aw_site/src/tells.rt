@@ -9,7 +9,7 @@ ghost use Rattle.aw_react.specs.Loads.{load_of};
 ghost use Rattle.aw_react.specs.Sites as P;
 ghost use Rattle.aw_react.specs.Telling.{watchers_from, tell, tells, tell_back};
 ghost use Rattle.aw_react.specs.ValidNames.{body_ok, equation_ok, equations_ok};
-ghost use Rattle.aw_site.specs.Holders.{AreWatchers, ShowsWatchers};
+ghost use Rattle.aw_repeat.specs.Holders.{AreWatchers, ShowsWatchers};
 ghost use Rattle.aw_site.specs.Senders.{SendsAs};
 ghost use Rattle.aw_site.specs.Walks.{listed};
 

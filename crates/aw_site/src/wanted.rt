@@ -11,7 +11,7 @@ ghost use Rattle.aw_react.specs.InOrder.{has_ref, insert_ref};
 ghost use Rattle.aw_react.specs.Sites as P;
 ghost use Rattle.aw_react.specs.Telling.{calls_in};
 ghost use Rattle.aw_react.specs.ValidNames.{body_ok, refs_ok, equations_ok, call_ok};
-ghost use Rattle.aw_site.specs.Holders.{ShowsAsked};
+ghost use Rattle.aw_repeat.specs.Holders.{ShowsAsked};
 ghost use Rattle.aw_site.specs.Ordered.{AreInOrder};
 ghost use Rattle.aw_site.specs.Plans.{asks_for};
 ghost use Rattle.aw_site.specs.Senders.{SendsAs};

@@ -5,8 +5,8 @@
 use aw_base::{Grammar, Node, Trail};
 use aw_list::{Items, Text};
 use aw_out::{PrintFault, Report};
-use aw_plain::put::make_con;
-use aw_plain::{Row, State, Tree, copy_tree, print_rows};
+use aw_plain::print_rows;
+use aw_rows::{Row, State, Tree, copy_tree, make_con};
 use aw_tables::{TableFault, tell};
 use std::alloc::{AllocError, Global};
 use std::process::ExitCode;

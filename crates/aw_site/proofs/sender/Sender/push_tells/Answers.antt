@@ -1,7 +1,7 @@
 use Rattle.std.proofs.Common.{map, refl, subst, sym}
 use Rattle.std.proofs.lemmas.List.{drop_all}
 use Rattle.aw_grammar.specs.GrammarOf.{grammar_of}
-use Rattle.aw_site.specs.Holders.{AreWatchers}
+use Rattle.aw_repeat.specs.Holders.{AreWatchers}
 use Rattle.aw_site.proofs.Steps.{drop_here}
 use Rattle.aw_store.specs.EquationView.{equation_of}
 use Rattle.aw_react.specs.Telling.{tells}

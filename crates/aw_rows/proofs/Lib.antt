@@ -1,0 +1,4 @@
+pub mod ViewLemmas
+pub mod Counts
+pub mod JobLemmas
+pub mod RoundLemmas
