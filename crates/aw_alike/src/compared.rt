@@ -47,6 +47,9 @@ fn take_turn(
     if choice_ok(accepted.grammar(), &choice) {
         let answer = run.choose(accepted, choice)?;
         tally.count_answer(&answer);
+        drop(answer);
+    } else {
+        drop(choice);
     }
     Ok(())
 }
@@ -110,7 +113,9 @@ fn compare_run(
     tally: &mut Tally,
 ) -> Result<(), AllocError> {
     let mut run = Run::new(alloc, accepted);
-    compare_drawn(alloc, draws, accepted, &mut run, asked, tally)
+    let compared = compare_drawn(alloc, draws, accepted, &mut run, asked, tally);
+    drop(run);
+    compared
 }
 
 /// Draws the runs of an entry.
@@ -130,7 +135,10 @@ fn accepted_of(alloc: Global, text: &[u8]) -> Result<Accepted, TableFault> {
     };
     match accept(alloc, spec.into_grammar()) {
         Ok(accepted) => Ok(accepted),
-        Err(_) => Err(TableFault::Unreadable),
+        Err(refused) => {
+            drop(refused);
+            Err(TableFault::Unreadable)
+        }
     }
 }
 
@@ -162,7 +170,9 @@ fn push_tally(
 /// Adds what is told of the runs of an entry.
 fn push_runs(alloc: Global, told: &mut Text, asked: &Asked, text: &[u8]) -> Result<(), TableFault> {
     let accepted = accepted_of(alloc, text)?;
-    push_tally(alloc, told, &accepted, asked)
+    let pushed = push_tally(alloc, told, &accepted, asked);
+    drop(accepted);
+    pushed
 }
 
 /// Adds an entry's name and what is told of it.
@@ -174,14 +184,20 @@ fn push_entry(alloc: Global, told: &mut Text, entry: &[u8]) -> Result<(), TableF
     push_runs(alloc, told, &asked, text)
 }
 
+/// Adds what is told of all entries.
+fn push_entries(alloc: Global, told: &mut Text, entries: &[u8]) -> Result<(), TableFault> {
+    for entry in entries.split_str(MARK) {
+        push_entry(alloc, told, entry)?;
+    }
+    Ok(())
+}
+
 /// What is told of all entries.
 pub fn table(alloc: Global, text: &[u8]) -> Result<Text, TableFault> {
-    let mut told = Text::new(alloc);
     let Some((_, entries)) = text.split_once_str(MARK) else {
         return Err(TableFault::Unreadable);
     };
-    for entry in entries.split_str(MARK) {
-        push_entry(alloc, &mut told, entry)?;
-    }
+    let mut told = Text::new(alloc);
+    push_entries(alloc, &mut told, entries)?;
     Ok(told)
 }

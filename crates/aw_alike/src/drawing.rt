@@ -4,7 +4,7 @@ use crate::values::arguments;
 use aw_choice::Choice;
 use aw_grammar::Grammar;
 use aw_name::{Node, Trail, copy_node};
-use aw_plain::{Row, State};
+use aw_rows::{Row, State};
 use std::alloc::{AllocError, Global};
 
 /// What is drawn from: the cases that are started, beside the grammar and the rows that stand.

@@ -2,7 +2,7 @@
 use aw_text::{cut_at, number_value};
 
 /// Where the drawing begins, how many runs are drawn, how many choices each has, and how many cases are started.
-#[derive(Clone, Copy, Debug)]
+#[derive(Clone, Copy)]
 pub struct Asked {
     pub seed: u64,
     pub runs: u64,

@@ -12,7 +12,7 @@ const FACTOR: u64 = 1_099_511_628_211;
 
 /// How many choices got each kind of answer, how many runs there were and in how many of them both told the same, how many bytes
 /// were told over whole trees, and a number made of all of them.
-#[derive(Clone, Copy, Debug)]
+#[derive(Clone, Copy)]
 pub struct Tally {
     runs: u64,
     alike: u64,

@@ -3,7 +3,7 @@ use aw_out::PrintFault;
 use std::alloc::AllocError;
 
 /// Why an entry is not told.
-#[derive(Clone, Copy, Debug, PartialEq, Eq)]
+#[derive(Clone, Copy)]
 pub enum EntryFault {
     /// The specification is not accepted, or the schedule not read.
     Unreadable,

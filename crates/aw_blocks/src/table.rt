@@ -21,13 +21,25 @@ fn push_named(alloc: Global, told: &mut Text, name: &[u8], input: &[u8]) -> Resu
     }
 }
 
-/// What is told of all entries. What stands before the first mark is none.
+/// Adds an entry's name, and what is told of it. What has no line is none.
+fn push_part(alloc: Global, told: &mut Text, entry: &[u8]) -> Result<(), AllocError> {
+    match entry.split_once_str(b"\n") {
+        Some((name, input)) => push_named(alloc, told, name, input),
+        None => Ok(()),
+    }
+}
+
+/// Adds what is told of all entries. What stands before the first mark is none.
+fn push_entries(alloc: Global, told: &mut Text, text: &[u8]) -> Result<(), AllocError> {
+    for entry in text.split_str(MARK) {
+        push_part(alloc, told, entry)?;
+    }
+    Ok(())
+}
+
+/// What is told of all entries.
 pub fn table(alloc: Global, text: &[u8]) -> Result<Text, TableFault> {
     let mut told = Text::new(alloc);
-    for entry in text.split_str(MARK) {
-        if let Some((name, input)) = entry.split_once_str(b"\n") {
-            push_named(alloc, &mut told, name, input)?;
-        }
-    }
+    push_entries(alloc, &mut told, text)?;
     Ok(told)
 }

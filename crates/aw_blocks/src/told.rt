@@ -10,7 +10,7 @@ use aw_accept::{Accepted, Refused, accept};
 use aw_base::{Grammar, push_node};
 use aw_blocked::{Pair, waiting};
 use aw_list::Text;
-use aw_out::{OUTPUT_LIMIT, Report};
+use aw_out::{OUTPUT_LIMIT, PrintFault, Report};
 use aw_replay::tell_events;
 use aw_sched::{Event, Events, SchedFault, read_schedule};
 use aw_spec::{SpecFault, SpecText, read_spec};
@@ -41,8 +41,30 @@ fn events_of(alloc: Global, g: &Grammar, schedule: &[u8]) -> Result<Events, Entr
     }
 }
 
-/// Adds who waits for whom in a world after these events.
+/// Does the events of a schedule. What is told of them is let go.
+fn do_events<W: Workspace>(
+    alloc: Global,
+    world: &mut World<W>,
+    events: &[Event],
+) -> Result<(), PrintFault>
+    requires { Each (MayCome (plain_of world.old)) events.now }
+{
+    let mut report = Report::new(alloc, OUTPUT_LIMIT);
+    tell_events(world, events, &mut report)
+}
+
+/// Adds who waits for whom in a world.
 fn push_waiting<W: Workspace>(
+    told: &mut Text,
+    g: &Grammar,
+    world: &World<W>,
+) -> Result<(), AllocError> {
+    let pairs = waiting(world)?;
+    push_pairs(told, g, pairs.as_slice())
+}
+
+/// Adds who waits for whom in a world after these events.
+fn push_after<W: Workspace>(
     alloc: Global,
     told: &mut Text,
     g: &Grammar,
@@ -51,24 +73,38 @@ fn push_waiting<W: Workspace>(
 ) -> Result<(), EntryFault>
     requires { Each (MayCome (plain_of world.old)) events.now }
 {
-    let mut report = Report::new(alloc, OUTPUT_LIMIT);
-    tell_events(world, events, &mut report)?;
-    let pairs = waiting(world)?;
-    Ok(push_pairs(told, g, pairs.as_slice())?)
+    do_events(alloc, world, events)?;
+    Ok(push_waiting(told, g, world)?)
+}
+
+/// Adds who waits for whom after these events, where nothing happened before.
+fn push_world(
+    alloc: Global,
+    told: &mut Text,
+    accepted: &Accepted,
+    loads: bool,
+    events: &[Event],
+) -> Result<(), EntryFault>
+    requires { Each (MayCome (grammar_of accepted.now.grammar)) events.now }
+{
+    let mut world = SiteWorld::new(alloc, accepted, loads)?;
+    let pushed = push_after(alloc, told, accepted.grammar(), &mut world, events);
+    drop(world);
+    pushed
 }
 
 /// Adds who waits for whom after the events of a schedule.
-fn push_world(
+fn push_schedule(
     alloc: Global,
     told: &mut Text,
     accepted: &Accepted,
     loads: bool,
     schedule: &[u8],
 ) -> Result<(), EntryFault> {
-    let g = accepted.grammar();
-    let events = events_of(alloc, g, schedule)?;
-    let mut world = SiteWorld::new(alloc, accepted, loads)?;
-    push_waiting(alloc, told, g, &mut world, events.as_slice())
+    let events = events_of(alloc, accepted.grammar(), schedule)?;
+    let pushed = push_world(alloc, told, accepted, loads, events.as_slice());
+    drop(events);
+    pushed
 }
 
 /// The specification of an entry.
@@ -82,12 +118,23 @@ fn spec_of(alloc: Global, input: &[u8]) -> Result<SpecText, EntryFault>
     }
 }
 
+/// Why the entry of a grammar that is not accepted is not told.
+fn fault_of(refused: &Refused) -> EntryFault {
+    match refused {
+        Refused::Circular { .. } => EntryFault::Unreadable,
+        Refused::NoMemory => EntryFault::NoMemory,
+    }
+}
+
 /// A grammar that is accepted.
 fn accepted_of(alloc: Global, g: Grammar) -> Result<Accepted, EntryFault> {
     match accept(alloc, g) {
         Ok(accepted) => Ok(accepted),
-        Err(Refused::Circular { .. }) => Err(EntryFault::Unreadable),
-        Err(Refused::NoMemory) => Err(EntryFault::NoMemory),
+        Err(refused) => {
+            let fault = fault_of(&refused);
+            drop(refused);
+            Err(fault)
+        }
     }
 }
 
@@ -108,5 +155,7 @@ fn parts_of(spec: SpecText) -> (Grammar, usize, bool)
 pub fn push_entry(alloc: Global, told: &mut Text, input: &[u8]) -> Result<(), EntryFault> {
     let (grammar, rest, loads) = parts_of(spec_of(alloc, input)?);
     let accepted = accepted_of(alloc, grammar)?;
-    push_world(alloc, told, &accepted, loads, &input[rest..])
+    let pushed = push_schedule(alloc, told, &accepted, loads, &input[rest..]);
+    drop(accepted);
+    pushed
 }

@@ -1,8 +1,7 @@
 //! A case: nodes that are held over a store, its lines, and what is told of each.
-ghost use Rattle.std.specs.Prelude.{◌≡◌, ◌<◌, IfSome, length, map};
-ghost use Rattle.aw_store.specs.EquationView.{equation_of};
-ghost use Rattle.aw_store.specs.StoreView.{all_few, has_few};
+ghost use Rattle.std.specs.Prelude.{◌<◌, IfSome, length};
 
+use crate::narrow::{are_narrow, is_narrow};
 use crate::typed::{read_equation, read_held, read_ref};
 use crate::weigh::{Answered, weigh};
 use aw_apply::{Made, MadeChild, MadeChildren};
@@ -14,15 +13,15 @@ use aw_list::Text;
 use aw_name::is_same_node;
 use aw_sched::{Event, Events, SchedFault, read_schedule};
 use aw_store::{
-    Added, Body, Chase, Equation, Equations, Facts, ListFacts, Refs, body_text, chase,
-    copy_equation, intern_all, push_body,
+    Added, Chase, Equation, Equations, Facts, ListFacts, Refs, body_text, chase, copy_equation,
+    intern_all, push_body,
 };
 use aw_typed::untyped;
 use bstr::ByteSlice;
 use std::alloc::{AllocError, Global};
 
 /// A node with its inherited references, and whether a choice was taken on it.
-#[derive(Debug, Drop)]
+#[derive(Drop)]
 struct Held {
     node: Node,
     inherited: Refs,
@@ -30,7 +29,7 @@ struct Held {
 }
 
 /// A store, the nodes that are held over it, and what was told so far.
-#[derive(Debug, Drop)]
+#[derive(Drop)]
 pub struct Case<'g> {
     grammar: &'g Grammar,
     names: NameWriter<'g>,
@@ -49,28 +48,6 @@ fn place_of(held: &[Held], node: &Node) -> Option<usize>
         }
     }
     None
-}
-
-/// Whether a body has at most 8 references.
-fn is_narrow(e: &Equation) -> bool
-    ensures { result ≡ has_few (equation_of e.now) }
-{
-    match &e.body {
-        Body::Con(_, parts) => parts.len() <= 8,
-        Body::Same(_) | Body::Num(_) | Body::Text(_) => true,
-    }
-}
-
-/// Whether each body has at most 8 references.
-fn are_narrow(es: &[Equation]) -> bool
-    ensures { result ≡ all_few (map equation_of es.now) }
-{
-    for e in es {
-        if !is_narrow(e) {
-            return false;
-        }
-    }
-    true
 }
 
 /// How a chase ends, in a word, and at which slot.

@@ -1,62 +1,67 @@
-//! A table of cases over flat equations. Each entry has a specification and then lines: the starts and choices of a
-//! schedule, and `equation LEFT = BODY`, `node NAME (REFERENCES)` and `chase REFERENCE`, which put equations and nodes
-//! there by hand. What stands in `stdout` was written by hand and, where a case has hundreds of lines, by a script that
-//! knows nothing of the program; nothing in it comes from the program.
+//! A table of flat equations, in three parts, each behind a line with its name: `cases`, choices that are answered over a store; `stores`,
+//! calls on the two stores; and `lines`, the lines of nodes that are printed over both. What stands in `stdin` and `stdout` was worked out by
+//! hand or by scripts that know nothing of the program; nothing in them comes from it.
 #![tactic(auto)]
 
+mod both;
+mod call;
 mod case;
+mod cases;
+mod draws;
+mod filling;
+mod lines;
+mod narrow;
+mod reading;
+mod stores;
+mod told;
 mod typed;
 mod weigh;
 
-use aw_base::Grammar;
 use aw_list::Text;
-use aw_spec::read_spec;
 use aw_tables::{TableFault, input_of, tell};
 use bstr::ByteSlice;
-use case::Case;
-use std::alloc::{AllocError, Global};
+use cases::push_cases;
+use lines::push_lines;
+use std::alloc::Global;
 use std::process::ExitCode;
+use stores::push_stores;
 
-/// What stands in front of an entry's name.
-const MARK: &[u8] = b"=== ";
+/// What stands in front of a part's name.
+const PART: &[u8] = b"+++ ";
 
-/// Adds what is told of the lines behind a specification.
-fn push_case(
-    alloc: Global,
-    told: &mut Text,
-    grammar: &Grammar,
-    lines: &[u8],
-) -> Result<(), AllocError> {
-    let mut case = Case::new(alloc, grammar);
-    for line in lines.lines() {
-        case.push_line(line)?;
+/// Adds what is told of the part of this name.
+fn push_told(alloc: Global, told: &mut Text, name: &[u8], text: &[u8]) -> Result<(), TableFault> {
+    match name {
+        b"cases" => Ok(push_cases(alloc, told, text)?),
+        b"stores" => Ok(push_stores(alloc, told, text)?),
+        b"lines" => push_lines(alloc, told),
+        _ => Err(TableFault::Unreadable),
     }
-    told.push_bytes(case.told())
 }
 
-/// Adds the lines of an entry.
-fn push_entry(alloc: Global, told: &mut Text, name: &[u8], input: &[u8]) -> Result<(), AllocError> {
-    told.push_bytes(MARK)?;
+/// Adds a part's name and what is told of it. What has no line is none.
+fn push_part(alloc: Global, told: &mut Text, part: &[u8]) -> Result<(), TableFault> {
+    let Some((name, text)) = part.split_once_str(b"\n") else {
+        return Ok(());
+    };
+    told.push_bytes(PART)?;
     told.push_bytes(name)?;
     told.push_bytes(b"\n")?;
-    match read_spec(alloc, input) {
-        Ok(spec) => {
-            let pushed = push_case(alloc, told, &spec.grammar, &input[spec.rest..]);
-            drop(spec);
-            pushed
-        }
-        Err(_) => told.push_bytes(b"not read\n"),
-    }
+    push_told(alloc, told, name, text)
 }
 
-/// The lines of all entries. What stands before the first mark is none.
+/// Adds what is told of all parts. What stands before the first one is none.
+fn push_parts(alloc: Global, told: &mut Text, text: &[u8]) -> Result<(), TableFault> {
+    for part in text.split_str(PART) {
+        push_part(alloc, told, part)?;
+    }
+    Ok(())
+}
+
+/// What is told of all parts.
 fn table(alloc: Global, text: &[u8]) -> Result<Text, TableFault> {
     let mut told = Text::new(alloc);
-    for entry in text.split_str(MARK) {
-        if let Some((name, input)) = entry.split_once_str(b"\n") {
-            push_entry(alloc, &mut told, name, input)?;
-        }
-    }
+    push_parts(alloc, &mut told, text)?;
     Ok(told)
 }
 

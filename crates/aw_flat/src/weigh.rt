@@ -12,7 +12,7 @@ use aw_store::{Facts, Refs};
 use std::alloc::{AllocError, Global};
 
 /// A refusal, what a taken rule makes, or nothing, where the node was put there with references that no guard is tested on.
-#[derive(Debug, Drop)]
+#[derive(Drop)]
 pub enum Answered {
     Refused(Answer),
     Gives(Made),

@@ -1,12 +1,12 @@
 //! How many requests of each kind a session has.
-use crate::fault::EntryFault;
 use aw_list::Text;
 use aw_msg::{Frame, FrameReader, Next};
+use aw_tables::TableFault;
 use aw_text::push_number;
 use std::alloc::{AllocError, Global};
 
 /// How many requests of each kind came, and whether the last answer was `Bad`.
-#[derive(Clone, Copy, Debug, PartialEq, Eq)]
+#[derive(Clone, Copy)]
 struct Counts {
     pushes: u64,
     choices: u64,
@@ -26,6 +26,22 @@ impl Counts {
     }
 }
 
+/// Counts the next request, and tells whether one was there.
+fn add_next(counts: &mut Counts, reader: &mut FrameReader) -> Result<bool, AllocError> {
+    match reader.next()? {
+        Next::Frame(frame) => {
+            counts.add(&frame);
+            drop(frame);
+            Ok(true)
+        }
+        Next::Need => Ok(false),
+        Next::Bad => {
+            counts.failed = true;
+            Ok(false)
+        }
+    }
+}
+
 /// Counts the requests that are there; there are at most as many as bytes.
 fn add_requests(
     counts: &mut Counts,
@@ -33,13 +49,8 @@ fn add_requests(
     most: usize,
 ) -> Result<(), AllocError> {
     for _ in 0..=most {
-        match reader.next()? {
-            Next::Frame(frame) => counts.add(&frame),
-            Next::Need => return Ok(()),
-            Next::Bad => {
-                counts.failed = true;
-                return Ok(());
-            }
+        if !add_next(counts, reader)? {
+            return Ok(());
         }
     }
     Ok(())
@@ -78,14 +89,19 @@ fn push_count(told: &mut Text, word: &[u8], count: u64) -> Result<(), AllocError
     told.push_bytes(b"\n")
 }
 
+/// Adds what was counted, and the last answer.
+fn push_all(told: &mut Text, counts: &Counts) -> Result<(), AllocError> {
+    push_count(told, b"pushes ", counts.pushes)?;
+    push_count(told, b"choices ", counts.choices)?;
+    push_count(told, b"pulls ", counts.pulls)?;
+    push_count(told, b"lists ", counts.lists)?;
+    told.push_bytes(if counts.failed { b"bad\n" } else { b"need\n" })
+}
+
 /// How many requests of each kind a session has that comes in pieces of this size, and the last answer.
-pub fn push_counts(alloc: Global, bytes: &[u8], size: usize) -> Result<Text, EntryFault> {
+pub fn push_counts(alloc: Global, bytes: &[u8], size: usize) -> Result<Text, TableFault> {
     let counts = counted(alloc, bytes, size)?;
     let mut told = Text::new(alloc);
-    push_count(&mut told, b"pushes ", counts.pushes)?;
-    push_count(&mut told, b"choices ", counts.choices)?;
-    push_count(&mut told, b"pulls ", counts.pulls)?;
-    push_count(&mut told, b"lists ", counts.lists)?;
-    told.push_bytes(if counts.failed { b"bad\n" } else { b"need\n" })?;
+    push_all(&mut told, &counts)?;
     Ok(told)
 }

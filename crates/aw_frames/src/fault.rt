@@ -4,7 +4,7 @@ use aw_wire::{MsgFault, Unread};
 use std::alloc::AllocError;
 
 /// Why an entry is not told.
-#[derive(Clone, Copy, Debug, PartialEq, Eq)]
+#[derive(Clone, Copy)]
 pub enum EntryFault {
     /// An entry has none of the forms.
     Unreadable,
@@ -15,6 +15,15 @@ pub enum EntryFault {
 impl From<AllocError> for EntryFault {
     fn from(_failed: AllocError) -> EntryFault {
         EntryFault::NoMemory
+    }
+}
+
+impl From<TableFault> for EntryFault {
+    fn from(fault: TableFault) -> EntryFault {
+        match fault {
+            TableFault::Unreadable => EntryFault::Unreadable,
+            TableFault::NoMemory => EntryFault::NoMemory,
+        }
     }
 }
 

@@ -1,24 +1,69 @@
-//! A table of sessions, messages, choices and replies as bytes: of each it is told what is read, or what is written. With the
-//! words `count SIZE` it is told only how many requests of each kind the bytes of one session are, fed in pieces of that size.
-//! What stands in `stdin` and `stdout` was made from the stated formats; nothing in it comes from the program.
+//! A table of bytes, in two parts, each behind a line with its name: `frames`, sessions, messages, choices and replies, of each of which it
+//! is told what is read, or what is written; and `journals`, the files of kept nodes. With the words `count SIZE` it is told only how many
+//! requests of each kind the bytes of one session are, fed in pieces of that size. What stands in `stdin` and `stdout` was made from the
+//! stated formats; nothing in it comes from the program.
 #![tactic(auto)]
 
 mod count;
 mod fault;
 mod fields;
+mod frames;
+mod images;
+mod journals;
 mod replies;
 mod session;
-mod table;
 mod values;
+mod worked;
 
 use aw_list::Text;
 use aw_tables::{TableFault, input_of, tell};
 use aw_text::number_value;
+use bstr::ByteSlice;
 use count::push_counts;
+use frames::push_frames;
+use journals::push_journals;
+use std::alloc::Global;
 use std::process::ExitCode;
 use std::rt::Env;
 use std::{env, io};
-use table::table;
+
+/// What stands in front of a part's name.
+const PART: &[u8] = b"+++ ";
+
+/// Adds what is told of the part of this name.
+fn push_told(alloc: Global, told: &mut Text, name: &[u8], text: &[u8]) -> Result<(), TableFault> {
+    match name {
+        b"frames" => Ok(push_frames(alloc, told, text)?),
+        b"journals" => Ok(push_journals(alloc, told, text)?),
+        _ => Err(TableFault::Unreadable),
+    }
+}
+
+/// Adds a part's name and what is told of it. What has no line is none.
+fn push_part(alloc: Global, told: &mut Text, part: &[u8]) -> Result<(), TableFault> {
+    let Some((name, text)) = part.split_once_str(b"\n") else {
+        return Ok(());
+    };
+    told.push_bytes(PART)?;
+    told.push_bytes(name)?;
+    told.push_bytes(b"\n")?;
+    push_told(alloc, told, name, text)
+}
+
+/// Adds what is told of all parts. What stands before the first one is none.
+fn push_parts(alloc: Global, told: &mut Text, text: &[u8]) -> Result<(), TableFault> {
+    for part in text.split_str(PART) {
+        push_part(alloc, told, part)?;
+    }
+    Ok(())
+}
+
+/// What is told of all parts.
+fn table(alloc: Global, text: &[u8]) -> Result<Text, TableFault> {
+    let mut told = Text::new(alloc);
+    push_parts(alloc, &mut told, text)?;
+    Ok(told)
+}
 
 /// The size of the pieces, where the words ask for a count.
 fn counted_size<R: Env + AllocGlobal>(rt: &R) -> io::Result<Option<u64>> {
@@ -38,8 +83,8 @@ fn counted_size<R: Env + AllocGlobal>(rt: &R) -> io::Result<Option<u64>> {
 /// What is told of the input.
 fn told<R: Env + AllocGlobal>(rt: &R, input: &[u8]) -> Result<Text, TableFault> {
     match counted_size(rt) {
-        Ok(Some(size)) => Ok(push_counts(rt.alloc(), input, size as usize)?),
-        Ok(None) => Ok(table(rt.alloc(), input)?),
+        Ok(Some(size)) => push_counts(rt.alloc(), input, size as usize),
+        Ok(None) => table(rt.alloc(), input),
         Err(_) => Err(TableFault::NoMemory),
     }
 }

@@ -3,7 +3,6 @@ ghost use Rattle.std.specs.Prelude.{IfOk};
 ghost use Rattle.aw_msg.specs.ReplyRanges.{ReplyInRange};
 
 use crate::fault::EntryFault;
-use crate::table::bytes_of;
 use aw_base::{Answer, Grammar, Item};
 use aw_choice::{Path, Place, Standing};
 use aw_list::Text;
@@ -11,6 +10,7 @@ use aw_msg::equations::body_at;
 use aw_msg::{Answered, decode, reply_bytes};
 use aw_name::{Node, Ref};
 use aw_store::Content;
+use aw_tables::bytes_of;
 use aw_text::number_value;
 use aw_wire::{node_at, ref_at, refs_at};
 use bstr::ByteSlice;
@@ -23,7 +23,7 @@ fn first_word(text: &[u8]) -> (&[u8], &[u8]) {
 
 fn reference_of(alloc: Global, digits: &[u8]) -> Result<Ref, EntryFault> {
     let bytes = bytes_of(alloc, digits)?;
-    let (reference, _) = ref_at(alloc, &bytes)?;
+    let (reference, _) = ref_at(alloc, bytes.as_slice())?;
     Ok(reference)
 }
 
@@ -31,10 +31,10 @@ fn reference_of(alloc: Global, digits: &[u8]) -> Result<Ref, EntryFault> {
 fn content_of(alloc: Global, word: &[u8], digits: &[u8]) -> Result<Content, EntryFault> {
     let bytes = bytes_of(alloc, digits)?;
     if word == b"lists".as_slice() {
-        let (refs, _) = refs_at(alloc, &bytes)?;
+        let (refs, _) = refs_at(alloc, bytes.as_slice())?;
         return Ok(Content::Inherited(refs));
     }
-    let (body, _) = body_at(alloc, &bytes)?;
+    let (body, _) = body_at(alloc, bytes.as_slice())?;
     Ok(Content::Body(body))
 }
 
@@ -131,7 +131,7 @@ fn number_of(digits: &[u8]) -> Result<u64, EntryFault> {
 
 fn node_of(alloc: Global, digits: &[u8]) -> Result<Node, EntryFault> {
     let bytes = bytes_of(alloc, digits)?;
-    let (node, _) = node_at(alloc, &bytes)?;
+    let (node, _) = node_at(alloc, bytes.as_slice())?;
     Ok(node)
 }
 
@@ -171,6 +171,17 @@ fn plain_reply(line: &[u8]) -> Result<Answered, EntryFault>
     }
 }
 
+/// A message, as its bytes.
+fn message_reply(alloc: Global, digits: &[u8]) -> Result<Answered, EntryFault>
+    ensures { IfOk result (λ reply. ReplyInRange reply) }
+{
+    let bytes = bytes_of(alloc, digits)?;
+    match decode(alloc, bytes.as_slice()) {
+        Ok((message, _)) => Ok(Answered::Message(message)),
+        Err(fault) => Err(fault.into()),
+    }
+}
+
 /// The reply that a line names.
 fn reply_of(alloc: Global, line: &[u8]) -> Result<Answered, EntryFault>
     ensures { IfOk result (λ reply. ReplyInRange reply) }
@@ -183,8 +194,7 @@ fn reply_of(alloc: Global, line: &[u8]) -> Result<Answered, EntryFault>
         return Ok(Answered::Answer(answer_of(alloc, rest)?));
     }
     if word == b"message".as_slice() {
-        let (message, _) = decode(alloc, &bytes_of(alloc, rest)?)?;
-        return Ok(Answered::Message(message));
+        return message_reply(alloc, rest);
     }
     if word == b"none".as_slice() {
         return Ok(Answered::Nothing(number_of(rest)?));
@@ -212,7 +222,9 @@ fn push_reply(
 /// Adds the bytes of the reply that a line names.
 fn push_line(alloc: Global, told: &mut Text, g: &Grammar, line: &[u8]) -> Result<(), EntryFault> {
     let reply = reply_of(alloc, line)?;
-    push_reply(alloc, told, g, &reply)
+    let pushed = push_reply(alloc, told, g, &reply);
+    drop(reply);
+    pushed
 }
 
 /// Adds the bytes of the replies that the lines name, in hexadecimal.

@@ -37,7 +37,11 @@ fn push_request(told: &mut Text, frame: &Frame, came: usize) -> Result<Came, All
 /// Adds the next request, if one is there.
 fn push_next(told: &mut Text, reader: &mut FrameReader, came: usize) -> Result<Came, AllocError> {
     match reader.next()? {
-        Next::Frame(frame) => push_request(told, &frame, came),
+        Next::Frame(frame) => {
+            let pushed = push_request(told, &frame, came);
+            drop(frame);
+            pushed
+        }
         Next::Need => Ok(Came::Nothing),
         Next::Bad => Ok(Came::Bad),
     }

@@ -56,7 +56,11 @@ fn push_read(
 /// Adds the message at the front of some bytes, or the fault.
 pub fn push_decoded(alloc: Global, told: &mut Text, bytes: &[u8]) -> Result<(), EntryFault> {
     match decode(alloc, bytes) {
-        Ok((message, count)) => push_read(alloc, told, bytes, &message, count),
+        Ok((message, count)) => {
+            let pushed = push_read(alloc, told, bytes, &message, count);
+            drop(message);
+            pushed
+        }
         Err(fault) => push_fault(told, fault),
     }?;
     Ok(told.push_bytes(b"\n")?)
@@ -80,7 +84,11 @@ fn push_read_choice(
 /// Adds the choice at the front of some bytes, or the fault.
 pub fn push_decoded_choice(alloc: Global, told: &mut Text, bytes: &[u8]) -> Result<(), EntryFault> {
     match decode_choice(alloc, bytes) {
-        Ok((choice, count)) => push_read_choice(alloc, told, bytes, &choice, count),
+        Ok((choice, count)) => {
+            let pushed = push_read_choice(alloc, told, bytes, &choice, count);
+            drop(choice);
+            pushed
+        }
         Err(fault) => push_fault(told, fault),
     }?;
     Ok(told.push_bytes(b"\n")?)

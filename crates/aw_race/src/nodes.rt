@@ -10,7 +10,7 @@ use aw_store::{Body, Equation, Equations};
 use std::alloc::{AllocError, Global};
 
 /// How many nodes there are, and how deep they are.
-#[derive(Clone, Copy, Debug)]
+#[derive(Clone, Copy)]
 pub enum Size {
     /// 2,500 nodes of 1 to 3 steps.
     Small,

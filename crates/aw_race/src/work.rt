@@ -6,7 +6,7 @@ use aw_store::{Chase, Facts, Kind, chase};
 use std::alloc::{AllocError, Global};
 
 /// What is done with each reference of each node.
-#[derive(Clone, Copy, Debug)]
+#[derive(Clone, Copy)]
 pub enum Work {
     /// It is built, and let go.
     Built,

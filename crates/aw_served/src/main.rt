@@ -1,21 +1,31 @@
-//! A table of sessions at the node of one role, over a wire in memory. It begins with a specification, and behind it stand entries:
-//! each has a mark and its name, a line of numbers that say how the node is asked, and the bytes of its sessions in hexadecimal. Of
-//! each session it is told what the node wrote, how many requests it answered, and how it ended. Each case is served by two nodes, over
-//! the two stores of equations, and told once where both tell the same. What stands in `stdin` and `stdout`
-//! was made from the stated formats; nothing in it comes from the program.
+//! A table of nodes and couriers, in four parts, each behind a line with its name: `served`, sessions at the node of one role over a wire
+//! in memory; `loopback`, sessions at a node over this machine's sockets; `carried`, couriers over a wire in memory; and `rounds`, couriers
+//! between the sites of all roles in one process. What stands in `stdin` and `stdout` was made from the stated formats; nothing in it comes
+//! from the program.
 #![tactic(auto)]
 
-mod case;
-mod table;
+mod carried;
+mod entry;
+mod given;
+mod loopback;
+mod memory;
+mod offices;
+mod parts;
+mod peer;
+mod rounds;
+mod served;
+mod sockets;
+mod steps;
 mod told;
+mod whole;
 
 use aw_tables::{input_of, tell};
+use parts::table;
 use std::process::ExitCode;
-use table::table;
 
 fn main(rt: HostRuntime) -> ExitCode {
     match input_of(&rt) {
-        Ok(input) => tell(&rt, table(rt.alloc(), input.as_slice())),
+        Ok(input) => tell(&rt, table(rt.alloc(), &rt, input.as_slice())),
         Err(status) => status,
     }
 }

@@ -136,26 +136,43 @@ fn push_line(told: &mut Text, work: &mut Work, line: &[u8]) -> Result<(), AllocE
     told.push_bytes(b"\n")
 }
 
-/// Adds the name of an entry, and what an index of its own answered to its lines.
-fn push_entry(alloc: Global, told: &mut Text, name: &[u8], input: &[u8]) -> Result<(), AllocError> {
-    told.push_bytes(MARK)?;
-    told.push_bytes(name)?;
-    told.push_bytes(b"\n")?;
-    let mut work = Work::new(alloc);
+/// Adds what an index answers to lines.
+fn push_lines(told: &mut Text, work: &mut Work, input: &[u8]) -> Result<(), AllocError> {
     for line in input.lines() {
-        push_line(told, &mut work, line)?;
+        push_line(told, work, line)?;
     }
     Ok(())
 }
 
-/// The lines of all entries. What stands before the first mark is none.
+/// Adds what an index of its own answers to lines.
+fn push_answers(alloc: Global, told: &mut Text, input: &[u8]) -> Result<(), AllocError> {
+    let mut work = Work::new(alloc);
+    push_lines(told, &mut work, input)
+}
+
+/// Adds the name of an entry, and what an index of its own answered to its lines. What has no line is none.
+fn push_entry(alloc: Global, told: &mut Text, entry: &[u8]) -> Result<(), AllocError> {
+    let Some((name, input)) = entry.split_once_str(b"\n") else {
+        return Ok(());
+    };
+    told.push_bytes(MARK)?;
+    told.push_bytes(name)?;
+    told.push_bytes(b"\n")?;
+    push_answers(alloc, told, input)
+}
+
+/// Adds the lines of all entries. What stands before the first mark is none.
+fn push_entries(alloc: Global, told: &mut Text, text: &[u8]) -> Result<(), AllocError> {
+    for entry in text.split_str(MARK) {
+        push_entry(alloc, told, entry)?;
+    }
+    Ok(())
+}
+
+/// The lines of all entries.
 fn table(alloc: Global, text: &[u8]) -> Result<Text, TableFault> {
     let mut told = Text::new(alloc);
-    for entry in text.split_str(MARK) {
-        if let Some((name, input)) = entry.split_once_str(b"\n") {
-            push_entry(alloc, &mut told, name, input)?;
-        }
-    }
+    push_entries(alloc, &mut told, text)?;
     Ok(told)
 }
 
