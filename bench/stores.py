@@ -1,6 +1,6 @@
 #!/usr/bin/env python3
-"""What the table of calls on two stores has to write: reads crates/aw_stores/stdin on standard input, and knows nothing of
-the program. A store is a dict here; the answers that are counted are those of the dict."""
+"""What the table of calls on two stores has to write: reads the part `stores` of crates/aw_flat/stdin on standard input,
+and knows nothing of the program. A store is a dict here; the answers that are counted are those of the dict."""
 
 import re
 import sys
@@ -129,7 +129,8 @@ def run(store, line):
 
 def main():
     store = None
-    for line in sys.stdin.read().splitlines():
+    part = sys.stdin.read().partition("+++ stores\n")[2].partition("+++ ")[0]
+    for line in part.splitlines():
         if line.startswith("=== "):
             if store:
                 print(store.told())
