@@ -7,6 +7,3 @@ pub mod token;
 
 pub use line::{is_passed_over, next_line};
 pub use token::{LexFault, Token, TokenKind, Tokens, read_tokens, tokens};
-
-#[cfg(test)]
-mod tests;

@@ -18,6 +18,3 @@ pub use report::{OUTPUT_LIMIT, Report};
 pub use script::{Calls, Sizes};
 pub use sure::{SureSink, SureSource, SureWire, Texts};
 pub use whole::{read_all, write_all};
-
-#[cfg(test)]
-mod tests;

@@ -5,6 +5,7 @@
 
 mod kept;
 mod memory;
+mod once;
 mod posts;
 mod runs;
 mod session;

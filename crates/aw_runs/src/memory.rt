@@ -1,6 +1,6 @@
 //! Words, inputs and outputs of runs over memory.
+use crate::once::Outcome;
 use aw_list::Text;
-use aw_once::Outcome;
 use aw_out::{Calls, MemSink, MemSource, Sizes};
 use aw_run::{Status, Word};
 use aw_text::push_number;

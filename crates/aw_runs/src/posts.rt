@@ -2,9 +2,9 @@
 //! other. Told is the status, the last line that `settled` begins, the line of the artifacts, and whether the artifacts are byte for byte
 //! those that the undivided run writes of the same choices.
 use crate::memory::{NEVER, push_status, sink_of, source_of, words_of};
+use crate::once::{Outcome, run_alone};
 use crate::session::SPECIFICATION;
 use aw_list::Text;
-use aw_once::{Outcome, run_alone};
 use aw_out::{MemSource, OUTPUT_LIMIT};
 use aw_run::Word;
 use aw_text::push_number;

@@ -2,8 +2,8 @@
 //! told; or, behind the word `faults`, how many reads and writes there are, each of which fails once; or, behind `fill` and a number, the
 //! run on so many line feeds.
 use crate::memory::{NEVER, push_outcome, sink_of, source_of, words_of};
+use crate::once::{Outcome, run_alone};
 use aw_list::Text;
-use aw_once::{Outcome, run_alone};
 use aw_out::MemSource;
 use aw_run::{Status, Word};
 use aw_text::{number_value, push_number};

@@ -1,8 +1,8 @@
 //! A node of one session, over a wire in memory.
 use crate::memory::{NEVER, sink_of, words_of};
+use crate::once::{Outcome, run_over};
 use aw_disk::Disk;
 use aw_list::Text;
-use aw_once::{Outcome, run_over};
 use aw_out::{SureSource, Texts};
 use aw_run::Word;
 use aw_wires::{MemWire, Numbers};

@@ -15,6 +15,3 @@ pub use node_name::{
 };
 pub use number::{is_number, number_value, printed_is_read, push_number};
 pub use quote::{content_value, push_quoted, quoted_is_read, text_end, text_value};
-
-#[cfg(test)]
-mod tests;

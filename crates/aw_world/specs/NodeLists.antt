@@ -12,7 +12,7 @@ AreOrdered ns = Later (λ m n. node_lt n m ≡ false) ns
 abbrev pub put_among : List Node → List Node → List Node
 put_among ms ns = insert_all_by (λ (n : Node). n) ms ns
 
--- of two lists the first comes next: it has a node, and the other has none that this one is not before
+-- the next node of two lists is the first list's: it has one, and the other has none, or one that comes after it
 abbrev pub is_first_next : List Node → List Node → Bool
 is_first_next [] ns = false
 is_first_next (m ∷ ms) [] = true

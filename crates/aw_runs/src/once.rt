@@ -1,8 +1,5 @@
-//! One run of the program over memory, for the tables that tell whole runs. What `aw_run::run` promises of a run is not said again here:
-//! a table compares what came out with what was worked out by hand. The call stands once, since each function that makes it has to
-//! prove all that it is told.
-#![tactic(auto)]
-
+//! One run of the program over memory. What `aw_run::run` promises of a run is not said again here: a table compares what came out with
+//! what was worked out by hand. The call stands once, since each function that makes it has to prove all that it is told.
 use aw_disk::{Disk, DiskCalls, MemDisk};
 use aw_list::Text;
 use aw_out::{MemSink, Sink, Source, SureWire, Texts, Wire};

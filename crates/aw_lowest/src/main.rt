@@ -1,0 +1,108 @@
+//! A table of the lowest crates: names, numbers, texts and tokens, and what is read and written whole. Each line is a word and what it is
+//! about, and behind it stands what came of it. Bytes are written in hexadecimal. What stands in `stdin` and `stdout` was worked out by hand;
+//! nothing in it comes from the program.
+#![tactic(auto)]
+
+mod edges;
+mod lexed;
+mod session;
+mod spelled;
+mod told;
+
+use aw_list::Text;
+use aw_tables::{TableFault, bytes_of, input_of, numbers_of, tell};
+use aw_text::cut_at;
+use bstr::ByteSlice;
+use edges::{push_read, push_report, push_written};
+use lexed::{push_line, push_passed_over, push_tokens};
+use session::push_sessions;
+use spelled::{push_content, push_cut, push_end, push_length, push_name, push_node, push_text};
+use std::alloc::Global;
+use std::process::ExitCode;
+
+/// Adds what is told of bytes that are tokens or lines.
+fn push_lexed(alloc: Global, told: &mut Text, word: &[u8], bytes: &[u8]) -> Result<(), TableFault> {
+    match word {
+        b"tokens" => Ok(push_tokens(alloc, told, bytes)?),
+        b"line" => Ok(push_line(alloc, told, bytes)?),
+        b"over" => Ok(push_passed_over(told, bytes)?),
+        _ => Err(TableFault::Unreadable),
+    }
+}
+
+/// Adds what is told of bytes.
+fn push_spelled(
+    alloc: Global,
+    told: &mut Text,
+    word: &[u8],
+    bytes: &[u8],
+) -> Result<(), TableFault> {
+    match word {
+        b"name" => Ok(push_name(told, bytes)?),
+        b"length" => Ok(push_length(told, bytes)?),
+        b"text" => Ok(push_text(alloc, told, bytes)?),
+        b"end" => Ok(push_end(told, bytes)?),
+        b"content" => Ok(push_content(told, bytes)?),
+        b"cut" => Ok(push_cut(alloc, told, bytes)?),
+        b"node" => Ok(push_node(told, bytes)?),
+        _ => push_lexed(alloc, told, word, bytes),
+    }
+}
+
+/// Adds what is told of a source, a sink or a report that numbers describe.
+fn push_edge(
+    alloc: Global,
+    told: &mut Text,
+    word: &[u8],
+    numbers: &[usize],
+) -> Result<(), TableFault> {
+    match (word, numbers) {
+        (b"read", [piece, fails, limit]) => Ok(push_read(alloc, told, *piece, *fails, *limit)?),
+        (b"write", [fails, room]) => Ok(push_written(alloc, told, *fails, *room)?),
+        (b"report", [limit]) => Ok(push_report(alloc, told, *limit)?),
+        _ => Err(TableFault::Unreadable),
+    }
+}
+
+/// Adds what is told of an edge, or of bytes.
+fn push_told(alloc: Global, told: &mut Text, word: &[u8], rest: &[u8]) -> Result<(), TableFault> {
+    if let Some((b"edge", kind)) = cut_at(word, b'-') {
+        let numbers = numbers_of(alloc, rest)?;
+        return push_edge(alloc, told, kind, numbers.as_slice());
+    }
+    let bytes = bytes_of(alloc, rest)?;
+    push_spelled(alloc, told, word, bytes.as_slice())
+}
+
+/// Adds a line and what is told of it.
+fn push_entry(alloc: Global, told: &mut Text, line: &[u8]) -> Result<(), TableFault> {
+    told.push_bytes(line)?;
+    told.push_bytes(b":")?;
+    match cut_at(line, b' ') {
+        Some((word, rest)) => push_told(alloc, told, word, rest)?,
+        None => push_sessions(alloc, told)?,
+    }
+    Ok(told.push_bytes(b"\n")?)
+}
+
+/// Adds all lines.
+fn push_entries(alloc: Global, told: &mut Text, text: &[u8]) -> Result<(), TableFault> {
+    for line in text.lines() {
+        push_entry(alloc, told, line)?;
+    }
+    Ok(())
+}
+
+/// What is told of all lines.
+fn table(alloc: Global, text: &[u8]) -> Result<Text, TableFault> {
+    let mut told = Text::new(alloc);
+    push_entries(alloc, &mut told, text)?;
+    Ok(told)
+}
+
+fn main(rt: HostRuntime) -> ExitCode {
+    match input_of(&rt) {
+        Ok(input) => tell(&rt, table(rt.alloc(), input.as_slice())),
+        Err(status) => status,
+    }
+}
