@@ -78,13 +78,16 @@ impl Both {
     fn compare(&mut self, alloc: Global, call: &Call, by_list: &Told) -> Result<(), AllocError> {
         let by_cells = answer(alloc, &mut self.cells, call)?;
         self.tally.count(by_list, &by_cells);
+        drop(by_cells);
         Ok(())
     }
 
     /// Makes a call on both stores, and compares what they answer.
     pub fn call(&mut self, alloc: Global, call: &Call) -> Result<(), AllocError> {
         let by_list = answer(alloc, &mut self.list, call)?;
-        self.compare(alloc, call, &by_list)
+        let compared = self.compare(alloc, call, &by_list);
+        drop(by_list);
+        compared
     }
 
     /// Adds what the calls came to.

@@ -129,19 +129,21 @@ impl<'g> Case<'g> {
     }
 
     /// Adds an equation to the store, and tells what it answers.
-    fn add(&mut self, e: Equation) -> Result<(), AllocError> {
-        self.push_equation(&e)?;
-        if !is_narrow(&e) {
+    fn add(&mut self, e: &Equation) -> Result<(), AllocError> {
+        self.push_equation(e)?;
+        if !is_narrow(e) {
             return self.told.push_bytes(b": too wide\n");
         }
-        let added = self.facts.add(e)?;
-        push_added(&mut self.told, &mut self.names, &added)
+        let added = self.facts.add(copy_equation(e)?)?;
+        let pushed = push_added(&mut self.told, &mut self.names, &added);
+        drop(added);
+        pushed
     }
 
     /// Adds an equation of a taken rule.
     fn add_made(&mut self, e: &Equation) -> Result<(), AllocError> {
         self.told.push_bytes(b"  ")?;
-        self.add(copy_equation(e)?)
+        self.add(e)
     }
 
     /// Adds the equations of a taken rule, for which memory is taken before.
@@ -219,6 +221,20 @@ impl<'g> Case<'g> {
         self.told.push_bytes(b"\n")
     }
 
+    /// Follows what a choice on the node at a place leads to, and tells it.
+    fn follow(&mut self, at: usize, answered: Answered) -> Result<(), Unread>
+        requires { at < length self.old.held.items }
+    {
+        match answered {
+            Answered::Untested => Err(Unread::Form),
+            Answered::Refused(answer) => Ok(self.refuse(&answer)?),
+            Answered::Gives(made) => {
+                self.held[at].developed = true;
+                Ok(self.take(made)?)
+            }
+        }
+    }
+
     /// Takes a rule on a node, unless it is refused, and tells what it makes.
     fn develop(&mut self, node: &Node, rule: u16, args: &Grounds) -> Result<(), Unread> {
         let Some(at) = place_of(self.held.as_slice(), node) else {
@@ -229,7 +245,7 @@ impl<'g> Case<'g> {
             return Ok(self.refuse(&Answer::Developed)?);
         }
         let alloc = self.told.allocator();
-        match weigh(
+        let answered = weigh(
             &self.facts,
             alloc,
             self.grammar,
@@ -237,14 +253,8 @@ impl<'g> Case<'g> {
             &held.inherited,
             rule,
             args,
-        )? {
-            Answered::Untested => Err(Unread::Form),
-            Answered::Refused(answer) => Ok(self.refuse(&answer)?),
-            Answered::Gives(made) => {
-                self.held[at].developed = true;
-                Ok(self.take(made)?)
-            }
-        }
+        )?;
+        self.follow(at, answered)
     }
 
     /// Answers a choice.
@@ -282,11 +292,18 @@ impl<'g> Case<'g> {
         self.told.push_bytes(b"\n")
     }
 
+    /// Adds an equation that was read.
+    fn add_read(&mut self, e: &Equation) -> Result<(), AllocError> {
+        self.told.push_bytes(b"equation ")?;
+        self.add(e)
+    }
+
     /// Adds the equation that stands behind the word.
     fn answer_equation(&mut self, text: &[u8]) -> Result<(), Unread> {
         let e = read_equation(self.told.allocator(), self.grammar, text)?;
-        self.told.push_bytes(b"equation ")?;
-        Ok(self.add(e)?)
+        let added = self.add_read(&e);
+        drop(e);
+        Ok(added?)
     }
 
     /// Holds the node that stands behind the word.

@@ -95,17 +95,32 @@ fn admitted(alloc: Global) -> Result<Choice, AllocError> {
     })
 }
 
-/// Adds lines whose values end: what is missing and what goes round prints with a mark, and a line of
-/// 96 bytes has room in 96.
-fn push_ending<F: Facts>(told: &mut Text, g: &Grammar, f: &F) -> Result<(), AllocError> {
-    let done = Some(admitted(told.allocator())?);
-    let mut asked = Asked {
+/// Adds the lines of a visit that was admitted: what is missing and what goes round prints with a mark, and a line of 96 bytes has room
+/// in 96.
+fn push_done<F: Facts>(
+    told: &mut Text,
+    g: &Grammar,
+    f: &F,
+    done: &Option<Choice>,
+) -> Result<(), AllocError> {
+    let asked = Asked {
         case: 1,
         inherited: &[8, 6, 9],
     };
-    push_line(told, g, f, asked, &done, 96)?;
-    push_line(told, g, f, asked, &done, 95)?;
-    asked.inherited = &[];
+    push_line(told, g, f, asked, done, 96)?;
+    push_line(told, g, f, asked, done, 95)
+}
+
+/// Adds lines whose values end.
+fn push_ending<F: Facts>(told: &mut Text, g: &Grammar, f: &F) -> Result<(), AllocError> {
+    let done = Some(admitted(told.allocator())?);
+    let pushed = push_done(told, g, f, &done);
+    drop(done);
+    pushed?;
+    let mut asked = Asked {
+        case: 1,
+        inherited: &[],
+    };
     push_line(told, g, f, asked, &None, 95)?;
     asked.case = 2;
     push_line(told, g, f, asked, &None, 95)

@@ -160,13 +160,24 @@ impl Reader {
         }
     }
 
+    /// The equation of a left side and the text of its body.
+    fn equation_of(&mut self, alloc: Global, left: Ref, text: &[u8]) -> Result<Equation, Unread> {
+        match self.body(alloc, text) {
+            Ok(body) => Ok(Equation { left, body }),
+            Err(fault) => {
+                drop(left);
+                Err(fault)
+            }
+        }
+    }
+
     /// `LEFT = BODY`.
     fn equation(&mut self, alloc: Global, text: &[u8]) -> Result<Equation, Unread> {
         match text.split_once_str(b" = ") {
-            Some((left, body)) => Ok(Equation {
-                left: self.reference(alloc, left)?,
-                body: self.body(alloc, body)?,
-            }),
+            Some((left, body)) => {
+                let left = self.reference(alloc, left)?;
+                self.equation_of(alloc, left, body)
+            }
             None => Err(Unread::Form),
         }
     }

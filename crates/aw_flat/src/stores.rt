@@ -26,6 +26,14 @@ fn draw_calls(alloc: Global, both: &mut Both, count: u64, seed: u64) -> Result<(
     Ok(())
 }
 
+/// Makes the calls that are asked for.
+fn make_calls(alloc: Global, both: &mut Both, asked: &Asked) -> Result<(), AllocError> {
+    match asked {
+        Asked::Call(call) => both.call(alloc, call),
+        Asked::Draw { count, seed } => draw_calls(alloc, both, *count, *seed),
+    }
+}
+
 /// Makes the calls of a line.
 fn run_line(
     alloc: Global,
@@ -33,10 +41,10 @@ fn run_line(
     both: &mut Both,
     line: &[u8],
 ) -> Result<(), Unread> {
-    match reader.asked(alloc, line)? {
-        Asked::Call(call) => Ok(both.call(alloc, &call)?),
-        Asked::Draw { count, seed } => Ok(draw_calls(alloc, both, count, seed)?),
-    }
+    let asked = reader.asked(alloc, line)?;
+    let made = make_calls(alloc, both, &asked);
+    drop(asked);
+    Ok(made?)
 }
 
 /// Makes the calls of a line, or tells that it is not read.

@@ -77,13 +77,21 @@ fn read_body(alloc: Global, g: &Grammar, text: &[u8]) -> Result<Body, Unread> {
     }
 }
 
+/// The equation of a left side and the text of its body.
+fn equation_of(alloc: Global, g: &Grammar, left: Ref, text: &[u8]) -> Result<Equation, Unread> {
+    match read_body(alloc, g, text) {
+        Ok(body) => Ok(Equation { left, body }),
+        Err(fault) => {
+            drop(left);
+            Err(fault)
+        }
+    }
+}
+
 /// `LEFT = BODY`.
 pub fn read_equation(alloc: Global, g: &Grammar, text: &[u8]) -> Result<Equation, Unread> {
     match text.split_once_str(b" = ") {
-        Some((left, body)) => Ok(Equation {
-            left: read_ref(alloc, g, left)?,
-            body: read_body(alloc, g, body)?,
-        }),
+        Some((left, body)) => equation_of(alloc, g, read_ref(alloc, g, left)?, body),
         None => Err(Unread::Form),
     }
 }
