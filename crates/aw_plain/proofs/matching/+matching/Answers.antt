@@ -1,7 +1,7 @@
 use Rattle.std.proofs.Common.{◌≡◌, ◌+◌, ◌++◌, ◌∷◌, length, map, ap, sym, ◌∙◌, arith, ◌<◌, []}
 use Rattle.std.proofs.lemmas.Result.{IfOk-weaker}
 use Rattle.aw_term.specs.Trees.{join}
-use Rattle.aw_term.specs.Matching.{Yes, and_then, match, match_parts}
+use Rattle.aw_term.specs.Matching.{Yes, Differs, and_then, match, match_parts}
 use Rattle.aw_term.specs.Views.{pattern_of}
 use Rattle.aw_choice.specs.ChoiceView.{path_of}
 use Rattle.std.specs.declared.vec.Vec.{Vec}
@@ -74,3 +74,25 @@ match_parts-loop-i-preserved t c =
     ∙ more_taken old found _
     ∙ ap (λ n. and_then (Yes (values_of old)) (and_then (Yes (values_of found)) (behind q (from n (i + 1) ps ts)))) (omega arith)
     ∙ one_more q (i + 1) i ps ts c.index-parts-i.result c.index-trees-i.result (values_of old) (Yes (values_of found)) _ lt (omega (arith, lt, c.requires.same)) c.index-parts-i.is c.index-trees-i.is em c.loop-i.invariant
+
+pub match_parts-returns-in-Waits : goal.match_parts-returns-in-Waits
+match_parts-returns-in-Waits t c =
+    let ps = c.args.parts.now in
+    let ts = c.args.trees.now in
+    let q = path_of c.args.at.now in
+    let i = c.loop-i.i in
+    let lt : i < length ps = c.loop-i-test.true in
+    let em =
+    ap matched_of (sym c.in-Waits.is) ∙ c.in_ok-found.ensures ∙ ap (λ path. behind path (match (pattern_of c.index-parts-i.result) (value_of c.index-trees-i.result))) c.push.ensures.steps in
+    one_more q (i + 1) i ps ts c.index-parts-i.result c.index-trees-i.result (values_of c.loop-i.taken.items) _ _ lt (omega (arith, lt, c.requires.same)) c.index-parts-i.is c.index-trees-i.is em c.loop-i.invariant
+
+pub match_parts-returns-in-Differs : goal.match_parts-returns-in-Differs
+match_parts-returns-in-Differs t c =
+    let ps = c.args.parts.now in
+    let ts = c.args.trees.now in
+    let q = path_of c.args.at.now in
+    let i = c.loop-i.i in
+    let lt : i < length ps = c.loop-i-test.true in
+    let em : Differs (path_of c.in-Differs.path) ≡ behind (q ++ (i + 1) ∷ []) (match (pattern_of c.index-parts-i.result) (value_of c.index-trees-i.result)) =
+    ap matched_of (sym c.in-Differs.is) ∙ c.in_ok-found.ensures ∙ ap (λ path. behind path (match (pattern_of c.index-parts-i.result) (value_of c.index-trees-i.result))) c.push.ensures.steps in
+    one_more q (i + 1) i ps ts c.index-parts-i.result c.index-trees-i.result (values_of c.loop-i.taken.items) (Differs (path_of c.in-Differs.path)) _ lt (omega (arith, lt, c.requires.same)) c.index-parts-i.is c.index-trees-i.is em c.loop-i.invariant
