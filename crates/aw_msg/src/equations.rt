@@ -1,6 +1,10 @@
 //! Readers of equations and of loads.
 ghost use Rattle.aw_wire.specs.Gives.{Gives};
-ghost use Rattle.aw_wire.specs.Reading.{times};
+ghost use Rattle.std.specs.Int.{w16, w64};
+ghost use Rattle.aw_wire.specs.Names.{reference, references};
+ghost use Rattle.aw_wire.specs.Reading.{number, both, seen, times};
+ghost use Rattle.aw_wire.specs.Texts.{text};
+ghost use Rattle.aw_store.specs.declared.equation.Body.TheVariants.{Same, Con, Num, Text};
 ghost use Rattle.aw_msg.specs.Messages as spec;
 
 use aw_store::{Body, Equation, Equations};
@@ -23,6 +27,39 @@ pub const NUM_KIND: u8 = 2;
 /// The kind of a body that is a text.
 pub const TEXT_KIND: u8 = 3;
 
+/// A body that is a reference.
+fn same_at(alloc: Global, bytes: &[u8]) -> Result<(Body, &[u8]), Unread>
+    ensures { Gives (λ x. (x.0, x.1.now)) result (seen Same reference bytes.now) }
+{
+    let (reference, rest) = ref_at(alloc, bytes)?;
+    Ok((Body::Same(reference), rest))
+}
+
+/// A body that is a constructor with its references.
+fn con_at(alloc: Global, bytes: &[u8]) -> Result<(Body, &[u8]), Unread>
+    ensures { Gives (λ x. (x.0, x.1.now)) result (seen (λ x. Con x.0 x.1) (both (number w16) references) bytes.now) }
+{
+    let (con, rest) = u16_at(bytes)?;
+    let (parts, rest) = refs_at(alloc, rest)?;
+    Ok((Body::Con(con, parts), rest))
+}
+
+/// A body that is a number.
+fn num_at(bytes: &[u8]) -> Result<(Body, &[u8]), Unread>
+    ensures { Gives (λ x. (x.0, x.1.now)) result (seen Num (number w64) bytes.now) }
+{
+    let (number, rest) = u64_at(bytes)?;
+    Ok((Body::Num(number), rest))
+}
+
+/// A body that is a text.
+fn content_at(alloc: Global, bytes: &[u8]) -> Result<(Body, &[u8]), Unread>
+    ensures { Gives (λ x. (x.0, x.1.now)) result (seen Text text bytes.now) }
+{
+    let (text, rest) = text_at(alloc, bytes)?;
+    Ok((Body::Text(text), rest))
+}
+
 /// What a reference stands for.
 #[tactic(auto, unfolding(crate::specs::Messages::body))]
 pub fn body_at(alloc: Global, bytes: &[u8]) -> Result<(Body, &[u8]), Unread>
@@ -30,23 +67,10 @@ pub fn body_at(alloc: Global, bytes: &[u8]) -> Result<(Body, &[u8]), Unread>
 {
     match bytes {
         [] => Err(Unread::Short),
-        [SAME_KIND, rest @ ..] => {
-            let (reference, rest) = ref_at(alloc, rest)?;
-            Ok((Body::Same(reference), rest))
-        }
-        [CON_KIND, rest @ ..] => {
-            let (con, rest) = u16_at(rest)?;
-            let (parts, rest) = refs_at(alloc, rest)?;
-            Ok((Body::Con(con, parts), rest))
-        }
-        [NUM_KIND, rest @ ..] => {
-            let (number, rest) = u64_at(rest)?;
-            Ok((Body::Num(number), rest))
-        }
-        [TEXT_KIND, rest @ ..] => {
-            let (text, rest) = text_at(alloc, rest)?;
-            Ok((Body::Text(text), rest))
-        }
+        [SAME_KIND, rest @ ..] => same_at(alloc, rest),
+        [CON_KIND, rest @ ..] => con_at(alloc, rest),
+        [NUM_KIND, rest @ ..] => num_at(rest),
+        [TEXT_KIND, rest @ ..] => content_at(alloc, rest),
         [_, ..] => Err(Unread::Bad { left: bytes.len() }),
     }
 }

@@ -1,5 +1,6 @@
 //! The bytes of replies.
-ghost use Rattle.std.specs.Prelude.{◌≡◌, ◌++◌, length, IfOk, OnOk};
+ghost use Rattle.std.specs.Prelude.{◌≡◌, ◌++◌, codes, length, map, IfOk, OnOk};
+ghost use Rattle.aw_term.specs.Artifacts.{listed, ref_text};
 ghost use Rattle.aw_term.specs.Rules.{Grammar as PlainGrammar};
 ghost use Rattle.aw_grammar.specs.GrammarOf.{grammar_of, words_of};
 ghost use Rattle.aw_msg.specs.Replies as spec;
@@ -12,6 +13,7 @@ use crate::writing::add_message;
 use aw_base::{NameWriter, push_answer, push_item, push_refs};
 use aw_grammar::Grammar;
 use aw_list::Text;
+use aw_name::Ref;
 use aw_store::{Content, push_body};
 use aw_wire::writing::{add_byte, add_u64};
 use std::alloc::{AllocError, Global};
@@ -49,6 +51,21 @@ pub const NOTHING: u8 = 10;
 /// The kind of the reply with an item of the worklist.
 pub const ITEM: u8 = 11;
 
+/// Adds references in parentheses.
+fn add_inherited(
+    text: &mut Text,
+    names: &mut NameWriter<'_>,
+    refs: &[Ref],
+) -> Result<(), AllocError>
+    ensures text { OnOk result (text.new ≡ text.old ++ (codes "(" ++ (listed (map (ref_text (words_of names.old.grammar.now)) refs.now) ++ codes ")"))) }
+    ensures grammar { names.new.grammar.now ≡ names.old.grammar.now }
+{
+    text.push_bytes(b"(")?;
+    push_refs(text, names, refs)?;
+    text.push_bytes(b")")
+}
+
+/// Adds references in parentheses, or a body.
 fn add_content(
     text: &mut Text,
     names: &mut NameWriter<'_>,
@@ -58,11 +75,7 @@ fn add_content(
     ensures grammar { names.new.grammar.now ≡ names.old.grammar.now }
 {
     match content {
-        Content::Inherited(refs) => {
-            text.push_bytes(b"(")?;
-            push_refs(text, names, refs.as_slice())?;
-            text.push_bytes(b")")
-        }
+        Content::Inherited(refs) => add_inherited(text, names, refs.as_slice()),
         Content::Body(body) => push_body(text, names, body),
     }
 }
