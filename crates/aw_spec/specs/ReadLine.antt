@@ -1,7 +1,7 @@
 -- Which line the lexemes spell.
 use Rattle.std.specs.Prelude.{ℕ, Bool, true, false, List, [], ◌∷◌, Option, None, Some, nat_eq, if◌then◌else◌, codes}
 use Rattle.aw_term.specs.Trees.{nats_eq}
-use Rattle.aw_grammar.specs.Written.{WrittenChild}
+use Rattle.aw_grammar.specs.Written.{Written, WrittenChild}
 use Rattle.aw_form.specs.Lexemes.{Lexeme, Mark}
 use Rattle.aw_form.specs.Forms.{◌>>=◌, name, number, mark, only, terms_between, names_between, names_in_braces}
 use Rattle.aw_spec.specs.Lines.{Line, RoleLine, ConLine, SortLine, StartLine, OfferLine, UseLine, TypeLine, ShapeLine, CarryLine, DependsLine, FreeLine, RuleLine, ScheduleLine}
@@ -114,6 +114,22 @@ depends_line ls = do
   j ← number i.1
   only (DependsLine sort.0 i.0 j.0) j.1
 
+-- a rule's patterns and results, and its children
+abbrev pub sides_of_rule : List Lexeme → Option ((List Written × List Written) × List WrittenChild)
+sides_of_rule ls = do
+  patterns ← terms_between 40 41 ls
+  results ← terms_between 60 62 patterns.1
+  children ← rest_of_rule results.1
+  Some ((patterns.0, results.0), children)
+
+-- the rule of this name, these parameters and this sort, and of the patterns, results and children behind them
+abbrev pub rule_behind : List ℕ → List (List ℕ) → List ℕ → List Lexeme → Option Line
+rule_behind rule params sort ls = do
+  patterns ← terms_between 40 41 ls
+  results ← terms_between 60 62 patterns.1
+  children ← rest_of_rule results.1
+  Some (RuleLine (record { name = rule; params = params; sort = sort; patterns = patterns.0; results = results.0; children = children }))
+
 -- `NAME {..} : SORT(..)<..> = ..`
 abbrev pub rule_line : List Lexeme → Option Line
 rule_line ls = do
@@ -121,10 +137,7 @@ rule_line ls = do
   params ← names_in_braces n.1
   colon ← mark 58 params.1
   sort ← name colon
-  patterns ← terms_between 40 41 sort.1
-  results ← terms_between 60 62 patterns.1
-  children ← rest_of_rule results.1
-  Some (RuleLine (record { name = n.0; params = params.0; sort = sort.0; patterns = patterns.0; results = results.0; children = children }))
+  rule_behind n.0 params.0 sort.0 sort.1
 
 -- the line of the word `schedule` with this number: 2 alone is a version, that in which messages carry loads
 abbrev pub versioned : ℕ × List Lexeme → Option Line

@@ -147,6 +147,13 @@ fn taken(grammar: &mut Grammar) -> Grammar
     mem::replace(grammar, Grammar::new(alloc))
 }
 
+/// Puts a grammar in the place of one that was taken out.
+fn put(grammar: &mut Grammar, by: Grammar)
+    ensures { grammar.new ≡ by }
+{
+    drop(mem::replace(grammar, by));
+}
+
 /// The rule that was declared last.
 fn last_rule(grammar: &Grammar) -> &Rule
     requires { 0 < length grammar.now.rules }
@@ -172,7 +179,8 @@ impl Draft {
         requires no_rules { self.old.grammar.rules ≡ [] }
         ensures { Adds self.new result (says (spec_so_far self.old) (lines.RoleLine name)) }
     {
-        self.grammar = taken(&mut self.grammar).add_role(name)?;
+        let grammar = taken(&mut self.grammar).add_role(name)?;
+        put(&mut self.grammar, grammar);
         Ok(())
     }
 
@@ -181,7 +189,8 @@ impl Draft {
         requires no_rules { self.old.grammar.rules ≡ [] }
         ensures { Adds self.new result (says (spec_so_far self.old) (lines.ConLine con.name con.arity)) }
     {
-        self.grammar = taken(&mut self.grammar).add_con(con)?;
+        let grammar = taken(&mut self.grammar).add_con(con)?;
+        put(&mut self.grammar, grammar);
         self.types.shapes.push(None)?;
         Ok(())
     }
@@ -191,7 +200,8 @@ impl Draft {
         requires no_rules { self.old.grammar.rules ≡ [] }
         ensures { Adds self.new result (says (spec_so_far self.old) (lines.SortLine sort.name sort.role sort.takes sort.gives)) }
     {
-        self.grammar = taken(&mut self.grammar).add_sort(sort)?;
+        let grammar = taken(&mut self.grammar).add_sort(sort)?;
+        put(&mut self.grammar, grammar);
         self.types.carries.push(None)?;
         Ok(())
     }
@@ -200,7 +210,8 @@ impl Draft {
         requires no_rules { self.old.grammar.rules ≡ [] }
         ensures { Adds self.new result (says (spec_so_far self.old) (lines.StartLine sort)) }
     {
-        self.grammar = taken(&mut self.grammar).add_start(&sort)?;
+        let grammar = taken(&mut self.grammar).add_start(&sort)?;
+        put(&mut self.grammar, grammar);
         Ok(())
     }
 
@@ -262,7 +273,8 @@ impl Draft {
         requires variables { are_names ((rule_of_raw rule).params ++ results_of (rule_of_raw rule).children) ≡ true }
         ensures { Adds self.new result (says (spec_so_far self.old) (lines.RuleLine (rule_of_raw rule))) }
     {
-        self.grammar = taken(&mut self.grammar).add_rule(rule)?;
+        let grammar = taken(&mut self.grammar).add_rule(rule)?;
+        put(&mut self.grammar, grammar);
         match last_fault(&self.grammar, &self.faces) {
             None => Ok(()),
             Some((_, kind)) => Err(LineFault::Bad(face_kind(kind))),

@@ -2,7 +2,7 @@
 ghost use Rattle.std.specs.Prelude.{◌≡◌, ◌<◌, ◌∷◌, length, map, IfSome, option_map, position};
 ghost use Rattle.std.specs.Option.{option_copied};
 ghost use Rattle.aw_term.specs.Trees.{nats_eq};
-ghost use Rattle.aw_grammar.specs.Written.{child_of_raw};
+ghost use Rattle.aw_grammar.specs.Written.{child_of_raw, written_of};
 ghost use Rattle.aw_form.specs.Lexemes.{lexemes};
 ghost use Rattle.aw_form.specs.Gives.{Gives};
 ghost use Rattle.aw_form.specs.Forms.{only};
@@ -12,7 +12,7 @@ ghost use Rattle.aw_spec.specs.Pieces.{parts_children, pieces_behind};
 ghost use Rattle.aw_spec.specs.Views.{line_seen};
 
 use crate::line::SpecLine;
-use aw_base::{RawChild, RawChildren, RawCon, RawRule, RawSort};
+use aw_base::{Names, RawChild, RawChildren, RawCon, RawRule, RawSort, RawTerms};
 use aw_form::{Unread, end, mark, name, names_between, names_in_braces, number, terms_between};
 use aw_lex::{Token, TokenKind};
 use aw_list::Text;
@@ -215,16 +215,31 @@ fn free_line(line: &[u8], tokens: &[Token]) -> Result<SpecLine, Unread>
     Ok(SpecLine::Free)
 }
 
-fn rule_line(alloc: Global, line: &[u8], tokens: &[Token]) -> Result<SpecLine, Unread>
-    ensures { Gives line_seen result (read.rule_line (lexemes line.now tokens.now)) }
+/// A rule's patterns and results, and its children.
+type RuleSides = ((RawTerms, RawTerms), RawChildren);
+
+/// What stands behind a rule's sort.
+fn sides_of_rule(alloc: Global, line: &[u8], tokens: &[Token]) -> Result<RuleSides, Unread>
+    ensures { Gives (λ x. ((map written_of x.0.0, map written_of x.0.1), map child_of_raw x.1)) result (read.sides_of_rule (lexemes line.now tokens.now)) }
 {
-    let (rule, rest) = name(line, tokens)?;
-    let (params, rest) = names_in_braces(alloc, line, rest)?;
-    let rest = mark(b':', line, rest)?;
-    let (sort, rest) = name(line, rest)?;
-    let (patterns, rest) = terms_between(alloc, b'(', b')', line, rest)?;
+    let (patterns, rest) = terms_between(alloc, b'(', b')', line, tokens)?;
     let (results, rest) = terms_between(alloc, b'<', b'>', line, rest)?;
     let children = rest_of_rule(alloc, line, rest)?;
+    Ok(((patterns, results), children))
+}
+
+/// The rule of this name, these parameters and this sort, and what stands behind them.
+fn rule_behind(
+    alloc: Global,
+    rule: &[u8],
+    params: Names,
+    sort: &[u8],
+    line: &[u8],
+    tokens: &[Token],
+) -> Result<SpecLine, Unread>
+    ensures { Gives line_seen result (read.rule_behind rule.now params sort.now (lexemes line.now tokens.now)) }
+{
+    let ((patterns, results), children) = sides_of_rule(alloc, line, tokens)?;
     Ok(SpecLine::Rule(RawRule {
         name: Text::from_bytes(alloc, rule)?,
         params,
@@ -233,6 +248,16 @@ fn rule_line(alloc: Global, line: &[u8], tokens: &[Token]) -> Result<SpecLine, U
         results,
         children,
     }))
+}
+
+fn rule_line(alloc: Global, line: &[u8], tokens: &[Token]) -> Result<SpecLine, Unread>
+    ensures { Gives line_seen result (read.rule_line (lexemes line.now tokens.now)) }
+{
+    let (rule, rest) = name(line, tokens)?;
+    let (params, rest) = names_in_braces(alloc, line, rest)?;
+    let rest = mark(b':', line, rest)?;
+    let (sort, rest) = name(line, rest)?;
+    rule_behind(alloc, rule, params, sort, line, rest)
 }
 
 /// The number of a version: 2 alone, in which messages carry loads.

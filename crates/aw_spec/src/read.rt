@@ -1,12 +1,14 @@
 //! Reading the specification at the front of a text.
-ghost use Rattle.std.specs.Prelude.{◌≡◌, ◌==◌, ◌+◌, ◌<◌, ◌≤◌, ◌^◌, length, drop, IfOk, None};
+ghost use Rattle.std.specs.Prelude.{◌≡◌, ◌==◌, ◌+◌, ◌<◌, ◌≤◌, ◌^◌, length, drop, IfOk, Ok, None};
 ghost use Rattle.std.specs.List.{prefix_len};
 ghost use Rattle.aw_lex.specs.Lines.{lines_of};
 ghost use Rattle.aw_grammar.specs.Declarations.{grammar_in, words_in};
 ghost use Rattle.aw_grammar.specs.GrammarOf.{grammar_of, words_of, declarations_of};
 ghost use Rattle.aw_face.specs.Faces.{face_fault};
+ghost use Rattle.aw_spec.specs.Reading as reading;
 ghost use Rattle.aw_spec.specs.Reading.{specification};
-ghost use Rattle.aw_spec.specs.Answers.{Spells, at_line};
+ghost use Rattle.aw_spec.specs.Answers.{Ends, Spells, at_line};
+ghost use Rattle.aw_spec.specs.ReaderAnswers.{draft_of, IsAtStage};
 ghost use Rattle.aw_spec.specs.TypesFit.{TypesFit};
 ghost use Rattle.aw_spec.specs.Views.{spec_seen};
 ghost use Rattle.aw_typed.specs.Types.{AreFor};
@@ -78,6 +80,58 @@ fn past_feeds<'t>(text: &'t [u8], lines: &mut u64) -> &'t [u8]
     &text[feeds..]
 }
 
+/// Where reading ended: whether the schedule is for messages that carry loads, how many lines there were, and how many bytes they took.
+#[derive(Clone, Copy, Debug)]
+struct Ended {
+    loads: bool,
+    lines: u64,
+    rest: usize,
+}
+
+/// Reads the lines of a text by a reader that has read none.
+fn lines_read(reader: &mut Reader, found: &mut Tokens, text: &[u8]) -> Result<Ended, SpecFault>
+    requires none { draft_of reader.old ≡ reading.no_draft }
+    requires stage { IsAtStage reader.old }
+    ensures exact { Ends reader.new.draft result (specification (lines_of text.now)) }
+    ensures within { IfOk result (λ e. e.rest ≤ length text.now) }
+    ensures rest { IfOk result (λ e. lines_of (drop e.rest text.now) ≡ drop e.lines (lines_of text.now)) }
+{
+    let mut rest = text;
+    let mut lines = 0;
+    while let Some((line, behind)) = next_line(rest) {
+        lines += 1;
+        match reader.read_line(found, line) {
+            Ok(AfterLine::Next) => rest = past_feeds(behind, &mut lines),
+            Ok(AfterLine::End { loads }) => {
+                let rest = text.len() - behind.len();
+                return Ok(Ended { loads, lines, rest });
+            }
+            Err(fault) => return Err(at_line(fault, lines)),
+        }
+    }
+    Ok(Ended {
+        loads: false,
+        lines,
+        rest: text.len(),
+    })
+}
+
+/// The specification that a reader has read, where reading ended without a fault.
+fn spec_read(reader: Reader, ended: Result<Ended, SpecFault>) -> Result<SpecText, SpecFault>
+    ensures exact { (r : reading.Reading) → Ends reader.draft ended r → Spells result r }
+    ensures ended { IfOk result (λ s. ended ≡ Ok (record { loads = s.loads; lines = s.lines; rest = s.rest })) }
+    ensures grammar { IfOk result (λ s. grammar_of s.grammar ≡ grammar_in (declarations_of s.grammar)) }
+    ensures words { IfOk result (λ s. words_of s.grammar ≡ words_in (declarations_of s.grammar)) }
+{
+    match ended {
+        Ok(Ended { loads, lines, rest }) => Ok(text_of(reader.draft, loads, lines, rest)),
+        Err(fault) => {
+            drop(reader);
+            Err(fault)
+        }
+    }
+}
+
 fn read_lines(alloc: Global, text: &[u8]) -> Result<SpecText, SpecFault>
     ensures exact { Spells result (specification (lines_of text.now)) }
     ensures within { IfOk result (λ s. s.rest ≤ length text.now) }
@@ -87,19 +141,9 @@ fn read_lines(alloc: Global, text: &[u8]) -> Result<SpecText, SpecFault>
 {
     let mut reader = Reader::new(alloc);
     let mut found = Tokens::new(alloc);
-    let mut rest = text;
-    let mut lines = 0;
-    while let Some((line, behind)) = next_line(rest) {
-        lines += 1;
-        match reader.read_line(&mut found, line) {
-            Ok(AfterLine::Next) => rest = past_feeds(behind, &mut lines),
-            Ok(AfterLine::End { loads }) => {
-                return Ok(text_of(reader.draft, loads, lines, text.len() - behind.len()));
-            }
-            Err(fault) => return Err(at_line(fault, lines)),
-        }
-    }
-    Ok(text_of(reader.draft, false, lines, text.len()))
+    let ended = lines_read(&mut reader, &mut found, text);
+    drop(found);
+    spec_read(reader, ended)
 }
 
 /// The specification that the lines of a text spell up to the line `schedule` or `schedule 2`, or to the end; or the first line at fault with its first kind.

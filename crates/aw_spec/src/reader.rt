@@ -61,6 +61,7 @@ impl Reader {
     {
         let stage = line.stage();
         if stage < self.stage {
+            drop(line);
             return Err(LineFault::Bad(SpecKind::Order));
         }
         self.stage = stage;

@@ -3,7 +3,7 @@ use Rattle.aw_lex.specs.Lines.{lines_of}
 use Rattle.aw_spec.specs.Reading.{read_lines, specification}
 use Rattle.aw_spec.specs.ReaderAnswers.{draft_of, IsAtStage}
 use Rattle.aw_spec.proofs.LineSteps.{IsBehind}
-use Rattle.aw_spec.proofs.read.read_lines.Given as goal
+use Rattle.aw_spec.proofs.read.lines_read.Given as goal
 
 abbrev pub invariant-loop-line : goal.invariant-loop-line
 invariant-loop-line l =

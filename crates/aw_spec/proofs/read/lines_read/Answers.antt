@@ -1,14 +1,13 @@
-use Rattle.std.proofs.Common.{◌≡◌, ◌==◌, ◌+◌, ◌∙◌, sym, ap, subst, arith, length, length-drop, drop, Ok}
+use Rattle.std.proofs.Common.{◌==◌, ◌+◌, ◌∙◌, sym, ap, subst, arith, length, length-drop, drop, Ok}
 use Rattle.std.proofs.lemmas.List.{drop-drop}
 use Rattle.std.proofs.lemmas.List.Sums.{prefix_len-le-length}
 use Rattle.aw_lex.specs.Lines.{lines_of}
 use Rattle.aw_spec.specs.declared.draft.AfterLine.{AfterLine}
-use Rattle.aw_spec.specs.declared.spec_text.SpecText.{SpecText}
 use Rattle.aw_spec.specs.Reading.{read_line, read_lines}
 use Rattle.aw_spec.specs.ReaderAnswers.{draft_of, IsStill, Reads}
 use Rattle.aw_spec.proofs.Feeds.{feeds, feeds_read, feeds_dropped}
 use Rattle.aw_spec.proofs.LineSteps.{next_read, one_dropped, behind_both, behind_by_length, line_behind}
-use Rattle.aw_spec.proofs.read.read_lines.Goals as goal
+use Rattle.aw_spec.proofs.read.lines_read.Goals as goal
 
 pub loop-line-preserved : goal.loop-line-preserved
 loop-line-preserved c =
@@ -45,5 +44,4 @@ returns-in-Ok-End-clause-rest c =
     let line = c.in-Some.line.now in
     let behind = c.in-Some.behind.now in
     let suffix = behind_both behind l.rest.now text (line_behind l.rest.now (line, behind) c.in-Some.ensures.value) l.invariant.suffix in
-    subst (λ (s : SpecText). lines_of (drop s.rest text) ≡ drop s.lines (lines_of text)) (sym c.text_of.ensures.value)
-    (ap lines_of (behind_by_length behind text suffix) ∙ one_dropped l.lines line (lines_of l.rest.now) (lines_of behind) (lines_of text) c.in-Some.ensures.lines l.invariant.dropped)
+    ap lines_of (behind_by_length behind text suffix) ∙ one_dropped l.lines line (lines_of l.rest.now) (lines_of behind) (lines_of text) c.in-Some.ensures.lines l.invariant.dropped
