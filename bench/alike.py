@@ -295,6 +295,8 @@ def make(run, choice):
     run.lines.append("%s: %s\n" % (text, answer))
     return answer if answer in KINDS else answer.split()[0]
 
+DEEP = "too large", "#1 open (12) <?#1:r1>", "copied and let go"
+
 
 def told(lines):
     seed, runs, choices, cases = map(int, lines[0].split())
@@ -321,6 +323,10 @@ def main():
         print("=== " + name)
         for line in told(lines):
             print(line)
+    # the table ends with what is told of a deep value, which was worked out by hand
+    print("=== a row up to a limit, and a deep value")
+    for line in DEEP:
+        print(line)
 
 
 main()

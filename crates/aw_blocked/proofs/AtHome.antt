@@ -18,8 +18,8 @@ use Rattle.aw_react.specs.Worlds.{World, Move, MayCome, site_at, world_after}
 use Rattle.aw_merge.proofs.Enabled.{one_each}
 use Rattle.aw_merge.proofs.Runs.{invariant_holds}
 use Rattle.aw_merge.proofs.WorldLaws.{headline}
-use Rattle.aw_waits.specs.SiteWaits.{IsUntaken}
-use Rattle.aw_waits.proofs.TakenRows.{untaken_pending}
+use Rattle.aw_blocked.specs.SiteWaits.{IsUntaken}
+use Rattle.aw_blocked.proofs.TakenRows.{untaken_pending}
 use Rattle.aw_blocked.specs.Waiters.{is_done, holds_done, is_developed}
 use Rattle.aw_blocked.proofs.Done.{all_done}
 use Rattle.aw_blocked.proofs.HeldDone.{done_here, done_found}

@@ -1,3 +1,6 @@
+pub mod Steady
+pub mod TakenRows
+pub mod SiteRuns
 pub mod Places
 pub mod Taken
 pub mod HeldDone

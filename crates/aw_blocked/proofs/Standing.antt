@@ -23,7 +23,7 @@ use Rattle.aw_merge.proofs.Places.{member-get}
 use Rattle.aw_merge.proofs.WorldLaws.{invariant_law, headline}
 use Rattle.aw_wait.specs.Waiting.{WaitsFor}
 use Rattle.aw_wait.proofs.WaitingRuns.{none_waits, some_waits_for_none}
-use Rattle.aw_waits.proofs.SiteRuns.{waits_there_too}
+use Rattle.aw_blocked.proofs.SiteRuns.{waits_there_too}
 use Rattle.aw_blocked.specs.declared.pair.Pair.{Pair}
 use Rattle.aw_blocked.specs.Waiters.{of_result, waits_on, is_developed}
 use Rattle.aw_blocked.specs.Blocks.{pair_on, waiting}

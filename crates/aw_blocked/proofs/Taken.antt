@@ -7,7 +7,7 @@ use Rattle.aw_term.specs.Names.{Node}
 use Rattle.aw_term.specs.Rules.{Ground}
 use Rattle.aw_term.specs.Choices.{Choice, Start, Develop}
 use Rattle.aw_name.specs.SameNodes.{node_is, node_self}
-use Rattle.aw_waits.specs.SiteWaits.{IsUntaken}
+use Rattle.aw_blocked.specs.SiteWaits.{IsUntaken}
 use Rattle.aw_blocked.specs.Waiters.{develops, is_developed}
 
 by_choice : (m : Node) (c : Choice) → develops m c ≡ true → (r : ℕ) × (args : List Ground) × (Develop m r args ≡ c)

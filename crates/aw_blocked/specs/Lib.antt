@@ -1,3 +1,4 @@
+pub mod SiteWaits
 pub mod Waiters
 pub mod Blocks
 pub mod Laws

@@ -3,7 +3,7 @@ use Rattle.std.specs.Prelude.{◌≡◌, false, List, [], ◌∷◌}
 use Rattle.aw_term.specs.Names.{Node, root, below}
 use Rattle.aw_term.specs.Choices.{Start, Develop}
 use Rattle.aw_react.specs.Worlds.{Move, Chooses, world_after}
-use Rattle.aw_tried.specs.Grammars.{rings}
+use Rattle.aw_iograph.specs.Grammars.{rings}
 use Rattle.aw_blocked.specs.Blocks.{waiting}
 
 -- the node with which case 1 begins

@@ -8,8 +8,10 @@ mod laws;
 mod pair;
 mod telling;
 mod waiter;
+mod waits;
 pub mod worked;
 
 pub use laws::pair_laws;
 pub use pair::{Pair, Pairs};
 pub use telling::waiting;
+pub use waits::site_laws;

@@ -14,3 +14,4 @@ pub mod Sweeps
 pub mod TextFlows
 pub mod Visiting
 pub mod Widenings
+pub mod Deciding

@@ -8,3 +8,5 @@ pub mod Rows
 pub mod Small
 pub mod Visiting
 pub mod Widening
+pub mod Decided
+pub mod Grammars

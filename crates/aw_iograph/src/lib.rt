@@ -11,6 +11,7 @@ pub mod occ;
 pub mod rows;
 pub mod rules;
 pub mod settle;
+pub mod tried;
 pub mod visits;
 
 pub use circles::circle;
@@ -19,3 +20,4 @@ pub use io::Io;
 pub use laws::relation_laws;
 pub use occ::{Flow, Occ};
 pub use settle::{io_from, io_of};
+pub use tried::decided;

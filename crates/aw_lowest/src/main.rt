@@ -1,13 +1,16 @@
-//! A table of the lowest crates: names, numbers, texts and tokens, and what is read and written whole. Each line is a word and what it is
-//! about, and behind it stands what came of it. Bytes are written in hexadecimal. What stands in `stdin` and `stdout` was worked out by hand;
+//! A table of the lowest crates, in two parts. The first is of names, numbers, texts and tokens, and of what is read and written whole:
+//! each line is a word and what it is about, and behind it stands what came of it. Bytes are written in hexadecimal. The second, whose
+//! entries have a mark and a name, is of calls on a waiting index. What stands in `stdin` and `stdout` was worked out by hand;
 //! nothing in it comes from the program.
 #![tactic(auto)]
 
+mod asked;
 mod edges;
 mod lexed;
 mod session;
 mod spelled;
 mod told;
+mod waiting;
 
 use aw_list::Text;
 use aw_tables::{TableFault, bytes_of, input_of, numbers_of, tell};
@@ -19,6 +22,9 @@ use session::push_sessions;
 use spelled::{push_content, push_cut, push_end, push_length, push_name, push_node, push_text};
 use std::alloc::Global;
 use std::process::ExitCode;
+
+/// What stands in front of the name of an entry of the second part.
+pub(crate) const MARK: &[u8] = b"=== ";
 
 /// Adds what is told of bytes that are tokens or lines.
 fn push_lexed(alloc: Global, told: &mut Text, word: &[u8], bytes: &[u8]) -> Result<(), TableFault> {
@@ -93,10 +99,14 @@ fn push_entries(alloc: Global, told: &mut Text, text: &[u8]) -> Result<(), Table
     Ok(())
 }
 
-/// What is told of all lines.
+/// What is told of both parts.
 fn table(alloc: Global, text: &[u8]) -> Result<Text, TableFault> {
     let mut told = Text::new(alloc);
-    push_entries(alloc, &mut told, text)?;
+    let Some((lines, entries)) = text.split_once_str(MARK) else {
+        return Err(TableFault::Unreadable);
+    };
+    push_entries(alloc, &mut told, lines)?;
+    waiting::push_entries(alloc, &mut told, entries)?;
     Ok(told)
 }
 

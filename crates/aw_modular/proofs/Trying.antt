@@ -8,8 +8,8 @@ use Rattle.aw_term.specs.Rules.{Rule, Grammar}
 use Rattle.aw_base.specs.declared.declared.Triple.{Triple}
 use Rattle.aw_iograph.proofs.Relations.{plus_map, follows_least}
 use Rattle.aw_face.specs.Faces.{role_of, is_offered, face_fault}
-use Rattle.aw_tried.specs.Decided.{Pair, Holds, all, any, pair_eq, decides}
-use Rattle.aw_tried.proofs.Deciding.{all_member, any_member, listed_member, decided_closed, decided_none}
+use Rattle.aw_iograph.specs.Decided.{Pair, Holds, all, any, pair_eq, decides}
+use Rattle.aw_iograph.proofs.Deciding.{all_member, any_member, listed_member, decided_closed, decided_none}
 use Rattle.aw_modular.specs.Roles.{Declares, IsOf, Mixed, RoleRelation, HasOwnRules, DeclaredElsewhere, Part, SaysYes}
 use Rattle.aw_modular.proofs.RoleRelations.{mixed-follows}
 

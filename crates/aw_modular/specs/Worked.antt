@@ -4,7 +4,7 @@ use Rattle.aw_term.specs.Trees.{Never}
 use Rattle.aw_term.specs.Rules.{Grammar}
 use Rattle.aw_base.specs.declared.declared.Triple.{Triple}
 use Rattle.aw_face.specs.declared.faces.Using.{Using}
-use Rattle.aw_tried.specs.Grammars.{clinic, clinic_of, admit, analyse, skip, trial, trial_of, begin, measure, refer, write, file, hold, split, rings_of, ring}
+use Rattle.aw_iograph.specs.Grammars.{clinic, clinic_of, admit, analyse, skip, trial, trial_of, begin, measure, refer, write, file, hold, split, rings_of, ring}
 use Rattle.aw_modular.specs.Roles.{Declares, RoleRelation, Part, SaysYes, AllSayYes, IsJoined}
 
 -- result j of a sort may depend on its inherited value i

@@ -14,3 +14,8 @@ pub mod ReadEvents
 pub mod ReadLines
 pub mod SoundLines
 pub mod SpelledLines
+pub mod NodeProps
+pub mod Outcomes
+pub mod Printing
+pub mod ProgramNodes
+pub mod Reading

@@ -14,3 +14,4 @@ pub mod LineSpelling
 pub mod Lines
 pub mod Readers
 pub mod Schedules
+pub mod Printed

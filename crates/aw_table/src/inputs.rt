@@ -62,7 +62,7 @@ fn is_named_again(alloc: Global, g: &Grammar, node: &Node) -> Result<bool, Alloc
     if sort_of(g, node).is_none() {
         return Ok(false);
     }
-    match aw_printed::read_again(alloc, g, node) {
+    match aw_sched::read_again(alloc, g, node) {
         Ok(again) => Ok(is_same_node(&again, node)),
         Err(_) => Err(AllocError),
     }

@@ -12,8 +12,8 @@ use Rattle.aw_grammar.specs.Build.{AllSpelled, Rule as Rule', roles_placed, cons
 use Rattle.aw_grammar.proofs.WrittenLemmas.{written_apply}
 use Rattle.aw_iograph.specs.Dependence.{IO, HasNoCircle}
 use Rattle.aw_iograph.proofs.Relations.{plus_map, io_least}
-use Rattle.aw_tried.specs.Decided.{Pair, Holds}
-use Rattle.aw_tried.proofs.Deciding.{decided_closed, decided_none}
+use Rattle.aw_iograph.specs.Decided.{Pair, Holds}
+use Rattle.aw_iograph.proofs.Deciding.{decided_closed, decided_none}
 use Rattle.aw_trial.specs.Specification.{apply_2, AreDeclared, trial_placed, trial_grammar}
 
 pub one_applied : {E : Type 0} (n a b name : List ℕ) (parts : List RawTerm) (r : Result (List RawTerm) E) → name ≡ n → map written_of parts ≡ Word a ∷ Word b ∷ []

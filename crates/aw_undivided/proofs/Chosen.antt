@@ -9,8 +9,8 @@ use Rattle.aw_base.specs.ChoiceFits.{choice_ok}
 use Rattle.aw_sched.specs.declared.event.Event.{Event}
 use Rattle.aw_sched.specs.declared.event.Event.TheVariants.{Choose, Deliver, Settle, List as Lists}
 use Rattle.aw_sched.specs.Answers.{event_seen, MayCome}
-use Rattle.aw_united.specs.Laws.{TakesSameChoices}
-use Rattle.aw_united.specs.United.{united}
+use Rattle.aw_undivided.specs.UnitedLaws.{TakesSameChoices}
+use Rattle.aw_undivided.specs.United.{united}
 use Rattle.aw_undivided.specs.ChoicesIn.{choices_in}
 use Rattle.aw_undivided.specs.Choosing.{choices_among}
 

@@ -21,8 +21,8 @@ use Rattle.aw_sched.specs.Schedules.{Events}
 use Rattle.aw_sched.specs.declared.event.Event.{Event}
 use Rattle.aw_sched.specs.declared.event.Event.TheVariants.{Choose, Deliver, Settle, List as Lists}
 use Rattle.aw_sched.specs.declared.reader.ScheduleReader.{ScheduleReader}
-use Rattle.aw_united.specs.Laws.{TakesSameChoices}
-use Rattle.aw_united.specs.United.{united, united_words}
+use Rattle.aw_undivided.specs.UnitedLaws.{TakesSameChoices}
+use Rattle.aw_undivided.specs.United.{united, united_words}
 use Rattle.aw_undivided.specs.ChoicesIn.{undivided_text}
 use Rattle.aw_undivided.specs.Choosing.{choices_among}
 use Rattle.aw_undivided.specs.Laws.{UnitedTellsUndivided}

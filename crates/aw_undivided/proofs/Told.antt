@@ -12,8 +12,8 @@ use Rattle.aw_joint.specs.Laws.{IsAccepted}
 use Rattle.aw_react.specs.Outputs.{output_of}
 use Rattle.aw_sched.specs.declared.event.Event.{Event}
 use Rattle.aw_sched.specs.Answers.{event_seen, MayCome}
-use Rattle.aw_united.specs.Laws.{TakesSameChoices}
-use Rattle.aw_united.specs.United.{united, united_words}
+use Rattle.aw_undivided.specs.UnitedLaws.{TakesSameChoices}
+use Rattle.aw_undivided.specs.United.{united, united_words}
 use Rattle.aw_undivided.specs.ChoicesIn.{choices_in}
 use Rattle.aw_undivided.specs.Choosing.{choices_among}
 use Rattle.aw_undivided.specs.Laws.{UnitedTellsUndivided}

@@ -8,7 +8,7 @@ use Rattle.aw_term.specs.WellFormed.{Each}
 use Rattle.aw_choice.specs.Events.{Chooses}
 use Rattle.aw_base.specs.ChoiceFits.{choice_ok}
 use Rattle.aw_react.specs.Outputs.{output_of}
-use Rattle.aw_united.specs.United.{united, united_words}
+use Rattle.aw_undivided.specs.United.{united, united_words}
 
 -- where all sorts are at one role, the sites tell of choices what the undivided run tells of them
 abbrev pub UnitedTellsUndivided : Words → Grammar → Type 0

@@ -1,3 +1,6 @@
+pub mod Declared
+pub mod United
+pub mod UnitedLaws
 pub mod ChoicesIn
 pub mod Choosing
 pub mod Laws

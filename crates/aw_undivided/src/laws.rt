@@ -4,8 +4,8 @@ ghost use Rattle.aw_term.specs.Artifacts.{Words};
 ghost use Rattle.aw_term.specs.Rules as P;
 ghost use Rattle.aw_undivided.specs.Laws.{UnitedTellsUndivided};
 
+use crate::united::united_laws;
 use aw_merge::laws::output_laws;
-use aw_united::united_laws;
 
 /// Where all sorts of an accepted grammar are put at one role, its sites tell of choices what the undivided run of the grammar tells.
 pub fn undivided_laws()

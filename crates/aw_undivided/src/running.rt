@@ -9,11 +9,12 @@ ghost use Rattle.aw_undivided.specs.Scheduled.{RunsUndivided};
 
 use crate::choosing::choices_among;
 use crate::laws::undivided_laws;
+use crate::united::united_laws;
+use crate::uniting::unite_accepted;
 use aw_accept::Accepted;
 use aw_out::{OUTPUT_LIMIT, PrintFault, Report};
 use aw_replay::{Kept, ReplayFault, replay_between_sites, replay_schedule};
 use aw_sched::{Event, ScheduleReader};
-use aw_united::{unite_accepted, united_laws};
 use std::alloc::Global;
 
 /// What the undivided run tells of the choices among events: the line of each, and then the artifacts. Deliveries, settlings and

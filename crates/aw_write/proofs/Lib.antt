@@ -16,3 +16,6 @@ pub mod SpelledTypes
 pub mod Typing
 pub mod WrittenAgain
 pub mod TypeTexts
+pub mod BackTerms
+pub mod BackRules
+pub mod ReadRules

@@ -5,8 +5,8 @@ use Rattle.aw_iograph.specs.Graphs.{Plus, step, more}
 use Rattle.aw_iograph.specs.Occurrences.{inherited}
 use Rattle.aw_iograph.specs.Dependence.{Edge, text, call}
 use Rattle.aw_base.specs.declared.declared.Triple.{Triple}
-use Rattle.aw_tried.specs.Decided.{Pair}
-use Rattle.aw_tried.specs.Grammars.{analyse, skip, file, clinic_of, ring}
+use Rattle.aw_iograph.specs.Decided.{Pair}
+use Rattle.aw_iograph.specs.Grammars.{analyse, skip, file, clinic_of, ring}
 use Rattle.aw_modular.specs.Roles.{Declares, Mixed, RoleRelation}
 use Rattle.aw_modular.specs.Worked.{triple, few, front, lab, desk, store, trial_offers, ring_part}
 use Rattle.aw_modular.proofs.Trying.{says_yes}

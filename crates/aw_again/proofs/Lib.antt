@@ -1,3 +1,0 @@
-pub mod BackTerms
-pub mod BackRules
-pub mod ReadRules
