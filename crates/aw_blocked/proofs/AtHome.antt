@@ -10,9 +10,9 @@ use Rattle.aw_term.specs.Names.{Node}
 use Rattle.aw_term.specs.Rules.{Grammar}
 use Rattle.aw_term.specs.WellFormed.{Each}
 use Rattle.aw_accept.specs.Acyclic.{Pairs}
-use Rattle.aw_joint.specs.Joint.{Joint, empty_joint, joint_run}
-use Rattle.aw_joint.specs.Laws.{IsAccepted, Agree, AgreeWhereTaken}
-use Rattle.aw_joint.proofs.Agreement.{flat_law}
+use Rattle.aw_react.specs.Joint.{Joint, empty_joint, joint_run}
+use Rattle.aw_react.specs.Laws.{IsAccepted, Agree, AgreeWhereTaken}
+use Rattle.aw_react.proofs.Agreement.{flat_law}
 use Rattle.aw_react.specs.Homes.{home}
 use Rattle.aw_react.specs.Worlds.{World, Move, MayCome, site_at, world_after}
 use Rattle.aw_merge.proofs.Enabled.{one_each}

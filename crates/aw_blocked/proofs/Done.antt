@@ -12,9 +12,9 @@ use Rattle.aw_term.specs.WellFormed.{Each}
 use Rattle.aw_name.specs.SameNodes.{node_self}
 use Rattle.aw_store.specs.Equations.{Map}
 use Rattle.aw_apply.specs.Made.{made}
-use Rattle.aw_joint.specs.Joint.{Joint, empty_joint, by_held}
-use Rattle.aw_joint.specs.Laws.{IsAccepted}
-use Rattle.aw_joint.proofs.AnyOrders.{held_of-found, Member-all_held}
+use Rattle.aw_react.specs.Joint.{Joint, empty_joint, by_held}
+use Rattle.aw_react.specs.Laws.{IsAccepted}
+use Rattle.aw_react.proofs.AnyOrders.{held_of-found, Member-all_held}
 use Rattle.aw_react.specs.Homes.{home}
 use Rattle.aw_react.specs.Sites.{Site, Reaction, empty_site}
 use Rattle.aw_react.specs.Choosing.{Chosen, No, Did, outcome, choose, choose_on}

@@ -15,11 +15,11 @@ use Rattle.aw_accept.specs.Acyclic.{Pairs, IsGivenGrammar}
 use Rattle.aw_accept.proofs.Fitting.{given_of}
 use Rattle.aw_store.specs.Equations.{Body, Map, find}
 use Rattle.aw_apply.specs.Guard.{guard_all}
-use Rattle.aw_joint.specs.Joint.{Held, Joint, empty_joint, joint_run}
-use Rattle.aw_joint.specs.Laws.{Agree, IsAccepted, IsSubmap}
-use Rattle.aw_joint.proofs.Entering.{VariablesEnter, variables_enter}
-use Rattle.aw_joint.proofs.Guarding.{Like, guard_all-match}
-use Rattle.aw_joint.proofs.Lockstep.{Lockstep, LikeStates, run_lockstep, empty_lockstep}
+use Rattle.aw_react.specs.Joint.{Held, Joint, empty_joint, joint_run}
+use Rattle.aw_react.specs.Laws.{Agree, IsAccepted, IsSubmap}
+use Rattle.aw_react.proofs.Entering.{VariablesEnter, variables_enter}
+use Rattle.aw_react.proofs.Guarding.{Like, guard_all-match}
+use Rattle.aw_react.proofs.Lockstep.{Lockstep, LikeStates, run_lockstep, empty_lockstep}
 use Rattle.aw_wait.specs.Waiting.{WaitsFor}
 use Rattle.aw_wait.proofs.Stopping.{match_all-waits}
 use Rattle.aw_blocked.specs.SiteWaits.{IsUntaken, WaitsThereToo}

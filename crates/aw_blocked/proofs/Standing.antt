@@ -13,7 +13,7 @@ use Rattle.aw_term.proofs.Gets.{get_some}
 use Rattle.aw_iograph.specs.Graphs.{Plus, step, more}
 use Rattle.aw_accept.proofs.Fitting.{given_of}
 use Rattle.aw_apply.specs.Guard.{guard_all}
-use Rattle.aw_joint.specs.Laws.{IsAccepted}
+use Rattle.aw_react.specs.Laws.{IsAccepted}
 use Rattle.aw_react.specs.Homes.{home}
 use Rattle.aw_react.specs.Sites.{Site, empty_site}
 use Rattle.aw_react.specs.Worlds.{site_at, gather, world_after}

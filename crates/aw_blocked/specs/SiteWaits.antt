@@ -9,8 +9,8 @@ use Rattle.aw_term.specs.Configs.{Pending, Config}
 use Rattle.aw_term.specs.Choices.{Choice, Develop, undivided}
 use Rattle.aw_store.specs.Equations.{Map}
 use Rattle.aw_apply.specs.Guard.{guard_all}
-use Rattle.aw_joint.specs.Joint.{Held, Joint, empty_joint, joint_run}
-use Rattle.aw_joint.specs.Laws.{IsSubmap}
+use Rattle.aw_react.specs.Joint.{Held, Joint, empty_joint, joint_run}
+use Rattle.aw_react.specs.Laws.{IsSubmap}
 use Rattle.aw_wait.specs.Waiting.{WaitsFor}
 
 -- none of the choices develops the node

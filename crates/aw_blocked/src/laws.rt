@@ -1,7 +1,7 @@
 //! What holds of who waits for whom in every world, apart from any code.
 ghost use Rattle.aw_term.specs.Artifacts.{Words};
 ghost use Rattle.aw_term.specs.Rules as P;
-ghost use Rattle.aw_joint.specs.Laws.{IsAccepted};
+ghost use Rattle.aw_react.specs.Laws.{IsAccepted};
 ghost use Rattle.aw_blocked.specs.Laws.{PairsStand, NoCircleIsTold, SomeIsToldFree};
 
 /// After every list of choices and deliveries, with loads and without, each pair stands in the undivided configuration of the choices

@@ -2,7 +2,7 @@
 ghost use Rattle.aw_term.specs.Artifacts.{Words};
 ghost use Rattle.aw_term.specs.Rules as P;
 ghost use Rattle.aw_store.specs.Equations.{Map};
-ghost use Rattle.aw_joint.specs.Laws.{IsAccepted, IsSubmap, WaitsStays};
+ghost use Rattle.aw_react.specs.Laws.{IsAccepted, IsSubmap, WaitsStays};
 ghost use Rattle.aw_blocked.specs.SiteWaits.{WaitsThereToo};
 
 /// A guard that waits over the equations of a workspace for a result of a node on which no choice was taken waits for it

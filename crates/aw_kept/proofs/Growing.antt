@@ -12,8 +12,8 @@ use Rattle.aw_store.proofs.SlotLemmas.{slot-grown, AreNamed-grown}
 use Rattle.aw_store.proofs.ChaseLemmas.{name_at}
 use Rattle.aw_apply.specs.Guard.{guard_all}
 use Rattle.aw_apply.specs.Named.{as_named}
-use Rattle.aw_joint.specs.Laws.{IsSubmap}
-use Rattle.aw_joint.proofs.Guarding.{Final, guard_all-keeps}
+use Rattle.aw_react.specs.Laws.{IsSubmap}
+use Rattle.aw_react.proofs.Guarding.{Final, guard_all-keeps}
 use Rattle.aw_held.specs.declared.held.Held.{Held}
 use Rattle.aw_work.specs.declared.block.Triple.{Triple}
 use Rattle.aw_kept.specs.declared.record.Stands.{Stands}

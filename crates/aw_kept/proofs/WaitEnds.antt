@@ -17,8 +17,8 @@ use Rattle.aw_store.proofs.ChaseEnds.{found-more, round-more}
 use Rattle.aw_store.proofs.ChaseLemmas.{chase_in-none}
 use Rattle.aw_apply.specs.Guard.{guard_all}
 use Rattle.aw_apply.specs.Named.{as_named}
-use Rattle.aw_joint.specs.Laws.{IsSubmap}
-use Rattle.aw_joint.proofs.Moving.{missing-past, guard_all-moves}
+use Rattle.aw_react.specs.Laws.{IsSubmap}
+use Rattle.aw_react.proofs.Moving.{missing-past, guard_all-moves}
 use Rattle.aw_held.specs.declared.held.Held.{Held}
 use Rattle.aw_kept.specs.declared.record.Mark.{Mark}
 use Rattle.aw_kept.specs.Standings.{kept_refusal, told_refusal}

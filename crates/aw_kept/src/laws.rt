@@ -4,7 +4,7 @@ ghost use Rattle.aw_term.specs.Names.{Ref};
 ghost use Rattle.aw_term.specs.Rules.{Grammar};
 ghost use Rattle.aw_store.specs.Equations.{Map};
 ghost use Rattle.aw_store.specs.NamedRefs.{Grows, IsNamedOnce};
-ghost use Rattle.aw_joint.specs.Laws.{IsSubmap};
+ghost use Rattle.aw_react.specs.Laws.{IsSubmap};
 ghost use Rattle.aw_held.specs.declared.held.Held.{Held};
 ghost use Rattle.aw_held.specs.HeldView.{all_of};
 ghost use Rattle.aw_react.specs.Worklists.{site_worklist};

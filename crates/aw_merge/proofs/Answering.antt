@@ -13,8 +13,8 @@ use Rattle.aw_term.proofs.RefTests.{ref_eq-self, ref_eq-true}
 use Rattle.aw_accept.proofs.Fitting.{each_member}
 use Rattle.aw_store.specs.Equations.{Body, Equation, find, mentions}
 use Rattle.aw_apply.specs.Messages.{Asks, Calls, Kind, Message, Tells, carried}
-use Rattle.aw_joint.specs.Joint.{Joint}
-use Rattle.aw_joint.proofs.Lists.{each_of}
+use Rattle.aw_react.specs.Joint.{Joint}
+use Rattle.aw_react.proofs.Lists.{each_of}
 use Rattle.aw_react.specs.Homes.{home}
 use Rattle.aw_react.specs.Loads.{Given, given_on, load_of, may_give, next_given, walk}
 use Rattle.aw_react.specs.Sites.{Site, Watch}

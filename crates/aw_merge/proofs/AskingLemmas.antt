@@ -11,7 +11,7 @@ use Rattle.aw_term.specs.WellFormed.{Later}
 use Rattle.aw_term.proofs.RefTests.{ref_eq-self}
 use Rattle.aw_store.specs.Equations.{Body, find}
 use Rattle.aw_apply.specs.Messages.{Asks, Calls, Kind, Message, Tells}
-use Rattle.aw_joint.specs.Joint.{Joint}
+use Rattle.aw_react.specs.Joint.{Joint}
 use Rattle.aw_react.specs.Asking.{ask_message, asking, is_wanted}
 use Rattle.aw_react.specs.Homes.{home}
 use Rattle.aw_react.specs.InOrder.{has_ref, in_order}

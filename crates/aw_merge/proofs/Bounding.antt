@@ -14,9 +14,9 @@ use Rattle.aw_accept.proofs.ConfigLemmas.{Member-upto, length-upto}
 use Rattle.aw_accept.proofs.Pigeonholes.{pigeon}
 use Rattle.aw_store.specs.Equations.{Equation, Map}
 use Rattle.aw_apply.specs.Messages.{Asks, Calls, Kind, Message, Tells}
-use Rattle.aw_joint.specs.Joint.{Joint, called_held}
-use Rattle.aw_joint.specs.Laws.{IsAccepted}
-use Rattle.aw_joint.proofs.Lists.{each_of}
+use Rattle.aw_react.specs.Joint.{Joint, called_held}
+use Rattle.aw_react.specs.Laws.{IsAccepted}
+use Rattle.aw_react.proofs.Lists.{each_of}
 use Rattle.aw_react.specs.Bounds.{bound, child_results, created, is_called, part_lefts, part_on}
 use Rattle.aw_react.specs.Homes.{has_steps, home, parent}
 use Rattle.aw_react.specs.Worlds.{IsQuiet, World, deliver, settle, site_at, undelivered, count_set}

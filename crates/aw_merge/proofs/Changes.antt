@@ -12,7 +12,7 @@ use Rattle.aw_term.specs.Held.{Held}
 use Rattle.aw_store.specs.Equations.{Body, Equation, find}
 use Rattle.aw_apply.specs.Made.{Call}
 use Rattle.aw_apply.specs.Messages.{Asks, Calls, Kind, Message, Tells}
-use Rattle.aw_joint.specs.Joint.{Joint, called_held}
+use Rattle.aw_react.specs.Joint.{Joint, called_held}
 use Rattle.aw_react.specs.Asking.{ask_message}
 use Rattle.aw_react.specs.Homes.{home}
 use Rattle.aw_react.specs.Sites.{Site, Watch}

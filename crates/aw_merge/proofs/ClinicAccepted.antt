@@ -11,7 +11,7 @@ use Rattle.aw_iograph.specs.Graphs.{Plus}
 use Rattle.aw_iograph.specs.Occurrences.{inherited, given, item, entries, term_at}
 use Rattle.aw_iograph.specs.Dependence.{Edge, text, call, IO, HasNoCircle}
 use Rattle.aw_iograph.proofs.Reaching.{rises}
-use Rattle.aw_joint.specs.Laws.{IsAccepted}
+use Rattle.aw_react.specs.Laws.{IsAccepted}
 use Rattle.aw_react.specs.Worked.{clinic, clinic_words}
 
 abbrev blood : Term

@@ -17,8 +17,8 @@ use Rattle.aw_accept.proofs.Fitting.{each_member}
 use Rattle.aw_store.specs.Equations.{Body, Equation, Is, Map, Same, find, mentions}
 use Rattle.aw_apply.specs.Made.{Call}
 use Rattle.aw_apply.specs.Messages.{Asks, Calls, Kind, Message, Tells, carried, BadName, New, NotMine, Repeat, Clash, OfNode, OfReference}
-use Rattle.aw_joint.specs.Joint.{Joint, called_held}
-use Rattle.aw_joint.proofs.AnyOrders.{Member-insert_held, Member-inserted_held, held_of-found}
+use Rattle.aw_react.specs.Joint.{Joint, called_held}
+use Rattle.aw_react.proofs.AnyOrders.{Member-insert_held, Member-inserted_held, held_of-found}
 use Rattle.aw_react.specs.Asking.{all_mentions, asking}
 use Rattle.aw_react.specs.Homes.{front, has_steps, home, parent}
 use Rattle.aw_react.specs.Reacting.{add_held, react, receive, received_on}

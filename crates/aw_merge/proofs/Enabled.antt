@@ -18,11 +18,11 @@ use Rattle.aw_accept.proofs.Fitting.{given_of}
 use Rattle.aw_accept.proofs.UndividedRuns.{root-below}
 use Rattle.aw_apply.specs.Made.{made}
 use Rattle.aw_apply.specs.Messages.{Message, BadName, Conflict, New, NotMine, Received, Repeat}
-use Rattle.aw_joint.specs.Joint.{Joint, by_held, by_root, called_held, empty_joint, joint_outcome, joint_run, joint_taken, root_held}
-use Rattle.aw_joint.specs.Laws.{IsAccepted}
-use Rattle.aw_joint.proofs.AnyOrders.{Member-insert_all, Member-insert_held, held_of-found, marked, state-takes, yes-kept}
-use Rattle.aw_joint.proofs.Entering.{VariablesEnter, variables_enter}
-use Rattle.aw_joint.proofs.SameConfigs.{fit_of}
+use Rattle.aw_react.specs.Joint.{Joint, by_held, by_root, called_held, empty_joint, joint_outcome, joint_run, joint_taken, root_held}
+use Rattle.aw_react.specs.Laws.{IsAccepted}
+use Rattle.aw_react.proofs.AnyOrders.{Member-insert_all, Member-insert_held, held_of-found, marked, state-takes, yes-kept}
+use Rattle.aw_react.proofs.Entering.{VariablesEnter, variables_enter}
+use Rattle.aw_react.proofs.SameConfigs.{fit_of}
 use Rattle.aw_react.specs.Choosing.{Chosen, Did, No, choose, outcome}
 use Rattle.aw_react.specs.Homes.{home}
 use Rattle.aw_react.specs.Reacting.{receive}

@@ -15,9 +15,9 @@ use Rattle.aw_store.proofs.MoreEquations.{find-left_more}
 use Rattle.aw_apply.specs.Guard.{guard_all}
 use Rattle.aw_apply.specs.Made.{Call}
 use Rattle.aw_apply.specs.Messages.{Asks, Calls, Kind, Message, Tells, BadName, Conflict, New, NotMine, Received, Repeat, Clash}
-use Rattle.aw_joint.specs.Joint.{called_held}
-use Rattle.aw_joint.proofs.AnyOrders.{Member-all_held, Member-inserted_held}
-use Rattle.aw_joint.proofs.Guarding.{Final, guard_all-keeps}
+use Rattle.aw_react.specs.Joint.{called_held}
+use Rattle.aw_react.proofs.AnyOrders.{Member-all_held, Member-inserted_held}
+use Rattle.aw_react.proofs.Guarding.{Final, guard_all-keeps}
 use Rattle.aw_react.specs.Worlds.{node_of}
 use Rattle.aw_react.specs.SiteEvents.{SiteEvent, Chose, Got, after_choice, after_message, site_step, site_run}
 use Rattle.aw_react.specs.Choosing.{Chosen, Did, No, choose, choose_on, outcome}

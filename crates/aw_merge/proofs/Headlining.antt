@@ -12,9 +12,9 @@ use Rattle.aw_term.specs.Names.{root}
 use Rattle.aw_term.proofs.Eaches.{each_append}
 use Rattle.aw_choice.specs.Events.{Event, Chooses, Delivers, Settles, Lists}
 use Rattle.aw_accept.proofs.Fitting.{given_of}
-use Rattle.aw_joint.specs.Laws.{IsAccepted}
-use Rattle.aw_joint.proofs.Entering.{variables_enter}
-use Rattle.aw_joint.proofs.SameConfigs.{same_configuration}
+use Rattle.aw_react.specs.Laws.{IsAccepted}
+use Rattle.aw_react.proofs.Entering.{variables_enter}
+use Rattle.aw_react.proofs.SameConfigs.{same_configuration}
 use Rattle.aw_react.specs.Homes.{home}
 use Rattle.aw_react.specs.Choosing.{outcome}
 use Rattle.aw_react.specs.Worlds.{World, Move, MayCome, step, deliver, settle, undelivered, empty_world, run, site_at}

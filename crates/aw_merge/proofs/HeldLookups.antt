@@ -13,7 +13,7 @@ use Rattle.aw_term.specs.Held.{Held, held_of}
 use Rattle.aw_name.specs.SameNodes.{node_is, node_self}
 use Rattle.aw_store.specs.Equations.{Map}
 use Rattle.aw_apply.specs.Guard.{guard_all}
-use Rattle.aw_joint.specs.Joint.{by_rule, by_state}
+use Rattle.aw_react.specs.Joint.{by_rule, by_state}
 use Rattle.aw_react.specs.Asking.{all_inherited}
 
 there_cases : (b : Bool) (n : Node) (q h : Held) (o : Option Held) → node_eq n q.node ≡ b → (n ≡ q.node → q ≡ h) → (b ≡ false → o ≡ Some h) → cond b (Some q) o ≡ Some h

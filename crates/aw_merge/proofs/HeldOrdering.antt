@@ -12,9 +12,9 @@ use Rattle.aw_term.specs.Held.{Held, insert_all, insert_held, mark}
 use Rattle.aw_term.proofs.NodeOrder.{node-no, node-trans, node-tri}
 use Rattle.aw_accept.proofs.Fitting.{each_member}
 use Rattle.aw_apply.specs.Made.{Call}
-use Rattle.aw_joint.specs.Joint.{called_held}
-use Rattle.aw_joint.proofs.AnyOrders.{Member-all_held, Member-insert_all, Member-insert_held, marked}
-use Rattle.aw_joint.proofs.Lists.{each_of}
+use Rattle.aw_react.specs.Joint.{called_held}
+use Rattle.aw_react.proofs.AnyOrders.{Member-all_held, Member-insert_all, Member-insert_held, marked}
+use Rattle.aw_react.proofs.Lists.{each_of}
 use Rattle.aw_react.specs.Homes.{home}
 use Rattle.aw_react.specs.Sites.{Site}
 use Rattle.aw_react.specs.Telling.{calls_in}

@@ -12,10 +12,10 @@ use Rattle.aw_accept.specs.Acyclic.{IsGivenGrammar}
 use Rattle.aw_accept.proofs.Fitting.{each_member, given_of}
 use Rattle.aw_store.specs.Equations.{Equation, find}
 use Rattle.aw_apply.specs.Messages.{Asks, Calls, Kind, Message, Tells, carried}
-use Rattle.aw_joint.specs.Joint.{Joint}
-use Rattle.aw_joint.specs.Laws.{IsAccepted}
-use Rattle.aw_joint.proofs.Entering.{VariablesEnter, variables_enter}
-use Rattle.aw_joint.proofs.SameConfigs.{fit_of}
+use Rattle.aw_react.specs.Joint.{Joint}
+use Rattle.aw_react.specs.Laws.{IsAccepted}
+use Rattle.aw_react.proofs.Entering.{VariablesEnter, variables_enter}
+use Rattle.aw_react.proofs.SameConfigs.{fit_of}
 use Rattle.aw_react.specs.Asking.{ask_message}
 use Rattle.aw_react.specs.Homes.{home}
 use Rattle.aw_react.specs.Sites.{Site}

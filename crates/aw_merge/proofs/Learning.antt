@@ -14,7 +14,7 @@ use Rattle.aw_accept.proofs.Fitting.{each_member}
 use Rattle.aw_store.specs.Equations.{Body, Equation, Map, find, mentions}
 use Rattle.aw_store.proofs.MoreEquations.{find-left_more, find-right_more}
 use Rattle.aw_apply.specs.Messages.{Message, carried}
-use Rattle.aw_joint.specs.Joint.{Joint}
+use Rattle.aw_react.specs.Joint.{Joint}
 use Rattle.aw_react.specs.Asking.{all_mentions, asking}
 use Rattle.aw_react.specs.Homes.{home}
 use Rattle.aw_react.specs.Receiving.{add_all, add_on}

@@ -12,7 +12,7 @@ use Rattle.aw_term.proofs.Eaches.{each_map}
 use Rattle.aw_term.proofs.RefTests.{ref_eq-self, ref_eq-true}
 use Rattle.aw_term.proofs.RefOrder.{ref-no, ref-trans, ref-tri}
 use Rattle.aw_accept.proofs.Fitting.{each_member}
-use Rattle.aw_joint.proofs.Lists.{each_of}
+use Rattle.aw_react.proofs.Lists.{each_of}
 use Rattle.aw_react.specs.InOrder.{has_ref, in_order, insert_ref}
 
 pub each_by : {A : Type 0} (P Q : A → Type 0) → ((x : A) → P x → Q x) → (xs : List A) → Each P xs → Each Q xs

@@ -21,13 +21,13 @@ use Rattle.aw_accept.proofs.UndividedRuns.{decode_on}
 use Rattle.aw_store.specs.Equations.{Equation}
 use Rattle.aw_apply.specs.Made.{Call, Making, made}
 use Rattle.aw_apply.proofs.Numbering.{Covers, Lies, made-apart}
-use Rattle.aw_joint.specs.Joint.{Joint, add_made, called_held, joint_outcome, joint_taken, root_held}
-use Rattle.aw_joint.specs.Laws.{IsAccepted}
-use Rattle.aw_joint.proofs.AnyOrders.{Member-insert_all, Member-insert_held, Took, marked}
-use Rattle.aw_joint.proofs.Entering.{IsTermOf, VariablesEnter, variables_enter}
-use Rattle.aw_joint.proofs.Lockstep.{answers_agree}
-use Rattle.aw_joint.proofs.OutcomesAlike.{OutLike}
-use Rattle.aw_joint.proofs.SameConfigs.{Fit, row_for}
+use Rattle.aw_react.specs.Joint.{Joint, add_made, called_held, joint_outcome, joint_taken, root_held}
+use Rattle.aw_react.specs.Laws.{IsAccepted}
+use Rattle.aw_react.proofs.AnyOrders.{Member-insert_all, Member-insert_held, Took, marked}
+use Rattle.aw_react.proofs.Entering.{IsTermOf, VariablesEnter, variables_enter}
+use Rattle.aw_react.proofs.Lockstep.{answers_agree}
+use Rattle.aw_react.proofs.OutcomesAlike.{OutLike}
+use Rattle.aw_react.proofs.SameConfigs.{Fit, row_for}
 use Rattle.aw_react.specs.ValidNames.{body_ok, call_ok, equation_ok, refs_ok, takes_as}
 use Rattle.aw_merge.specs.Invariant.{IsValid, as_call}
 use Rattle.aw_merge.proofs.Delivering.{mention-ok}

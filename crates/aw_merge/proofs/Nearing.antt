@@ -7,7 +7,7 @@ use Rattle.aw_term.specs.Rules.{Grammar}
 use Rattle.aw_term.specs.WellFormed.{Each}
 use Rattle.aw_term.proofs.Eaches.{each_push}
 use Rattle.aw_apply.specs.Messages.{Message}
-use Rattle.aw_joint.specs.Laws.{IsAccepted}
+use Rattle.aw_react.specs.Laws.{IsAccepted}
 use Rattle.aw_react.specs.Worlds.{World, Move, Delivers, MayCome, count_set, deliver, step, undelivered, empty_world, world_after}
 use Rattle.aw_react.specs.Bounds.{bound_of}
 use Rattle.aw_merge.proofs.Counting.{count_within}

@@ -12,8 +12,8 @@ use Rattle.aw_term.specs.Trees.{Never}
 use Rattle.aw_term.specs.Held.{Held, held_of}
 use Rattle.aw_store.specs.Equations.{Map}
 use Rattle.aw_apply.specs.Guard.{guard_all}
-use Rattle.aw_joint.specs.Joint.{by_held, by_root, by_rule, by_state, joint_outcome}
-use Rattle.aw_joint.proofs.AnyOrders.{held_of-found}
+use Rattle.aw_react.specs.Joint.{by_held, by_root, by_rule, by_state, joint_outcome}
+use Rattle.aw_react.proofs.AnyOrders.{held_of-found}
 use Rattle.aw_react.specs.Choosing.{answer_to, choose, choose_on, outcome}
 use Rattle.aw_react.specs.Sites.{Site}
 

@@ -13,7 +13,7 @@ use Rattle.aw_term.proofs.Eaches.{each_push}
 use Rattle.aw_base.specs.ChoiceFits.{choice_ok}
 use Rattle.aw_accept.proofs.OneMore.{undivided_more}
 use Rattle.aw_apply.specs.Messages.{Message}
-use Rattle.aw_joint.specs.Laws.{IsAccepted}
+use Rattle.aw_react.specs.Laws.{IsAccepted}
 use Rattle.aw_react.specs.Homes.{home}
 use Rattle.aw_react.specs.Choosing.{Chosen, No, Did, answer_to, choose}
 use Rattle.aw_react.specs.Transcripts.{answered, sent_since}

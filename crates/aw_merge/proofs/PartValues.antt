@@ -10,7 +10,7 @@ use Rattle.aw_iograph.specs.Graphs.{Plus, more, step}
 use Rattle.aw_accept.specs.Acyclic.{Pairs, gives}
 use Rattle.aw_store.specs.Equations.{Body, Is, Map, Same, find}
 use Rattle.aw_store.specs.Unfold.{UnfoldAll, Unfolds, is, missing, none, one, same}
-use Rattle.aw_joint.specs.Laws.{AllUnfold, AreAcyclic, Leads}
+use Rattle.aw_react.specs.Laws.{AllUnfold, AreAcyclic, Leads}
 use Rattle.aw_merge.specs.ReadRows.{IsRead}
 
 -- equations that are part of others

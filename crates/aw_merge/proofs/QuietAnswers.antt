@@ -20,14 +20,14 @@ use Rattle.aw_accept.proofs.UndividedRuns.{empty_good, row_of-found, row_of-none
 use Rattle.aw_store.specs.Equations.{Map}
 use Rattle.aw_apply.specs.Guard.{guard_all}
 use Rattle.aw_apply.specs.Messages.{Asks, Calls, Kind, Message, Tells}
-use Rattle.aw_joint.specs.Joint.{Joint, by_held, by_root, by_rule, by_state}
-use Rattle.aw_joint.specs.Laws.{Agree, IsAccepted}
-use Rattle.aw_joint.proofs.Agreement.{same_answer}
-use Rattle.aw_joint.proofs.AnyOrders.{held_of-found}
-use Rattle.aw_joint.proofs.Entering.{VariablesEnter, variables_enter}
-use Rattle.aw_joint.proofs.OutcomesAlike.{held_like, node_same, start_like}
-use Rattle.aw_joint.proofs.SameConfigs.{held_for, row_for}
-use Rattle.aw_joint.proofs.SideBySide.{LikeOption}
+use Rattle.aw_react.specs.Joint.{Joint, by_held, by_root, by_rule, by_state}
+use Rattle.aw_react.specs.Laws.{Agree, IsAccepted}
+use Rattle.aw_react.proofs.Agreement.{same_answer}
+use Rattle.aw_react.proofs.AnyOrders.{held_of-found}
+use Rattle.aw_react.proofs.Entering.{VariablesEnter, variables_enter}
+use Rattle.aw_react.proofs.OutcomesAlike.{held_like, node_same, start_like}
+use Rattle.aw_react.proofs.SameConfigs.{held_for, row_for}
+use Rattle.aw_react.proofs.SideBySide.{LikeOption}
 use Rattle.aw_react.specs.Choosing.{answer_to, choose, choose_on, outcome}
 use Rattle.aw_react.specs.Homes.{home}
 use Rattle.aw_react.specs.Sites.{Site}

@@ -23,14 +23,14 @@ use Rattle.aw_store.specs.Unfold.{UnfoldAll, Unfolds, is, missing, none, one, sa
 use Rattle.aw_store.proofs.ChaseEnds.{ends-chase, found-more}
 use Rattle.aw_apply.specs.Guard.{guard, guard_all, guard_end, guard_parts}
 use Rattle.aw_apply.specs.Messages.{Message}
-use Rattle.aw_joint.specs.Joint.{Joint, empty_joint, joint_run}
-use Rattle.aw_joint.specs.Laws.{Agree, AgreeWhereTaken, AllUnfold, IsAccepted}
-use Rattle.aw_joint.proofs.Entering.{VariablesEnter, variables_enter}
-use Rattle.aw_joint.proofs.Guarding.{EndOf, end_of}
-use Rattle.aw_joint.proofs.Lists.{each_of}
-use Rattle.aw_joint.proofs.Lockstep.{flat_is_substitution}
-use Rattle.aw_joint.proofs.Ordering.{Before, IsInOrder}
-use Rattle.aw_joint.proofs.SameConfigs.{fit_of, row_for}
+use Rattle.aw_react.specs.Joint.{Joint, empty_joint, joint_run}
+use Rattle.aw_react.specs.Laws.{Agree, AgreeWhereTaken, AllUnfold, IsAccepted}
+use Rattle.aw_react.proofs.Entering.{VariablesEnter, variables_enter}
+use Rattle.aw_react.proofs.Guarding.{EndOf, end_of}
+use Rattle.aw_react.proofs.Lists.{each_of}
+use Rattle.aw_react.proofs.Lockstep.{flat_is_substitution}
+use Rattle.aw_react.proofs.Ordering.{Before, IsInOrder}
+use Rattle.aw_react.proofs.SameConfigs.{fit_of, row_for}
 use Rattle.aw_react.specs.Homes.{home}
 use Rattle.aw_react.specs.Sites.{Site}
 use Rattle.aw_react.specs.Worlds.{IsQuiet, World, first_false, gather, site_at}

@@ -11,8 +11,8 @@ use Rattle.aw_term.specs.Held.{Held}
 use Rattle.aw_accept.specs.Acyclic.{IsTree, Pairs, gives}
 use Rattle.aw_store.specs.Equations.{Map}
 use Rattle.aw_store.specs.Unfold.{Unfolds}
-use Rattle.aw_joint.specs.Laws.{Agree, AllUnfold}
-use Rattle.aw_joint.proofs.Unfolding.{one_value}
+use Rattle.aw_react.specs.Laws.{Agree, AllUnfold}
+use Rattle.aw_react.proofs.Unfolding.{one_value}
 use Rattle.aw_react.specs.Homes.{home}
 use Rattle.aw_react.specs.Worlds.{World, gather, site_at}
 use Rattle.aw_merge.specs.ReadRows.{AreRead, IsPrinted, IsRead}

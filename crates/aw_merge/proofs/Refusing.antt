@@ -10,7 +10,7 @@ use Rattle.aw_term.specs.Choices.{Choice, Start, Develop, Answer, Taken, Argumen
 use Rattle.aw_term.specs.Held.{Held, held_of}
 use Rattle.aw_store.specs.Equations.{Map}
 use Rattle.aw_apply.specs.Guard.{guard_all}
-use Rattle.aw_joint.specs.Joint.{by_root, by_held, by_state, by_rule}
+use Rattle.aw_react.specs.Joint.{by_root, by_held, by_state, by_rule}
 use Rattle.aw_react.specs.Sites.{Site}
 use Rattle.aw_react.specs.Choosing.{Chosen, No, Did, choose, choose_on}
 use Rattle.aw_merge.specs.Laws.{RefusalsAreNotTaken}

@@ -15,12 +15,12 @@ use Rattle.aw_accept.specs.Acyclic.{IsGivenGrammar, gives}
 use Rattle.aw_accept.proofs.UndividedRuns.{decode_on}
 use Rattle.aw_store.specs.Equations.{Is}
 use Rattle.aw_apply.specs.Made.{Call, Making, lay_children, lay_list, made}
-use Rattle.aw_joint.specs.Joint.{Joint, add_made, called_held, joint_outcome, joint_taken, root_held}
-use Rattle.aw_joint.proofs.AnyOrders.{Member-all_held, Member-insert_all, Member-insert_held, Member-inserted_held, Took, marked, takes}
-use Rattle.aw_joint.proofs.Entering.{VariablesEnter}
-use Rattle.aw_joint.proofs.Lockstep.{answers_agree}
-use Rattle.aw_joint.proofs.OutcomesAlike.{OutLike}
-use Rattle.aw_joint.proofs.SameConfigs.{Fit}
+use Rattle.aw_react.specs.Joint.{Joint, add_made, called_held, joint_outcome, joint_taken, root_held}
+use Rattle.aw_react.proofs.AnyOrders.{Member-all_held, Member-insert_all, Member-insert_held, Member-inserted_held, Took, marked, takes}
+use Rattle.aw_react.proofs.Entering.{VariablesEnter}
+use Rattle.aw_react.proofs.Lockstep.{answers_agree}
+use Rattle.aw_react.proofs.OutcomesAlike.{OutLike}
+use Rattle.aw_react.proofs.SameConfigs.{Fit}
 use Rattle.aw_react.specs.Homes.{has_steps}
 use Rattle.aw_merge.specs.Mentioned.{IsCreated, IsMentioned, IsRooted}
 use Rattle.aw_merge.proofs.Delivering.{has-end}

@@ -17,10 +17,10 @@ use Rattle.aw_accept.specs.Acyclic.{IsGivenGrammar}
 use Rattle.aw_accept.proofs.Fitting.{given_of}
 use Rattle.aw_store.specs.Equations.{Equation, find}
 use Rattle.aw_apply.specs.Messages.{Asks, Calls, Kind, Message, Tells}
-use Rattle.aw_joint.specs.Joint.{Joint, by_root, called_held, empty_joint, joint_outcome, joint_run, joint_taken}
-use Rattle.aw_joint.specs.Laws.{IsAccepted}
-use Rattle.aw_joint.proofs.Entering.{VariablesEnter, variables_enter}
-use Rattle.aw_joint.proofs.SameConfigs.{Fit, fit_empty, fit_of, keep}
+use Rattle.aw_react.specs.Joint.{Joint, by_root, called_held, empty_joint, joint_outcome, joint_run, joint_taken}
+use Rattle.aw_react.specs.Laws.{IsAccepted}
+use Rattle.aw_react.proofs.Entering.{VariablesEnter, variables_enter}
+use Rattle.aw_react.proofs.SameConfigs.{Fit, fit_empty, fit_of, keep}
 use Rattle.aw_react.specs.Choosing.{choose_on, outcome}
 use Rattle.aw_react.specs.Homes.{home}
 use Rattle.aw_react.specs.Reacting.{react, receive}

@@ -14,8 +14,8 @@ use Rattle.aw_accept.proofs.Fitting.{each_member}
 use Rattle.aw_store.specs.Equations.{Equation}
 use Rattle.aw_apply.specs.Made.{Call, lay_children, lay_list}
 use Rattle.aw_apply.specs.Messages.{Message}
-use Rattle.aw_joint.specs.Joint.{called_held}
-use Rattle.aw_joint.proofs.Lists.{each_of}
+use Rattle.aw_react.specs.Joint.{called_held}
+use Rattle.aw_react.proofs.Lists.{each_of}
 use Rattle.aw_react.specs.Homes.{home}
 use Rattle.aw_react.specs.Sites.{Site, Watch}
 use Rattle.aw_react.specs.Telling.{call_out, calls_in, calls_out, has_watch, tell, tells, watchers_from}

@@ -14,10 +14,10 @@ use Rattle.aw_accept.specs.Acyclic.{IsGivenGrammar}
 use Rattle.aw_accept.proofs.UndividedRuns.{root-below}
 use Rattle.aw_apply.specs.Made.{Call}
 use Rattle.aw_apply.specs.Messages.{Asks, Calls, Kind, Message, Tells}
-use Rattle.aw_joint.specs.Joint.{Joint, called_held, root_held}
-use Rattle.aw_joint.proofs.AnyOrders.{Member-insert_held, Member-inserted_held}
-use Rattle.aw_joint.proofs.Entering.{VariablesEnter}
-use Rattle.aw_joint.proofs.SameConfigs.{Fit}
+use Rattle.aw_react.specs.Joint.{Joint, called_held, root_held}
+use Rattle.aw_react.proofs.AnyOrders.{Member-insert_held, Member-inserted_held}
+use Rattle.aw_react.proofs.Entering.{VariablesEnter}
+use Rattle.aw_react.proofs.SameConfigs.{Fit}
 use Rattle.aw_react.specs.Homes.{home}
 use Rattle.aw_react.specs.Sites.{Site}
 use Rattle.aw_merge.proofs.Changes.{Change}

@@ -23,12 +23,12 @@ use Rattle.aw_apply.specs.Guard.{guard_all}
 use Rattle.aw_apply.specs.Made.{Call, Making, made}
 use Rattle.aw_apply.specs.Messages.{Asks, Calls, Kind, Message, Tells}
 use Rattle.aw_apply.proofs.Numbering.{Lies, made-apart}
-use Rattle.aw_joint.specs.Joint.{Joint, add_made, by_held, called_held, joint_outcome}
-use Rattle.aw_joint.proofs.AnyOrders.{Member-all_held, Member-insert_all, Took, held_of-found, marked, option_cases, takes, yes-kept}
-use Rattle.aw_joint.proofs.Entering.{VariablesEnter}
-use Rattle.aw_joint.proofs.Lockstep.{answers_agree}
-use Rattle.aw_joint.proofs.OutcomesAlike.{OutLike}
-use Rattle.aw_joint.proofs.SameConfigs.{Fit, fit_of, row_for}
+use Rattle.aw_react.specs.Joint.{Joint, add_made, by_held, called_held, joint_outcome}
+use Rattle.aw_react.proofs.AnyOrders.{Member-all_held, Member-insert_all, Took, held_of-found, marked, option_cases, takes, yes-kept}
+use Rattle.aw_react.proofs.Entering.{VariablesEnter}
+use Rattle.aw_react.proofs.Lockstep.{answers_agree}
+use Rattle.aw_react.proofs.OutcomesAlike.{OutLike}
+use Rattle.aw_react.proofs.SameConfigs.{Fit, fit_of, row_for}
 use Rattle.aw_react.specs.Asking.{all_inherited, all_mentions, ask_message, asking}
 use Rattle.aw_react.specs.Choosing.{develop_site, joint_of, outcome}
 use Rattle.aw_react.specs.Homes.{home, parent}

@@ -13,9 +13,9 @@ use Rattle.aw_term.specs.Held.{Held}
 use Rattle.aw_accept.specs.Acyclic.{Pairs}
 use Rattle.aw_store.specs.Equations.{Map}
 use Rattle.aw_apply.specs.Guard.{guard_all}
-use Rattle.aw_joint.specs.Laws.{Agree, IsAccepted}
-use Rattle.aw_joint.proofs.Guarding.{guard_all-match}
-use Rattle.aw_joint.proofs.OutcomesAlike.{OutLike, guard_like}
+use Rattle.aw_react.specs.Laws.{Agree, IsAccepted}
+use Rattle.aw_react.proofs.Guarding.{guard_all-match}
+use Rattle.aw_react.proofs.OutcomesAlike.{OutLike, guard_like}
 use Rattle.aw_react.specs.Homes.{home}
 use Rattle.aw_react.specs.Worklists.{site_item, site_items, open_items}
 use Rattle.aw_react.specs.Worlds.{World, site_at, gather, world_after}

@@ -11,12 +11,12 @@ use Rattle.aw_accept.specs.Acyclic.{IsGivenGrammar}
 use Rattle.aw_accept.proofs.Fitting.{given_of}
 use Rattle.aw_accept.proofs.UndividedRuns.{empty_good, undivided-acyclic, undivided-good}
 use Rattle.aw_apply.specs.Messages.{Asks, Calls, Kind, Tells, New, Received, Repeat}
-use Rattle.aw_joint.specs.Joint.{Joint}
-use Rattle.aw_joint.specs.Laws.{IsAccepted}
-use Rattle.aw_joint.proofs.Agreement.{acyclic_law}
-use Rattle.aw_joint.proofs.Entering.{VariablesEnter, variables_enter}
-use Rattle.aw_joint.proofs.FlatSteps.{es}
-use Rattle.aw_joint.proofs.SameConfigs.{fit_of, same_configuration}
+use Rattle.aw_react.specs.Joint.{Joint}
+use Rattle.aw_react.specs.Laws.{IsAccepted}
+use Rattle.aw_react.proofs.Agreement.{acyclic_law}
+use Rattle.aw_react.proofs.Entering.{VariablesEnter, variables_enter}
+use Rattle.aw_react.proofs.FlatSteps.{es}
+use Rattle.aw_react.proofs.SameConfigs.{fit_of, same_configuration}
 use Rattle.aw_react.specs.Homes.{home}
 use Rattle.aw_react.specs.Bounds.{bound_on}
 use Rattle.aw_react.specs.Reacting.{react}

@@ -13,7 +13,7 @@ use Rattle.aw_choice.specs.Events as E
 use Rattle.aw_base.specs.ChoiceFits.{choice_ok}
 use Rattle.aw_iograph.specs.Dependence.{IO}
 use Rattle.aw_accept.specs.Acyclic.{IsAcyclic}
-use Rattle.aw_joint.specs.Laws.{SameChoices}
+use Rattle.aw_react.specs.Laws.{SameChoices}
 use Rattle.aw_react.specs.Homes.{home}
 use Rattle.aw_react.specs.Choosing.{outcome}
 use Rattle.aw_react.specs.Worlds.{World, Chooses, site_at, empty_world, run, IsQuiet}

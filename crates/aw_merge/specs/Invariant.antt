@@ -8,7 +8,7 @@ use Rattle.aw_term.specs.Held.{Held}
 use Rattle.aw_store.specs.Equations.{Body, Equation, find}
 use Rattle.aw_apply.specs.Made.{Call}
 use Rattle.aw_apply.specs.Messages.{Kind, Calls, Asks, Tells, Message, carried}
-use Rattle.aw_joint.specs.Joint.{Joint, empty_joint, joint_run}
+use Rattle.aw_react.specs.Joint.{Joint, empty_joint, joint_run}
 use Rattle.aw_react.specs.Homes.{home, parent}
 use Rattle.aw_react.specs.Sites.{Watch}
 use Rattle.aw_react.specs.Asking.{ask_message}

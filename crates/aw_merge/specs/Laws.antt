@@ -17,8 +17,8 @@ use Rattle.aw_accept.specs.Acyclic.{Pairs, IsAcyclic}
 use Rattle.aw_store.specs.Equations.{Body, Map, find}
 use Rattle.aw_apply.specs.Guard.{guard_all}
 use Rattle.aw_apply.specs.Messages.{Message, Repeat, New}
-use Rattle.aw_joint.specs.Joint.{Joint}
-use Rattle.aw_joint.specs.Laws.{Agree, AreAcyclic, SameChoices}
+use Rattle.aw_react.specs.Joint.{Joint}
+use Rattle.aw_react.specs.Laws.{Agree, AreAcyclic, SameChoices}
 use Rattle.aw_react.specs.Homes.{home}
 use Rattle.aw_react.specs.Sites.{Site, empty_site, Reaction}
 use Rattle.aw_react.specs.Choosing.{No, outcome, answer_to, choose}

@@ -7,7 +7,7 @@ use Rattle.aw_term.specs.Rules.{Grammar}
 use Rattle.aw_term.specs.Held.{Held}
 use Rattle.aw_accept.specs.Acyclic.{gives}
 use Rattle.aw_store.specs.Equations.{Equation, Map, mentions}
-use Rattle.aw_joint.specs.Joint.{Joint}
+use Rattle.aw_react.specs.Joint.{Joint}
 use Rattle.aw_react.specs.Homes.{has_steps}
 
 -- it stands in the body of an equation, or a node inherited it

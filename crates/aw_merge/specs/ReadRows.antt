@@ -7,7 +7,7 @@ use Rattle.aw_term.specs.Artifacts.{Words, artifact_text}
 use Rattle.aw_term.specs.Held.{Held}
 use Rattle.aw_accept.specs.Acyclic.{Pairs, gives}
 use Rattle.aw_store.specs.Equations.{Map}
-use Rattle.aw_joint.specs.Laws.{AllUnfold}
+use Rattle.aw_react.specs.Laws.{AllUnfold}
 use Rattle.aw_react.specs.Homes.{home}
 use Rattle.aw_react.specs.Worlds.{World, site_at, gather}
 

@@ -1,5 +1,5 @@
 //! What nodes do together.
-ghost use Rattle.aw_joint.specs.Laws.{IsAccepted};
+ghost use Rattle.aw_react.specs.Laws.{IsAccepted};
 ghost use Rattle.aw_term.specs.Artifacts.{Words};
 ghost use Rattle.aw_node.specs.TypedNodes.{Rules};
 ghost use Rattle.aw_node.specs.TypedRuns.{InTurn, AreOneWorld};

@@ -9,7 +9,7 @@ use Rattle.aw_term.specs.Rules.{Grammar, upto}
 use Rattle.aw_term.specs.WellFormed.{Each}
 use Rattle.aw_term.proofs.Eaches.{each_append}
 use Rattle.aw_apply.specs.Messages.{Message, Received, New, Repeat, Conflict, NotMine, BadName}
-use Rattle.aw_joint.specs.Joint.{Joint}
+use Rattle.aw_react.specs.Joint.{Joint}
 use Rattle.aw_react.specs.Choosing.{Chosen, No, Did, choose}
 use Rattle.aw_react.specs.Homes.{home}
 use Rattle.aw_react.specs.Reacting.{receive}

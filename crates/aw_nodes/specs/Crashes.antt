@@ -6,7 +6,7 @@ use Rattle.aw_term.specs.Rules.{Grammar, get, upto}
 use Rattle.aw_term.specs.WellFormed.{Each}
 use Rattle.aw_base.specs.ChoiceFits.{choice_ok}
 use Rattle.aw_apply.specs.Messages.{Message, Received, New}
-use Rattle.aw_joint.specs.Joint.{Joint}
+use Rattle.aw_react.specs.Joint.{Joint}
 use Rattle.aw_react.specs.Choosing.{Chosen, No, Did, choose}
 use Rattle.aw_react.specs.Homes.{home}
 use Rattle.aw_react.specs.Reacting.{receive}

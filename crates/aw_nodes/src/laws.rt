@@ -2,7 +2,7 @@
 ghost use Rattle.aw_nodes.specs.Couriers.{BytesAreHeard, QuietMeansQuiet};
 ghost use Rattle.aw_nodes.specs.Crashes.{CrashesLeaveAWorld, InvariantAfterCrashes, KeptEvents, SitesAreTheirEvents};
 ghost use Rattle.aw_nodes.specs.Nodes.{MessagesAreOutboxes, OwnSessions, ServedNodes, ServedReplies};
-ghost use Rattle.aw_joint.specs.Laws.{IsAccepted};
+ghost use Rattle.aw_react.specs.Laws.{IsAccepted};
 ghost use Rattle.aw_term.specs.Artifacts.{Words};
 ghost use Rattle.aw_term.specs.Rules.{Grammar};
 

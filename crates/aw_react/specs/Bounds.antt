@@ -6,7 +6,7 @@ use Rattle.aw_term.specs.Choices.{Choice}
 use Rattle.aw_term.specs.Held.{Held}
 use Rattle.aw_accept.specs.Acyclic.{gives}
 use Rattle.aw_store.specs.Equations.{Map}
-use Rattle.aw_joint.specs.Joint.{Joint, empty_joint, joint_run}
+use Rattle.aw_react.specs.Joint.{Joint, empty_joint, joint_run}
 use Rattle.aw_react.specs.Homes.{home, parent, has_steps}
 use Rattle.aw_react.specs.Worlds.{World, settle}
 

@@ -6,7 +6,7 @@ use Rattle.aw_term.specs.Configs.{Done}
 use Rattle.aw_term.specs.Choices.{Choice, Start, Develop, Answer, NotHere, Taken, Outcome, Refused, Starts, Takes}
 use Rattle.aw_term.specs.Held.{insert_held, insert_all, mark}
 use Rattle.aw_apply.specs.Made.{Making, made}
-use Rattle.aw_joint.specs.Joint.{root_held, Joint, joint_outcome}
+use Rattle.aw_react.specs.Joint.{root_held, Joint, joint_outcome}
 use Rattle.aw_react.specs.Sites.{Site, Reaction, silently}
 use Rattle.aw_react.specs.Asking.{all_mentions, all_inherited, asking}
 use Rattle.aw_react.specs.Telling.{tells, calls_out, calls_in}

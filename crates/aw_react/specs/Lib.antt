@@ -1,3 +1,6 @@
+pub mod Joint
+pub mod Laws
+pub mod WorkedChoices
 pub mod Homes
 pub mod Sites
 pub mod InOrder

@@ -5,7 +5,7 @@ use Rattle.aw_term.specs.Held.{Held, insert_held, held_of}
 use Rattle.aw_store.specs.Equations.{find}
 use Rattle.aw_apply.specs.Made.{Call}
 use Rattle.aw_apply.specs.Messages.{Kind, Calls, Asks, Tells, Message, Clash, Received, BadName, NotMine, Conflict, Repeat, New}
-use Rattle.aw_joint.specs.Joint.{called_held}
+use Rattle.aw_react.specs.Joint.{called_held}
 use Rattle.aw_react.specs.Sites.{Site, Reaction}
 use Rattle.aw_react.specs.Asking.{all_mentions, asking}
 use Rattle.aw_react.specs.Telling.{tell_back}

@@ -6,7 +6,7 @@ use Rattle.aw_term.specs.Held.{Held}
 use Rattle.aw_store.specs.Equations.{Body, Equation, mentions}
 use Rattle.aw_apply.specs.Made.{Call}
 use Rattle.aw_apply.specs.Messages.{Message, Calls, Tells}
-use Rattle.aw_joint.specs.Joint.{called_held}
+use Rattle.aw_react.specs.Joint.{called_held}
 use Rattle.aw_react.specs.Homes.{home}
 use Rattle.aw_react.specs.Sites.{Watch, Site}
 use Rattle.aw_react.specs.Loads.{load_of}

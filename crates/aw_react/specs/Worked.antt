@@ -11,7 +11,7 @@ use Rattle.aw_choice.specs.Events.{Event, Chooses, Delivers, Settles}
 use Rattle.aw_store.specs.Equations.{Same, Is, Equation}
 use Rattle.aw_store.specs.BodyTexts.{body_text}
 use Rattle.aw_apply.specs.Messages.{Calls, Asks, Tells, Message, Content, OfNode, OfReference, Received, BadName, NotMine, Conflict, Repeat, New}
-pub use Rattle.aw_joint.specs.Worked.{clinic, visit, test, ada, seven}
+pub use Rattle.aw_react.specs.WorkedChoices.{clinic, visit, test, ada, seven}
 use Rattle.aw_react.specs.Sites.{Site, empty_site, Reaction}
 use Rattle.aw_react.specs.Choosing.{answer_to, choose}
 use Rattle.aw_react.specs.Reacting.{receive}

@@ -10,7 +10,7 @@ use Rattle.aw_term.specs.WellFormed.{Each}
 use Rattle.aw_accept.specs.declared.accepted.Accepted.{Accepted}
 use Rattle.aw_grammar.specs.GrammarOf.{grammar_of, words_of}
 use Rattle.aw_choice.specs.Events.{Event, Settles}
-use Rattle.aw_joint.specs.Laws.{IsAccepted}
+use Rattle.aw_react.specs.Laws.{IsAccepted}
 use Rattle.aw_react.specs.Bounds.{settled}
 use Rattle.aw_react.specs.Outputs.{MayStand, after_events, all_moves}
 use Rattle.aw_react.specs.Worlds as V

@@ -18,7 +18,7 @@ use Rattle.aw_typed.specs.WellTyped.{IsWellTyped}
 use Rattle.aw_spec.specs.Reading.{Spec, Reading, Good, Faulty, specification}
 use Rattle.aw_sched.specs.Events.{Event}
 use Rattle.aw_sched.specs.Schedules.{Read, Events, FaultAt, read_lines}
-use Rattle.aw_joint.specs.Laws.{SameChoices}
+use Rattle.aw_react.specs.Laws.{SameChoices}
 use Rattle.aw_react.specs.Homes.{home}
 use Rattle.aw_react.specs.Choosing.{outcome}
 use Rattle.aw_react.specs.Worlds.{Chooses, site_at, empty_world, IsQuiet}

@@ -25,7 +25,7 @@ use Rattle.aw_base.specs.ChoiceFits.{choice_ok}
 use Rattle.aw_held.specs.declared.held.Held as program
 use Rattle.aw_held.specs.HeldView as view
 use Rattle.aw_held.specs.HeldView.{all_of, sort_or}
-use Rattle.aw_joint.specs.Joint.{by_rule, by_state, by_held, by_root, outcome_in}
+use Rattle.aw_react.specs.Joint.{by_rule, by_state, by_held, by_root, outcome_in}
 use Rattle.aw_msg.specs.MessageView.{sort_or_zero}
 use Rattle.aw_react.specs.Choosing.{Chosen, No, Did, answer_to, outcome, choose_on, choose}
 use Rattle.aw_react.specs.SiteEvents.{after_choice}

@@ -18,7 +18,7 @@ use Rattle.aw_store.specs.Equations.{Is, Map, find}
 use Rattle.aw_apply.specs.Made.{Call, Making, made}
 use Rattle.aw_held.specs.declared.held.Held.{Held}
 use Rattle.aw_held.specs.HeldView.{sort_or, all_of}
-use Rattle.aw_joint.specs.Joint.{outcome_in}
+use Rattle.aw_react.specs.Joint.{outcome_in}
 use Rattle.aw_merge.proofs.GuardBinds.{all_bound, all_many}
 use Rattle.aw_merge.proofs.Sorts.{some_sort}
 use Rattle.aw_react.specs.ValidNames.{refs_ok, equations_ok, call_ok}

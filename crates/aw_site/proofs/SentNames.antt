@@ -11,7 +11,7 @@ use Rattle.aw_base.specs.ChoiceFits.{ref_ok}
 use Rattle.aw_store.specs.Equations.{Body, Same, Is, Equation, Map, find, mentions}
 use Rattle.aw_apply.specs.Made.{Call}
 use Rattle.aw_apply.specs.Messages.{Message}
-use Rattle.aw_joint.specs.Joint.{called_held}
+use Rattle.aw_react.specs.Joint.{called_held}
 use Rattle.aw_react.specs.Asking.{all_mentions, all_inherited, ask_message}
 use Rattle.aw_react.specs.Homes.{home}
 use Rattle.aw_react.specs.InOrder.{insert_ref, in_order}

@@ -12,7 +12,7 @@ use Rattle.aw_store.specs.EquationView.{body_of, equation_of}
 use Rattle.aw_store.specs.declared.equation.Equation.{Equation}
 use Rattle.aw_store.specs.declared.facts.Facts.{Ghosts}
 use Rattle.aw_apply.specs.Made.{Call}
-use Rattle.aw_joint.specs.Joint.{called_held}
+use Rattle.aw_react.specs.Joint.{called_held}
 use Rattle.aw_react.specs.Asking.{all_mentions, all_inherited, is_wanted}
 use Rattle.aw_react.specs.Homes.{home}
 use Rattle.aw_react.specs.InOrder.{has_ref, insert_ref, in_order}

@@ -17,7 +17,7 @@ use Rattle.aw_store.specs.Equations.{Map}
 use Rattle.aw_held.specs.declared.held.Held.{Held}
 use Rattle.aw_held.specs.HeldView.{all_of}
 use Rattle.aw_held.specs.InOrder.{IsInOrder, insert_in}
-use Rattle.aw_joint.specs.Joint.{outcome_in}
+use Rattle.aw_react.specs.Joint.{outcome_in}
 use Rattle.aw_merge.proofs.Sorts.{sort_of_root}
 use Rattle.aw_react.specs.ValidNames.{takes_as}
 use Rattle.aw_space.specs.Sound.{IsSound}

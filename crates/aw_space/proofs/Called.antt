@@ -12,7 +12,7 @@ use Rattle.aw_held.specs.declared.held.Held.{Held}
 use Rattle.aw_held.specs.HeldView.{sort_or, held_of, all_of}
 use Rattle.aw_held.specs.InOrder.{IsInOrder, place_in, insert_in}
 use Rattle.aw_held.proofs.HeldViews.{view_inserted, held_nowhere, held_here}
-use Rattle.aw_joint.specs.Joint.{called_held}
+use Rattle.aw_react.specs.Joint.{called_held}
 use Rattle.aw_react.specs.Homes.{has_steps, parent}
 use Rattle.aw_react.specs.ValidNames.{refs_ok, takes_as}
 use Rattle.aw_react.specs.Reacting.{add_held}

@@ -26,7 +26,7 @@ use Rattle.aw_apply.specs.declared.making.Made.{Made}
 use Rattle.aw_held.specs.declared.held.Held.{Held}
 use Rattle.aw_held.specs.HeldView.{sort_or, all_of}
 use Rattle.aw_held.specs.InOrder.{IsInOrder, Lacks, LackEach, place_in, insert_in, insert_all_in, done_at}
-use Rattle.aw_joint.specs.Joint.{outcome_in}
+use Rattle.aw_react.specs.Joint.{outcome_in}
 use Rattle.aw_merge.proofs.Sorts.{sort_of_root}
 use Rattle.aw_react.specs.Telling.{calls_in}
 use Rattle.aw_react.specs.ValidNames.{takes_as}

@@ -22,7 +22,7 @@ use Rattle.aw_held.specs.HeldView.{all_of}
 use Rattle.aw_held.specs.InOrder.{place_in}
 use Rattle.aw_held.proofs.HeldViews.{held_here, held_nowhere}
 use Rattle.aw_term.specs.Held as J
-use Rattle.aw_joint.specs.Joint.{by_root}
+use Rattle.aw_react.specs.Joint.{by_root}
 use Rattle.aw_space.specs.Outcomes.{IsOutcome}
 use Rattle.aw_space.specs.Weighing.{Weighs}
 use Rattle.aw_space.specs.Spaces.{making}

@@ -16,7 +16,7 @@ use Rattle.aw_accept.proofs.Fitting.{each_member, given_of}
 use Rattle.aw_store.specs.Equations.{Equation}
 use Rattle.aw_apply.specs.Made.{Call, Making, made}
 use Rattle.aw_apply.proofs.Numbering.{Covers, Lies, made-apart}
-use Rattle.aw_joint.proofs.Entering.{IsTermOf, variables_enter}
+use Rattle.aw_react.proofs.Entering.{IsTermOf, variables_enter}
 use Rattle.aw_react.specs.ValidNames.{body_ok, equation_ok, equations_ok, refs_ok, takes_as}
 use Rattle.aw_merge.proofs.MadeHeads.{all-refs-ok, body-of, kid-many, made-heads}
 use Rattle.aw_merge.proofs.MadeMentions.{MentionsIn, made-in}

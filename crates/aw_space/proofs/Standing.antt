@@ -28,7 +28,7 @@ use Rattle.aw_held.specs.declared.held.Held.{Held}
 use Rattle.aw_held.specs.HeldView.{sort_or, held_of, all_of, state_of}
 use Rattle.aw_held.specs.InOrder.{place_in}
 use Rattle.aw_held.proofs.HeldViews.{held_here}
-use Rattle.aw_joint.specs.Joint.{by_rule, by_held}
+use Rattle.aw_react.specs.Joint.{by_rule, by_held}
 use Rattle.aw_react.specs.ValidNames.{takes_as}
 use Rattle.aw_space.specs.Sound.{is_own, all_own}
 use Rattle.aw_space.specs.Spaces.{is_home}

@@ -20,7 +20,7 @@ use Rattle.aw_held.specs.InOrder.{insert_in, insert_all_in, done_at}
 use Rattle.aw_held.specs.declared.held.Held.{Held}
 use Rattle.aw_held.proofs.InOrderLemmas.{Up}
 use Rattle.aw_held.proofs.HeldViews.{view_inserted, view_all_inserted, view_marked}
-use Rattle.aw_joint.specs.Joint.{root_held}
+use Rattle.aw_react.specs.Joint.{root_held}
 use Rattle.aw_merge.proofs.Sorts.{sort_of_root}
 use Rattle.aw_react.specs.Telling.{calls_in}
 use Rattle.aw_space.specs.Spaces.{develop_space}

@@ -14,7 +14,7 @@ use Rattle.aw_held.specs.declared.held.Held.{Held}
 use Rattle.aw_held.specs.HeldView.{state_of, held_of, all_of}
 use Rattle.aw_held.specs.InOrder.{place_in}
 use Rattle.aw_held.proofs.HeldViews.{held_here, held_nowhere}
-use Rattle.aw_joint.specs.Joint.{by_rule, by_state, by_held, by_root, outcome_in}
+use Rattle.aw_react.specs.Joint.{by_rule, by_state, by_held, by_root, outcome_in}
 
 -- what the rule is, and what its guard binds
 pub record TookRule (g : Grammar) (k : Map) (n : Node) (r : ℕ) (args : List Ground) (h : P.Held) (x : Outcome Ref Ref) : Type 0 where

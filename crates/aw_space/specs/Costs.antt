@@ -7,7 +7,7 @@ use Rattle.aw_term.specs.Artifacts.{Item}
 use Rattle.aw_term.specs.Held.{Held}
 use Rattle.aw_store.specs.Equations.{Equation, find}
 use Rattle.aw_apply.specs.Made.{Call, made}
-use Rattle.aw_joint.specs.Joint.{root_held}
+use Rattle.aw_react.specs.Joint.{root_held}
 pub use Rattle.aw_kept.specs.Items.{waiting_on}
 use Rattle.aw_react.specs.Telling.{calls_in}
 use Rattle.aw_react.specs.Receiving.{add_on}

@@ -9,7 +9,7 @@ use Rattle.aw_term.specs.Held.{Held, insert_held, insert_all, held_of, mark}
 use Rattle.aw_store.specs.Equations.{Equation, Map}
 use Rattle.aw_apply.specs.Made.{Call, Making, made}
 use Rattle.aw_apply.specs.Messages.{Clash}
-use Rattle.aw_joint.specs.Joint.{root_held, outcome_in}
+use Rattle.aw_react.specs.Joint.{root_held, outcome_in}
 use Rattle.aw_react.specs.Homes.{home}
 use Rattle.aw_react.specs.Telling.{calls_in}
 use Rattle.aw_react.specs.Receiving.{add_all, call_clash, first_clash}

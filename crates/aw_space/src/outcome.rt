@@ -5,7 +5,7 @@ ghost use Rattle.aw_choice.specs.ChoiceView.{answer_of, choice_of};
 ghost use Rattle.aw_grammar.specs.GrammarOf.{grammar_of};
 ghost use Rattle.aw_base.specs.ChoiceFits.{choice_ok};
 ghost use Rattle.aw_held.specs.HeldView.{all_of};
-ghost use Rattle.aw_joint.specs.Joint.{outcome_in};
+ghost use Rattle.aw_react.specs.Joint.{outcome_in};
 ghost use Rattle.aw_space.specs.Sound.{IsSound};
 ghost use Rattle.aw_react.specs.Worlds.{node_of};
 ghost use Rattle.aw_kept.specs.KeptStates.{IsKept};

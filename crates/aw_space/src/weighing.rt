@@ -11,7 +11,7 @@ ghost use Rattle.aw_store.specs.NamedRefs.{AreNamed};
 ghost use Rattle.aw_term.specs.Held as P;
 ghost use Rattle.aw_held.specs.HeldView.{held_of, all_of};
 ghost use Rattle.aw_held.specs.InOrder.{place_in};
-ghost use Rattle.aw_joint.specs.Joint.{by_rule, by_held, outcome_in};
+ghost use Rattle.aw_react.specs.Joint.{by_rule, by_held, outcome_in};
 ghost use Rattle.aw_term.specs.Choices.{Develop, after_guard};
 ghost use Rattle.aw_choice.specs.ChoiceView.{answer_of, refusal_of};
 ghost use Rattle.aw_apply.specs.Guard.{guard_all};

@@ -11,7 +11,7 @@ use Rattle.aw_term.specs.WellFormed.{Each}
 use Rattle.aw_choice.specs.Events.{Event, Chooses, Delivers, Settles}
 use Rattle.aw_base.specs.ChoiceFits.{args_ok}
 use Rattle.aw_base.specs.NodeNames.{is_start}
-use Rattle.aw_joint.specs.Laws.{IsAccepted}
+use Rattle.aw_react.specs.Laws.{IsAccepted}
 use Rattle.aw_kept.specs.Records.{rules_of}
 use Rattle.aw_apply.specs.Messages.{Received, Repeat, New}
 use Rattle.aw_react.specs.Sites.{Reaction}

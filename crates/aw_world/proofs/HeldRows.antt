@@ -16,7 +16,7 @@ use Rattle.aw_store.specs.Equations.{Map}
 use Rattle.aw_held.specs.declared.held.Held.{Held}
 use Rattle.aw_held.specs.HeldView as held
 use Rattle.aw_held.specs.HeldView.{sort_or, held_of, all_of}
-use Rattle.aw_joint.specs.Laws as joint
+use Rattle.aw_react.specs.Laws as joint
 use Rattle.aw_merge.specs.ReadRows.{IsRead}
 use Rattle.aw_print.specs.Rows as print
 use Rattle.aw_print.specs.Rows.{results_of, result_refs, line_text}

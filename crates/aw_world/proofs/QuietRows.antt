@@ -8,7 +8,7 @@ use Rattle.aw_term.specs.Choices.{Choice, undivided}
 use Rattle.aw_term.specs.Configs.{Config}
 use Rattle.aw_grammar.specs.GrammarOf.{grammar_of, words_of}
 use Rattle.aw_choice.specs.ChoiceView.{choice_of}
-use Rattle.aw_joint.specs.Laws.{SameChoices}
+use Rattle.aw_react.specs.Laws.{SameChoices}
 use Rattle.aw_out.specs.declared.error.PrintFault.{PrintFault}
 use Rattle.aw_out.specs.Report.{Bounded, Prints}
 use Rattle.aw_react.specs.Worlds as V

@@ -7,7 +7,7 @@ use Rattle.aw_term.specs.Rules.{Grammar}
 use Rattle.aw_term.specs.WellFormed.{Each}
 use Rattle.aw_grammar.specs.GrammarOf.{grammar_of, words_of}
 use Rattle.aw_choice.specs.ChoiceView.{choice_of}
-use Rattle.aw_joint.specs.Laws.{IsAccepted}
+use Rattle.aw_react.specs.Laws.{IsAccepted}
 use Rattle.aw_react.specs.Worlds as V
 use Rattle.aw_react.specs.Worlds.{MayCome, world_after}
 use Rattle.aw_world.specs.declared.workspace.Workspace.{Ghosts}

@@ -22,7 +22,7 @@ use Rattle.aw_grammar.specs.GrammarOf.{grammar_of, words_of}
 use Rattle.aw_choice.specs.declared.choice.Choice.{Choice}
 use Rattle.aw_choice.specs.ChoiceView.{choice_of}
 use Rattle.aw_held.specs.HeldView.{held_of, all_of}
-use Rattle.aw_joint.specs.Laws.{IsAccepted}
+use Rattle.aw_react.specs.Laws.{IsAccepted}
 use Rattle.aw_react.specs.Homes.{home}
 use Rattle.aw_react.specs.Sites.{Site, empty_site}
 use Rattle.aw_react.specs.Bounds.{bound_of}

@@ -5,7 +5,7 @@ use Rattle.aw_base.specs.ChoiceFits.{choice_ok}
 use Rattle.aw_choice.specs.ChoiceView.{choice_of}
 use Rattle.aw_held.specs.HeldView.{all_of}
 use Rattle.aw_held.specs.InOrder.{place_in}
-use Rattle.aw_joint.specs.Joint.{outcome_in}
+use Rattle.aw_react.specs.Joint.{outcome_in}
 use Rattle.aw_apply.specs.Telling.{HasRoom}
 use Rattle.aw_space.specs.Outcomes.{IsOutcome}
 use Rattle.aw_space.proofs.Weighed.{refused_other}

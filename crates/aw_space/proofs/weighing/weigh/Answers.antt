@@ -6,7 +6,7 @@ use Rattle.aw_grammar.specs.GrammarOf.{grammar_of}
 use Rattle.aw_apply.specs.declared.telling.Weighed.{Weighed}
 use Rattle.aw_held.specs.HeldView.{held_of, all_of}
 use Rattle.aw_held.proofs.HeldViews.{held_nowhere}
-use Rattle.aw_joint.specs.Joint.{by_held, outcome_in}
+use Rattle.aw_react.specs.Joint.{by_held, outcome_in}
 use Rattle.aw_space.specs.Weighing.{Weighs, HasRoomFor}
 use Rattle.aw_space.proofs.Standing.{node_here, takes_here, weighs_here}
 use Rattle.aw_space.proofs.weighing.weigh.Goals as goal

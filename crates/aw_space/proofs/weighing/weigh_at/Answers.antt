@@ -11,7 +11,7 @@ use Rattle.aw_grammar.proofs.RuleSizes.{patterns_few, patterns_shallow}
 use Rattle.aw_apply.specs.Telling.{weighed_of, HasRoom}
 use Rattle.aw_apply.specs.declared.telling.Weighed.{Weighed}
 use Rattle.aw_held.specs.HeldView.{held_of}
-use Rattle.aw_joint.specs.Joint.{by_rule, by_held}
+use Rattle.aw_react.specs.Joint.{by_rule, by_held}
 use Rattle.aw_kept.specs.Items.{RuleStands}
 use Rattle.aw_space.specs.Weighing.{Weighs, HasRoomFor, IsRefused}
 use Rattle.aw_space.proofs.Weighed.{stands_there}

@@ -3,7 +3,7 @@ use Rattle.std.proofs.lemmas.Result.{IfOk-weaker}
 use Rattle.aw_grammar.specs.GrammarOf.{grammar_of}
 use Rattle.aw_choice.specs.ChoiceView.{choice_of}
 use Rattle.aw_held.specs.HeldView.{all_of}
-use Rattle.aw_joint.specs.Joint.{outcome_in}
+use Rattle.aw_react.specs.Joint.{outcome_in}
 use Rattle.aw_space.specs.Outcomes.{IsOutcome}
 use Rattle.aw_space.specs.declared.outcome.Outcome.{Outcome}
 use Rattle.aw_space.proofs.space.Space.foresee.Goals as goal

@@ -14,7 +14,7 @@ use Rattle.aw_store.proofs.ChaseEnds.{ends-chase, found-more, missing-more, roun
 use Rattle.aw_apply.specs.Guard.{guard_end, guard, guard_parts, guard_all}
 use Rattle.aw_accept.specs.Acyclic.{Pairs}
 use Rattle.aw_accept.proofs.Binding.{Pairs-append}
-use Rattle.aw_joint.specs.Laws.{AllUnfold}
+use Rattle.aw_react.specs.Laws.{AllUnfold}
 
 -- an answer that l does not change: it waits for nothing that has an equation there
 abbrev pub Final : Map → Matched Ref Ref → Type 0

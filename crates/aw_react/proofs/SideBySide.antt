@@ -12,7 +12,7 @@ use Rattle.aw_term.specs.Rules.{Value, upto}
 use Rattle.aw_term.specs.Configs.{Row, Config, insert_row, insert_rows, rounds, row_of}
 use Rattle.aw_accept.specs.Acyclic.{Pairs}
 use Rattle.aw_iograph.specs.Occurrences.{item}
-use Rattle.aw_joint.specs.Joint.{Held, held_of, insert_held, insert_all}
+use Rattle.aw_react.specs.Joint.{Held, held_of, insert_held, insert_all}
 
 -- what holds of the first and of the second holds of either choice
 pub cond_pair : {A B : Type 0} (R : A → B → Type 0) (b b' : Bool) (x u : A) (y v : B) → b ≡ b' → R x y → R u v → R (cond b x u) (cond b' y v)

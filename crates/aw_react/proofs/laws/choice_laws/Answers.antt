@@ -1,5 +1,5 @@
-use Rattle.aw_joint.proofs.Agreement.{flat_law, steps_law, answers_law, acyclic_law, order_law}
-use Rattle.aw_joint.proofs.laws.choice_laws.Goals as goal
+use Rattle.aw_react.proofs.Agreement.{flat_law, steps_law, answers_law, acyclic_law, order_law}
+use Rattle.aw_react.proofs.laws.choice_laws.Goals as goal
 
 pub returns-clause-flat : goal.returns-clause-flat
 returns-clause-flat c w g accepted = flat_law w g accepted

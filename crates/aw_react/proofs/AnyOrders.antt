@@ -13,11 +13,11 @@ use Rattle.aw_store.specs.Equations.{Body, Equation, Map, find}
 use Rattle.aw_store.specs.Refs.{ref_eq}
 use Rattle.aw_apply.specs.Made.{Making, Call, made}
 use Rattle.aw_apply.specs.Guard.{guard_all}
-use Rattle.aw_joint.specs.Joint.{Held, held_of, insert_held, insert_all, mark, root_held, called_held, by_rule, by_state, by_held, Joint, empty_joint, joint_outcome, add_made, joint_taken, joint_run}
+use Rattle.aw_react.specs.Joint.{Held, held_of, insert_held, insert_all, mark, root_held, called_held, by_rule, by_state, by_held, Joint, empty_joint, joint_outcome, add_made, joint_taken, joint_run}
 use Rattle.aw_accept.proofs.ConfigLemmas.{insert_cases, inserted_cases}
 use Rattle.aw_store.proofs.MoreEquations.{find-left_more, find-right_more, Holds, Holds-wider}
 use Rattle.aw_apply.proofs.Numbering.{made-holds}
-use Rattle.aw_joint.proofs.Guarding.{guard_all-keeps, Final}
+use Rattle.aw_react.proofs.Guarding.{guard_all-keeps, Final}
 use Rattle.aw_accept.proofs.Binding.{yes-inj}
 use Rattle.aw_accept.proofs.UndividedRuns.{found_cases, tests-take}
 use Rattle.aw_name.specs.SameNodes.{node_is, node_self}

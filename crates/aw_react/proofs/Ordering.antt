@@ -8,7 +8,7 @@ use Rattle.aw_term.specs.Names.{node_lt}
 use Rattle.aw_term.specs.Configs.{Row, Config, insert_row}
 use Rattle.aw_term.specs.WellFormed.{Each, Later}
 use Rattle.aw_accept.proofs.ConfigLemmas.{Member-insert_row}
-use Rattle.aw_joint.proofs.Lists.{each_of}
+use Rattle.aw_react.proofs.Lists.{each_of}
 use Rattle.aw_accept.proofs.Fitting.{each_member}
 use Rattle.aw_term.proofs.Eaches.{each_map}
 use Rattle.aw_term.proofs.NodeOrder.{node-no, node-trans, node-tri}

@@ -10,8 +10,8 @@ use Rattle.aw_store.specs.Unfold.{unfold_in}
 use Rattle.aw_accept.specs.Acyclic.{gives}
 use Rattle.aw_term.specs.Artifacts.{Words}
 pub use Rattle.aw_term.specs.Worked.{con, con1, con2, sort, call, rule}
-use Rattle.aw_joint.specs.Laws.{IsAccepted}
-use Rattle.aw_joint.specs.Joint.{Held, Joint, empty_joint, joint_outcome, joint_run}
+use Rattle.aw_react.specs.Laws.{IsAccepted}
+use Rattle.aw_react.specs.Joint.{Held, Joint, empty_joint, joint_outcome, joint_run}
 
 -- one value is another
 abbrev pub equals : Ref → Ref → Equation

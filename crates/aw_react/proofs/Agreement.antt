@@ -7,14 +7,14 @@ use Rattle.aw_term.specs.Configs.{Config}
 use Rattle.aw_term.specs.Choices.{Choice, Outcome, Refused, Starts, Takes, answer_of, outcome, taken, undivided}
 use Rattle.aw_term.specs.Artifacts.{Words}
 use Rattle.aw_store.specs.Equations.{Map}
-use Rattle.aw_joint.specs.Joint.{Joint, empty_joint, joint_outcome, joint_taken, joint_run}
-use Rattle.aw_joint.specs.Laws.{IsAccepted, FlatIsSubstitution, StepsAgree, AnswersAgree, AreAcyclic, EquationsAreAcyclic, AnyOrder}
-use Rattle.aw_joint.proofs.EquationCircles.{acyclic}
+use Rattle.aw_react.specs.Joint.{Joint, empty_joint, joint_outcome, joint_taken, joint_run}
+use Rattle.aw_react.specs.Laws.{IsAccepted, FlatIsSubstitution, StepsAgree, AnswersAgree, AreAcyclic, EquationsAreAcyclic, AnyOrder}
+use Rattle.aw_react.proofs.EquationCircles.{acyclic}
 use Rattle.aw_accept.proofs.Fitting.{given_of}
-use Rattle.aw_joint.proofs.Entering.{variables_enter}
-use Rattle.aw_joint.proofs.OutcomesAlike.{OutLike}
-use Rattle.aw_joint.proofs.Lockstep.{Lockstep, LikeStates, run_lockstep, step_lockstep, weaken, answers_agree, empty_lockstep, flat_is_substitution}
-use Rattle.aw_joint.proofs.SameConfigs.{same_configuration}
+use Rattle.aw_react.proofs.Entering.{variables_enter}
+use Rattle.aw_react.proofs.OutcomesAlike.{OutLike}
+use Rattle.aw_react.proofs.Lockstep.{Lockstep, LikeStates, run_lockstep, step_lockstep, weaken, answers_agree, empty_lockstep, flat_is_substitution}
+use Rattle.aw_react.proofs.SameConfigs.{same_configuration}
 
 pub same_answer : (k : Map) (o : Outcome Ref Ref) (o' : Outcome Value Ref) → OutLike k o o' → answer_of o ≡ answer_of o'
 same_answer k (Refused a) (Refused b) l = l

@@ -9,8 +9,8 @@ use Rattle.aw_iograph.specs.declared.occ.Occ.{Occ}
 use Rattle.aw_iograph.specs.Graphs.{Plus, step, more}
 use Rattle.aw_iograph.specs.Occurrences.{inherited, given, entries, term_at}
 use Rattle.aw_iograph.specs.Dependence.{Edge, text, call, io, IO, HasNoCircle}
-use Rattle.aw_joint.specs.Laws.{IsAccepted}
-use Rattle.aw_joint.specs.Worked.{own_words, own_result}
+use Rattle.aw_react.specs.Laws.{IsAccepted}
+use Rattle.aw_react.specs.WorkedChoices.{own_words, own_result}
 use Rattle.aw_iograph.proofs.Reaching.{rises}
 
 abbrev ok : Term

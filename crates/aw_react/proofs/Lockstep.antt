@@ -16,21 +16,21 @@ use Rattle.aw_term.specs.WellFormed.{Each}
 use Rattle.aw_store.specs.Equations.{Body, Equation, Map, find}
 use Rattle.aw_store.specs.Unfold.{Unfolds, missing}
 use Rattle.aw_apply.specs.Made.{lay, lay_list, lay_children, lay_results, Making, made, child_refs}
-use Rattle.aw_joint.specs.Joint.{Held, held_of, insert_held, insert_all, mark, root_held, called_held, Joint, empty_joint, joint_outcome, add_made, joint_taken, joint_run}
-use Rattle.aw_joint.specs.Laws.{AllUnfold, Agree, AgreeWhereTaken}
-use Rattle.aw_joint.proofs.Entering.{IsTermOf, VariablesEnter}
+use Rattle.aw_react.specs.Joint.{Held, held_of, insert_held, insert_all, mark, root_held, called_held, Joint, empty_joint, joint_outcome, add_made, joint_taken, joint_run}
+use Rattle.aw_react.specs.Laws.{AllUnfold, Agree, AgreeWhereTaken}
+use Rattle.aw_react.proofs.Entering.{IsTermOf, VariablesEnter}
 use Rattle.aw_accept.proofs.Sources.{EntersAt, env_enters}
 use Rattle.aw_accept.proofs.ConfigLemmas.{child_row, rounds-inherited-list, rounds-results-list, rounds-sort, rounds-state, item-mapped, Member-inserted, done_row-same}
 use Rattle.aw_accept.proofs.Developing.{Taking, Known, Item-at, sigma}
-use Rattle.aw_joint.proofs.LeftSides.{find-left, lefts}
+use Rattle.aw_react.proofs.LeftSides.{find-left, lefts}
 use Rattle.aw_store.proofs.MoreEquations.{Holds, Holds-left, Holds-right}
-use Rattle.aw_joint.proofs.FlatSteps.{FlatTaking, value_changes, term_changes, child_ref_ok, made_holds, left_own}
+use Rattle.aw_react.proofs.FlatSteps.{FlatTaking, value_changes, term_changes, child_ref_ok, made_holds, left_own}
 use Rattle.aw_accept.proofs.UndividedRuns.{Good, Decoded, decode_on, taking, kept_row, still_closed, own_closed, done-same, developed, started, held_none, row_of-none, empty_good}
-use Rattle.aw_joint.proofs.AnyOrders.{option_cases, marked}
-use Rattle.aw_joint.proofs.EquationValues.{HaveValues, have_values}
-use Rattle.aw_joint.proofs.SideBySide.{cond_pair, insert_pairs, insert_all_pairs, look_up, map_pairs, map_right, rounds-map, out_at, Pairs-length}
-use Rattle.aw_joint.proofs.BoundParts.{match_all-parts}
-use Rattle.aw_joint.proofs.OutcomesAlike.{OutLike, held_like, start_like, node_same}
+use Rattle.aw_react.proofs.AnyOrders.{option_cases, marked}
+use Rattle.aw_react.proofs.EquationValues.{HaveValues, have_values}
+use Rattle.aw_react.proofs.SideBySide.{cond_pair, insert_pairs, insert_all_pairs, look_up, map_pairs, map_right, rounds-map, out_at, Pairs-length}
+use Rattle.aw_react.proofs.BoundParts.{match_all-parts}
+use Rattle.aw_react.proofs.OutcomesAlike.{OutLike, held_like, start_like, node_same}
 use Rattle.aw_term.proofs.RowParts.{rounds_node}
 
 module _ (g : Grammar) (fit : IsGivenGrammar g) (enter : VariablesEnter g) (ok : HasNoCircle g (IO g)) where

@@ -10,8 +10,8 @@ use Rattle.aw_term.specs.Configs.{Config}
 use Rattle.aw_store.specs.Equations.{Body, Map, find, mentions}
 use Rattle.aw_store.specs.Unfold.{Unfolds, UnfoldAll, missing, same, is, none, one}
 use Rattle.aw_iograph.specs.Graphs.{Plus, step, more}
-use Rattle.aw_joint.specs.Laws.{Leads, AreAcyclic}
-use Rattle.aw_joint.proofs.EquationValues.{HaveValues}
+use Rattle.aw_react.specs.Laws.{Leads, AreAcyclic}
+use Rattle.aw_react.proofs.EquationValues.{HaveValues}
 
 module _ (k : Map) where
   -- nothing that it reaches, in no step or more, is on a circle

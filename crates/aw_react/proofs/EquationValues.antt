@@ -12,11 +12,11 @@ use Rattle.aw_store.specs.Unfold.{Unfolds, UnfoldAll, same, is, none, one}
 use Rattle.aw_apply.specs.Made.{lay, lays, lay_list, lay_children, lay_result, lay_results, made}
 use Rattle.aw_accept.proofs.ConfigLemmas.{In-rounds}
 use Rattle.aw_accept.proofs.Developing.{Fate, sigma, fate_chain, fate_term, fate_new}
-use Rattle.aw_joint.proofs.LeftSides.{find-left, lefts}
+use Rattle.aw_react.proofs.LeftSides.{find-left, lefts}
 use Rattle.aw_store.proofs.MoreEquations.{Holds, Holds-left, Holds-right}
-use Rattle.aw_joint.proofs.FlatSteps.{FlatTaking, value_changes, all_ok, made_holds, refs, Pairs-get}
-use Rattle.aw_joint.proofs.AnyOrders.{option_cases}
-use Rattle.aw_joint.proofs.Entering.{IsTermOf}
+use Rattle.aw_react.proofs.FlatSteps.{FlatTaking, value_changes, all_ok, made_holds, refs, Pairs-get}
+use Rattle.aw_react.proofs.AnyOrders.{option_cases}
+use Rattle.aw_react.proofs.Entering.{IsTermOf}
 use Rattle.aw_term.proofs.Eaches.{each_append}
 
 -- a result of a pending row

@@ -10,8 +10,8 @@ use Rattle.aw_store.specs.Chase.{Chased, Found, Missing, Round, chase}
 use Rattle.aw_store.proofs.Ends.{End, At_missing, Ends, stands, lacks, follows}
 use Rattle.aw_store.proofs.ChaseEnds.{same_to, ends-chase, chase_in-ends, found-more}
 use Rattle.aw_apply.specs.Guard.{guard_end, guard, guard_parts, guard_all}
-use Rattle.aw_joint.specs.Laws.{IsSubmap}
-use Rattle.aw_joint.proofs.Guarding.{Final, under-keeps, guard-keeps}
+use Rattle.aw_react.specs.Laws.{IsSubmap}
+use Rattle.aw_react.proofs.Guarding.{Final, under-keeps, guard-keeps}
 
 module _ (k l : Map) (extends : IsSubmap k l) where
   -- a chase goes on over more equations from where it ended at a reference that lacked one

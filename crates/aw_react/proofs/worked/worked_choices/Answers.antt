@@ -1,6 +1,6 @@
 use Rattle.std.proofs.Common.{refl}
-use Rattle.aw_joint.proofs.Accepted.{own_result_accepted}
-use Rattle.aw_joint.proofs.worked.worked_choices.Goals as goal
+use Rattle.aw_react.proofs.Accepted.{own_result_accepted}
+use Rattle.aw_react.proofs.worked.worked_choices.Goals as goal
 
 pub returns-clause-clinic : goal.returns-clause-clinic
 returns-clause-clinic c = refl

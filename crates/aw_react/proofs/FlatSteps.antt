@@ -16,10 +16,10 @@ use Rattle.aw_term.specs.WellFormed.{Each}
 use Rattle.aw_accept.proofs.ConfigLemmas.{In-rounds}
 use Rattle.aw_store.proofs.MoreEquations.{find-left_more, find-right_more, find-absent, Holds, Holds-left, Holds-right}
 use Rattle.aw_apply.proofs.Numbering.{Lies, made-apart, made-holds}
-use Rattle.aw_joint.specs.Laws.{AllUnfold}
-use Rattle.aw_joint.proofs.Substituting.{lay-unfolds, lay_result-unfolds, rounds-leaf, VarOk, Answered, IsChange, substitute, variables_go, rounds-bind}
+use Rattle.aw_react.specs.Laws.{AllUnfold}
+use Rattle.aw_react.proofs.Substituting.{lay-unfolds, lay_result-unfolds, rounds-leaf, VarOk, Answered, IsChange, substitute, variables_go, rounds-bind}
 use Rattle.aw_accept.proofs.Developing.{Taking, Known, sigma, fate_term, no_own}
-use Rattle.aw_joint.proofs.Entering.{IsTermOf}
+use Rattle.aw_react.proofs.Entering.{IsTermOf}
 use Rattle.aw_name.specs.SameNodes.{node_is, node_self}
 use Rattle.aw_term.proofs.Eaches.{each_map}
 

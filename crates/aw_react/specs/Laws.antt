@@ -17,7 +17,7 @@ use Rattle.aw_accept.specs.Acyclic.{Pairs}
 use Rattle.aw_store.specs.Equations.{Body, Map, find, mentions}
 use Rattle.aw_store.specs.Chase.{Missing, chase}
 use Rattle.aw_store.specs.Unfold.{Unfolds, unfold_in}
-use Rattle.aw_joint.specs.Joint.{Held, Joint, empty_joint, joint_outcome, joint_taken, joint_run}
+use Rattle.aw_react.specs.Joint.{Held, Joint, empty_joint, joint_outcome, joint_taken, joint_run}
 
 -- the values of some references, in order
 abbrev pub AllUnfold : Map → List Ref → List Value → Type 0

@@ -10,10 +10,10 @@ use Rattle.aw_term.specs.Matching.{Matched, Yes, Waits, Differs, Circle, match_a
 use Rattle.aw_term.specs.Choices.{TooDeep, WaitsFor, Mismatch, Outcome, Refused, Starts, Takes, after_guard, deep, at_rule, at_state, at_row, not_held}
 use Rattle.aw_store.specs.Equations.{Map}
 use Rattle.aw_apply.specs.Guard.{guard_all}
-use Rattle.aw_joint.specs.Joint.{Held, by_rule, by_state, by_held, by_root}
-use Rattle.aw_joint.specs.Laws.{AllUnfold, Agree}
-use Rattle.aw_joint.proofs.Guarding.{Like, guard_all-match}
-use Rattle.aw_joint.proofs.SideBySide.{cond_pair, LikeOption}
+use Rattle.aw_react.specs.Joint.{Held, by_rule, by_state, by_held, by_root}
+use Rattle.aw_react.specs.Laws.{AllUnfold, Agree}
+use Rattle.aw_react.proofs.Guarding.{Like, guard_all-match}
+use Rattle.aw_react.proofs.SideBySide.{cond_pair, LikeOption}
 
 -- the same answer
 abbrev pub OutLike : Map → Outcome Ref Ref → Outcome Value Ref → Type 0

@@ -1,7 +1,7 @@
 //! What holds of every list of choices on a grammar without circles, apart from any code.
 ghost use Rattle.aw_term.specs.Artifacts.{Words};
 ghost use Rattle.aw_term.specs.Rules as P;
-ghost use Rattle.aw_joint.specs.Laws.{IsAccepted, FlatIsSubstitution, StepsAgree, AnswersAgree, EquationsAreAcyclic, AnyOrder, IsSubmap, YesStays, DiffersStays, WaitsStays, WaitsMoves, CircleStays, HasOneValue, IsComputed, IsReached};
+ghost use Rattle.aw_react.specs.Laws.{IsAccepted, FlatIsSubstitution, StepsAgree, AnswersAgree, EquationsAreAcyclic, AnyOrder, IsSubmap, YesStays, DiffersStays, WaitsStays, WaitsMoves, CircleStays, HasOneValue, IsComputed, IsReached};
 ghost use Rattle.aw_term.specs.Names.{Ref};
 ghost use Rattle.aw_store.specs.Equations.{Map};
 

@@ -1,7 +1,7 @@
 use Rattle.std.proofs.Common.{◌∙◌, sym, subst}
-use Rattle.aw_joint.proofs.Guarding.{Final, guard_all-keeps}
-use Rattle.aw_joint.proofs.Moving.{guard_all-moves}
-use Rattle.aw_joint.proofs.laws.guard_laws.Goals as goal
+use Rattle.aw_react.proofs.Guarding.{Final, guard_all-keeps}
+use Rattle.aw_react.proofs.Moving.{guard_all-moves}
+use Rattle.aw_react.proofs.laws.guard_laws.Goals as goal
 
 pub returns-clause-yes : goal.returns-clause-yes
 returns-clause-yes c k l within ps rs bound e = guard_all-keeps k l within 1 ps rs (subst (Final l) (sym e) tt) ∙ e

@@ -14,18 +14,18 @@ use Rattle.aw_iograph.specs.Dependence.{IO, HasNoCircle}
 use Rattle.aw_iograph.proofs.Relations.{io_closed}
 use Rattle.aw_store.specs.Equations.{Body, Map, find}
 use Rattle.aw_store.specs.Unfold.{Unfolds}
-use Rattle.aw_joint.specs.Joint.{Held, Joint, empty_joint, joint_outcome, joint_taken, joint_run}
-use Rattle.aw_joint.proofs.Entering.{VariablesEnter}
-use Rattle.aw_joint.specs.Laws.{Agree, AllUnfold}
+use Rattle.aw_react.specs.Joint.{Held, Joint, empty_joint, joint_outcome, joint_taken, joint_run}
+use Rattle.aw_react.proofs.Entering.{VariablesEnter}
+use Rattle.aw_react.specs.Laws.{Agree, AllUnfold}
 use Rattle.aw_term.specs.WellFormed.{Each, Later}
 use Rattle.aw_accept.proofs.ConfigLemmas.{below-child, Member-child_rows, Member-insert_row}
 use Rattle.aw_accept.proofs.UndividedRuns.{Good, decode_on, taking, held_none, row_of-none, empty_good, taken-good}
-use Rattle.aw_joint.proofs.Unfolding.{one_value}
-use Rattle.aw_joint.proofs.Lockstep.{Lockstep, LikeStates, run_lockstep, step_lockstep, answers_agree, empty_lockstep}
-use Rattle.aw_joint.proofs.AnyOrders.{IsFit, IsPartOf, Goes_on, any_order}
+use Rattle.aw_react.proofs.Unfolding.{one_value}
+use Rattle.aw_react.proofs.Lockstep.{Lockstep, LikeStates, run_lockstep, step_lockstep, answers_agree, empty_lockstep}
+use Rattle.aw_react.proofs.AnyOrders.{IsFit, IsPartOf, Goes_on, any_order}
 use Rattle.aw_term.proofs.NodeOrder.{node-no}
-use Rattle.aw_joint.proofs.Ordering.{Before, IsInOrder, insert-in_order, same_rows}
-use Rattle.aw_joint.proofs.Lists.{each_of}
+use Rattle.aw_react.proofs.Ordering.{Before, IsInOrder, insert-in_order, same_rows}
+use Rattle.aw_react.proofs.Lists.{each_of}
 use Rattle.aw_term.proofs.RowParts.{done_node}
 use Rattle.aw_accept.proofs.Fitting.{each_member}
 

@@ -1,5 +1,5 @@
-use Rattle.aw_joint.proofs.Unfolding.{one_value, computed, reached}
-use Rattle.aw_joint.proofs.laws.value_laws.Goals as goal
+use Rattle.aw_react.proofs.Unfolding.{one_value, computed, reached}
+use Rattle.aw_react.proofs.laws.value_laws.Goals as goal
 
 pub returns-clause-one : goal.returns-clause-one
 returns-clause-one c k r t u d e = one_value k k (λ s b f. f) (λ s f. f) d u e

@@ -1,3 +1,0 @@
-pub mod Joint
-pub mod Laws
-pub mod Worked
