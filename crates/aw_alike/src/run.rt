@@ -13,9 +13,9 @@ use aw_grammar::Grammar;
 use aw_list::Text;
 use aw_out::{OUTPUT_LIMIT, PrintFault, Report};
 use aw_plain::{Plain, print_rows};
+use aw_replay::run_undivided;
 use aw_rows::Row;
 use aw_sched::Event;
-use aw_undivided::run_undivided;
 use std::alloc::{AllocError, Global};
 
 /// The rows over whole trees that choices lead to, the choices, and the lines of their answers.

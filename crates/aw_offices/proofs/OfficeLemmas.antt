@@ -1,7 +1,7 @@
 -- What an office does is what each site does that it shows.
 use Rattle.std.proofs.Common.{◌≡◌, ℕ, List, refl, ap, subst, ◌∙◌}
-use Rattle.aw_desks.specs.Alike.{HonestAlike}
-use Rattle.aw_desks.proofs.AlikeLemmas.{honest-alike}
+use Rattle.aw_session.specs.Alike.{HonestAlike}
+use Rattle.aw_session.proofs.AlikeLemmas.{honest-alike}
 use Rattle.aw_grammar.specs.declared.grammar.Grammar.{Grammar}
 use Rattle.aw_msg.specs.Frames.{Frame}
 use Rattle.aw_node.specs.TypedNodes.{Rules, rules_of, handle, answers, AnswersAs}

@@ -4,10 +4,10 @@ ghost use Rattle.aw_grammar.specs.GrammarOf.{grammar_of};
 ghost use Rattle.aw_typed.specs.Typing.{IsMadeFor};
 
 use aw_cells::CellFacts;
-use aw_desks::{Desk, DeskWire};
 use aw_list::Text;
 use aw_msg::{Frame, reply_bytes};
 use aw_node::handle;
+use aw_session::{Desk, DeskWire};
 use aw_site::Site;
 use aw_store::Facts;
 use aw_typed::Typed;

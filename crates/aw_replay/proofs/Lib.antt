@@ -6,3 +6,14 @@ pub mod Endings
 pub mod Replays
 pub mod Tellings
 pub mod WhileRead
+pub mod Circles
+pub mod ChoicesFit
+pub mod Declarations
+pub mod SameMaps
+pub mod SortsAt
+pub mod TextsSame
+pub mod UnitedRuns
+pub mod WellFormeds
+pub mod Chosen
+pub mod Told
+pub mod Scheduled

@@ -2,3 +2,10 @@ pub mod CallTexts
 pub mod Faults
 pub mod Replays
 pub mod Telling
+pub mod Declared
+pub mod United
+pub mod UnitedLaws
+pub mod ChoicesIn
+pub mod Choosing
+pub mod Laws
+pub mod Scheduled

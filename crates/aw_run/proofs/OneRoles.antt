@@ -7,7 +7,7 @@ use Rattle.aw_term.specs.Runs.{plain_text}
 use Rattle.aw_sched.specs.Events.{Chooses}
 use Rattle.aw_react.specs.Laws.{IsAccepted}
 use Rattle.aw_merge.proofs.OneRoles.{one_role_plain}
-use Rattle.aw_undivided.specs.ChoicesIn.{choices_in}
+use Rattle.aw_replay.specs.ChoicesIn.{choices_in}
 use Rattle.aw_run.specs.Laws.{TellsUndivided}
 
 -- the choices among choices are all of them

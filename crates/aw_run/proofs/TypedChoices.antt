@@ -24,7 +24,7 @@ use Rattle.aw_react.specs.Bounds.{bound_of}
 use Rattle.aw_react.specs.Outputs.{after_event, settle_moves, moves_of, all_moves, moment}
 use Rattle.aw_merge.proofs.Headlining.{each_take}
 use Rattle.aw_merge.proofs.Settling.{deliver_taken}
-use Rattle.aw_undivided.specs.ChoicesIn.{choices_in}
+use Rattle.aw_replay.specs.ChoicesIn.{choices_in}
 
 -- a choice may be asked, and its arguments fit
 abbrev pub Fits : Types → Grammar → Choice → Type 0

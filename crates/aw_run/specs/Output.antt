@@ -24,7 +24,7 @@ use Rattle.aw_sched.specs.KindNames.{kind_name as schedule_kind}
 use Rattle.aw_typed.specs.TypeFaults.{Fault as TypeFault, type_fault}
 use Rattle.aw_typed.specs.Typing.{types_of}
 use Rattle.aw_run.specs.Refusals.{at_line, types_text}
-use Rattle.aw_undivided.specs.ChoicesIn.{choices_in}
+use Rattle.aw_replay.specs.ChoicesIn.{choices_in}
 use Rattle.aw_run.specs.Checked.{TellsChecked}
 
 -- a text that is written, or why none is

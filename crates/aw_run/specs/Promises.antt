@@ -24,7 +24,7 @@ use Rattle.aw_react.specs.Choosing.{outcome}
 use Rattle.aw_react.specs.Worlds.{Chooses, site_at, empty_world, IsQuiet}
 use Rattle.aw_react.specs.Outputs.{after_events, all_lines, all_moves, moment, output_of}
 use Rattle.aw_replay.specs.Telling.{SettlingEnds}
-use Rattle.aw_undivided.specs.ChoicesIn.{choices_in}
+use Rattle.aw_replay.specs.ChoicesIn.{choices_in}
 use Rattle.aw_run.specs.Output.{IsOutputOf}
 use Rattle.aw_run.specs.Replies.{ForInput, Replies, WritesSome}
 use Rattle.aw_run.specs.declared.reply.Reply.{Reply}

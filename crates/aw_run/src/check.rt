@@ -14,13 +14,12 @@ ghost use Rattle.aw_run.specs.Replies.{Replies};
 use crate::refusals::not_accepted;
 use crate::reply::{Reply, Status};
 use aw_accept::{Accepted, accept};
-use aw_apart::{roles_text, wait_text};
 use aw_base::Declared;
 use aw_face::Faces;
 use aw_grammar::Grammar;
 use aw_list::Text;
 use aw_spec::SpecText;
-use aw_told::accepted_text;
+use aw_told::{accepted_text, roles_text, wait_text};
 use std::alloc::{AllocError, Global};
 
 /// What is told of the roles checked apart: nothing, where no dependence is declared.

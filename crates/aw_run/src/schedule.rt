@@ -15,11 +15,10 @@ use crate::reply::{Reply, Status};
 use crate::words::Telling;
 use aw_accept::{Accepted, accept};
 use aw_out::Report;
-use aw_replay::{Kept, ReplayFault, replay_schedule};
+use aw_replay::{Kept, ReplayFault, replay_schedule, run_schedule};
 use aw_sched::ScheduleReader;
 use aw_spec::SpecText;
 use aw_typed::Typed;
-use aw_undivided::run_schedule;
 use std::alloc::{AllocError, Global};
 
 /// What is told of the events that are left of a schedule.

@@ -13,7 +13,6 @@ ghost use Rattle.aw_table.specs.Parts.{IfSomePart, IfSomeParts};
 
 use crate::told::{MARK, push_circular, push_name};
 use aw_accept::{Fault, Refused, accept};
-use aw_apart::{roles_text, wait_text};
 use aw_base::{Declared, Triple};
 use aw_face::Faces;
 use aw_grammar::Grammar;
@@ -24,7 +23,7 @@ use aw_modular::{
 };
 use aw_spec::{SpecText, read_spec};
 use aw_text::number_value;
-use aw_told::accepted_text;
+use aw_told::{accepted_text, roles_text, wait_text};
 use bstr::ByteSlice;
 use std::alloc::{AllocError, Global};
 

@@ -1,3 +1,0 @@
-pub mod ApartTold
-pub mod Telling
-pub mod ApartLaws

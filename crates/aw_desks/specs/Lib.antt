@@ -1,4 +1,0 @@
-pub mod Alike
-pub mod Asking
-pub mod Calls
-pub mod Honest
