@@ -1,5 +1,6 @@
 -- Laying down one thing after the other.
 use Rattle.std.proofs.Common.{◌≡◌, ℕ, zero, suc, ◌+◌, ◌<◌, ◌≤◌, List, [], ◌∷◌, ◌++◌, length, map, drop, get_or, refl, ap, sym, ◌∙◌, arith, append_assoc}
+use Rattle.std.specs.Prelude.{Result, Ok, Err, IfOk, OnOk}
 use Rattle.std.proofs.Math.ListN.{set}
 use Rattle.std.proofs.lemmas.List.{at_drop_more}
 use Rattle.aw_term.specs.Trees as P
@@ -16,8 +17,18 @@ use Rattle.aw_store.specs.Equations.{Body, Is, Equation}
 use Rattle.aw_store.specs.EquationView.{body_of, equation_of}
 use Rattle.aw_store.specs.declared.equation.Equation as declared_equation
 use Rattle.aw_store.specs.declared.equation.Body as declared_body
+use Rattle.aw_apply.specs.declared.laid.LaidOne.{LaidOne}
 use Rattle.aw_apply.specs.Made.{Laid, lay, lays, lay_list}
 use Rattle.aw_apply.specs.MadeView.{with_one, laid_behind, with_body}
+
+-- what holds where anything is given leads to something else
+pub if_given : {T E : Type 0} {P Q : T → Type 0} (r : Result T E) → ((x : T) → P x → Q x) → IfOk r P → IfOk r Q
+if_given (Ok x) then p = then x p
+if_given (Err e) then p = tt
+
+pub on_given : {T E P Q : Type 0} (r : Result T E) → (P → Q) → OnOk r P → OnOk r Q
+on_given (Ok x) then p = then p
+on_given (Err e) then p = tt
 
 -- these, and then those
 abbrev pub joined : {A : Type 0} → Laid (List A) → Laid (List A) → Laid (List A)
@@ -119,6 +130,13 @@ con_laid n f k h ts t old mid new at left root place all ea em el en es er et =
     let whole : record { roots = root; equations = new; next = all.next } ≡ laid_behind old (head_over n k (Is h l.roots) l.equations l.next) =
     λ i. record { roots = p i; equations = (w ∙ ap (λ r. old ++ record { left = r; body = Is h l.roots } ∷ l.equations) q) i; next = (el i).next } in
     whole ∙ ap (laid_behind old) (symbol_laid n f k h (Is h l.roots) ts l t refl refl et)
+
+-- what is so laid down, where anything is
+pub con_closed : {L E : Type 0} (n : Node) (f : L → Ref) (k : ℕ) (h : Head) (ts : List (Tree L)) (t : Tree L) (old mid : List Equation) (at : ℕ) (root : Ref) (place : Body) (all : Laid (List Ref)) (of : LaidOne → Laid Ref) (r : Result LaidOne E) →
+    at ≡ length old → mid ≡ old ++ record { left = part n k; body = place } ∷ [] → all ≡ laid_behind mid (lay_list n f (k + 1) ts) → root ≡ part n k → t ≡ Made h (join ts) →
+    IfOk r (λ l. of l ≡ record { roots = root; equations = with_body at (Is h all.roots) all.equations; next = all.next }) → IfOk r (λ l. of l ≡ laid_behind old (lay n f k t))
+con_closed n f k h ts t old mid at root place all of (Ok l) ea em el er et closed = closed ∙ con_laid n f k h ts t old mid _ at (part n k) root place all ea em el refl (sym er) er et
+con_closed n f k h ts t old mid at root place all of (Err e) ea em el er et closed = tt
 
 -- one more root
 pub one_more : (old new : List Equation) (rs ss : List Ref) (k m : ℕ) (r : Ref) (next : ℕ) (one : Laid Ref) → record { roots = r; equations = new; next = next } ≡ laid_behind old one → ss ≡ rs ++ r ∷ [] → m ≡ next →

@@ -1,8 +1,9 @@
 -- What is laid down and made, as the plain definitions speak of it.
 use Rattle.std.specs.Prelude.{◌≡◌, ℕ, zero, suc, ◌+◌, List, [], ◌∷◌, ◌++◌, map, Some, slice_get}
+use Rattle.aw_term.specs.Trees.{Con}
 use Rattle.aw_term.specs.Names.{Node, Ref, part}
 use Rattle.aw_term.specs.Rules.{Term, Child, Rule, Grammar, get}
-use Rattle.aw_store.specs.Equations.{Body, Map}
+use Rattle.aw_store.specs.Equations.{Body, Is, Map}
 use Rattle.aw_store.specs.EquationView.{equation_of}
 use Rattle.aw_store.specs.declared.equation.Equation.{Equation}
 use Rattle.aw_apply.specs.Made.{Laid, Call, lay_result, lay_children, no_ref}
@@ -60,6 +61,10 @@ all_children n r refs k children = as_children (lay_children n r (get (no_ref n)
 -- result j, with these references for the variables, and parts from k on
 abbrev pub result_laid : Node → List Ref → ℕ → ℕ → Term → Laid (Unit {0})
 result_laid n refs k j t = lay_result n (get (no_ref n) refs) k j t
+
+-- the equation of a constructor over what was laid down for its parts, and theirs
+abbrev pub con_equations : Ref → ℕ → Laid (List Ref) → Map
+con_equations left con all = record { left = left; body = Is (Con con) all.roots } ∷ all.equations
 
 -- so it is of the rule with this number, where there is one
 abbrev pub OfRule : Grammar → ℕ → (Rule → Type 0) → Type 0

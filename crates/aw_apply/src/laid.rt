@@ -8,7 +8,7 @@ ghost use Rattle.aw_term.specs.Views.{head_of, ground_of, term_of};
 ghost use Rattle.aw_store.specs.Equations.{Is};
 ghost use Rattle.aw_store.specs.EquationView.{body_of, equation_of};
 ghost use Rattle.aw_apply.specs.Made.{lay, lay_list, no_ref};
-ghost use Rattle.aw_apply.specs.MadeView.{IsLaid, AreLaid, lone, with_body};
+ghost use Rattle.aw_apply.specs.MadeView.{IsLaid, AreLaid, lone, one_of, with_body};
 
 use aw_base::{Expr, Ground, Lit};
 use aw_list::Text;
@@ -120,6 +120,33 @@ fn lay_lone(
     Ok(LaidOne { root, next: k + 1 })
 }
 
+/// A place for a constructor as part k, and its reference.
+fn open_con(equations: &mut Vec<Equation>, node: &Node, k: u16) -> Result<(usize, Ref), AllocError>
+    ensures place { IfOk result (λ opened. opened.0 ≡ length equations.old.items) }
+    ensures root { IfOk result (λ opened. opened.1 ≡ part node.now k) }
+    ensures equations { OnOk result (map equation_of equations.new.items ≡ map equation_of equations.old.items ++ record { left = part node.now k; body = body_of (Body.Num 0) } ∷ []) }
+{
+    let root = part_of(node, k)?;
+    let at = add_place(equations, copy_ref(&root)?)?;
+    Ok((at, root))
+}
+
+/// The constructor written at its place, over what was laid down for its parts.
+fn close_con(
+    equations: &mut Vec<Equation>,
+    at: usize,
+    con: u16,
+    root: Ref,
+    all: LaidAll,
+) -> Result<LaidOne, AllocError>
+    requires { at < length equations.old.items }
+    ensures { IfOk result (λ l. one_of (map equation_of equations.new.items) l ≡ record { roots = root; equations = with_body at (Is (Con con) all.roots.items) (map equation_of equations.old.items); next = all.next }) }
+{
+    let LaidAll { roots, next } = all;
+    write_con(equations, at, con, roots)?;
+    Ok(LaidOne { root, next })
+}
+
 /// A number or a text as a body.
 pub fn lit_body(alloc: Global, lit: &Lit) -> Result<Body, AllocError>
     ensures { IfOk result (λ b. body_of b ≡ Is (head_of lit.now) []) }
@@ -149,12 +176,9 @@ fn lay_ground(
             lay_lone(equations, node, k, Body::Text(text))
         }
         Ground::Con(c, parts) => {
-            let root = part_of(node, k)?;
-            let at = add_place(equations, copy_ref(&root)?)?;
+            let (at, root) = open_con(equations, node, k)?;
             let all = lay_grounds(alloc, equations, node, k + 1, parts.as_slice())?;
-            let LaidAll { roots, next } = all;
-            write_con(equations, at, *c, roots)?;
-            Ok(LaidOne { root, next })
+            close_con(equations, at, *c, root, all)
         }
     }
 }
@@ -212,12 +236,9 @@ fn lay_term(
             lay_lone(equations, node, k, body)
         }
         Expr::Con(c, parts) => {
-            let root = part_of(node, k)?;
-            let at = add_place(equations, copy_ref(&root)?)?;
+            let (at, root) = open_con(equations, node, k)?;
             let all = lay_terms(alloc, equations, node, refs, k + 1, parts.as_slice())?;
-            let LaidAll { roots, next } = all;
-            write_con(equations, at, *c, roots)?;
-            Ok(LaidOne { root, next })
+            close_con(equations, at, *c, root, all)
         }
     }
 }

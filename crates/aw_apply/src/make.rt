@@ -8,8 +8,8 @@ ghost use Rattle.aw_grammar.specs.declared.rule.Rule.{Rule as RuleValue};
 ghost use Rattle.aw_grammar.specs.GrammarView.{rule_of};
 ghost use Rattle.aw_grammar.specs.GrammarOf.{grammar_of};
 ghost use Rattle.aw_store.specs.EquationView.{equation_of};
-ghost use Rattle.aw_apply.specs.Made.{lay_results as plain_results, child_refs, no_ref, made as plain_made};
-ghost use Rattle.aw_apply.specs.MadeView.{as_child, result_laid, OfRule};
+ghost use Rattle.aw_apply.specs.Made.{lay_list, lay_results as plain_results, child_refs, no_ref, made as plain_made};
+ghost use Rattle.aw_apply.specs.MadeView.{as_child, con_equations, result_laid, OfRule};
 
 use crate::children::{Called, child_nodes, lay_children, push_children_results};
 use crate::laid::{
@@ -30,6 +30,29 @@ fn result_of(node: &Node, j: u8) -> Result<Ref, AllocError>
         node: copy_node(node)?,
         slot: Slot::Result(u16::from(j)),
     })
+}
+
+/// A constructor that a result is, behind its place: its parts, from part k on.
+fn lay_con(
+    alloc: Global,
+    equations: &mut Vec<Equation>,
+    left: Ref,
+    node: &Node,
+    refs: &[Ref],
+    k: u16,
+    con: u16,
+    parts: &[Expr],
+) -> Result<u16, AllocError>
+    requires { k + symbols_of (map term_of parts.now) ≤ 65535 }
+    ensures equations { OnOk result (map equation_of equations.new.items ≡ map equation_of equations.old.items
+        ++ con_equations left con (lay_list node.now (get (no_ref node.now) refs.now) k (map term_of parts.now))) }
+    ensures next { IfOk result (λ next. next ≡ (lay_list node.now (get (no_ref node.now) refs.now) k (map term_of parts.now)).next) }
+{
+    let at = add_place(equations, left)?;
+    let all = lay_terms(alloc, equations, node, refs, k, parts)?;
+    let LaidAll { roots, next } = all;
+    write_con(equations, at, con, roots)?;
+    Ok(next)
 }
 
 /// The equation of result j, and those of its parts from part k on; the next part number.
@@ -58,13 +81,7 @@ fn lay_result(
             add_equation(equations, left, body)?;
             Ok(k)
         }
-        Expr::Con(c, parts) => {
-            let at = add_place(equations, left)?;
-            let all = lay_terms(alloc, equations, node, refs, k, parts.as_slice())?;
-            let LaidAll { roots, next } = all;
-            write_con(equations, at, *c, roots)?;
-            Ok(next)
-        }
+        Expr::Con(c, parts) => lay_con(alloc, equations, left, node, refs, k, *c, parts.as_slice()),
     }
 }
 

@@ -18,7 +18,7 @@ use Rattle.aw_iograph.specs.Dependence.{IO, HasNoCircle}
 use Rattle.aw_iograph.specs.declared.occ.Occ.{Occ}
 use Rattle.aw_accept.specs.declared.refused.Fault.{Fault}
 use Rattle.aw_accept.specs.declared.refused.Refused.{Refused}
-use Rattle.aw_accept.specs.declared.refused.Refused.TheVariants.{Circular}
+use Rattle.aw_accept.specs.declared.refused.Refused.TheVariants.{Circular, NoMemory}
 use Rattle.aw_accept.specs.Refusals.{Tells}
 use Rattle.aw_modular.specs.declared.shared.JoinFault.TheVariants.{Differs}
 use Rattle.aw_accept.specs.Circular.{LeastFault}
@@ -124,6 +124,11 @@ appended rules new r rest left all next step so = ap (λ rs. rs ++ rest) step �
 
 pub told_circular : (g h : GrammarValue) (e : Refused) (rule : ℕ) (occ : Occ) → e ≡ Circular h rule occ → HasNoCircle (grammar_of g) (IO (grammar_of g)) → Tells g e → ⊥
 told_circular g h e rule occ is free told = never (not_circular (grammar_of g) (record { rule = rule; occ = occ }) free (subst (Tells g) is told).1)
+
+-- what is told of a grammar without a circle is want of memory
+pub told_memory : (g : GrammarValue) (e : Refused) → HasNoCircle (grammar_of g) (IO (grammar_of g)) → Tells g e → e ≡ NoMemory
+told_memory g NoMemory free told = refl
+told_memory g (Circular h rule occ) free told = absurd (told_circular g h (Circular h rule occ) rule occ refl free told)
 
 -- what one part has that differs from the first, where others were passed
 pub differs_here : (parts : List RoleYes) (first : RoleYes) (ys : List RoleYes) (kept came : Shared) → parts ≡ first ∷ ys → kept ≡ shared_of first → FirstOther kept came ys → TellsDifference parts (Differs kept came)

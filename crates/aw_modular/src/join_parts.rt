@@ -1,6 +1,7 @@
 //! Joining what was checked role by role.
 ghost use Rattle.std.specs.Prelude.{◌≡◌, ◌↔◌, ◌++◌, IfOk, IfErr, IsTrue, OnOk};
 ghost use Rattle.aw_grammar.specs.GrammarOf.{grammar_of};
+ghost use Rattle.aw_accept.specs.declared.refused.Refused.TheVariants.{NoMemory};
 ghost use Rattle.aw_iograph.specs.Dependence.{IO, HasNoCircle};
 ghost use Rattle.aw_modular.specs.Wholes.{AllShare, AreInOrder, Gathers, IsWholeOf, LieWithin, TellsDifference, WouldFit, shared_of};
 
@@ -12,6 +13,14 @@ use aw_base::Declared;
 use aw_face::Faces;
 use aw_grammar::{Cons, Grammar, Names, Numbers, Rules, Sorts};
 use std::alloc::{AllocError, Global};
+
+/// What is offered, without what is used.
+fn offers_of(faces: Faces) -> Numbers
+    ensures { result ≡ faces.offers }
+{
+    let Faces { offers, .. } = faces;
+    offers
+}
 
 /// What a part has in common with the others, and its rules.
 fn taken_apart(yes: RoleYes) -> (Shared, Rules)
@@ -27,12 +36,11 @@ fn taken_apart(yes: RoleYes) -> (Shared, Rules)
         rules,
         ..
     } = grammar;
-    let Faces { offers, .. } = faces;
     let shared = Shared {
         roles,
         cons,
         sorts,
-        offers,
+        offers: offers_of(faces),
         declared,
     };
     (shared, rules)
@@ -110,6 +118,16 @@ fn gathered(parts: RoleYeses) -> Result<(Shared, Rules), JoinFault>
     Ok((kept, rules))
 }
 
+/// The only refusal of a grammar in which no value depends on itself.
+fn only_memory(refused: Refused) -> AllocError
+    requires { refused ≡ NoMemory }
+{
+    match refused {
+        Refused::NoMemory => AllocError,
+        Refused::Circular { .. } => unreachable!(),
+    }
+}
+
 /// Accepts a grammar in which no value depends on itself.
 fn accepted(alloc: Global, g: Grammar) -> Result<Accepted, AllocError>
     requires { HasNoCircle (grammar_of g) (IO (grammar_of g)) }
@@ -117,8 +135,7 @@ fn accepted(alloc: Global, g: Grammar) -> Result<Accepted, AllocError>
 {
     match accept(alloc, g) {
         Ok(accepted) => Ok(accepted),
-        Err(Refused::Circular { .. }) => unreachable!(),
-        Err(Refused::NoMemory) => Err(AllocError),
+        Err(refused) => Err(only_memory(refused)),
     }
 }
 

@@ -83,9 +83,11 @@ fn kept(alloc: Global, part: &Part, declared: &Declared) -> Result<RoleYes, Allo
     ensures part { IfOk result (λ y. IsCopy part.now y.part) }
     ensures declared { IfOk result (λ y. y.declared ≡ declared.now) }
 {
+    let told = copy_declared(alloc, declared)?;
+    let copy = copy_part(alloc, part)?;
     Ok(RoleYes {
-        part: copy_part(alloc, part)?,
-        declared: copy_declared(alloc, declared)?,
+        part: copy,
+        declared: told,
     })
 }
 

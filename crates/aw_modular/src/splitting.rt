@@ -41,10 +41,12 @@ pub fn split(alloc: Global, g: &Grammar, f: &Faces, role: u16) -> Result<Part, A
     ensures keeps { face_fault (grammar_of g.now) f.now.offers f.now.uses ≡ None → IfOk result (λ p. face_fault (grammar_of p.grammar) p.faces.offers p.faces.uses ≡ None) }
     ensures grammar { IfOk result (λ p. grammar_of p.grammar ≡ some_rules (is_at (grammar_of g.now).sorts role) (grammar_of g.now)) }
 {
+    let faces = copy_faces(alloc, f)?;
+    let grammar = only_rules_of(alloc, g, role)?;
     Ok(Part {
         role,
-        grammar: only_rules_of(alloc, g, role)?,
-        faces: copy_faces(alloc, f)?,
+        grammar,
+        faces,
     })
 }
 

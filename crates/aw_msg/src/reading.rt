@@ -1,4 +1,5 @@
 //! Readers of messages.
+ghost use Rattle.std.specs.Prelude.{◌∷◌};
 ghost use Rattle.aw_wire.specs.Gives.{Gives};
 ghost use Rattle.aw_wire.specs.Reading.{byte, such_that};
 ghost use Rattle.aw_msg.specs.Messages as spec;
@@ -39,6 +40,34 @@ fn ask_at(alloc: Global, loaded: bool, bytes: &[u8]) -> Result<(MsgKind, &[u8]),
     Ok((MsgKind::Ask { reference, from }, rest))
 }
 
+/// A call, behind its kind.
+#[tactic(auto, unfolding(crate::specs::Messages::kind))]
+fn call_at(alloc: Global, loaded: bool, bytes: &[u8]) -> Result<(MsgKind, &[u8]), Unread>
+    ensures { Gives (λ x. (x.0, x.1.now)) result (spec.kind loaded (0 ∷ bytes.now)) }
+{
+    let (node, rest) = node_at(alloc, bytes)?;
+    let (inherited, rest) = refs_at(alloc, rest)?;
+    let (load, rest) = load_at(alloc, loaded, rest)?;
+    Ok((
+        MsgKind::Call {
+            node,
+            inherited,
+            load,
+        },
+        rest,
+    ))
+}
+
+/// An equation that is told, behind its kind.
+#[tactic(auto, unfolding(crate::specs::Messages::kind))]
+fn tell_at(alloc: Global, loaded: bool, bytes: &[u8]) -> Result<(MsgKind, &[u8]), Unread>
+    ensures { Gives (λ x. (x.0, x.1.now)) result (spec.kind loaded (2 ∷ bytes.now)) }
+{
+    let (equation, rest) = equation_at(alloc, bytes)?;
+    let (load, rest) = load_at(alloc, loaded, rest)?;
+    Ok((MsgKind::Tell { equation, load }, rest))
+}
+
 /// What stands behind the role.
 #[tactic(auto, unfolding(crate::specs::Messages::kind))]
 fn kind_at(alloc: Global, loaded: bool, bytes: &[u8]) -> Result<(MsgKind, &[u8]), Unread>
@@ -46,25 +75,9 @@ fn kind_at(alloc: Global, loaded: bool, bytes: &[u8]) -> Result<(MsgKind, &[u8])
 {
     match bytes {
         [] => Err(Unread::Short),
-        [CALL_KIND, rest @ ..] => {
-            let (node, rest) = node_at(alloc, rest)?;
-            let (inherited, rest) = refs_at(alloc, rest)?;
-            let (load, rest) = load_at(alloc, loaded, rest)?;
-            Ok((
-                MsgKind::Call {
-                    node,
-                    inherited,
-                    load,
-                },
-                rest,
-            ))
-        }
+        [CALL_KIND, rest @ ..] => call_at(alloc, loaded, rest),
         [ASK_KIND, rest @ ..] => ask_at(alloc, loaded, rest),
-        [TELL_KIND, rest @ ..] => {
-            let (equation, rest) = equation_at(alloc, rest)?;
-            let (load, rest) = load_at(alloc, loaded, rest)?;
-            Ok((MsgKind::Tell { equation, load }, rest))
-        }
+        [TELL_KIND, rest @ ..] => tell_at(alloc, loaded, rest),
         [_, ..] => Err(Unread::Bad { left: bytes.len() }),
     }
 }

@@ -3,22 +3,23 @@ use Rattle.std.proofs.lemmas.List.{length-map}
 use Rattle.aw_term.specs.Trees.{Con}
 use Rattle.aw_store.specs.EquationView.{equation_of}
 use Rattle.aw_term.specs.Views.{ground_of}
-use Rattle.aw_apply.specs.MadeView.{all_of}
-use Rattle.aw_apply.proofs.LayLemmas.{ground_term, con_laid, one_more, symbols_over, symbols_within, symbols_more, laid_more}
+use Rattle.aw_apply.specs.MadeView.{all_of, one_of}
+use Rattle.aw_apply.proofs.LayLemmas.{ground_term, con_closed, one_more, symbols_over, symbols_within, symbols_more, laid_more}
 use Rattle.aw_apply.proofs.laid.+lay_ground.Goals as goal
 
 pub lay_ground-lay_grounds-requires : goal.lay_ground-lay_grounds-requires
 lay_ground-lay_grounds-requires t c =
     let e = symbols_over (Con c.in-Con.c) (map ground_of c.as_slice-in-Con.result.now) _ (ground_term c.as_slice-in-Con.result.now _ _ _ c.as_slice-in-Con.ensures c.in-Con.is) in (omega (arith, c.decreases, e), omega (arith, c.requires, e))
 
-pub lay_ground-returns-in_ok-write_con-in-Con : goal.lay_ground-returns-in_ok-write_con-in-Con
-lay_ground-returns-in_ok-write_con-in-Con t c =
+pub lay_ground-returns-in_ok-all-in-Con : goal.lay_ground-returns-in_ok-all-in-Con
+lay_ground-returns-in_ok-all-in-Con t c =
     let qs = c.as_slice-in-Con.result.now in
-    con_laid c.args.node.now (λ x. elim x [ ]) c.args.k (Con c.in-Con.c) (map ground_of qs) (ground_of c.args.ground.now)
-    (map equation_of c.args.equations.now.items) (map equation_of c.add_place.new.equations.items) (map equation_of c.write_con.new.equations.items) c.in_ok-at-in-Con.at
-    c.in_ok-copy_ref-in-Con.field-0 c.in_ok-root-in-Con.root _ (all_of (map equation_of c.lay_grounds.new.equations.items) c.in_ok-all-in-Con.all)
-    (c.in_ok-at-in-Con.ensures.place ∙ sym (length-map c.args.equations.now.items equation_of)) c.in_ok-at-in-Con.ensures.equations c.in_ok-all-in-Con.ensures c.in_ok-write_con-in-Con.ensures
-    c.in_ok-copy_ref-in-Con.ensures c.in_ok-root-in-Con.ensures (ground_term qs _ _ _ c.as_slice-in-Con.ensures c.in-Con.is)
+    let opened = c.in_ok-at-in-Con in
+    con_closed c.args.node.now (λ x. elim x [ ]) c.args.k (Con c.in-Con.c) (map ground_of qs) (ground_of c.args.ground.now)
+    (map equation_of c.args.equations.now.items) (map equation_of c.open_con.new.equations.items) opened.at opened.root _
+    (all_of (map equation_of c.lay_grounds.new.equations.items) c.in_ok-all-in-Con.all) (one_of (map equation_of c.close_con.new.equations.items)) c.close_con.result
+    (opened.ensures.place ∙ sym (length-map c.args.equations.now.items equation_of)) opened.ensures.equations c.in_ok-all-in-Con.ensures opened.ensures.root
+    (ground_term qs _ _ _ c.as_slice-in-Con.ensures c.in-Con.is) c.close_con.ensures
 
 pub lay_grounds-lay_ground-requires : goal.lay_grounds-lay_ground-requires
 lay_grounds-lay_ground-requires t c =

@@ -5,22 +5,23 @@ use Rattle.aw_term.specs.Rules.{get}
 use Rattle.aw_store.specs.EquationView.{equation_of}
 use Rattle.aw_term.specs.Views.{term_of}
 use Rattle.aw_apply.specs.Made.{no_ref}
-use Rattle.aw_apply.specs.MadeView.{all_of}
-use Rattle.aw_apply.proofs.LayLemmas.{expr_term, con_laid, one_more, symbols_over, symbols_within, symbols_more, laid_more}
+use Rattle.aw_apply.specs.MadeView.{all_of, one_of}
+use Rattle.aw_apply.proofs.LayLemmas.{expr_term, con_closed, one_more, symbols_over, symbols_within, symbols_more, laid_more}
 use Rattle.aw_apply.proofs.laid.+lay_term.Goals as goal
 
 pub lay_term-lay_terms-requires : goal.lay_term-lay_terms-requires
 lay_term-lay_terms-requires t c =
     let e = symbols_over (Con c.in-Con.c) (map term_of c.as_slice.result.now) _ (expr_term c.as_slice.result.now _ _ _ c.as_slice.ensures c.in-Con.is) in (omega (arith, c.decreases, e), omega (arith, c.requires, e))
 
-pub lay_term-returns-in_ok-write_con-in-Con : goal.lay_term-returns-in_ok-write_con-in-Con
-lay_term-returns-in_ok-write_con-in-Con t c =
+pub lay_term-returns-in_ok-all-in-Con : goal.lay_term-returns-in_ok-all-in-Con
+lay_term-returns-in_ok-all-in-Con t c =
     let qs = c.as_slice.result.now in
-    con_laid c.args.node.now (get (no_ref c.args.node.now) c.args.refs.now) c.args.k (Con c.in-Con.c) (map term_of qs) (term_of c.args.term.now)
-    (map equation_of c.args.equations.now.items) (map equation_of c.add_place.new.equations.items) (map equation_of c.write_con.new.equations.items) c.in_ok-at-in-Con.at
-    c.in_ok-copy_ref-in-Con.field-0 c.in_ok-root-in-Con.root _ (all_of (map equation_of c.lay_terms.new.equations.items) c.in_ok-all-in-Con.all)
-    (c.in_ok-at-in-Con.ensures.place ∙ sym (length-map c.args.equations.now.items equation_of)) c.in_ok-at-in-Con.ensures.equations c.in_ok-all-in-Con.ensures c.in_ok-write_con-in-Con.ensures
-    c.in_ok-copy_ref-in-Con.ensures c.in_ok-root-in-Con.ensures (expr_term qs _ _ _ c.as_slice.ensures c.in-Con.is)
+    let opened = c.in_ok-at-in-Con in
+    con_closed c.args.node.now (get (no_ref c.args.node.now) c.args.refs.now) c.args.k (Con c.in-Con.c) (map term_of qs) (term_of c.args.term.now)
+    (map equation_of c.args.equations.now.items) (map equation_of c.open_con.new.equations.items) opened.at opened.root _
+    (all_of (map equation_of c.lay_terms.new.equations.items) c.in_ok-all-in-Con.all) (one_of (map equation_of c.close_con.new.equations.items)) c.close_con.result
+    (opened.ensures.place ∙ sym (length-map c.args.equations.now.items equation_of)) opened.ensures.equations c.in_ok-all-in-Con.ensures opened.ensures.root
+    (expr_term qs _ _ _ c.as_slice.ensures c.in-Con.is) c.close_con.ensures
 
 pub lay_terms-lay_term-requires : goal.lay_terms-lay_term-requires
 lay_terms-lay_term-requires t c =

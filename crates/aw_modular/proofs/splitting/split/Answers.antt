@@ -6,10 +6,10 @@ use Rattle.aw_modular.proofs.splitting.split.Goals as goal
 
 pub invariant_of-result : goal.invariant_of-result
 invariant_of-result c = record {
-  own = ∣ own_of_part c.args.role (grammar_of c.args.g.now) (grammar_of c.in_ok-only_rules_of.field-0) c.in_ok-only_rules_of.ensures.grammar ∣₁;
+  own = ∣ own_of_part c.args.role (grammar_of c.args.g.now) (grammar_of c.in_ok-grammar.grammar) c.in_ok-grammar.ensures.grammar ∣₁;
 }
 
 pub returns-clause-keeps : goal.returns-clause-keeps
 returns-clause-keeps c e =
     let g = grammar_of c.args.g.now in
-    part_keeps (is_at g.sorts c.args.role) g (grammar_of c.in_ok-only_rules_of.field-0) c.args.f.now c.in_ok-copy_faces.field-0 c.in_ok-only_rules_of.ensures.grammar c.in_ok-copy_faces.ensures e
+    part_keeps (is_at g.sorts c.args.role) g (grammar_of c.in_ok-grammar.grammar) c.args.f.now c.in_ok-faces.faces c.in_ok-grammar.ensures.grammar c.in_ok-faces.ensures e
