@@ -1,5 +1,5 @@
 -- The whole of parts: what is left to gather after one of them, and that no value of the whole depends on itself.
-use Rattle.std.proofs.Common.{◌≡◌, ℕ, suc, List, [], ◌∷◌, ◌++◌, map, Some, refl, sym, ap, ◌∙◌, subst, inl, inr, append_assoc}
+use Rattle.std.proofs.Common.{◌≡◌, ℕ, suc, List, [], ◌∷◌, ◌++◌, map, Option, Some, None, refl, sym, ap, ◌∙◌, subst, inl, inr, append_assoc}
 use Rattle.std.proofs.Math.Logic.{∥∥₁_map, ∥∥₁_map₂, ∥∥₁_elim}
 use Rattle.std.proofs.lemmas.List.{map-append}
 use Rattle.aw_list.proofs.Members.{never, member_got}
@@ -25,7 +25,7 @@ use Rattle.aw_accept.specs.Circular.{LeastFault}
 use Rattle.aw_modular.specs.Roles as R
 use Rattle.aw_modular.specs.declared.yes.RoleYes.{RoleYes}
 use Rattle.aw_modular.specs.declared.shared.Shared.{Shared}
-use Rattle.aw_modular.specs.Wholes.{shared_of, HaveRoles, AreInOrder, AllHave, AllShare, FirstOther, all_rules, Gathers, FitTogether, WouldFit, HasAll, IsWholeOf, yes_part, LieWithin, TellsDifference}
+use Rattle.aw_modular.specs.Wholes.{shared_of, HaveRoles, AreInOrder, AllHave, AllShare, FirstOther, all_rules, Gathers, FitTogether, WouldFit, HasAll, IsWholeOf, yes_part, LieWithin, TakesIn, TellsDifference}
 use Rattle.aw_modular.proofs.Joining.{lies_within, no_circle}
 
 -- where the first of what is left has the same in common
@@ -129,6 +129,13 @@ told_circular g h e rule occ is free told = never (not_circular (grammar_of g) (
 pub told_memory : (g : GrammarValue) (e : Refused) → HasNoCircle (grammar_of g) (IO (grammar_of g)) → Tells g e → e ≡ NoMemory
 told_memory g NoMemory free told = refl
 told_memory g (Circular h rule occ) free told = absurd (told_circular g h (Circular h rule occ) rule occ refl free told)
+
+-- what is known of a part whose rules were added, and of one whose were not
+pub taken_in : (kept : Shared) (y : RoleYes) (old new : List Rule) (o : Option Shared) → o ≡ None → TakesIn kept y old new o → (shared_of y ≡ kept) × (new ≡ old ++ y.part.grammar.rules)
+taken_in kept y old new o none taken = subst (TakesIn kept y old new) none taken
+
+pub not_taken_in : (kept came : Shared) (y : RoleYes) (old new : List Rule) (o : Option Shared) → o ≡ Some came → TakesIn kept y old new o → (came ≡ shared_of y) × (came ≡ kept → Never)
+not_taken_in kept came y old new o some taken = subst (TakesIn kept y old new) some taken
 
 -- what one part has that differs from the first, where others were passed
 pub differs_here : (parts : List RoleYes) (first : RoleYes) (ys : List RoleYes) (kept came : Shared) → parts ≡ first ∷ ys → kept ≡ shared_of first → FirstOther kept came ys → TellsDifference parts (Differs kept came)

@@ -1,5 +1,5 @@
 -- The whole of parts that were checked apart.
-use Rattle.std.specs.Prelude.{◌≡◌, ℕ, suc, List, [], ◌∷◌, ◌++◌, map, ◌⊎◌}
+use Rattle.std.specs.Prelude.{◌≡◌, ℕ, suc, List, [], ◌∷◌, ◌++◌, Option, Some, None, map, ◌⊎◌}
 use Rattle.aw_term.specs.Trees.{Never}
 use Rattle.aw_term.specs.WellFormed.{IsWellFormed}
 use Rattle.aw_grammar.specs.declared.rule.Rule.{Rule}
@@ -37,6 +37,11 @@ AllHave s (y ∷ ys) = (shared_of y ≡ s) × AllHave s ys
 abbrev pub AllShare : List RoleYes → Type 0
 AllShare [] = Unit {0}
 AllShare (y ∷ ys) = AllHave (shared_of y) ys
+
+-- the rules of a part were added where it has this in common with the others; else what it has differs
+abbrev pub TakesIn : Shared → RoleYes → List Rule → List Rule → Option Shared → Type 0
+TakesIn kept y old new None = (shared_of y ≡ kept) × (new ≡ old ++ y.part.grammar.rules)
+TakesIn kept y old new (Some came) = (came ≡ shared_of y) × (came ≡ kept → Never)
 
 -- of some that have this in common up to one that does not, what that one has
 abbrev pub FirstOther : Shared → Shared → List RoleYes → Type 0

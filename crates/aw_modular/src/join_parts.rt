@@ -3,7 +3,7 @@ ghost use Rattle.std.specs.Prelude.{◌≡◌, ◌↔◌, ◌++◌, IfOk, IfErr,
 ghost use Rattle.aw_grammar.specs.GrammarOf.{grammar_of};
 ghost use Rattle.aw_accept.specs.declared.refused.Refused.TheVariants.{NoMemory};
 ghost use Rattle.aw_iograph.specs.Dependence.{IO, HasNoCircle};
-ghost use Rattle.aw_modular.specs.Wholes.{AllShare, AreInOrder, Gathers, IsWholeOf, LieWithin, TellsDifference, WouldFit, shared_of};
+ghost use Rattle.aw_modular.specs.Wholes.{AllShare, AreInOrder, Gathers, IsWholeOf, LieWithin, TakesIn, TellsDifference, WouldFit, shared_of};
 
 use crate::part::Part;
 use crate::shared::{JoinFault, Shared};
@@ -97,6 +97,18 @@ fn append(rules: &mut Rules, more: Rules) -> Result<(), AllocError>
     Ok(())
 }
 
+/// Adds the rules of a part, or hands out what it has in common with others where that differs.
+fn take_in(kept: &Shared, rules: &mut Rules, part: RoleYes) -> Result<Option<Shared>, AllocError>
+    ensures { IfOk result (TakesIn kept.now part rules.old rules.new) }
+{
+    let (came, more) = taken_apart(part);
+    if !is_same(&came, kept) {
+        return Ok(Some(came));
+    }
+    append(rules, more)?;
+    Ok(None)
+}
+
 /// What the parts have in common, and the rules of all in order; or the first difference.
 fn gathered(parts: RoleYeses) -> Result<(Shared, Rules), JoinFault>
     requires { AreInOrder parts }
@@ -109,11 +121,9 @@ fn gathered(parts: RoleYeses) -> Result<(Shared, Rules), JoinFault>
     };
     let (kept, mut rules) = taken_apart(first);
     while let Some(next) = left.next() {
-        let (came, more) = taken_apart(next);
-        if !is_same(&came, &kept) {
+        if let Some(came) = take_in(&kept, &mut rules, next)? {
             return Err(JoinFault::Differs { kept, came });
         }
-        append(&mut rules, more)?;
     }
     Ok((kept, rules))
 }

@@ -112,20 +112,31 @@ fn kind_of(r: &Answered) -> u8
     }
 }
 
+/// Adds what a reply says, the names in it by a writer.
+fn add_told(text: &mut Text, names: &mut NameWriter<'_>, r: &Answered) -> Result<(), AllocError>
+    requires { ReplyInRange r.now }
+    ensures { OnOk result (text.new ≡ text.old ++ spec.reply_payload (words_of names.old.grammar.now) (response_of (grammar_of names.old.grammar.now) r.now)) }
+{
+    match r {
+        Answered::Conflict { kept, came } => add_conflict(text, names, kept, came),
+        Answered::Answer(answer) => push_answer(text, names, answer),
+        Answered::Message(m) => add_message(text, m),
+        Answered::Nothing(number) => add_u64(text, *number),
+        Answered::Item(item) => push_item(text, names, item),
+        Answered::New | Answered::Again | Answered::NotMine => Ok(()),
+        Answered::BadName | Answered::TooLong | Answered::BadFrame => Ok(()),
+    }
+}
+
+/// Adds what a reply says.
 fn add_payload(text: &mut Text, g: &Grammar, r: &Answered) -> Result<(), AllocError>
     requires { ReplyInRange r.now }
     ensures { OnOk result (text.new ≡ text.old ++ spec.reply_payload (words_of g.now) (response_of (grammar_of g.now) r.now)) }
 {
     let mut names = NameWriter::new(text.allocator(), g);
-    match r {
-        Answered::Conflict { kept, came } => add_conflict(text, &mut names, kept, came),
-        Answered::Answer(answer) => push_answer(text, &mut names, answer),
-        Answered::Message(m) => add_message(text, m),
-        Answered::Nothing(number) => add_u64(text, *number),
-        Answered::Item(item) => push_item(text, &mut names, item),
-        Answered::New | Answered::Again | Answered::NotMine => Ok(()),
-        Answered::BadName | Answered::TooLong | Answered::BadFrame => Ok(()),
-    }
+    let added = add_told(text, &mut names, r);
+    drop(names);
+    added
 }
 
 /// The length of a payload. One of more than 4 GiB is as if there were no memory for it.
