@@ -39,15 +39,21 @@ pub fn read_ref(alloc: Global, g: &Grammar, text: &[u8]) -> Result<Ref, Unread> 
     Ok(Ref { node, slot })
 }
 
+/// Adds references, a comma and a space between them.
+fn read_each(alloc: Global, g: &Grammar, text: &[u8], refs: &mut Vec<Ref>) -> Result<(), Unread> {
+    for part in text.split_str(b", ") {
+        refs.push(read_ref(alloc, g, part)?)?;
+    }
+    Ok(())
+}
+
 /// References in parentheses, a comma and a space between them.
 fn read_refs(alloc: Global, g: &Grammar, text: &[u8]) -> Result<Refs, Unread> {
     match text {
         [] | [b'(', b')'] => Ok(Refs::new(alloc)),
         [b'(', inner @ .., b')'] => {
             let mut refs = Vec::new(alloc);
-            for part in inner.split_str(b", ") {
-                refs.push(read_ref(alloc, g, part)?)?;
-            }
+            read_each(alloc, g, inner, &mut refs)?;
             Ok(Refs::from_vec(refs)?)
         }
         _ => Err(Unread::Form),

@@ -119,22 +119,29 @@ fn read_all(alloc: Global, f: &CellFacts, size: Size) -> Result<u64, AllocError>
     Ok(sum)
 }
 
+/// Does the work on a store.
+fn work_on(alloc: Global, f: &mut CellFacts, size: Size, work: Work) -> Result<u64, AllocError> {
+    match work {
+        Work::Built => build_all(alloc, size),
+        Work::Named => name_all(alloc, f, size),
+        Work::Added => add_all(alloc, f, size),
+        Work::Both => {
+            let _sum = name_all(alloc, f, size)?;
+            add_all(alloc, f, size)
+        }
+        Work::Reserved => reserve_all(alloc, f, size),
+        Work::Read => {
+            let _sum = name_all(alloc, f, size)?;
+            let _count = add_all(alloc, f, size)?;
+            read_all(alloc, f, size)
+        }
+    }
+}
+
 /// Does the work on an empty store.
 pub fn run(alloc: Global, size: Size, work: Work) -> Result<u64, AllocError> {
     let mut f = CellFacts::new(alloc);
-    match work {
-        Work::Built => build_all(alloc, size),
-        Work::Named => name_all(alloc, &mut f, size),
-        Work::Added => add_all(alloc, &mut f, size),
-        Work::Both => {
-            let _sum = name_all(alloc, &mut f, size)?;
-            add_all(alloc, &mut f, size)
-        }
-        Work::Reserved => reserve_all(alloc, &mut f, size),
-        Work::Read => {
-            let _sum = name_all(alloc, &mut f, size)?;
-            let _count = add_all(alloc, &mut f, size)?;
-            read_all(alloc, &f, size)
-        }
-    }
+    let done = work_on(alloc, &mut f, size, work);
+    drop(f);
+    done
 }
