@@ -34,6 +34,17 @@ pub fn root(alloc: Global, sort: u16, case: u64) -> Node
     }
 }
 
+/// The open node of a new case, which inherits nothing.
+fn new_case(alloc: Global, sort: u16, case: u64) -> Held
+    ensures { result ≡ record { node = plain_root sort case; inherited = []; done = None } }
+{
+    Held {
+        node: root(alloc, sort, case),
+        inherited: Refs::new(alloc),
+        done: None,
+    }
+}
+
 /// Holds the node of a new case, which is not held, and keeps how the rules of its sort stand. An error changes nothing but
 /// the names of the store.
 pub fn take_start<F: Facts, L: Ledger>(
@@ -61,15 +72,9 @@ pub fn take_start<F: Facts, L: Ledger>(
     ensures stands { IsKept (grammar_of grammar.now) held.new.items (F.map facts.new) (F.names facts.new) kept.new }
     ensures steps { steps.new ≤ steps.old + rules_of (grammar_of grammar.now) (sort_or (sort_of (grammar_of grammar.now) (plain_root sort case))) }
 {
-    let alloc = held.allocator();
-    let node = root(alloc, sort, case);
-    let new = Held {
-        node,
-        inherited: Refs::new(alloc),
-        done: None,
-    };
-    let taken = copy_choice(choice)?;
     choices.reserve(1)?;
+    let taken = copy_choice(choice)?;
+    let new = new_case(held.allocator(), sort, case);
     let opening = make_ready(grammar, facts, held, kept, new)?;
     put_open(grammar, &*facts, held, kept, opening, steps);
     push_choice(choices, taken);

@@ -13,7 +13,7 @@ ghost use Rattle.aw_react.specs.Worklists.{site_worklist};
 ghost use Rattle.aw_kept.specs.KeptStates.{HasRoom, IsKept};
 ghost use Rattle.aw_space.specs.Children.{own_children as plain_own, open_child, are_named};
 ghost use Rattle.aw_space.specs.Costs.{rules_at, waiting_on_lefts};
-ghost use Rattle.aw_space.specs.Openings.{IsReady, all_tests, held_in};
+ghost use Rattle.aw_space.specs.Openings.{IsOpenable, IsReady, all_tests, held_in};
 ghost use Rattle.aw_space.specs.Sound.{all_inherited, all_own};
 ghost use Rattle.aw_space.specs.Spaces.{is_home};
 ghost use Rattle.aw_space.specs.Waking.{left_of};
@@ -28,7 +28,7 @@ use aw_grammar::Grammar;
 use aw_held::{Held, Holding};
 use aw_kept::Kept;
 use aw_name::{Node, Ref};
-use aw_store::{Equation, Facts, add_all_ready};
+use aw_store::{Equation, Equations, Facts, add_all_ready};
 use std::alloc::{AllocError, Global};
 use std::sync::ledger::Ledger;
 
@@ -94,6 +94,77 @@ pub fn push_choice(choices: &mut Vec<Choice>, choice: Choice)
         Ok(()) => {}
         Err(_) => unreachable!(),
     }
+}
+
+/// What taking a rule needs of what it made: its equations and their left sides, the children of this role, and the choice, once
+/// for the node and once for the list.
+#[derive(Drop)]
+struct Taking {
+    equations: Equations,
+    told: Vec<Ref>,
+    own: Vec<Held>,
+    done: Choice,
+    taken: Choice,
+}
+
+/// What taking a rule needs of what it made.
+fn taking_of(
+    alloc: Global,
+    grammar: &Grammar,
+    role: u16,
+    choice: &Choice,
+    made: Made,
+) -> Result<Taking, AllocError>
+    requires { are_named (grammar_of grammar.now) made.children ≡ true }
+    ensures equations { IfOk result (λ t. t.equations ≡ made.equations) }
+    ensures told { IfOk result (λ t. t.told.items ≡ list_map left_of made.equations) }
+    ensures own { IfOk result (λ t. t.own.items ≡ plain_own (grammar_of grammar.now) role made.children) }
+    ensures done { IfOk result (λ t. t.done ≡ choice.now) }
+    ensures taken { IfOk result (λ t. t.taken ≡ choice.now) }
+{
+    let told = copy_lefts(alloc, made.equations.as_slice())?;
+    let done = copy_choice(choice)?;
+    let taken = copy_choice(choice)?;
+    let Made {
+        equations,
+        children,
+    } = made;
+    let own = own_children(alloc, grammar, role, children)?;
+    Ok(Taking {
+        equations,
+        told,
+        own,
+        done,
+        taken,
+    })
+}
+
+/// What is to be kept of each of these open nodes, and room for them and for these equations. An error changes nothing but the names
+/// of the store.
+fn take_room<F: Facts>(
+    grammar: &Grammar,
+    held: &mut Holding,
+    facts: &mut F,
+    kept: &mut Kept,
+    own: Vec<Held>,
+    equations: &Equations,
+) -> Result<Vec<Opening>, AllocError>
+    requires own { All (IsOpenable (grammar_of grammar.now)) own.items }
+    requires few { all_few (list_map equation_of equations.now) ≡ true }
+    requires stands { IsKept (grammar_of grammar.now) held.old.items (F.map facts.old) (F.names facts.old) kept.old }
+    ensures own { IfOk result (λ more. list_map held_in more.items ≡ own.items) }
+    ensures ready { IfOk result (λ more. All (IsReady (grammar_of grammar.now) (F.names facts.new)) more.items) }
+    ensures place { IfOk result (λ more. vec_len more ≤ held.new.room) }
+    ensures room { IfOk result (λ more. HasRoom kept.new (vec_len more) (all_tests more.items)) }
+    ensures sure { OnOk result ((e : PlainEquation) → Contains (list_map equation_of equations.now) e → F.is_ready facts.new e) }
+    ensures held { held.new.items ≡ held.old.items }
+    ensures map { F.map facts.new ≡ F.map facts.old }
+    ensures names { Grows (F.names facts.old) (F.names facts.new) }
+    ensures stands { IsKept (grammar_of grammar.now) held.new.items (F.map facts.new) (F.names facts.new) kept.new }
+{
+    let more = make_all_ready(grammar, facts, held, kept, own)?;
+    facts.reserve(equations)?;
+    Ok(more)
 }
 
 /// Takes a rule on the node at a place, for which all is ready: the node is done and what was kept of it is let go, the
@@ -171,18 +242,16 @@ pub fn take_rule<F: Facts, L: Ledger>(
     ensures steps { steps.new ≤ steps.old + (rules_at (grammar_of grammar.now) (all_of (grammar_of grammar.now) (plain_own (grammar_of grammar.now) role made.children))
         + waiting_on_lefts (list_map equation_of made.equations) (site_worklist (grammar_of grammar.now) (F.map facts.old) (all_of (grammar_of grammar.now) held.old.items))) }
 {
-    let alloc = held.allocator();
-    let Made {
-        equations,
-        children,
-    } = made;
-    let children = own_children(alloc, grammar, role, children)?;
-    let told = copy_lefts(alloc, equations.as_slice())?;
-    let done = copy_choice(choice)?;
-    let taken = copy_choice(choice)?;
     choices.reserve(1)?;
-    let own = make_all_ready(grammar, facts, held, kept, children)?;
-    facts.reserve(&equations)?;
+    let taking = taking_of(held.allocator(), grammar, role, choice, made)?;
+    let Taking {
+        equations,
+        told,
+        own,
+        done,
+        taken,
+    } = taking;
+    let own = take_room(grammar, held, facts, kept, own, &equations)?;
     take_ready(
         grammar,
         held,

@@ -12,7 +12,7 @@ ghost use Rattle.aw_modular.specs.Wholes.{ArePartsOf};
 ghost use Rattle.aw_table.specs.Parts.{IfSomePart, IfSomeParts};
 
 use crate::told::{MARK, push_circular, push_name};
-use aw_accept::{Fault, Refused, accept};
+use aw_accept::{Accepted, Fault, Refused, accept};
 use aw_base::{Declared, Triple};
 use aw_face::Faces;
 use aw_grammar::Grammar;
@@ -136,6 +136,24 @@ fn parts_of(
     Ok(Some(parts))
 }
 
+/// Adds what is told of an accepted grammar.
+fn push_accepted(alloc: Global, told: &mut Text, accepted: Accepted) -> Result<(), AllocError> {
+    let text = accepted_text(alloc, &accepted);
+    drop(accepted);
+    told.push_bytes(text?.as_slice())
+}
+
+/// Adds why parts have no whole.
+fn push_fault(told: &mut Text, fault: JoinFault) -> Result<(), AllocError> {
+    let differs = matches!(fault, JoinFault::Differs { .. });
+    drop(fault);
+    if differs {
+        told.push_bytes(b"differs\n")
+    } else {
+        Err(AllocError)
+    }
+}
+
 /// Adds what the whole of parts is.
 fn push_whole(
     alloc: Global,
@@ -150,13 +168,8 @@ fn push_whole(
     }
     parting_laws();
     match join(alloc, parts) {
-        Ok(accepted) => {
-            let text = accepted_text(alloc, &accepted);
-            drop(accepted);
-            told.push_bytes(text?.as_slice())
-        }
-        Err(JoinFault::Differs { .. }) => told.push_bytes(b"differs\n"),
-        Err(JoinFault::NoMemory) => Err(AllocError),
+        Ok(accepted) => push_accepted(alloc, told, accepted),
+        Err(fault) => push_fault(told, fault),
     }
 }
 

@@ -15,5 +15,5 @@ returns-clause-steps g c =
       c.put_open.ensures.steps,
       tests_are gr (g.F.Facts.names c.make_ready.new.facts) c.in_ok-opening.opening c.in_ok-opening.ensures.ready,
       ap (λ (h : Held). rules_of gr (sort_or (sort_of gr h.node))) c.in_ok-opening.ensures.node,
-      ap (λ n. rules_of gr (sort_or (sort_of gr n))) c.root-node.ensures,
+      ap (λ (h : Held). rules_of gr (sort_or (sort_of gr h.node))) c.new_case-new.ensures,
     )
