@@ -13,7 +13,7 @@ use Rattle.aw_grammar.specs.declared.rule.Child.{Child}
 use Rattle.aw_grammar.specs.declared.rule.Rule.{Rule}
 use Rattle.aw_grammar.specs.GrammarView.{sorts_of, sort_of, child_of, rule_of, plain_grammar, plain_words}
 use Rattle.aw_grammar.specs.Variables.{VariablesFit, AllVariablesFit}
-use Rattle.aw_replay.specs.Declared.{all_seated}
+use Rattle.aw_replay.specs.Seated.{all_seated}
 use Rattle.aw_replay.specs.United.{at_one_role, united, everyone, united_words}
 use Rattle.aw_replay.proofs.SameMaps.{map_same}
 use Rattle.aw_replay.proofs.SortsAt.{gives_same}

@@ -16,4 +16,4 @@ pub mod UnitedRuns
 pub mod WellFormeds
 pub mod Chosen
 pub mod Told
-pub mod Scheduled
+pub mod ScheduledRuns

@@ -2,7 +2,7 @@ pub mod CallTexts
 pub mod Faults
 pub mod Replays
 pub mod Telling
-pub mod Declared
+pub mod Seated
 pub mod United
 pub mod UnitedLaws
 pub mod ChoicesIn

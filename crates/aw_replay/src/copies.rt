@@ -1,6 +1,6 @@
 //! Copies of declarations, the sorts all at one role.
 ghost use Rattle.std.specs.Prelude.{◌≡◌, ◌∷◌, [], IfOk};
-ghost use Rattle.aw_replay.specs.Declared.{seated, all_seated};
+ghost use Rattle.aw_replay.specs.Seated.{seated, all_seated};
 ghost use Rattle.aw_replay.specs.United.{everyone};
 
 use aw_grammar::{Con, Cons, Names, Rule, Rules, Sort, Sorts};

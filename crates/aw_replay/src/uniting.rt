@@ -1,7 +1,7 @@
 //! The grammar with one role, made from a grammar.
 ghost use Rattle.std.specs.Prelude.{◌≡◌, ◌∷◌, [], IfOk};
 ghost use Rattle.aw_grammar.specs.GrammarOf.{grammar_of, words_of};
-ghost use Rattle.aw_replay.specs.Declared.{all_seated};
+ghost use Rattle.aw_replay.specs.Seated.{all_seated};
 ghost use Rattle.aw_replay.specs.United.{united, united_words, everyone};
 
 use crate::copies::{all_seated, copy_cons, copy_rules, only_role};

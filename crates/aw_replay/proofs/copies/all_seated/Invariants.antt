@@ -1,5 +1,5 @@
 use Rattle.std.proofs.Common.{◌≡◌, take}
-use Rattle.aw_replay.specs.Declared.{all_seated}
+use Rattle.aw_replay.specs.Seated.{all_seated}
 use Rattle.aw_replay.proofs.copies.all_seated.Given as goal
 
 abbrev pub invariant-loop-sort : goal.invariant-loop-sort

@@ -1,5 +1,5 @@
 use Rattle.aw_grammar.specs.GrammarOf.{grammar_of}
-use Rattle.aw_replay.proofs.Scheduled.{may_replay, runs}
+use Rattle.aw_replay.proofs.ScheduledRuns.{may_replay, runs}
 use Rattle.aw_replay.proofs.running.run_schedule.Goals as goal
 
 pub replay_schedule-requires-clause-may : goal.replay_schedule-requires-clause-may
