@@ -1,7 +1,8 @@
 //! The lines that several commands write: of a choice with its answer, before the artifacts, and of the items of a worklist.
-ghost use Rattle.std.specs.Prelude.{◌≡◌, ◌++◌, codes, decimal, map, OnOk, OnErr};
+ghost use Rattle.std.specs.Prelude.{◌≡◌, ◌++◌, [], codes, decimal, map, OnOk, OnErr};
 ghost use Rattle.std.specs.Io.{StartsWith};
-ghost use Rattle.aw_term.specs.Artifacts.{item_text};
+ghost use Rattle.aw_term.specs.Artifacts.{item_text, node_text};
+ghost use Rattle.aw_term.specs.Rules.{get};
 ghost use Rattle.aw_term.specs.Runs.{choice_text, answer_line, item_lines};
 ghost use Rattle.aw_choice.specs.ChoiceView.{answer_of, choice_of, item_of};
 ghost use Rattle.aw_grammar.specs.GrammarOf.{words_of};
@@ -10,8 +11,41 @@ use crate::name_writer::NameWriter;
 use crate::texts::{push_answer, push_item, rule_name, sort_name};
 use aw_choice::{Answer, Choice, Item};
 use aw_list::Text;
+use aw_name::Node;
 use aw_text::push_number;
 use std::alloc::AllocError;
+
+fn add_start(
+    text: &mut Text,
+    names: &mut NameWriter<'_>,
+    sort: u16,
+    case: u64,
+) -> Result<(), AllocError>
+    ensures ok { OnOk result (text.new ≡ text.old ++ (codes "start " ++ (get [] (words_of names.old.grammar.now).sorts sort ++ (codes " " ++ decimal case)))) }
+    ensures err { OnErr result (StartsWith text.new text.old) }
+    ensures grammar { names.new.grammar.now ≡ names.old.grammar.now }
+{
+    text.push_bytes(b"start ")?;
+    text.push_bytes(sort_name(names.grammar(), sort))?;
+    text.push_bytes(b" ")?;
+    push_number(text, case)
+}
+
+fn add_develop(
+    text: &mut Text,
+    names: &mut NameWriter<'_>,
+    node: &Node,
+    rule: u16,
+) -> Result<(), AllocError>
+    ensures ok { OnOk result (text.new ≡ text.old ++ (codes "choose " ++ (node_text (words_of names.old.grammar.now) node.now ++ (codes " " ++ get [] (words_of names.old.grammar.now).rules rule)))) }
+    ensures err { OnErr result (StartsWith text.new text.old) }
+    ensures grammar { names.new.grammar.now ≡ names.old.grammar.now }
+{
+    text.push_bytes(b"choose ")?;
+    names.push_node(text, node)?;
+    text.push_bytes(b" ")?;
+    text.push_bytes(rule_name(names.grammar(), rule))
+}
 
 fn add_choice(
     text: &mut Text,
@@ -23,18 +57,8 @@ fn add_choice(
     ensures grammar { names.new.grammar.now ≡ names.old.grammar.now }
 {
     match choice {
-        Choice::Start { sort, case } => {
-            text.push_bytes(b"start ")?;
-            text.push_bytes(sort_name(names.grammar(), *sort))?;
-            text.push_bytes(b" ")?;
-            push_number(text, *case)
-        }
-        Choice::Develop { node, rule, .. } => {
-            text.push_bytes(b"choose ")?;
-            names.push_node(text, node)?;
-            text.push_bytes(b" ")?;
-            text.push_bytes(rule_name(names.grammar(), *rule))
-        }
+        Choice::Start { sort, case } => add_start(text, names, *sort, *case),
+        Choice::Develop { node, rule, .. } => add_develop(text, names, node, *rule),
     }
 }
 
