@@ -1,7 +1,7 @@
 //! Building a grammar, one declaration after the other.
 //!
 //! A grammar that is given up is let go whole, by `drop`: it is proved in far less time than field by field.
-ghost use Rattle.std.specs.Prelude.{◌≡◌, ◌<◌, ◌++◌, true, [], length, IfOk};
+ghost use Rattle.std.specs.Prelude.{◌≡◌, ◌<◌, ◌++◌, true, [], length, IfOk, None};
 ghost use Rattle.aw_grammar.specs.Declarations.{with_start_at};
 ghost use Rattle.aw_text.specs.Spelling.{is_name};
 
@@ -20,7 +20,7 @@ impl Grammar {
     ghost use Rattle.aw_term.specs.WellFormed.{IsWellFormed};
     ghost use Rattle.aw_grammar.specs.Written.{rule_of_raw};
     ghost use Rattle.aw_grammar.specs.Terms.{all_have_contents, are_names, results_of, terms_of};
-    ghost use Rattle.aw_grammar.specs.Declarations.{no_declarations, grammar_in, words_in, with_role, with_con, with_sort, with_start, with_rule};
+    ghost use Rattle.aw_grammar.specs.Declarations.{no_declarations, grammar_in, words_in, with_role, with_con, sort_declared, with_sort, with_start, with_rule};
     ghost use Rattle.aw_grammar.specs.Kinds.{role_kind, con_kind, sort_kind, start_kind, rule_kind};
     ghost use Rattle.aw_grammar.specs.Build.{Added, Built, AllSpelled, all_placed, declare_all};
     ghost use Rattle.aw_grammar.specs.GrammarOf.{declarations_of, grammar_of, words_of};
@@ -78,6 +78,20 @@ impl Grammar {
         Ok(self)
     }
 
+    /// The sort that a sort without a fault is declared as.
+    fn made_sort(&self, sort: RawSort) -> Sort
+        requires { sort_kind (declarations_of self.now) sort ≡ None }
+        ensures { result ≡ sort_declared (declarations_of self.now) sort }
+    {
+        Sort {
+            role: self.role_index.place(sort.role.as_slice()) as u16,
+            takes: sort.takes as u8,
+            gives: sort.gives as u8,
+            start: false,
+            name: sort.name,
+        }
+    }
+
     /// Declares a sort of a role that is declared. Rules come later.
     pub fn add_sort(mut self, sort: RawSort) -> Result<Grammar, AddFault>
         requires named { is_name sort.name ≡ true }
@@ -88,13 +102,7 @@ impl Grammar {
             drop(self);
             return Err(AddFault::Bad(kind));
         }
-        let made = Sort {
-            role: self.role_index.place(sort.role.as_slice()) as u16,
-            takes: sort.takes as u8,
-            gives: sort.gives as u8,
-            start: false,
-            name: sort.name,
-        };
+        let made = self.made_sort(sort);
         let (sorts, index) = added(self.sorts, self.sort_index, made)?;
         self.sorts = sorts;
         self.sort_index = index;
