@@ -1,5 +1,5 @@
 -- The whole of parts: what is left to gather after one of them, and that no value of the whole depends on itself.
-use Rattle.std.proofs.Common.{◌≡◌, ℕ, suc, List, [], ◌∷◌, ◌++◌, map, Option, Some, None, refl, sym, ap, ◌∙◌, subst, inl, inr, append_assoc}
+use Rattle.std.proofs.Common.{◌≡◌, ◌<◌, ℕ, suc, List, [], ◌∷◌, ◌++◌, map, length, Option, Some, None, refl, sym, ap, ◌∙◌, subst, inl, inr, append_assoc, arith, remove, slice_index_or}
 use Rattle.std.proofs.Math.Logic.{∥∥₁_map, ∥∥₁_map₂, ∥∥₁_elim}
 use Rattle.std.proofs.lemmas.List.{map-append}
 use Rattle.aw_list.proofs.Members.{never, member_got}
@@ -25,7 +25,7 @@ use Rattle.aw_accept.specs.Circular.{LeastFault}
 use Rattle.aw_modular.specs.Roles as R
 use Rattle.aw_modular.specs.declared.yes.RoleYes.{RoleYes}
 use Rattle.aw_modular.specs.declared.shared.Shared.{Shared}
-use Rattle.aw_modular.specs.Wholes.{shared_of, HaveRoles, AreInOrder, AllHave, AllShare, FirstOther, all_rules, Gathers, FitTogether, WouldFit, HasAll, IsWholeOf, yes_part, LieWithin, TakesIn, TellsDifference}
+use Rattle.aw_modular.specs.Wholes.{shared_of, HaveRoles, AreInOrder, AllHave, AllShare, FirstOther, all_rules, Gathers, FitTogether, WouldFit, HasAll, IsWholeOf, yes_part, LieWithin, TakesAllIn, TakesIn, TellsDifference}
 use Rattle.aw_modular.proofs.Joining.{lies_within, no_circle}
 
 -- where the first of what is left has the same in common
@@ -140,3 +140,25 @@ not_taken_in kept came y old new o some taken = subst (TakesIn kept y old new) s
 -- what one part has that differs from the first, where others were passed
 pub differs_here : (parts : List RoleYes) (first : RoleYes) (ys : List RoleYes) (kept came : Shared) → parts ≡ first ∷ ys → kept ≡ shared_of first → FirstOther kept came ys → TellsDifference parts (Differs kept came)
 differs_here parts first ys kept came is same other = subst (λ ps. TellsDifference ps (Differs kept came)) (sym is) (same, other)
+
+-- parts in order are one at least
+pub first_one : (parts : List RoleYes) → AreInOrder parts → 0 < length parts
+first_one [] order = never order
+first_one (y ∷ ys) order = omega arith
+
+-- the first of them, and the others
+pub first_and_others : (parts : List RoleYes) (first : RoleYes) → AreInOrder parts → first ≡ slice_index_or parts 0 first → parts ≡ first ∷ remove parts 0
+first_and_others [] first order is = never order
+first_and_others (y ∷ ys) first order is = ap (λ z. z ∷ ys) (sym is)
+
+-- what is gathered where the others have the same in common as the first
+pub gathered_all : (parts : List RoleYes) (first : RoleYes) (ys : List RoleYes) (kept : Shared) (old new : List Rule) (o : Option Shared) → parts ≡ first ∷ ys → kept ≡ shared_of first → old ≡ first.part.grammar.rules → o ≡ None
+    → TakesAllIn kept ys old new o → Gathers parts kept new
+gathered_all parts first ys kept old new o is same rules none taken =
+    let all = subst (TakesAllIn kept ys old new) none taken in
+    subst (λ ps. Gathers ps kept new) (sym is) (same, all.0, all.1 ∙ ap (λ rs. rs ++ all_rules ys) rules)
+
+-- what is told where one has another
+pub gathered_other : (parts : List RoleYes) (first : RoleYes) (ys : List RoleYes) (kept came : Shared) (old new : List Rule) (o : Option Shared) → parts ≡ first ∷ ys → kept ≡ shared_of first → o ≡ Some came
+    → TakesAllIn kept ys old new o → TellsDifference parts (Differs kept came)
+gathered_other parts first ys kept came old new o is same some taken = differs_here parts first ys kept came is same (subst (TakesAllIn kept ys old new) some taken)

@@ -59,6 +59,11 @@ abbrev pub all_rules : List RoleYes → List Rule
 all_rules [] = []
 all_rules (y ∷ ys) = y.part.grammar.rules ++ all_rules ys
 
+-- the rules of parts were added in order where each has this in common; else what the first has that differs
+abbrev pub TakesAllIn : Shared → List RoleYes → List Rule → List Rule → Option Shared → Type 0
+TakesAllIn kept ys old new None = AllHave kept ys × (new ≡ old ++ all_rules ys)
+TakesAllIn kept ys old new (Some came) = FirstOther kept came ys
+
 -- what the parts have in common, and the rules of all in order
 abbrev pub Gathers : List RoleYes → Shared → List Rule → Type 0
 Gathers [] s rules = Never

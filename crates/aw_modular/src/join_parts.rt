@@ -3,7 +3,7 @@ ghost use Rattle.std.specs.Prelude.{◌≡◌, ◌↔◌, ◌++◌, IfOk, IfErr,
 ghost use Rattle.aw_grammar.specs.GrammarOf.{grammar_of};
 ghost use Rattle.aw_accept.specs.declared.refused.Refused.TheVariants.{NoMemory};
 ghost use Rattle.aw_iograph.specs.Dependence.{IO, HasNoCircle};
-ghost use Rattle.aw_modular.specs.Wholes.{AllShare, AreInOrder, Gathers, IsWholeOf, LieWithin, TakesIn, TellsDifference, WouldFit, shared_of};
+ghost use Rattle.aw_modular.specs.Wholes.{AllShare, AreInOrder, Gathers, IsWholeOf, LieWithin, TakesAllIn, TakesIn, TellsDifference, WouldFit, shared_of};
 
 use crate::part::Part;
 use crate::shared::{JoinFault, Shared};
@@ -22,13 +22,10 @@ fn offers_of(faces: Faces) -> Numbers
     offers
 }
 
-/// What a part has in common with the others, and its rules.
-fn taken_apart(yes: RoleYes) -> (Shared, Rules)
-    ensures shared { result.0 ≡ shared_of yes }
-    ensures rules { result.1 ≡ yes.part.grammar.rules }
+/// The declarations of a grammar, and its rules.
+fn declared_of(grammar: Grammar) -> (Names, Cons, Sorts, Rules)
+    ensures { result ≡ (grammar.roles, grammar.cons, grammar.sorts, grammar.rules) }
 {
-    let RoleYes { part, declared } = yes;
-    let Part { grammar, faces, .. } = part;
     let Grammar {
         roles,
         cons,
@@ -36,6 +33,17 @@ fn taken_apart(yes: RoleYes) -> (Shared, Rules)
         rules,
         ..
     } = grammar;
+    (roles, cons, sorts, rules)
+}
+
+/// What a part has in common with the others, and its rules.
+fn taken_apart(yes: RoleYes) -> (Shared, Rules)
+    ensures shared { result.0 ≡ shared_of yes }
+    ensures rules { result.1 ≡ yes.part.grammar.rules }
+{
+    let RoleYes { part, declared } = yes;
+    let Part { grammar, faces, .. } = part;
+    let (roles, cons, sorts, rules) = declared_of(grammar);
     let shared = Shared {
         roles,
         cons,
@@ -109,21 +117,33 @@ fn take_in(kept: &Shared, rules: &mut Rules, part: RoleYes) -> Result<Option<Sha
     Ok(None)
 }
 
+/// Adds the rules of parts in order, or hands out what the first has that differs from this.
+fn take_all_in(
+    kept: &Shared,
+    rules: &mut Rules,
+    parts: Vec<RoleYes>,
+) -> Result<Option<Shared>, AllocError>
+    ensures { IfOk result (TakesAllIn kept.now parts.items rules.old rules.new) }
+{
+    for part in parts {
+        if let Some(came) = take_in(kept, rules, part)? {
+            return Ok(Some(came));
+        }
+    }
+    Ok(None)
+}
+
 /// What the parts have in common, and the rules of all in order; or the first difference.
 fn gathered(parts: RoleYeses) -> Result<(Shared, Rules), JoinFault>
     requires { AreInOrder parts }
     ensures same { IfOk result (λ found. Gathers parts found.0 found.1) }
     ensures differs { IfErr result (λ e. TellsDifference parts e) }
 {
-    let mut left = parts.into_vec().into_iter();
-    let Some(first) = left.next() else {
-        unreachable!()
-    };
+    let mut others = parts.into_vec();
+    let first = others.remove(0);
     let (kept, mut rules) = taken_apart(first);
-    while let Some(next) = left.next() {
-        if let Some(came) = take_in(&kept, &mut rules, next)? {
-            return Err(JoinFault::Differs { kept, came });
-        }
+    if let Some(came) = take_all_in(&kept, &mut rules, others)? {
+        return Err(JoinFault::Differs { kept, came });
     }
     Ok((kept, rules))
 }

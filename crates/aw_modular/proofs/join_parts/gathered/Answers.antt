@@ -1,30 +1,25 @@
-use Rattle.std.proofs.Common.{◌∙◌, ◌++◌, refl, sym, ap}
-use Rattle.std.specs.Vec.Iter.{into_iter_items}
-use Rattle.aw_modular.specs.Wholes.{all_rules}
-use Rattle.aw_modular.proofs.Wholes.{have_goes, other_goes, rules_go, other_here, differs_here, taken_in, not_taken_in}
+use Rattle.std.proofs.Common.{◌≡◌, ◌∷◌, ◌∙◌, List, length, sym, ap, subst, arith, remove, slice_index_or}
+use Rattle.aw_modular.specs.declared.yes.RoleYes.{RoleYes}
+use Rattle.aw_modular.proofs.Wholes.{first_one, first_and_others, gathered_all, gathered_other}
 use Rattle.aw_modular.proofs.join_parts.gathered.Goals as goal
 
-pub loop-next-preserved : goal.loop-next-preserved
-loop-next-preserved c =
-    let kept = c.taken_apart-kept.result.0 in
-    let y = c.in-Some-next.next in
-    let rest = into_iter_items c.next-in-loop-next.new.self in
-    let left = into_iter_items c.loop-next.left in
-    let inv = c.loop-next.invariant in
-    let taken = taken_in kept y c.loop-next.rules c.take_in.new.rules c.in_ok-came.field-0 c.in_default-2.is c.in_ok-came.ensures in
-    record {
-      have = λ h. inv.have (have_goes kept y rest left c.in-Some-next.ensures.items taken.0 h);
-      other = λ came o. inv.other came (other_goes kept came y rest left c.in-Some-next.ensures.items taken.0 o);
-      rules = ap (λ rs. rs ++ all_rules rest) taken.1 ∙ rules_go c.loop-next.rules y.part.grammar.rules y rest left c.in-Some-next.ensures.items refl ∙ inv.rules;
-    }
+pub remove-first-requires : goal.remove-first-requires
+remove-first-requires c = omega (arith, first_one c.args.parts c.requires, ap length c.into_vec-others.ensures, c.into_vec-others.result.ok.0)
 
-pub returns-in-Some-2-clause-differs : goal.returns-in-Some-2-clause-differs
-returns-in-Some-2-clause-differs c =
-    let kept = c.taken_apart-kept.result.0 in
-    let came = c.in-Some-2.came in
-    let y = c.in-Some-next.next in
-    let rest = into_iter_items c.next-in-loop-next.new.self in
-    let left = into_iter_items c.loop-next.left in
-    let other = not_taken_in kept came y c.loop-next.rules c.take_in.new.rules c.in_ok-came.field-0 c.in-Some-2.is c.in_ok-came.ensures in
-    differs_here c.args.parts c.in-Some.first (into_iter_items c.next.new.self) kept came (sym c.into_vec.ensures ∙ sym c.into_iter-left.ensures.rest ∙ c.in-Some.ensures.items) c.taken_apart-kept.ensures.shared
-    (c.loop-next.invariant.other came (other_here kept came y rest left c.in-Some-next.ensures.items other.0 other.1))
+pub returns-in-Some-clause-differs : goal.returns-in-Some-clause-differs
+returns-in-Some-clause-differs c =
+    let parts = c.args.parts in
+    let first = c.remove-first.result in
+    let items = c.into_vec-others.ensures in
+    let value = subst (λ (ps : List RoleYes). first ≡ slice_index_or ps 0 first) items c.remove-first.ensures.value in
+    let is = first_and_others parts first c.requires value ∙ ap (λ ys. first ∷ ys) (sym (c.remove-first.ensures.items ∙ ap (λ ps. remove ps 0) items)) in
+    gathered_other parts first c.remove-first.new.self.items c.taken_apart-kept.result.0 c.in-Some.came c.taken_apart-kept.result.1 c.take_all_in.new.rules c.in_ok-came.field-0 is c.taken_apart-kept.ensures.shared c.in-Some.is c.in_ok-came.ensures
+
+pub returns-clause-same : goal.returns-clause-same
+returns-clause-same c =
+    let parts = c.args.parts in
+    let first = c.remove-first.result in
+    let items = c.into_vec-others.ensures in
+    let value = subst (λ (ps : List RoleYes). first ≡ slice_index_or ps 0 first) items c.remove-first.ensures.value in
+    let is = first_and_others parts first c.requires value ∙ ap (λ ys. first ∷ ys) (sym (c.remove-first.ensures.items ∙ ap (λ ps. remove ps 0) items)) in
+    gathered_all parts first c.remove-first.new.self.items c.taken_apart-kept.result.0 c.taken_apart-kept.result.1 c.take_all_in.new.rules c.in_ok-came.field-0 is c.taken_apart-kept.ensures.shared c.taken_apart-kept.ensures.rules c.in_default.is c.in_ok-came.ensures
