@@ -15,7 +15,7 @@ pub struct Message {
 
 /// A subtask with the references that it inherits; a question for an equation, with the role that asks; or an equation. A subtask and an
 /// equation come with a load: equations that the receiver may soon need.
-#[derive(Debug, Clone, PartialEq, Eq, Drop)]
+#[derive(Debug, PartialEq, Eq, Drop)]
 pub enum MsgKind {
     Call {
         node: Node,

@@ -1,5 +1,6 @@
 //! The bytes of replies.
-ghost use Rattle.std.specs.Prelude.{◌≡◌, ◌++◌, codes, length, map, IfOk, OnOk};
+ghost use Rattle.std.specs.Prelude.{◌≡◌, ◌++◌, ◌∷◌, codes, length, map, IfOk, OnOk};
+ghost use Rattle.std.specs.Int.{w32, to_be_bytes};
 ghost use Rattle.aw_term.specs.Artifacts.{listed, ref_text};
 ghost use Rattle.aw_term.specs.Rules.{Grammar as PlainGrammar};
 ghost use Rattle.aw_grammar.specs.GrammarOf.{grammar_of, words_of};
@@ -149,6 +150,15 @@ fn length_of(payload: &Text) -> Result<u32, AllocError>
     }
 }
 
+/// Adds the kind of a reply, the length of its payload, and the payload.
+fn add_parts(text: &mut Text, kind: u8, payload: &Text) -> Result<(), AllocError>
+    ensures { OnOk result (text.new ≡ text.old ++ kind ∷ (to_be_bytes w32 (length payload.now) ++ payload.now)) }
+{
+    add_byte(text, kind)?;
+    text.push_bytes(&length_of(payload)?.to_be_bytes())?;
+    text.push_bytes(payload.as_slice())
+}
+
 /// The bytes of a reply: its kind, the length of its payload, and the payload.
 pub fn reply_bytes(alloc: Global, g: &Grammar, r: &Answered) -> Result<Text, AllocError>
     requires { ReplyInRange r.now }
@@ -157,8 +167,6 @@ pub fn reply_bytes(alloc: Global, g: &Grammar, r: &Answered) -> Result<Text, All
     let mut payload = Text::new(alloc);
     add_payload(&mut payload, g, r)?;
     let mut text = Text::new(alloc);
-    add_byte(&mut text, kind_of(r))?;
-    text.push_bytes(&length_of(&payload)?.to_be_bytes())?;
-    text.push_bytes(payload.as_slice())?;
+    add_parts(&mut text, kind_of(r), &payload)?;
     Ok(text)
 }
