@@ -1,5 +1,5 @@
 -- Laying down one thing after the other.
-use Rattle.std.proofs.Common.{◌≡◌, ℕ, zero, suc, ◌+◌, ◌<◌, ◌≤◌, List, [], ◌∷◌, ◌++◌, length, map, drop, get_or, refl, ap, sym, ◌∙◌, arith, append_assoc}
+use Rattle.std.proofs.Common.{◌≡◌, ℕ, zero, suc, ◌+◌, ◌<◌, ◌≤◌, List, [], ◌∷◌, ◌++◌, length, map, drop, get_or, refl, ap, sym, ◌∙◌, arith, append_assoc, append-nil}
 use Rattle.std.specs.Prelude.{Result, Ok, Err, IfOk, OnOk}
 use Rattle.std.proofs.Math.ListN.{set}
 use Rattle.std.proofs.lemmas.List.{at_drop_more}
@@ -17,9 +17,8 @@ use Rattle.aw_store.specs.Equations.{Body, Is, Equation}
 use Rattle.aw_store.specs.EquationView.{body_of, equation_of}
 use Rattle.aw_store.specs.declared.equation.Equation as declared_equation
 use Rattle.aw_store.specs.declared.equation.Body as declared_body
-use Rattle.aw_apply.specs.declared.laid.LaidOne.{LaidOne}
 use Rattle.aw_apply.specs.Made.{Laid, lay, lays, lay_list}
-use Rattle.aw_apply.specs.MadeView.{with_one, laid_behind, with_body}
+use Rattle.aw_apply.specs.MadeView.{lone, with_one, laid_behind, with_body}
 
 -- what holds where anything is given leads to something else
 pub if_given : {T E : Type 0} {P Q : T → Type 0} (r : Result T E) → ((x : T) → P x → Q x) → IfOk r P → IfOk r Q
@@ -29,6 +28,10 @@ if_given (Err e) then p = tt
 pub on_given : {T E P Q : Type 0} (r : Result T E) → (P → Q) → OnOk r P → OnOk r Q
 on_given (Ok x) then p = then p
 on_given (Err e) then p = tt
+
+pub on_both : {T E P Q R : Type 0} (r : Result T E) → (P → Q → R) → OnOk r P → OnOk r Q → OnOk r R
+on_both (Ok x) then p q = then p q
+on_both (Err e) then p q = tt
 
 -- these, and then those
 abbrev pub joined : {A : Type 0} → Laid (List A) → Laid (List A) → Laid (List A)
@@ -119,34 +122,35 @@ written old mid new at e b parts ea em en =
     ∙ ap (with_body (length old) b) (ap (λ z. z ++ parts) em ∙ append_assoc old (e ∷ []) parts)
     ∙ body_written old e b parts
 
-pub con_laid : {L : Type 0} (n : Node) (f : L → Ref) (k : ℕ) (h : Head) (ts : List (Tree L)) (t : Tree L) (old mid new : List Equation) (at : ℕ) (left root : Ref) (place : Body) (all : Laid (List Ref)) →
-    at ≡ length old → mid ≡ old ++ record { left = left; body = place } ∷ [] → all ≡ laid_behind mid (lay_list n f (k + 1) ts) → new ≡ with_body at (Is h all.roots) all.equations → left ≡ root → root ≡ part n k → t ≡ Made h (join ts) →
-    record { roots = root; equations = new; next = all.next } ≡ laid_behind old (lay n f k t)
-con_laid n f k h ts t old mid new at left root place all ea em el en es er et =
+-- one root more, and all equations so far
+abbrev so_far : List Ref → List Equation → ℕ → Laid (List Ref)
+so_far rs es k = record { roots = rs; equations = es; next = k }
+
+pub one_more : (es new : List Equation) (rs ss : List Ref) (m next : ℕ) (p q : Ref) → p ≡ q → new ≡ es → ss ≡ rs ++ p ∷ [] → m ≡ next → so_far ss new m ≡ so_far (rs ++ q ∷ []) es next
+one_more es new rs ss m next p q ep en er em = λ i. so_far ((er ∙ ap (λ z. rs ++ z ∷ []) ep) i) (en i) (em i)
+
+-- a symbol without parts takes one part number
+pub lone_laid : {L : Type 0} (n : Node) (f : L → Ref) (k : ℕ) (h : Head) (t : Tree L) → t ≡ Made h Nil → lone n k (Is h []) ≡ lay n f k t
+lone_laid n f k h t e = let one : k + 1 ≡ suc k = omega arith in ap (head_over n k (Is h []) []) one ∙ ap (lay n f k) (sym e)
+
+-- a variable takes none
+pub leaf_laid : {L : Type 0} (n : Node) (f : L → Ref) (k : ℕ) (x : L) (t : Tree L) (es : List Equation) (rs ss : List Ref) (m : ℕ) → t ≡ Leaf x → ss ≡ rs ++ f x ∷ [] → m ≡ k →
+    record { roots = ss; equations = es; next = m } ≡ with_one (record { roots = rs; equations = es; next = k }) (lay n f k t)
+leaf_laid n f k x t es rs ss m e er em =
+    let none : es ≡ es ++ [] = sym (append-nil es) in
+    let whole : record { roots = ss; equations = es; next = m } ≡ with_one (record { roots = rs; equations = es; next = k }) (lay n f k (Leaf x)) = λ i. record { roots = er i; equations = none i; next = em i } in
+    whole ∙ ap (λ z. with_one (record { roots = rs; equations = es; next = k }) (lay n f k z)) (sym e)
+
+-- a constructor whose place was kept, over its parts, stands behind what was laid down before
+pub con_laid : {L : Type 0} (n : Node) (f : L → Ref) (k : ℕ) (h : Head) (ts : List (Tree L)) (t : Tree L) (old mid : List Equation) (at : ℕ) (place : Body) (inner a b : Laid (List Ref)) →
+    at ≡ length old → mid ≡ old ++ record { left = part n k; body = place } ∷ [] → inner ≡ laid_behind mid (lay_list n f (k + 1) ts) → t ≡ Made h (join ts) → a.equations ≡ old →
+    b ≡ record { roots = a.roots ++ part n k ∷ []; equations = with_body at (Is h inner.roots) inner.equations; next = inner.next } → b ≡ with_one a (lay n f k t)
+con_laid n f k h ts t old mid at place inner a b ea em el et eo eb =
     let l = lay_list n f (k + 1) ts in
-    let w = written old mid new at (record { left = left; body = place }) (Is h l.roots) l.equations ea em (en ∙ ap (λ (z : Laid (List Ref)). with_body at (Is h z.roots) z.equations) el) in
-    let p = er in
-    let q = es ∙ er in
-    let whole : record { roots = root; equations = new; next = all.next } ≡ laid_behind old (head_over n k (Is h l.roots) l.equations l.next) =
-    λ i. record { roots = p i; equations = (w ∙ ap (λ r. old ++ record { left = r; body = Is h l.roots } ∷ l.equations) q) i; next = (el i).next } in
-    whole ∙ ap (laid_behind old) (symbol_laid n f k h (Is h l.roots) ts l t refl refl et)
-
--- what is so laid down, where anything is
-pub con_closed : {L E : Type 0} (n : Node) (f : L → Ref) (k : ℕ) (h : Head) (ts : List (Tree L)) (t : Tree L) (old mid : List Equation) (at : ℕ) (root : Ref) (place : Body) (all : Laid (List Ref)) (of : LaidOne → Laid Ref) (r : Result LaidOne E) →
-    at ≡ length old → mid ≡ old ++ record { left = part n k; body = place } ∷ [] → all ≡ laid_behind mid (lay_list n f (k + 1) ts) → root ≡ part n k → t ≡ Made h (join ts) →
-    IfOk r (λ l. of l ≡ record { roots = root; equations = with_body at (Is h all.roots) all.equations; next = all.next }) → IfOk r (λ l. of l ≡ laid_behind old (lay n f k t))
-con_closed n f k h ts t old mid at root place all of (Ok l) ea em el er et closed = closed ∙ con_laid n f k h ts t old mid _ at (part n k) root place all ea em el refl (sym er) er et
-con_closed n f k h ts t old mid at root place all of (Err e) ea em el er et closed = tt
-
--- one more root
-pub one_more : (old new : List Equation) (rs ss : List Ref) (k m : ℕ) (r : Ref) (next : ℕ) (one : Laid Ref) → record { roots = r; equations = new; next = next } ≡ laid_behind old one → ss ≡ rs ++ r ∷ [] → m ≡ next →
-    record { roots = ss; equations = new; next = m } ≡ with_one (record { roots = rs; equations = old; next = k }) one
-one_more old new rs ss k m r next one e er en =
-    λ i. record {
-      roots = (er ∙ ap (λ (z : Laid Ref). rs ++ z.roots ∷ []) e) i;
-      equations = (e i).equations;
-      next = (en ∙ ap (λ (z : Laid Ref). z.next) e) i;
-    }
+    let w = written old mid (with_body at (Is h inner.roots) inner.equations) at (record { left = part n k; body = place }) (Is h l.roots) l.equations ea em (ap (λ (z : Laid (List Ref)). with_body at (Is h z.roots) z.equations) el) in
+    let whole : record { roots = a.roots ++ part n k ∷ []; equations = with_body at (Is h inner.roots) inner.equations; next = inner.next } ≡ with_one a (head_over n k (Is h l.roots) l.equations l.next) =
+    λ i. record { roots = a.roots ++ part n k ∷ []; equations = (w ∙ ap (λ z. z ++ record { left = part n k; body = Is h l.roots } ∷ l.equations) (sym eo)) i; next = (el i).next } in
+    eb ∙ whole ∙ ap (with_one a) (symbol_laid n f k h (Is h l.roots) ts l t refl refl et)
 
 pub ground_term : (qs ps : List grounds.Ground) (g : grounds.Ground) (c : ℕ) → qs ≡ ps → g ≡ grounds.Con c ps → ground_of g ≡ Made (P.Con c) (join (map ground_of qs))
 ground_term qs ps g c e i = ap ground_of i ∙ ground_con c ps ∙ ap (λ zs. Made (P.Con c) (join (map ground_of zs))) (sym e)

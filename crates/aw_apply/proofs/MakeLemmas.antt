@@ -1,17 +1,22 @@
 -- What a taken rule makes, by its three groups.
-use Rattle.std.proofs.Common.{◌≡◌, ℕ, suc, ◌+◌, ◌<◌, ◌≤◌, List, ◌∷◌, ◌++◌, length, map, drop, get_or, ap, sym, ◌∙◌, arith, append_assoc, Some}
+use Rattle.std.proofs.Common.{◌≡◌, ℕ, suc, ◌+◌, ◌<◌, ◌≤◌, List, [], ◌∷◌, ◌++◌, length, map, drop, get_or, ap, sym, ◌∙◌, arith, append_assoc, Some}
 use Rattle.std.specs.Prelude.{slice_get, option_map}
 use Rattle.std.proofs.lemmas.List.{at_drop_more}
 use Rattle.std.proofs.lemmas.Option.{slice_get-map}
-use Rattle.aw_term.specs.Trees.{Head, Leaf, Made, join}
+use Rattle.aw_term.specs.Trees.{Head, Never, Leaf, Made, join}
 use Rattle.aw_term.specs.Names.{Node, Ref, result}
-use Rattle.aw_term.specs.Rules.{Term, Ground, Rule, get}
+use Rattle.aw_term.specs.Rules.{Term, Ground, Child, Rule, get}
 use Rattle.aw_term.specs.WellFormed.{symbols}
-use Rattle.aw_term.specs.Views.{term_of}
+use Rattle.aw_term.specs.Views.{ground_of, term_of}
 use Rattle.aw_term.specs.declared.term.Expr.{Expr}
+use Rattle.aw_term.specs.declared.ground.Ground as grounds
 use Rattle.aw_store.specs.Equations.{Body, Is, Equation}
-use Rattle.aw_apply.specs.Made.{Laid, lay_list, lay_children, lay_result, lay_results, child_refs, no_ref, made}
-use Rattle.aw_apply.specs.MadeView.{as_child, as_children}
+use Rattle.aw_store.specs.EquationView.{equation_of}
+use Rattle.aw_store.specs.declared.equation.Equation as declared_equation
+use Rattle.aw_apply.specs.Made.{Laid, Making, lay_list, lay_result, lay_results, child_refs, no_ref, made}
+use Rattle.aw_apply.specs.MadeView.{all_children, laid_behind, AreCalled, AreLaid, HasEntered, IsMade}
+use Rattle.aw_apply.specs.declared.children.Called.{Called}
+use Rattle.aw_apply.specs.declared.laid.LaidAll.{LaidAll}
 use Rattle.aw_apply.specs.declared.making.MadeChild.{MadeChild}
 use Rattle.aw_apply.proofs.LayLemmas.{lay_list-join, lays-next}
 
@@ -44,33 +49,42 @@ results_follow n f k m next xs i x old new more whole l e en em ex w =
     ∙ ap (λ z. old ++ z) (sym (ap (λ ys. lay_results n f k m (map term_of ys)) (at_drop_more (λ ys. ys) xs i x l ∙ ap (λ y. y ∷ drop (i + 1) xs) (sym e))))
     ∙ w
 
--- The three groups together
-abbrev refs_of : Node → ℕ → Rule → List Ref → Laid (List Ref) → List Ref
-refs_of n r rule bound a = bound ++ (a.roots ++ child_refs n r 1 rule.children)
+-- the arguments were laid down, and the references of all variables are known
+pub entered_all : (n : Node) (f : Never → Ref) (old new : List declared_equation.Equation) (bound all : List Ref) (gs hs : List grounds.Ground) (e : LaidAll) (more : List Ref) →
+    AreLaid old new e (lay_list n f 1 (map ground_of hs)) → hs ≡ gs → all ≡ bound ++ (e.roots.items ++ more) → HasEntered old new bound all e.next (lay_list n f 1 (map ground_of gs)) more
+entered_all n f old new bound all gs hs e more el eh ea =
+    let is = el ∙ ap (λ xs. laid_behind (map equation_of old) (lay_list n f 1 (map ground_of xs))) eh in record {
+      laid = ap (λ (z : Laid (List Ref)). z.equations) is;
+      known = ea ∙ ap (λ (z : Laid (List Ref)). bound ++ (z.roots ++ more)) is;
+      numbered = ap (λ (z : Laid (List Ref)). z.next) is;
+    }
 
-abbrev called_at : Node → ℕ → Rule → Laid (List Ref) → List Ref → Laid (List MadeChild)
-called_at n r rule a refs = as_children (lay_children n r (get (no_ref n) refs) 1 a.next rule.children)
+-- the three groups together
+pub made_all : (n : Node) (r : ℕ) (rule : Rule) (args : List Ground) (old first second third : List declared_equation.Equation) (bound all known : List Ref) (next : ℕ) (called : Called) (cs : List Child) (ts : List Term) →
+    HasEntered old first bound all next (lay_list n (λ x. elim x [ ]) 1 args) (child_refs n r 1 rule.children) → known ≡ all → cs ≡ rule.children → ts ≡ rule.results →
+    AreCalled first second called (all_children n r known next cs) → map equation_of third ≡ map equation_of second ++ lay_results n (get (no_ref n) known) called.next 1 ts →
+    IsMade old third called.children.items (made n r rule args bound)
+made_all n r rule args old first second third bound all known next called cs ts entered ek es et ec el =
+    let a = lay_list n (λ (x : Never). elim x [ ]) 1 args in
+    let refs = bound ++ (a.roots ++ child_refs n r 1 rule.children) in
+    let k = ek ∙ entered.known in
+    let m = entered.numbered in
+    let c = all_children n r refs a.next rule.children in
+    let laid : all_children n r known next cs ≡ c = λ i. all_children n r (k i) (m i) (es i) in
+    let calls = ec ∙ ap (laid_behind (map equation_of first)) laid in
+    let given = lay_results n (get (no_ref n) refs) c.next 1 rule.results in
+    let results : lay_results n (get (no_ref n) known) called.next 1 ts ≡ given = λ i. lay_results n (get (no_ref n) (k i)) (calls i).next 1 (et i) in
+    let both : map equation_of second ++ lay_results n (get (no_ref n) known) called.next 1 ts ≡ (map equation_of first ++ c.equations) ++ given = λ i. (calls i).equations ++ results i in record {
+      equations = el ∙ both ∙ ap (λ z. (z ++ c.equations) ++ given) entered.laid ∙ append_assoc (map equation_of old ++ a.equations) c.equations given ∙ append_assoc (map equation_of old) a.equations (c.equations ++ given);
+      children = ap (λ (z : Laid (List MadeChild)). z.roots) calls;
+    }
 
-abbrev equations_at : Node → Rule → Laid (List Ref) → List Ref → Laid (List MadeChild) → List Equation
-equations_at n rule a refs c = a.equations ++ (c.equations ++ lay_results n (get (no_ref n) refs) c.next 1 rule.results)
-
-pub made_equations : (n : Node) (r : ℕ) (rule : Rule) (args : List Ground) (bound : List Ref) (a : Laid (List Ref)) (refs : List Ref) (c : Laid (List MadeChild)) (given first all : List Equation) →
-    a ≡ lay_list n (λ x. elim x [ ]) 1 args → refs ≡ bound ++ (a.roots ++ child_refs n r 1 rule.children) → c ≡ as_children (lay_children n r (get (no_ref n) refs) 1 a.next rule.children) →
-    given ≡ lay_results n (get (no_ref n) refs) c.next 1 rule.results → first ≡ a.equations ++ c.equations → all ≡ first ++ given → all ≡ (made n r rule args bound).equations
-made_equations n r rule args bound a refs c given first all ea er ec eg ef el =
-    el ∙ ap (λ z. z ++ given) ef ∙ append_assoc a.equations c.equations given
-    ∙ ap (λ z. a.equations ++ (c.equations ++ z)) eg
-    ∙ ap (equations_at n rule a refs) ec
-    ∙ ap (λ z. equations_at n rule a z (called_at n r rule a z)) er
-    ∙ ap (λ z. equations_at n rule z (refs_of n r rule bound z) (called_at n r rule z (refs_of n r rule bound z))) ea
-
-pub made_children : (n : Node) (r : ℕ) (rule : Rule) (args : List Ground) (bound : List Ref) (a : Laid (List Ref)) (refs : List Ref) (c : Laid (List MadeChild)) →
-    a ≡ lay_list n (λ x. elim x [ ]) 1 args → refs ≡ bound ++ (a.roots ++ child_refs n r 1 rule.children) → c ≡ as_children (lay_children n r (get (no_ref n) refs) 1 a.next rule.children) →
-    c.roots ≡ map as_child (made n r rule args bound).calls
-made_children n r rule args bound a refs c ea er ec =
-    ap (λ (z : Laid (List MadeChild)). z.roots) ec
-    ∙ ap (λ z. (called_at n r rule a z).roots) er
-    ∙ ap (λ z. (called_at n r rule z (refs_of n r rule bound z)).roots) ea
+-- the same, where nothing stood before
+pub made_first : (old new all : List declared_equation.Equation) (given taken : List MadeChild) (m : Making) → IsMade old new given m → old ≡ [] → all ≡ new → taken ≡ given → IsMade [] all taken m
+made_first old new all given taken m is none ea et = record {
+  equations = ap (map equation_of) ea ∙ is.equations ∙ ap (λ es. map equation_of es ++ m.equations) none;
+  children = et ∙ is.children;
+}
 
 -- the rule with a number, through its view
 pub rule_found : {A B : Type 0} (f : A → B) (xs : List A) (i : ℕ) (x : A) (y : B) → slice_get xs i ≡ Some x → slice_get (map f xs) i ≡ Some y → f x ≡ y

@@ -6,15 +6,10 @@ use Rattle.aw_term.specs.Rules.{Term, Child, Rule, Grammar, get}
 use Rattle.aw_store.specs.Equations.{Body, Is, Map}
 use Rattle.aw_store.specs.EquationView.{equation_of}
 use Rattle.aw_store.specs.declared.equation.Equation.{Equation}
-use Rattle.aw_apply.specs.Made.{Laid, Call, lay_result, lay_children, no_ref}
-use Rattle.aw_apply.specs.declared.laid.LaidOne.{LaidOne}
+use Rattle.aw_apply.specs.Made.{Laid, Call, Making, lay_result, lay_children, no_ref}
 use Rattle.aw_apply.specs.declared.laid.LaidAll.{LaidAll}
 use Rattle.aw_apply.specs.declared.making.MadeChild.{MadeChild}
 use Rattle.aw_apply.specs.declared.children.Called.{Called}
-
--- what stands for it, with all equations so far
-abbrev pub one_of : Map → LaidOne → Laid Ref
-one_of es l = record { roots = l.root; equations = es; next = l.next }
 
 -- what stands for some trees, with all equations so far
 abbrev pub all_of : Map → LaidAll → Laid (List Ref)
@@ -28,10 +23,6 @@ lone node k b = record { roots = part node k; equations = record { left = part n
 abbrev pub laid_behind : {A : Type 0} → Map → Laid A → Laid A
 laid_behind es a = record { roots = a.roots; equations = es ++ a.equations; next = a.next }
 
--- behind the old equations this was laid down, and one thing stands for it
-abbrev pub IsLaid : List Equation → List Equation → LaidOne → Laid Ref → Type 0
-IsLaid old new l laid = one_of (map equation_of new) l ≡ laid_behind (map equation_of old) laid
-
 -- behind the old equations these were laid down, and several things stand for them
 abbrev pub AreLaid : List Equation → List Equation → LaidAll → Laid (List Ref) → Type 0
 AreLaid old new l laid = all_of (map equation_of new) l ≡ laid_behind (map equation_of old) laid
@@ -39,6 +30,10 @@ AreLaid old new l laid = all_of (map equation_of new) l ≡ laid_behind (map equ
 -- one more laid down behind these
 abbrev pub with_one : {A : Type 0} → Laid (List A) → Laid A → Laid (List A)
 with_one a b = record { roots = a.roots ++ b.roots ∷ []; equations = a.equations ++ b.equations; next = b.next }
+
+-- behind the old equations one thing more was laid down, and it stands behind those before
+abbrev pub AreMore : List Equation → List Equation → LaidAll → LaidAll → Laid Ref → Type 0
+AreMore old new a b one = all_of (map equation_of new) b ≡ with_one (all_of (map equation_of old) a) one
 
 -- the equation at a place has this body, and each other stays
 abbrev pub with_body : ℕ → Body → Map → Map
@@ -77,3 +72,14 @@ called_of es c = record { roots = c.children.items; equations = es; next = c.nex
 -- behind the old equations the inherited values of these children were laid down
 abbrev pub AreCalled : List Equation → List Equation → Called → Laid (List MadeChild) → Type 0
 AreCalled old new c laid = called_of (map equation_of new) c ≡ laid_behind (map equation_of old) laid
+
+-- The arguments were laid down behind the old equations. Their references, and then these, stand behind those that were bound.
+pub record HasEntered (old new : List Equation) (bound all : List Ref) (next : ℕ) (a : Laid (List Ref)) (more : List Ref) : Type 0 where
+  pub laid : map equation_of new ≡ map equation_of old ++ a.equations
+  pub known : all ≡ bound ++ (a.roots ++ more)
+  pub numbered : next ≡ a.next
+
+-- behind the old equations are those of this, and these are its children
+pub record IsMade (old new : List Equation) (given : List MadeChild) (m : Making) : Type 0 where
+  pub equations : map equation_of new ≡ map equation_of old ++ m.equations
+  pub children : given ≡ map as_child m.calls

@@ -8,20 +8,13 @@ ghost use Rattle.aw_term.specs.Views.{head_of, ground_of, term_of};
 ghost use Rattle.aw_store.specs.Equations.{Is};
 ghost use Rattle.aw_store.specs.EquationView.{body_of, equation_of};
 ghost use Rattle.aw_apply.specs.Made.{lay, lay_list, no_ref};
-ghost use Rattle.aw_apply.specs.MadeView.{IsLaid, AreLaid, lone, one_of, with_body};
+ghost use Rattle.aw_apply.specs.MadeView.{AreLaid, AreMore, all_of, lone, with_body};
 
 use aw_base::{Expr, Ground, Lit};
 use aw_list::Text;
 use aw_name::{Node, Ref, Slot, copy_node, copy_ref};
 use aw_store::{Body, Equation, Refs};
 use std::alloc::{AllocError, Global};
-
-/// The reference that stands for something that was laid down, and the next part number.
-#[derive(Debug, Drop)]
-pub struct LaidOne {
-    pub root: Ref,
-    pub next: u16,
-}
 
 /// The references that stand for several things that were laid down one after the other, and the next part number.
 #[derive(Debug, Drop)]
@@ -42,12 +35,11 @@ impl LaidAll {
         })
     }
 
-    /// One more.
-    fn add(&mut self, one: LaidOne) -> Result<(), AllocError>
-        ensures roots { OnOk result (self.new.roots.items ≡ self.old.roots.items ++ one.root ∷ []) }
-        ensures next { OnOk result (self.new.next ≡ one.next) }
+    /// One more, behind which the next part has this number.
+    fn add(&mut self, root: Ref, next: u16) -> Result<(), AllocError>
+        ensures roots { OnOk result (self.new.roots.items ≡ self.old.roots.items ++ root ∷ []) }
+        ensures next { OnOk result (self.new.next ≡ next) }
     {
-        let LaidOne { root, next } = one;
         self.roots.push(root)?;
         self.next = next;
         Ok(())
@@ -105,46 +97,45 @@ pub fn write_con(
     Ok(())
 }
 
-/// A symbol without parts, as part k.
+/// A symbol without parts as the next part, behind what was laid down.
 fn lay_lone(
     equations: &mut Vec<Equation>,
     node: &Node,
-    k: u16,
     body: Body,
-) -> Result<LaidOne, AllocError>
-    requires { k < 65535 }
-    ensures { IfOk result (λ l. IsLaid equations.old.items equations.new.items l (lone node.now k (body_of body))) }
+    all: &mut LaidAll,
+) -> Result<(), AllocError>
+    requires { all.old.next < 65535 }
+    ensures { OnOk result (AreMore equations.old.items equations.new.items all.old all.new (lone node.now all.old.next (body_of body))) }
 {
-    let root = part_of(node, k)?;
-    add_equation(equations, copy_ref(&root)?, body)?;
-    Ok(LaidOne { root, next: k + 1 })
+    let k = all.next;
+    add_equation(equations, part_of(node, k)?, body)?;
+    all.add(part_of(node, k)?, k + 1)
 }
 
-/// A place for a constructor as part k, and its reference.
-fn open_con(equations: &mut Vec<Equation>, node: &Node, k: u16) -> Result<(usize, Ref), AllocError>
-    ensures place { IfOk result (λ opened. opened.0 ≡ length equations.old.items) }
-    ensures root { IfOk result (λ opened. opened.1 ≡ part node.now k) }
+/// A place for a constructor as part k.
+fn open_con(equations: &mut Vec<Equation>, node: &Node, k: u16) -> Result<usize, AllocError>
+    ensures place { IfOk result (λ at. at ≡ length equations.old.items) }
     ensures equations { OnOk result (map equation_of equations.new.items ≡ map equation_of equations.old.items ++ record { left = part node.now k; body = body_of (Body.Num 0) } ∷ []) }
 {
-    let root = part_of(node, k)?;
-    let at = add_place(equations, copy_ref(&root)?)?;
-    Ok((at, root))
+    add_place(equations, part_of(node, k)?)
 }
 
-/// The constructor written at its place, over what was laid down for its parts.
+/// The constructor written at its place, over what was laid down for its parts; it stands behind what was laid down before.
 fn close_con(
     equations: &mut Vec<Equation>,
+    node: &Node,
     at: usize,
     con: u16,
-    root: Ref,
-    all: LaidAll,
-) -> Result<LaidOne, AllocError>
+    parts: LaidAll,
+    all: &mut LaidAll,
+) -> Result<(), AllocError>
     requires { at < length equations.old.items }
-    ensures { IfOk result (λ l. one_of (map equation_of equations.new.items) l ≡ record { roots = root; equations = with_body at (Is (Con con) all.roots.items) (map equation_of equations.old.items); next = all.next }) }
+    ensures { OnOk result (all_of (map equation_of equations.new.items) all.new
+        ≡ record { roots = all.old.roots.items ++ part node.now all.old.next ∷ []; equations = with_body at (Is (Con con) parts.roots.items) (map equation_of equations.old.items); next = parts.next }) }
 {
-    let LaidAll { roots, next } = all;
+    let LaidAll { roots, next } = parts;
     write_con(equations, at, con, roots)?;
-    Ok(LaidOne { root, next })
+    all.add(part_of(node, all.next)?, next)
 }
 
 /// A number or a text as a body.
@@ -157,28 +148,41 @@ pub fn lit_body(alloc: Global, lit: &Lit) -> Result<Body, AllocError>
     }
 }
 
-/// An argument from part k on.
+/// A text as the next part.
+fn lay_text(
+    alloc: Global,
+    equations: &mut Vec<Equation>,
+    node: &Node,
+    text: &Text,
+    all: &mut LaidAll,
+) -> Result<(), AllocError>
+    requires { all.old.next < 65535 }
+    ensures { OnOk result (AreMore equations.old.items equations.new.items all.old all.new (lone node.now all.old.next (body_of (Body.Text text.now)))) }
+{
+    let text = Text::from_bytes(alloc, text.as_slice())?;
+    lay_lone(equations, node, Body::Text(text), all)
+}
+
+/// An argument, whose symbol is the next part.
 #[cycle(lay_ground)]
 fn lay_ground(
     alloc: Global,
     equations: &mut Vec<Equation>,
     node: &Node,
-    k: u16,
     ground: &Ground,
-) -> Result<LaidOne, AllocError>
-    requires { k + symbols (ground_of ground.now) ≤ 65535 }
-    ensures { IfOk result (λ l. IsLaid equations.old.items equations.new.items l (lay node.now (λ x. elim x [ ]) k (ground_of ground.now))) }
+    all: &mut LaidAll,
+) -> Result<(), AllocError>
+    requires { all.old.next + symbols (ground_of ground.now) ≤ 65535 }
+    ensures { OnOk result (AreMore equations.old.items equations.new.items all.old all.new (lay node.now (λ x. elim x [ ]) all.old.next (ground_of ground.now))) }
 {
     match ground {
-        Ground::Num(n) => lay_lone(equations, node, k, Body::Num(*n)),
-        Ground::Text(t) => {
-            let text = Text::from_bytes(alloc, t.as_slice())?;
-            lay_lone(equations, node, k, Body::Text(text))
-        }
+        Ground::Num(n) => lay_lone(equations, node, Body::Num(*n), all),
+        Ground::Text(t) => lay_text(alloc, equations, node, t, all),
         Ground::Con(c, parts) => {
-            let (at, root) = open_con(equations, node, k)?;
-            let all = lay_grounds(alloc, equations, node, k + 1, parts.as_slice())?;
-            close_con(equations, at, *c, root, all)
+            let k = all.next;
+            let at = open_con(equations, node, k)?;
+            let inner = lay_grounds(alloc, equations, node, k + 1, parts.as_slice())?;
+            close_con(equations, node, at, *c, inner, all)
         }
     }
 }
@@ -197,8 +201,7 @@ pub fn lay_grounds(
 {
     let mut all = LaidAll::with_capacity(alloc, grounds.len(), k)?;
     for ground in grounds {
-        let next = all.next;
-        all.add(lay_ground(alloc, equations, node, next, ground)?)?;
+        lay_ground(alloc, equations, node, ground, &mut all)?;
     }
     Ok(all)
 }
@@ -213,32 +216,55 @@ pub fn ref_at(node: &Node, refs: &[Ref], variable: u8) -> Result<Ref, AllocError
     }
 }
 
-/// A term from part k on. A variable takes no part.
+/// The reference of a variable, behind what was laid down. It takes no part.
+fn add_variable(
+    node: &Node,
+    refs: &[Ref],
+    variable: u8,
+    all: &mut LaidAll,
+) -> Result<(), AllocError>
+    ensures roots { OnOk result (all.new.roots.items ≡ all.old.roots.items ++ get (no_ref node.now) refs.now variable ∷ []) }
+    ensures next { OnOk result (all.new.next ≡ all.old.next) }
+{
+    all.add(ref_at(node, refs, variable)?, all.next)
+}
+
+/// A number or a text of a term as the next part.
+fn lay_lit(
+    alloc: Global,
+    equations: &mut Vec<Equation>,
+    node: &Node,
+    lit: &Lit,
+    all: &mut LaidAll,
+) -> Result<(), AllocError>
+    requires { all.old.next < 65535 }
+    ensures { OnOk result (AreMore equations.old.items equations.new.items all.old all.new (lone node.now all.old.next (Is (head_of lit.now) []))) }
+{
+    let body = lit_body(alloc, lit)?;
+    lay_lone(equations, node, body, all)
+}
+
+/// A term, whose symbol is the next part. A variable takes no part.
 #[cycle(lay_term)]
 fn lay_term(
     alloc: Global,
     equations: &mut Vec<Equation>,
     node: &Node,
     refs: &[Ref],
-    k: u16,
     term: &Expr,
-) -> Result<LaidOne, AllocError>
-    requires { k + symbols (term_of term.now) ≤ 65535 }
-    ensures { IfOk result (λ l. IsLaid equations.old.items equations.new.items l (lay node.now (get (no_ref node.now) refs.now) k (term_of term.now))) }
+    all: &mut LaidAll,
+) -> Result<(), AllocError>
+    requires { all.old.next + symbols (term_of term.now) ≤ 65535 }
+    ensures { OnOk result (AreMore equations.old.items equations.new.items all.old all.new (lay node.now (get (no_ref node.now) refs.now) all.old.next (term_of term.now))) }
 {
     match term {
-        Expr::Var(x) => Ok(LaidOne {
-            root: ref_at(node, refs, *x)?,
-            next: k,
-        }),
-        Expr::Lit(lit) => {
-            let body = lit_body(alloc, lit)?;
-            lay_lone(equations, node, k, body)
-        }
+        Expr::Var(x) => add_variable(node, refs, *x, all),
+        Expr::Lit(lit) => lay_lit(alloc, equations, node, lit, all),
         Expr::Con(c, parts) => {
-            let (at, root) = open_con(equations, node, k)?;
-            let all = lay_terms(alloc, equations, node, refs, k + 1, parts.as_slice())?;
-            close_con(equations, at, *c, root, all)
+            let k = all.next;
+            let at = open_con(equations, node, k)?;
+            let inner = lay_terms(alloc, equations, node, refs, k + 1, parts.as_slice())?;
+            close_con(equations, node, at, *c, inner, all)
         }
     }
 }
@@ -258,8 +284,7 @@ pub fn lay_terms(
 {
     let mut all = LaidAll::with_capacity(alloc, terms.len(), k)?;
     for term in terms {
-        let next = all.next;
-        all.add(lay_term(alloc, equations, node, refs, next, term)?)?;
+        lay_term(alloc, equations, node, refs, term, &mut all)?;
     }
     Ok(all)
 }

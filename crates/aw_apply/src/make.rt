@@ -1,5 +1,5 @@
 //! What a taken rule makes: by three groups of equations, with parts numbered from 1 over all of them.
-ghost use Rattle.std.specs.Prelude.{◌≡◌, ◌<◌, ◌≤◌, ◌+◌, ◌++◌, Some, IfOk, OnOk, IsSome, length, map, slice_get};
+ghost use Rattle.std.specs.Prelude.{◌≡◌, ◌<◌, ◌≤◌, ◌+◌, ◌++◌, [], Some, IfOk, OnOk, IsSome, length, map, slice_get};
 ghost use Rattle.aw_term.specs.Names.{below, result as result_ref};
 ghost use Rattle.aw_term.specs.Rules.{get, upto};
 ghost use Rattle.aw_term.specs.WellFormed.{symbols, symbols_of, child_symbols};
@@ -9,13 +9,13 @@ ghost use Rattle.aw_grammar.specs.GrammarView.{rule_of};
 ghost use Rattle.aw_grammar.specs.GrammarOf.{grammar_of};
 ghost use Rattle.aw_store.specs.EquationView.{equation_of};
 ghost use Rattle.aw_apply.specs.Made.{lay_list, lay_results as plain_results, child_refs, no_ref, made as plain_made};
-ghost use Rattle.aw_apply.specs.MadeView.{as_child, con_equations, result_laid, OfRule};
+ghost use Rattle.aw_apply.specs.MadeView.{as_child, con_equations, result_laid, HasEntered, IsMade, OfRule};
 
 use crate::children::{Called, child_nodes, lay_children, push_children_results};
 use crate::laid::{
     LaidAll, add_equation, add_place, lay_grounds, lay_terms, lit_body, ref_at, write_con,
 };
-use crate::making::Made;
+use crate::making::{Made, MadeChild};
 use aw_base::{Expr, Grammar, Grounds, Rule};
 use aw_list::Items;
 use aw_name::{Node, Ref, Slot, copy_node};
@@ -105,26 +105,74 @@ fn lay_results(
     Ok(())
 }
 
-/// The references of a rule's variables by number: bound by its patterns, entered, and results of its children, whose nodes are
-/// these.
-fn variables(
+/// Adds the references of a rule's variables behind those that its patterns have bound: entered, and results of its children, whose
+/// nodes are these.
+fn add_variables(
+    refs: &mut Vec<Ref>,
     g: &Grammar,
     node: &Node,
     number: u16,
     rule: &Rule,
     nodes: &[Node],
-    bound: Vec<Ref>,
     entered: Vec<Ref>,
-) -> Result<Vec<Ref>, AllocError>
+) -> Result<(), AllocError>
     requires { nodes.now ≡ map (below node.now number) (upto 1 (length rule.now.children)) }
-    ensures { IfOk result (λ refs. refs.items ≡ bound.items ++ (entered.items ++ child_refs node.now number 1 (rule_of g.now.sorts rule.now).children)) }
+    ensures { OnOk result (refs.new.items ≡ refs.old.items ++ (entered.items ++ child_refs node.now number 1 (rule_of g.now.sorts rule.now).children)) }
 {
-    let mut refs = bound;
     let mut entered = entered;
     refs.append(&mut entered)?;
     let children = rule.children.as_slice();
-    push_children_results(&mut refs, g, node, number, nodes, children)?;
-    Ok(refs)
+    push_children_results(refs, g, node, number, nodes, children)
+}
+
+/// The equations of the arguments, with the references of all variables behind those that are bound; the next part number.
+fn enter(
+    alloc: Global,
+    equations: &mut Vec<Equation>,
+    refs: &mut Vec<Ref>,
+    g: &Grammar,
+    node: &Node,
+    number: u16,
+    rule: &Rule,
+    nodes: &[Node],
+    args: &Grounds,
+) -> Result<u16, AllocError>
+    requires nodes { nodes.now ≡ map (below node.now number) (upto 1 (length rule.now.children)) }
+    requires entered { symbols_of (map ground_of args.now) ≤ 256 }
+    ensures { IfOk result (λ next. HasEntered equations.old.items equations.new.items refs.old.items refs.new.items next (lay_list node.now (λ x. elim x [ ]) 1 (map ground_of args.now)) (child_refs node.now number 1 (rule_of g.now.sorts rule.now).children)) }
+{
+    let entered = lay_grounds(alloc, equations, node, 1, args.as_slice())?;
+    let LaidAll { roots, next } = entered;
+    add_variables(refs, g, node, number, rule, nodes, roots)?;
+    Ok(next)
+}
+
+/// Lays down what a rule makes at a node, whose children have these nodes, and tells its children. Behind the bound references come those
+/// of the other variables.
+fn lay_made(
+    alloc: Global,
+    equations: &mut Vec<Equation>,
+    refs: &mut Vec<Ref>,
+    g: &Grammar,
+    node: &Node,
+    number: u16,
+    rule: &Rule,
+    nodes: &[Node],
+    args: &Grounds,
+) -> Result<Vec<MadeChild>, AllocError>
+    requires nodes { nodes.now ≡ map (below node.now number) (upto 1 (length rule.now.children)) }
+    requires gives { length rule.now.results ≤ 8 }
+    requires entered { symbols_of (map ground_of args.now) ≤ 256 }
+    requires symbols { child_symbols (rule_of g.now.sorts rule.now).children + symbols_of (map term_of rule.now.results) ≤ 256 }
+    ensures { IfOk result (λ children. IsMade equations.old.items equations.new.items children.items (plain_made node.now number (rule_of g.now.sorts rule.now) (map ground_of args.now) refs.old.items)) }
+{
+    let next = enter(alloc, equations, refs, g, node, number, rule, nodes, args)?;
+    let known = refs.as_slice();
+    let declared = rule.children.as_slice();
+    let called = lay_children(alloc, equations, node, number, known, next, nodes, declared)?;
+    let Called { children, next } = called;
+    lay_results(alloc, equations, node, known, next, rule.results.as_slice())?;
+    Ok(children)
 }
 
 /// Most rules make no more equations.
@@ -145,28 +193,23 @@ fn made_by(
     requires room { 0 < length rule.now.children → length node.now.steps < 250 }
     requires entered { symbols_of (map ground_of args.now) ≤ 256 }
     requires symbols { child_symbols (rule_of g.now.sorts rule.now).children + symbols_of (map term_of rule.now.results) ≤ 256 }
-    ensures equations { IfOk result (λ m. map equation_of m.equations ≡ (plain_made node.now number (rule_of g.now.sorts rule.now) (map ground_of args.now) bound.items).equations) }
-    ensures children { IfOk result (λ m. m.children ≡ map as_child (plain_made node.now number (rule_of g.now.sorts rule.now) (map ground_of args.now) bound.items).calls) }
+    ensures { IfOk result (λ m. IsMade [] m.equations m.children (plain_made node.now number (rule_of g.now.sorts rule.now) (map ground_of args.now) bound.items)) }
 {
+    let mut refs = bound;
     let mut equations = Vec::with_capacity(alloc, USUAL_EQUATIONS)?;
-    let entered = lay_grounds(alloc, &mut equations, node, 1, args.as_slice())?;
-    let LaidAll { roots, next } = entered;
-    let made_nodes = child_nodes(alloc, node, number, rule.children.len())?;
-    let nodes = made_nodes.as_slice();
-    let refs = variables(g, node, number, rule, nodes, bound, roots)?;
-    let called = lay_children(
+    let nodes = child_nodes(alloc, node, number, rule.children.len())?;
+    let at = nodes.as_slice();
+    let children = lay_made(
         alloc,
         &mut equations,
+        &mut refs,
+        g,
         node,
         number,
-        refs.as_slice(),
-        next,
-        nodes,
-        rule.children.as_slice(),
+        rule,
+        at,
+        args,
     )?;
-    let Called { children, next } = called;
-    let results = rule.results.as_slice();
-    lay_results(alloc, &mut equations, node, refs.as_slice(), next, results)?;
     Ok(Made {
         equations: Items::from_vec(equations),
         children: Items::from_vec(children),

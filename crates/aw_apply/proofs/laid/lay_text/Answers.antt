@@ -1,0 +1,12 @@
+use Rattle.std.proofs.Common.{[], map, ap, ◌∙◌}
+use Rattle.aw_term.specs.Trees.{Text}
+use Rattle.aw_store.specs.Equations.{Is}
+use Rattle.aw_store.specs.EquationView.{equation_of}
+use Rattle.aw_apply.specs.MadeView.{all_of, lone, with_one}
+use Rattle.aw_apply.proofs.LayLemmas.{on_given}
+use Rattle.aw_apply.proofs.laid.lay_text.Goals as goal
+
+pub returns : goal.returns
+returns c =
+    let a = all_of (map equation_of c.args.equations.now.items) c.args.all.now in
+    on_given c.lay_lone.result (λ e. e ∙ ap (λ z. with_one a (lone c.args.node.now a.next (Is (Text z) []))) (c.in_ok-text.ensures ∙ c.as_slice.ensures)) c.lay_lone.ensures
