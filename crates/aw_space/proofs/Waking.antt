@@ -17,6 +17,7 @@ use Rattle.aw_store.specs.declared.facts.Added.{Added}
 use Rattle.aw_store.specs.declared.facts.Added.TheVariants.{New, Same, Conflict}
 use Rattle.aw_held.specs.declared.held.Held.{Held}
 use Rattle.aw_held.specs.HeldView.{all_of}
+use Rattle.aw_react.specs.Receiving.{add_on}
 use Rattle.aw_react.specs.Worklists.{site_worklist}
 use Rattle.aw_work.specs.Triples.{waiting_at}
 use Rattle.aw_kept.specs.Items.{waiting_on}
@@ -42,6 +43,12 @@ pub told_same : (k l : Map) (e : program.Equation) (a : Added) → Adds k e a l 
 told_same k l e New w other = absurd (other refl)
 told_same k l e Same w other = w.1
 told_same k l e (Conflict kept came) w other = w.3
+
+-- whatever adding comes to, the equations are then those with this one, where its left side had none
+pub told_on : (k l : Map) (e : program.Equation) (a : Added) → Adds k e a l → l ≡ add_on (find k e.left) k (equation_of e)
+told_on k l e New w = w.1 ∙ sym (ap (λ o. add_on o k (equation_of e)) w.0)
+told_on k l e Same w = w.1 ∙ sym (ap (λ o. add_on o k (equation_of e)) w.0)
+told_on k l e (Conflict kept came) w = w.3 ∙ sym (ap (λ o. add_on o k (equation_of e)) w.0)
 
 -- the new left side has an equation
 left_found : (k : Map) (e : Equation) → find k e.left ≡ None → find (k ++ e ∷ []) e.left ≡ Some e.body

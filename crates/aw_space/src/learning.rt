@@ -74,8 +74,13 @@ pub fn learn<F: Facts, L: Ledger>(
     ensures steps { (hs : List HeldValue) → IsKept (grammar_of grammar.now) hs (F.map facts.old) (F.names facts.old) kept.old →
         steps.new ≤ steps.old + waiting_on e.left (site_worklist (grammar_of grammar.now) (F.map facts.old) (all_of (grammar_of grammar.now) hs)) }
 {
-    let slot = facts.intern(&e.left)?;
-    tell(grammar, facts, kept, slot, e, steps)
+    match facts.intern(&e.left) {
+        Ok(slot) => tell(grammar, facts, kept, slot, e, steps),
+        Err(error) => {
+            drop(e);
+            Err(error)
+        }
+    }
 }
 
 /// Adds an equation that is ready and contradicts none, and tests each rule that waited for its left side, which is named.
@@ -103,7 +108,7 @@ fn learn_sure<F: Facts, L: Ledger>(
 {
     match facts.slot_of(&e.left) {
         Some(slot) => match tell(grammar, facts, kept, slot, e, steps) {
-            Ok(_) => {}
+            Ok(told) => drop(told),
             Err(_) => unreachable!(),
         },
         None => unreachable!(),

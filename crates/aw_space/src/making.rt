@@ -1,8 +1,12 @@
 //! Making ready what a step needs, before anything changes.
-ghost use Rattle.std.specs.Prelude.{◌≡◌, ◌<◌, ◌≤◌, ◌+◌, ◌++◌, ◌∷◌, [], All, IfOk, OnOk, map as list_map, vec_len};
+ghost use Rattle.std.specs.Prelude.{◌≡◌, ◌<◌, ◌≤◌, ◌+◌, ◌++◌, ◌∷◌, [], List, All, IfOk, OnOk, length, map as list_map, vec_len};
+ghost use Rattle.aw_term.specs.Names.{Ref as RefName};
+ghost use Rattle.aw_term.specs.Rules.{Grammar as PlainGrammar};
 ghost use Rattle.aw_grammar.specs.GrammarOf.{grammar_of};
+ghost use Rattle.aw_held.specs.declared.held.Held.{Held as HeldValue};
+ghost use Rattle.aw_store.specs.Equations.{Map};
 ghost use Rattle.aw_store.specs.NamedRefs.{Grows};
-ghost use Rattle.aw_kept.specs.KeptStates.{HasRoom, IsKept};
+ghost use Rattle.aw_kept.specs.KeptStates.{HasRoom, IsKept, IsKeptBut};
 ghost use Rattle.aw_space.specs.Openings.{IsOpenable, IsReady, all_tests, held_in, tests_of};
 
 use crate::opening::{Opening, ready};
@@ -11,6 +15,23 @@ use aw_held::{Held, Holding};
 use aw_kept::Kept;
 use aw_store::Facts;
 use std::alloc::{AllocError, Global};
+
+/// Room for so many nodes, whose rules may wait so many times. What is held and kept stays as it is.
+fn make_place(
+    held: &mut Holding,
+    kept: &mut Kept,
+    nodes: usize,
+    waits: usize,
+) -> Result<(), AllocError>
+    ensures place { OnOk result (nodes ≤ held.new.room) }
+    ensures room { OnOk result (HasRoom kept.new nodes waits) }
+    ensures held { held.new.items ≡ held.old.items }
+    ensures kept { (g : PlainGrammar) (hs : List HeldValue) (k : Map) (names late : List RefName) → IsKeptBut g hs k names late kept.old → IsKeptBut g hs k names late kept.new }
+{
+    held.reserve(nodes)?;
+    kept.reserve(nodes, waits)?;
+    Ok(())
+}
 
 /// What is to be kept of an open node, and room for it. An error changes nothing but the names of the store.
 pub fn make_ready<F: Facts>(
@@ -32,9 +53,13 @@ pub fn make_ready<F: Facts>(
     ensures stands { IsKept (grammar_of grammar.now) held.new.items (F.map facts.new) (F.names facts.new) kept.new }
 {
     let new = ready(held.allocator(), grammar, facts, node)?;
-    held.reserve(1)?;
-    kept.reserve(1, new.entry.rule_count())?;
-    Ok(new)
+    match make_place(held, kept, 1, new.entry.rule_count()) {
+        Ok(()) => Ok(new),
+        Err(error) => {
+            drop(new);
+            Err(error)
+        }
+    }
 }
 
 /// Adds what is to be kept of an open node. An error may have named some of its references.
@@ -56,6 +81,26 @@ fn push_ready<F: Facts>(
     Ok(())
 }
 
+/// Puts what is to be kept of each of these open nodes into an empty list. An error may have named some of their references.
+fn push_each<F: Facts>(
+    more: &mut Vec<Opening>,
+    grammar: &Grammar,
+    facts: &mut F,
+    own: Vec<Held>,
+) -> Result<(), AllocError>
+    requires none { more.old.items ≡ [] }
+    requires openable { All (IsOpenable (grammar_of grammar.now)) own.items }
+    ensures items { OnOk result (list_map held_in more.new.items ≡ own.items) }
+    ensures ready { OnOk result (All (IsReady (grammar_of grammar.now) (F.names facts.new)) more.new.items) }
+    ensures map { F.map facts.new ≡ F.map facts.old }
+    ensures names { Grows (F.names facts.old) (F.names facts.new) }
+{
+    for node in own {
+        push_ready(more, grammar, facts, node)?;
+    }
+    Ok(())
+}
+
 /// What is to be kept of each of these open nodes. An error may have named some of their references.
 fn all_ready<F: Facts>(
     alloc: Global,
@@ -70,10 +115,13 @@ fn all_ready<F: Facts>(
     ensures names { Grows (F.names facts.old) (F.names facts.new) }
 {
     let mut more = Vec::with_capacity(alloc, own.len())?;
-    for node in own {
-        push_ready(&mut more, grammar, facts, node)?;
+    match push_each(&mut more, grammar, facts, own) {
+        Ok(()) => Ok(more),
+        Err(error) => {
+            drop(more);
+            Err(error)
+        }
     }
-    Ok(more)
 }
 
 /// So many tests, and those of one node more. There is no memory for more than a number can say.
@@ -97,6 +145,18 @@ fn count_tests(more: &[Opening]) -> Result<usize, AllocError>
     Ok(total)
 }
 
+/// Room for these open nodes and for what is to be kept of them. What is held and kept stays as it is.
+fn make_places(held: &mut Holding, kept: &mut Kept, more: &[Opening]) -> Result<(), AllocError>
+    ensures place { OnOk result (length more.now ≤ held.new.room) }
+    ensures room { OnOk result (HasRoom kept.new (length more.now) (all_tests more.now)) }
+    ensures held { held.new.items ≡ held.old.items }
+    ensures kept { (g : PlainGrammar) (hs : List HeldValue) (k : Map) (names late : List RefName) → IsKeptBut g hs k names late kept.old → IsKeptBut g hs k names late kept.new }
+{
+    let waits = count_tests(more)?;
+    make_place(held, kept, more.len(), waits)?;
+    Ok(())
+}
+
 /// What is to be kept of each of these open nodes, and room for them. An error changes nothing but the names of the store.
 pub fn make_all_ready<F: Facts>(
     grammar: &Grammar,
@@ -117,8 +177,11 @@ pub fn make_all_ready<F: Facts>(
     ensures stands { IsKept (grammar_of grammar.now) held.new.items (F.map facts.new) (F.names facts.new) kept.new }
 {
     let more = all_ready(held.allocator(), grammar, facts, own)?;
-    let waits = count_tests(more.as_slice())?;
-    held.reserve(more.len())?;
-    kept.reserve(more.len(), waits)?;
-    Ok(more)
+    match make_places(held, kept, more.as_slice()) {
+        Ok(()) => Ok(more),
+        Err(error) => {
+            drop(more);
+            Err(error)
+        }
+    }
 }

@@ -1,6 +1,8 @@
 //! What a choice leads to at a space.
-ghost use Rattle.std.specs.Prelude.{◌≡◌, ◌↔◌, ◌≤◌, ◌+◌, [], true, IsTrue, IfOk, OnOk, OnErr};
-ghost use Rattle.aw_term.specs.Choices.{answer_of as plain_answer, Taken};
+ghost use Rattle.std.specs.Prelude.{◌≡◌, ◌↔◌, ◌≤◌, ◌+◌, [], true, IsTrue, IfOk, OnOk, OnErr, map};
+ghost use Rattle.aw_term.specs.Choices.{answer_of as plain_answer, Develop, Outcome as PlainOutcome, Taken};
+ghost use Rattle.aw_term.specs.Names.{Ref};
+ghost use Rattle.aw_term.specs.Views.{ground_of};
 ghost use Rattle.aw_choice.specs.ChoiceView.{answer_of, choice_of};
 ghost use Rattle.aw_grammar.specs.GrammarOf.{grammar_of};
 ghost use Rattle.aw_base.specs.ChoiceFits.{choice_ok};
@@ -13,17 +15,19 @@ ghost use Rattle.aw_space.specs.Outcomes.{IsMade, IsOutcome};
 ghost use Rattle.aw_space.specs.Spaces.{is_home, space_after};
 ghost use Rattle.aw_space.specs.SpaceView.{choice_cost_in, space_of};
 ghost use Rattle.aw_space.specs.Valid.{IsValid};
+ghost use Rattle.aw_space.specs.Weighing.{HasRoomFor, IsRefused, Weighs};
 
 use crate::starting::{root, take_start};
 use crate::taking::take_rule;
 use crate::weighing::weigh;
 use aw_apply::{Made, MadeChild, Steps, Weighed, made};
+use aw_base::Grounds;
 use aw_choice::{Answer, Choice};
 use aw_grammar::Grammar;
 use aw_held::{Holding, find_from, find_held};
 use aw_kept::Kept;
 use aw_list::Items;
-use aw_name::copy_node;
+use aw_name::{Node, copy_node};
 use aw_store::{Facts, copy_equations};
 use std::alloc::{AllocError, Global};
 use std::sync::ledger::Ledger;
@@ -98,6 +102,60 @@ impl Outcome {
     }
 }
 
+/// What a rule that was weighed so leads to, and what it makes.
+fn outcome_of(
+    alloc: Global,
+    grammar: &Grammar,
+    node: &Node,
+    rule: u16,
+    args: &Grounds,
+    place: usize,
+    weighed: Weighed,
+) -> Result<Outcome, AllocError>
+    requires room { HasRoomFor grammar.now rule node.now weighed }
+    requires ok { choice_ok (grammar_of grammar.now) (Develop node.now rule (map ground_of args.now)) ≡ true }
+    ensures outcome { (x : PlainOutcome Ref Ref) → Weighs (grammar_of grammar.now) rule weighed x → IfOk result (λ o. IsOutcome o (Develop node.now rule (map ground_of args.now)) x) }
+    ensures untested { IfOk result (λ o. (answer_of o.answer ≡ Taken → ⊥) → IsRefused weighed) }
+{
+    match weighed {
+        Weighed::Refused(answer) => Ok(Outcome::plainly(alloc, answer)),
+        Weighed::Takes(bound) => Ok(Outcome {
+            answer: Answer::Taken,
+            made: made(alloc, grammar, node, rule, args, bound)?,
+            place,
+        }),
+    }
+}
+
+/// What a rule on a node leads to, and what it makes. It changes nothing.
+fn foresee_rule<F: Facts, L: Ledger>(
+    alloc: Global,
+    grammar: &Grammar,
+    role: u16,
+    held: &Holding,
+    facts: &F,
+    kept: &Kept,
+    node: &Node,
+    rule: u16,
+    args: &Grounds,
+    steps: &mut Steps<L>,
+) -> Result<Outcome, AllocError>
+    requires sound { IsSound (grammar_of grammar.now) role held.now.items (F.map facts.now) (F.names facts.now) }
+    requires stands { IsKept (grammar_of grammar.now) held.now.items (F.map facts.now) (F.names facts.now) kept.now }
+    requires ok { choice_ok (grammar_of grammar.now) (Develop node.now rule (map ground_of args.now)) ≡ true }
+    ensures outcome { IfOk result (λ o. IsOutcome o (Develop node.now rule (map ground_of args.now))
+        (outcome_in (all_of (grammar_of grammar.now) held.now.items) (F.map facts.now) (grammar_of grammar.now) (Develop node.now rule (map ground_of args.now)))) }
+    ensures steps { steps.new ≤ steps.old + 1 }
+    ensures untested { IfOk result (λ o. (answer_of o.answer ≡ Taken → ⊥) → steps.new ≡ steps.old) }
+{
+    let found = find_held(held, node);
+    let weighed = weigh(
+        alloc, grammar, role, held, facts, kept, found, node, rule, args, steps,
+    )?;
+    let place = found.unwrap_or(0);
+    outcome_of(alloc, grammar, node, rule, args, place, weighed)
+}
+
 /// What a choice leads to, and what it makes. It changes nothing. How a rule stands is kept, so that a choice which is not taken
 /// tests no guard.
 pub fn foresee<F: Facts, L: Ledger>(
@@ -126,19 +184,9 @@ pub fn foresee<F: Facts, L: Ledger>(
             };
             Ok(Outcome::plainly(alloc, answer))
         }
-        Choice::Develop { node, rule, args } => {
-            let found = find_held(held, node);
-            match weigh(
-                alloc, grammar, role, held, facts, kept, found, node, *rule, args, steps,
-            )? {
-                Weighed::Refused(answer) => Ok(Outcome::plainly(alloc, answer)),
-                Weighed::Takes(bound) => Ok(Outcome {
-                    answer: Answer::Taken,
-                    made: made(alloc, grammar, node, *rule, args, bound)?,
-                    place: found.unwrap_or(0),
-                }),
-            }
-        }
+        Choice::Develop { node, rule, args } => foresee_rule(
+            alloc, grammar, role, held, facts, kept, node, *rule, args, steps,
+        ),
     }
 }
 

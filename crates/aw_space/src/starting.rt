@@ -12,9 +12,9 @@ ghost use Rattle.aw_space.specs.Costs.{rules_of};
 
 use crate::making::make_ready;
 use crate::opening::put_open;
-use crate::taking::push_choice;
+use crate::taking::{copy_for, push_choice};
 use aw_apply::Steps;
-use aw_choice::{Choice, copy_choice};
+use aw_choice::Choice;
 use aw_grammar::Grammar;
 use aw_held::{Held, Holding};
 use aw_kept::Kept;
@@ -47,6 +47,35 @@ fn new_case(alloc: Global, sort: u16, case: u64) -> Held
 
 /// Holds the node of a new case, which is not held, and keeps how the rules of its sort stand. An error changes nothing but
 /// the names of the store.
+fn hold_new<F: Facts, L: Ledger>(
+    grammar: &Grammar,
+    held: &mut Holding,
+    facts: &mut F,
+    kept: &mut Kept,
+    sort: u16,
+    case: u64,
+    steps: &mut Steps<L>,
+) -> Result<(), AllocError>
+    requires ordered { IsInOrder held.old.items }
+    requires lacks { Lacks (plain_root sort case) held.old.items }
+    requires takes { takes_as (grammar_of grammar.now) (sort_of (grammar_of grammar.now) (plain_root sort case)) [] ≡ true }
+    requires stands { IsKept (grammar_of grammar.now) held.old.items (F.map facts.old) (F.names facts.old) kept.old }
+    ensures held { OnOk result (held.new.items ≡ insert_in (record { node = plain_root sort case; inherited = []; done = None }) held.old.items) }
+    ensures ordered { IsInOrder held.new.items }
+    ensures map { F.map facts.new ≡ F.map facts.old }
+    ensures names { Grows (F.names facts.old) (F.names facts.new) }
+    ensures err_held { OnErr result (held.new.items ≡ held.old.items) }
+    ensures stands { IsKept (grammar_of grammar.now) held.new.items (F.map facts.new) (F.names facts.new) kept.new }
+    ensures steps { steps.new ≤ steps.old + rules_of (grammar_of grammar.now) (sort_or (sort_of (grammar_of grammar.now) (plain_root sort case))) }
+{
+    let new = new_case(held.allocator(), sort, case);
+    let opening = make_ready(grammar, facts, held, kept, new)?;
+    put_open(grammar, &*facts, held, kept, opening, steps);
+    Ok(())
+}
+
+/// Holds the node of a new case, which is not held, keeps how the rules of its sort stand, and keeps the choice. An error changes
+/// nothing but the names of the store.
 pub fn take_start<F: Facts, L: Ledger>(
     grammar: &Grammar,
     held: &mut Holding,
@@ -72,11 +101,15 @@ pub fn take_start<F: Facts, L: Ledger>(
     ensures stands { IsKept (grammar_of grammar.now) held.new.items (F.map facts.new) (F.names facts.new) kept.new }
     ensures steps { steps.new ≤ steps.old + rules_of (grammar_of grammar.now) (sort_or (sort_of (grammar_of grammar.now) (plain_root sort case))) }
 {
-    choices.reserve(1)?;
-    let taken = copy_choice(choice)?;
-    let new = new_case(held.allocator(), sort, case);
-    let opening = make_ready(grammar, facts, held, kept, new)?;
-    put_open(grammar, &*facts, held, kept, opening, steps);
-    push_choice(choices, taken);
-    Ok(())
+    let taken = copy_for(choices, choice)?;
+    match hold_new(grammar, held, facts, kept, sort, case, steps) {
+        Ok(()) => {
+            push_choice(choices, taken);
+            Ok(())
+        }
+        Err(error) => {
+            drop(taken);
+            Err(error)
+        }
+    }
 }

@@ -96,47 +96,42 @@ pub fn push_choice(choices: &mut Vec<Choice>, choice: Choice)
     }
 }
 
-/// What taking a rule needs of what it made: its equations and their left sides, the children of this role, and the choice, once
-/// for the node and once for the list.
+/// A copy of a choice, and a place for it in a list, which stays as it is.
+pub fn copy_for(choices: &mut Vec<Choice>, choice: &Choice) -> Result<Choice, AllocError>
+    ensures copy { IfOk result (λ copy. copy ≡ choice.now) }
+    ensures place { OnOk result (vec_len choices.new < vec_capacity choices.new) }
+    ensures items { choices.new.items ≡ choices.old.items }
+{
+    choices.reserve(1)?;
+    let copy = copy_choice(choice)?;
+    Ok(copy)
+}
+
+/// Copies that taking a rule needs: of the left sides of its equations, and of the choice, once for the node and once for the list.
 #[derive(Drop)]
-struct Taking {
-    equations: Equations,
+struct Copies {
     told: Vec<Ref>,
-    own: Vec<Held>,
     done: Choice,
     taken: Choice,
 }
 
-/// What taking a rule needs of what it made.
-fn taking_of(
+/// The copies that taking a rule needs, and a place in the list of choices, which stays as it is.
+fn copies_of(
     alloc: Global,
-    grammar: &Grammar,
-    role: u16,
+    choices: &mut Vec<Choice>,
     choice: &Choice,
-    made: Made,
-) -> Result<Taking, AllocError>
-    requires { are_named (grammar_of grammar.now) made.children ≡ true }
-    ensures equations { IfOk result (λ t. t.equations ≡ made.equations) }
-    ensures told { IfOk result (λ t. t.told.items ≡ list_map left_of made.equations) }
-    ensures own { IfOk result (λ t. t.own.items ≡ plain_own (grammar_of grammar.now) role made.children) }
-    ensures done { IfOk result (λ t. t.done ≡ choice.now) }
-    ensures taken { IfOk result (λ t. t.taken ≡ choice.now) }
+    equations: &Equations,
+) -> Result<Copies, AllocError>
+    ensures told { IfOk result (λ copies. copies.told.items ≡ list_map left_of equations.now) }
+    ensures done { IfOk result (λ copies. copies.done ≡ choice.now) }
+    ensures taken { IfOk result (λ copies. copies.taken ≡ choice.now) }
+    ensures place { OnOk result (vec_len choices.new < vec_capacity choices.new) }
+    ensures items { choices.new.items ≡ choices.old.items }
 {
-    let told = copy_lefts(alloc, made.equations.as_slice())?;
+    let taken = copy_for(choices, choice)?;
     let done = copy_choice(choice)?;
-    let taken = copy_choice(choice)?;
-    let Made {
-        equations,
-        children,
-    } = made;
-    let own = own_children(alloc, grammar, role, children)?;
-    Ok(Taking {
-        equations,
-        told,
-        own,
-        done,
-        taken,
-    })
+    let told = copy_lefts(alloc, equations.as_slice())?;
+    Ok(Copies { told, done, taken })
 }
 
 /// What is to be kept of each of these open nodes, and room for them and for these equations. An error changes nothing but the names
@@ -165,6 +160,83 @@ fn take_room<F: Facts>(
     let more = make_all_ready(grammar, facts, held, kept, own)?;
     facts.reserve(equations)?;
     Ok(more)
+}
+
+/// What is to be kept of the children of this role, and room for it and for these equations. An error changes nothing but the names
+/// of the store.
+fn ready_own<F: Facts>(
+    grammar: &Grammar,
+    role: u16,
+    held: &mut Holding,
+    facts: &mut F,
+    kept: &mut Kept,
+    children: MadeChildren,
+    equations: &Equations,
+) -> Result<Vec<Opening>, AllocError>
+    requires named { are_named (grammar_of grammar.now) children ≡ true }
+    requires own { all_own (grammar_of grammar.now) role (plain_own (grammar_of grammar.now) role children) ≡ true }
+    requires few { all_few (list_map equation_of equations.now) ≡ true }
+    requires stands { IsKept (grammar_of grammar.now) held.old.items (F.map facts.old) (F.names facts.old) kept.old }
+    ensures own { IfOk result (λ more. list_map held_in more.items ≡ plain_own (grammar_of grammar.now) role children) }
+    ensures ready { IfOk result (λ more. All (IsReady (grammar_of grammar.now) (F.names facts.new)) more.items) }
+    ensures place { IfOk result (λ more. vec_len more ≤ held.new.room) }
+    ensures room { IfOk result (λ more. HasRoom kept.new (vec_len more) (all_tests more.items)) }
+    ensures sure { OnOk result ((e : PlainEquation) → Contains (list_map equation_of equations.now) e → F.is_ready facts.new e) }
+    ensures held { held.new.items ≡ held.old.items }
+    ensures map { F.map facts.new ≡ F.map facts.old }
+    ensures names { Grows (F.names facts.old) (F.names facts.new) }
+    ensures stands { IsKept (grammar_of grammar.now) held.new.items (F.map facts.new) (F.names facts.new) kept.new }
+{
+    let own = own_children(held.allocator(), grammar, role, children)?;
+    take_room(grammar, held, facts, kept, own, equations)
+}
+
+/// What taking a rule needs: copies, and what is to be kept of the children of this role.
+#[derive(Drop)]
+struct Taking {
+    copies: Copies,
+    own: Vec<Opening>,
+}
+
+/// What taking a rule needs, and all memory for it. An error changes nothing but the names of the store.
+fn taking_of<F: Facts>(
+    grammar: &Grammar,
+    role: u16,
+    held: &mut Holding,
+    choices: &mut Vec<Choice>,
+    facts: &mut F,
+    kept: &mut Kept,
+    choice: &Choice,
+    children: MadeChildren,
+    equations: &Equations,
+) -> Result<Taking, AllocError>
+    requires named { are_named (grammar_of grammar.now) children ≡ true }
+    requires own { all_own (grammar_of grammar.now) role (plain_own (grammar_of grammar.now) role children) ≡ true }
+    requires few { all_few (list_map equation_of equations.now) ≡ true }
+    requires stands { IsKept (grammar_of grammar.now) held.old.items (F.map facts.old) (F.names facts.old) kept.old }
+    ensures told { IfOk result (λ t. t.copies.told.items ≡ list_map left_of equations.now) }
+    ensures done { IfOk result (λ t. t.copies.done ≡ choice.now) }
+    ensures taken { IfOk result (λ t. t.copies.taken ≡ choice.now) }
+    ensures own { IfOk result (λ t. list_map held_in t.own.items ≡ plain_own (grammar_of grammar.now) role children) }
+    ensures ready { IfOk result (λ t. All (IsReady (grammar_of grammar.now) (F.names facts.new)) t.own.items) }
+    ensures place { IfOk result (λ t. vec_len t.own ≤ held.new.room) }
+    ensures room { IfOk result (λ t. HasRoom kept.new (vec_len t.own) (all_tests t.own.items)) }
+    ensures sure { OnOk result ((e : PlainEquation) → Contains (list_map equation_of equations.now) e → F.is_ready facts.new e) }
+    ensures one_more { OnOk result (vec_len choices.new < vec_capacity choices.new) }
+    ensures choices { choices.new.items ≡ choices.old.items }
+    ensures held { held.new.items ≡ held.old.items }
+    ensures map { F.map facts.new ≡ F.map facts.old }
+    ensures names { Grows (F.names facts.old) (F.names facts.new) }
+    ensures stands { IsKept (grammar_of grammar.now) held.new.items (F.map facts.new) (F.names facts.new) kept.new }
+{
+    let own = ready_own(grammar, role, held, facts, kept, children, equations)?;
+    match copies_of(held.allocator(), choices, choice, equations) {
+        Ok(copies) => Ok(Taking { copies, own }),
+        Err(error) => {
+            drop(own);
+            Err(error)
+        }
+    }
 }
 
 /// Takes a rule on the node at a place, for which all is ready: the node is done and what was kept of it is let go, the
@@ -242,28 +314,34 @@ pub fn take_rule<F: Facts, L: Ledger>(
     ensures steps { steps.new ≤ steps.old + (rules_at (grammar_of grammar.now) (all_of (grammar_of grammar.now) (plain_own (grammar_of grammar.now) role made.children))
         + waiting_on_lefts (list_map equation_of made.equations) (site_worklist (grammar_of grammar.now) (F.map facts.old) (all_of (grammar_of grammar.now) held.old.items))) }
 {
-    choices.reserve(1)?;
-    let taking = taking_of(held.allocator(), grammar, role, choice, made)?;
-    let Taking {
+    let Made {
         equations,
-        told,
-        own,
-        done,
-        taken,
-    } = taking;
-    let own = take_room(grammar, held, facts, kept, own, &equations)?;
-    take_ready(
-        grammar,
-        held,
-        facts,
-        kept,
-        at,
-        done,
-        told.as_slice(),
-        equations.into_vec(),
-        own,
-        steps,
-    );
-    push_choice(choices, taken);
-    Ok(())
+        children,
+    } = made;
+    match taking_of(
+        grammar, role, held, choices, facts, kept, choice, children, &equations,
+    ) {
+        Ok(taking) => {
+            let Taking { copies, own } = taking;
+            let Copies { told, done, taken } = copies;
+            take_ready(
+                grammar,
+                held,
+                facts,
+                kept,
+                at,
+                done,
+                told.as_slice(),
+                equations.into_vec(),
+                own,
+                steps,
+            );
+            push_choice(choices, taken);
+            Ok(())
+        }
+        Err(error) => {
+            drop(equations);
+            Err(error)
+        }
+    }
 }

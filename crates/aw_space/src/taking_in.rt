@@ -1,7 +1,8 @@
 //! Taking in a call and equations together, which no other call of the space could do without being refused midway.
-ghost use Rattle.std.specs.Prelude.{◌≡◌, ◌≤◌, ◌+◌, None, true, IfOk, OnOk, OnErr, map as list_map, option_map};
+ghost use Rattle.std.specs.Prelude.{◌≡◌, ◌≤◌, ◌+◌, None, true, Contains, IfOk, OnOk, OnErr, map as list_map, option_map};
 ghost use Rattle.std.specs.Option.{option_copied};
 ghost use Rattle.aw_grammar.specs.GrammarOf.{grammar_of};
+ghost use Rattle.aw_store.specs.Equations.{Equation as PlainEquation};
 ghost use Rattle.aw_store.specs.EquationView.{equation_of};
 ghost use Rattle.aw_store.specs.NamedRefs.{all_named, Grows};
 ghost use Rattle.aw_store.specs.StoreView.{all_few};
@@ -10,6 +11,7 @@ ghost use Rattle.aw_react.specs.Receiving.{add_all, first_clash};
 ghost use Rattle.aw_kept.specs.KeptStates.{IsKept};
 ghost use Rattle.aw_space.specs.Missing.{missing_node, with_node, inherited_by, LacksIf};
 ghost use Rattle.aw_space.specs.Openings.{held_in};
+ghost use Rattle.aw_space.specs.Waking.{lefts_of};
 ghost use Rattle.aw_space.specs.TakenIn.{IsOpenableIf, IsReadyIf, tests_if, call_taken_cost};
 
 use crate::calls::called;
@@ -62,6 +64,35 @@ fn make_ready_if<F: Facts>(
     }
 }
 
+/// What is to be kept of the node of a call, where it is not held, and room for it and for these equations. An error changes nothing
+/// but the names of the store.
+fn make_room<F: Facts>(
+    grammar: &Grammar,
+    held: &mut Holding,
+    facts: &mut F,
+    kept: &mut Kept,
+    call: Option<&Placing>,
+    es: &Equations,
+) -> Result<Option<Opening>, AllocError>
+    requires ordered { IsInOrder held.old.items }
+    requires few { all_few (list_map equation_of es.now) ≡ true }
+    requires call { IsOpenableIf (grammar_of grammar.now) (missing_node (option_copied call) held.old.items) }
+    requires stands { IsKept (grammar_of grammar.now) held.old.items (F.map facts.old) (F.names facts.old) kept.old }
+    ensures new { IfOk result (λ o. option_map held_in o ≡ missing_node (option_copied call.entry) held.old.items) }
+    ensures ready { IfOk result (IsReadyIf (grammar_of grammar.now) (F.names facts.new) held.new kept.new) }
+    ensures sure { OnOk result ((e : PlainEquation) → Contains (list_map equation_of es.now) e → F.is_ready facts.new e) }
+    ensures named { OnOk result (all_named (F.names facts.new) (lefts_of (list_map equation_of es.now)) ≡ true) }
+    ensures held { held.new.items ≡ held.old.items }
+    ensures map { F.map facts.new ≡ F.map facts.old }
+    ensures names { Grows (F.names facts.old) (F.names facts.new) }
+    ensures stands { IsKept (grammar_of grammar.now) held.new.items (F.map facts.new) (F.names facts.new) kept.new }
+{
+    let new = missing(held, call)?;
+    let opening = make_ready_if(grammar, facts, held, kept, new)?;
+    facts.reserve(es)?;
+    Ok(opening)
+}
+
 /// Holds a node that is not held, if there is one, and keeps how the rules of its sort stand. There is room for it.
 fn put_if<F: Facts, L: Ledger>(
     grammar: &Grammar,
@@ -112,9 +143,7 @@ pub fn take_in<F: Facts, L: Ledger>(
     ensures stands { IsKept (grammar_of grammar.now) held.new.items (F.map facts.new) (F.names facts.new) kept.new }
     ensures steps { steps.new ≤ steps.old + call_taken_cost (grammar_of grammar.now) (option_copied call.entry) held.old.items (F.map facts.old) (list_map equation_of es) }
 {
-    let new = missing(held, call)?;
-    let opening = make_ready_if(grammar, facts, held, kept, new)?;
-    facts.reserve(&es)?;
+    let opening = make_room(grammar, held, facts, kept, call, &es)?;
     put_if(grammar, &*facts, held, kept, opening, steps);
     learn_in_turn(grammar, facts, kept, es.into_vec(), steps);
     Ok(())

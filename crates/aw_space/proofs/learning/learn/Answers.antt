@@ -6,17 +6,17 @@ use Rattle.aw_kept.specs.Items.{waiting_on}
 use Rattle.aw_space.proofs.Waking.{fits_named, grown_same}
 use Rattle.aw_space.proofs.learning.learn.Goals as goal
 
-pub returns-in_err-slot-clause-kept : goal.returns-in_err-slot-clause-kept
-returns-in_err-slot-clause-kept g c hs w = grown_same (grammar_of c.args.grammar.now) hs _ _ _ _ c.args.kept.now c.intern.ensures.map c.intern.ensures.names w
+pub returns-in-Err-clause-kept : goal.returns-in-Err-clause-kept
+returns-in-Err-clause-kept g c hs w = grown_same (grammar_of c.args.grammar.now) hs _ _ _ _ c.args.kept.now c.intern.ensures.map c.intern.ensures.names w
 
 pub tell-requires-clause-fits : goal.tell-requires-clause-fits
 tell-requires-clause-fits g c = fits_named (grammar_of c.args.grammar.now) _ _ c.args.kept.now c.intern.ensures.names c.requires.fits
 
-pub returns-clause-kept : goal.returns-clause-kept
-returns-clause-kept g c hs w = c.tell.ensures.kept hs (grown_same (grammar_of c.args.grammar.now) hs _ _ _ _ c.args.kept.now c.intern.ensures.map c.intern.ensures.names w)
+pub returns-in-Ok-clause-kept : goal.returns-in-Ok-clause-kept
+returns-in-Ok-clause-kept g c hs w = c.tell.ensures.kept hs (grown_same (grammar_of c.args.grammar.now) hs _ _ _ _ c.args.kept.now c.intern.ensures.map c.intern.ensures.names w)
 
-pub returns-clause-steps : goal.returns-clause-steps
-returns-clause-steps g c hs w =
+pub returns-in-Ok-clause-steps : goal.returns-in-Ok-clause-steps
+returns-in-Ok-clause-steps g c hs w =
     let gr = grammar_of c.args.grammar.now in
     subst (λ k. c.tell.new.steps ≤ c.args.steps.now + waiting_on c.args.e.left (site_worklist gr k (all_of gr hs))) c.intern.ensures.map
     (c.tell.ensures.steps hs (grown_same gr hs _ _ _ _ c.args.kept.now c.intern.ensures.map c.intern.ensures.names w))

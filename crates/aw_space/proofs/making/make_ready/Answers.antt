@@ -7,15 +7,18 @@ use Rattle.aw_space.proofs.making.make_ready.Goals as goal
 pub returns-in_err-new-clause-stands : goal.returns-in_err-new-clause-stands
 returns-in_err-new-clause-stands g c = grown_same (grammar_of c.args.grammar.now) _ _ _ _ _ c.args.kept.now c.ready.ensures.map c.ready.ensures.names c.requires.stands
 
-pub returns-in_err-reserve-clause-stands : goal.returns-in_err-reserve-clause-stands
-returns-in_err-reserve-clause-stands g c = subst (λ hs. IsKept (grammar_of c.args.grammar.now) hs (g.F.Facts.map c.ready.new.facts) (g.F.Facts.names c.ready.new.facts) c.args.kept.now) (sym c.reserve.ensures.items) (grown_same (grammar_of c.args.grammar.now) _ _ _ _ _ c.args.kept.now c.ready.ensures.map c.ready.ensures.names c.requires.stands)
+pub returns-in-Ok-clause-stands : goal.returns-in-Ok-clause-stands
+returns-in-Ok-clause-stands g c =
+    let gr = grammar_of c.args.grammar.now in
+    let k = g.F.Facts.map c.ready.new.facts in
+    let names = g.F.Facts.names c.ready.new.facts in
+    c.make_place.ensures.kept gr c.make_place.new.held.items k names []
+    (subst (λ hs. IsKept gr hs k names c.args.kept.now) (sym c.make_place.ensures.held) (grown_same gr _ _ _ _ _ c.args.kept.now c.ready.ensures.map c.ready.ensures.names c.requires.stands))
 
-pub returns-in_err-reserve-2-clause-stands : goal.returns-in_err-reserve-2-clause-stands
-returns-in_err-reserve-2-clause-stands g c =
-    c.reserve-2.ensures.kept (grammar_of c.args.grammar.now) c.reserve.new.self.items (g.F.Facts.map c.ready.new.facts) (g.F.Facts.names c.ready.new.facts) []
-    (subst (λ hs. IsKept (grammar_of c.args.grammar.now) hs (g.F.Facts.map c.ready.new.facts) (g.F.Facts.names c.ready.new.facts) c.args.kept.now) (sym c.reserve.ensures.items) (grown_same (grammar_of c.args.grammar.now) _ _ _ _ _ c.args.kept.now c.ready.ensures.map c.ready.ensures.names c.requires.stands))
-
-pub returns-clause-stands : goal.returns-clause-stands
-returns-clause-stands g c =
-    c.reserve-2.ensures.kept (grammar_of c.args.grammar.now) c.reserve.new.self.items (g.F.Facts.map c.ready.new.facts) (g.F.Facts.names c.ready.new.facts) []
-    (subst (λ hs. IsKept (grammar_of c.args.grammar.now) hs (g.F.Facts.map c.ready.new.facts) (g.F.Facts.names c.ready.new.facts) c.args.kept.now) (sym c.reserve.ensures.items) (grown_same (grammar_of c.args.grammar.now) _ _ _ _ _ c.args.kept.now c.ready.ensures.map c.ready.ensures.names c.requires.stands))
+pub returns-in-Err-clause-stands : goal.returns-in-Err-clause-stands
+returns-in-Err-clause-stands g c =
+    let gr = grammar_of c.args.grammar.now in
+    let k = g.F.Facts.map c.ready.new.facts in
+    let names = g.F.Facts.names c.ready.new.facts in
+    c.make_place.ensures.kept gr c.make_place.new.held.items k names []
+    (subst (λ hs. IsKept gr hs k names c.args.kept.now) (sym c.make_place.ensures.held) (grown_same gr _ _ _ _ _ c.args.kept.now c.ready.ensures.map c.ready.ensures.names c.requires.stands))

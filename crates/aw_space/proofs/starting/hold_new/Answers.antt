@@ -5,7 +5,7 @@ use Rattle.aw_held.specs.declared.held.Held.{Held}
 use Rattle.aw_held.specs.HeldView.{sort_or}
 use Rattle.aw_space.specs.Costs.{rules_of}
 use Rattle.aw_space.proofs.Openings.{tests_are}
-use Rattle.aw_space.proofs.starting.take_start.Goals as goal
+use Rattle.aw_space.proofs.starting.hold_new.Goals as goal
 
 pub returns-clause-steps : goal.returns-clause-steps
 returns-clause-steps g c =

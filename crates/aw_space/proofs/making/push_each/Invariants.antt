@@ -3,7 +3,7 @@ use Rattle.std.specs.Vec.Iter.{into_iter_items}
 use Rattle.aw_grammar.specs.GrammarOf.{grammar_of}
 use Rattle.aw_store.specs.NamedRefs.{Grows}
 use Rattle.aw_space.specs.Openings.{IsOpenable, IsReady, held_in}
-use Rattle.aw_space.proofs.making.all_ready.Given as goal
+use Rattle.aw_space.proofs.making.push_each.Given as goal
 
 abbrev pub invariant-loop-node : goal.invariant-loop-node
 invariant-loop-node g l = record {

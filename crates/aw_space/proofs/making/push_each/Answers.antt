@@ -4,7 +4,7 @@ use Rattle.std.proofs.lemmas.List.Elements.{All-head, All-tail}
 use Rattle.aw_grammar.specs.GrammarOf.{grammar_of}
 use Rattle.aw_store.proofs.NameLemmas.{grows_more}
 use Rattle.aw_space.specs.Openings.{IsOpenable, held_in}
-use Rattle.aw_space.proofs.making.all_ready.Goals as goal
+use Rattle.aw_space.proofs.making.push_each.Goals as goal
 
 pub push_ready-requires-clause-node : goal.push_ready-requires-clause-node
 push_ready-requires-clause-node g c =
