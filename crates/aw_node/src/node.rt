@@ -50,6 +50,8 @@ impl<P: Workspace + Drop> Handles for Node<'_, P> {
 
     fn reply_to(&mut self, frame: &Frame) -> Result<Text, AllocError> {
         let answered = handle(self.accepted, self.typed, &mut self.site, frame)?;
-        reply_bytes(self.alloc, self.accepted.grammar(), &answered)
+        let reply = reply_bytes(self.alloc, self.accepted.grammar(), &answered);
+        drop(answered);
+        reply
     }
 }

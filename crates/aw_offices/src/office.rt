@@ -53,6 +53,8 @@ impl Desk for Office<'_> {
     fn reply_to(&mut self, frame: &Frame) -> Result<Text, AllocError> {
         let accepted = self.site.accepted();
         let answered = handle(accepted, self.typed, &mut self.site, frame)?;
-        reply_bytes(self.alloc, accepted.grammar(), &answered)
+        let reply = reply_bytes(self.alloc, accepted.grammar(), &answered);
+        drop(answered);
+        reply
     }
 }

@@ -22,6 +22,7 @@ use Rattle.aw_msg.specs.MessageView.{message_of, content_of}
 use Rattle.aw_react.specs.Asking.{all_mentions}
 use Rattle.aw_react.specs.Receiving.{is_mine, clash}
 use Rattle.aw_react.specs.Reacting.{react, receive}
+use Rattle.aw_react.specs.SiteEvents.{after_message}
 use Rattle.aw_react.specs.Sites.{Site, Reaction}
 use Rattle.aw_react.specs.Telling.{tell_back}
 use Rattle.aw_react.specs.ValidNames.{message_ok}
@@ -31,11 +32,15 @@ use Rattle.aw_space.specs.Placings.{MayBeCalled, MayBeLearnt}
 use Rattle.aw_repeat.specs.Views.{kind_of}
 use Rattle.aw_site.specs.declared.plan.Plan.{Plan}
 use Rattle.aw_site.specs.declared.sender.Sender.{Sender}
+use Rattle.aw_site.specs.Answers.{IsReceived, sent_for}
 use Rattle.aw_site.specs.Came.{came, holding, inherited_by, watching}
 use Rattle.aw_site.specs.Doing.{doing, IsPlanned}
-use Rattle.aw_site.specs.Judged.{IsFresh, Judges}
+use Rattle.aw_site.specs.Judged.{IsFresh, Judges, Sees, answered}
 use Rattle.aw_site.specs.declared.judging.Judged.{Judged}
 use Rattle.aw_site.specs.declared.judging.Judged.TheVariants.{BadName, NotMine, Clashes, Repeat, Fresh}
+use Rattle.aw_site.specs.declared.judging.Sight.TheVariants as sight
+use Rattle.aw_site.specs.declared.received.Received.{Received}
+use Rattle.aw_site.specs.declared.received.Received.TheVariants as answer
 use Rattle.aw_site.specs.Shown.{space_in}
 use Rattle.aw_site.specs.Plans.{wanted_of, asks_for}
 use Rattle.aw_site.specs.Senders.{SendsAs}
@@ -146,19 +151,38 @@ tell_clashes g s sp kind x load es e c holds =
 -- ---- the answer to a message
 
 -- what a site answers that makes this of a message
-abbrev pub told : Grammar → Site → Q.Message → Judged → Q.Received Reaction
+abbrev told : Grammar → Site → Q.Message → Judged → Q.Received Reaction
 told g s m BadName = Q.BadName
 told g s m NotMine = Q.NotMine
 told g s m (Clashes c) = Q.Conflict (content_of c.kept) (content_of c.came)
 told g s m Repeat = Q.Repeat
 told g s m Fresh = Q.New (react g s m.kind)
 
-pub judged_as : (g : Grammar) (s : Site) (m : Q.Message) (j : Judged) → Judges g s m j → receive g s m ≡ told g s m j
+judged_as : (g : Grammar) (s : Site) (m : Q.Message) (j : Judged) → Judges g s m j → receive g s m ≡ told g s m j
 judged_as g s m BadName h = bad_name g s m h
 judged_as g s m NotMine h = not_mine g s m h.0 h.1
 judged_as g s m (Clashes c) h = in_conflict g s m (clash_of c) h.0 h.1 h.2
 judged_as g s m Repeat h = known_already g s m h.0 h.1 h.2 h.3
 judged_as g s m Fresh h = new_here g s m h
+
+same_answer : (g : Grammar) (s : Site) (m : Q.Message) (j : Judged) (r : Received) → answered j ≡ Some r → IsReceived r (told g s m j) × (after_message s (told g s m j) ≡ s) × (sent_for (told g s m j) ≡ [])
+same_answer g s m BadName r e = let is : answer.BadName ≡ r = cc in (subst (λ x. IsReceived x Q.BadName) is tt, refl, refl)
+same_answer g s m NotMine r e = let is : answer.NotMine ≡ r = cc in (subst (λ x. IsReceived x Q.NotMine) is tt, refl, refl)
+same_answer g s m (Clashes c) r e = let is : answer.Conflict c.kept c.came ≡ r = cc in (subst (λ x. IsReceived x (Q.Conflict (content_of c.kept) (content_of c.came))) is (refl, refl), refl, refl)
+same_answer g s m Repeat r e = let is : answer.Repeat ≡ r = cc in (subst (λ x. IsReceived x Q.Repeat) is tt, refl, refl)
+same_answer g s m Fresh r e = absurd cc
+
+-- a message of which nothing is new is answered, and changes nothing
+pub sees_answered : (g : Grammar) (s : Site) (m : Q.Message) (j : Judged) (r : Received) → Judges g s m j → answered j ≡ Some r → Sees g s m (sight.Answered r)
+sees_answered g s m j r h e =
+    subst (λ (x : Q.Received Reaction). IsReceived r x × (after_message s x ≡ s) × (sent_for x ≡ [])) (sym (judged_as g s m j h)) (same_answer g s m j r e)
+
+pub sees_fresh : (g : Grammar) (s : Site) (m : Q.Message) (j : Judged) → Judges g s m j → answered j ≡ None → IsFresh g s m
+sees_fresh g s m BadName h e = absurd cc
+sees_fresh g s m NotMine h e = absurd cc
+sees_fresh g s m (Clashes c) h e = absurd cc
+sees_fresh g s m Repeat h e = absurd cc
+sees_fresh g s m Fresh h e = h
 
 -- ---- results
 

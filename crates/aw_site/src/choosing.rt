@@ -1,5 +1,6 @@
 //! A choice at a site, over the parts of the site.
-ghost use Rattle.std.specs.Prelude.{◌≡◌, ◌++◌, true, IfOk, OnOk, OnErr, length, map as list_map};
+ghost use Rattle.std.specs.Prelude.{◌≡◌, ◌+◌, ◌++◌, ◌≤◌, List, true, All, IfOk, OnOk, OnErr, length, map as list_map, vec_len, vec_capacity};
+ghost use Rattle.aw_term.specs.Names.{Ref as RefName};
 ghost use Rattle.aw_choice.specs.ChoiceView.{choice_of, answer_of};
 ghost use Rattle.aw_grammar.specs.GrammarOf.{grammar_of};
 ghost use Rattle.aw_base.specs.ChoiceFits.{choice_ok};
@@ -7,11 +8,14 @@ ghost use Rattle.aw_msg.specs.MessageView.{message_of};
 ghost use Rattle.aw_react.specs.Choosing.{answer_to, choose as plain_choose};
 ghost use Rattle.aw_react.specs.SiteEvents.{after_choice};
 ghost use Rattle.aw_react.specs.Sites as P;
+ghost use Rattle.aw_react.specs.Sites.{Watch};
 ghost use Rattle.aw_react.specs.Worlds.{node_of};
 ghost use Rattle.aw_space.specs.Keeping.{KeepsFacts, KeepsNodesBut};
 ghost use Rattle.aw_space.specs.Outcomes.{IsOutcome};
 ghost use Rattle.aw_space.specs.Seen.{space_seen};
 ghost use Rattle.aw_space.specs.Spaces.{is_home, outcome};
+ghost use Rattle.aw_subs.specs.Entries.{is_ready};
+ghost use Rattle.aw_repeat.specs.Holders.{ShowsAsked, ShowsWatchers};
 ghost use Rattle.aw_site.specs.Answers.{sent_by};
 ghost use Rattle.aw_site.specs.Chosen.{Prepares};
 ghost use Rattle.aw_site.specs.Sendable.{all_short};
@@ -68,6 +72,44 @@ fn prepare<'g, F: Facts>(
     })
 }
 
+/// Makes what a choice sends that was foreseen, takes the memory for it, and adds its messages to a copy. An error leaves the copy as it
+/// was, too.
+fn prepare_with_room<'g, F: Facts>(
+    g: &Accepted,
+    space: &Space<'g, F>,
+    subs: &mut Subs,
+    outbox: &mut Vec<Message>,
+    loads: bool,
+    choice: &Choice,
+    foreseen: Outcome,
+    copy: &mut Vec<Message>,
+) -> Result<Prepared, AllocError>
+    requires grammar { g.now.grammar ≡ space.now.accepted.now.grammar }
+    requires ok { choice_ok (grammar_of g.now.grammar) (choice_of choice.now) ≡ true }
+    requires here { is_home (grammar_of g.now.grammar) space.now.role (node_of (choice_of choice.now)) ≡ true }
+    requires foreseen { IsOutcome foreseen (choice_of choice.now) (outcome (grammar_of g.now.grammar) (space_seen ⟦<F as Facts>⟧ space.now) (choice_of choice.now)) }
+    ensures prepares { IfOk result (λ p. (s : P.Site) → HoldsAs ⟦<F as Facts>⟧ space.now subs.old loads s → Prepares (grammar_of g.now.grammar) s (choice_of choice.now) p) }
+    ensures foreseen { IfOk result (λ p. IsOutcome p.outcome (choice_of choice.now) (outcome (grammar_of g.now.grammar) (space_seen ⟦<F as Facts>⟧ space.now) (choice_of choice.now))) }
+    ensures outbox { outbox.new.items ≡ outbox.old.items }
+    ensures copy { IfOk result (λ p. copy.new.items ≡ copy.old.items ++ p.plan.sent.items) }
+    ensures err_copy { OnErr result (copy.new.items ≡ copy.old.items) }
+    ensures asked { (asked : List RefName) → ShowsAsked subs.old asked → ShowsAsked subs.new asked }
+    ensures watchers { (ws : List Watch) → ShowsWatchers subs.old ws → ShowsWatchers subs.new ws }
+    ensures room { IfOk result (λ p. vec_len outbox.new + vec_len p.plan.sent ≤ vec_capacity outbox.new) }
+    ensures ready { IfOk result (λ p. All (λ x. is_ready subs.new.subs x ≡ true) p.plan.wanted.items) }
+    ensures short { IfOk result (λ p. all_short p.plan.sent.items ≡ true) }
+{
+    let alloc = *outbox.allocator();
+    let prepared = prepare(alloc, g, space, subs, loads, choice, foreseen)?;
+    match make_room(&prepared.plan, subs, outbox, copy) {
+        Ok(()) => Ok(prepared),
+        Err(refused) => {
+            drop(prepared);
+            Err(refused)
+        }
+    }
+}
+
 /// Does what a choice was foreseen to lead to, and sends what follows from it; the answer, and how many messages were sent, which are added
 /// to the outbox and to a copy. An error changes nothing.
 fn settle<'g, F: Facts>(
@@ -101,17 +143,18 @@ fn settle<'g, F: Facts>(
     ensures facts { KeepsFacts (F.map space.old.facts) (F.map space.new.facts) }
     ensures nodes { KeepsNodesBut (node_of (choice_of choice.now)) (space_seen ⟦<F as Facts>⟧ space.old).held (space_seen ⟦<F as Facts>⟧ space.new).held }
 {
-    let alloc = *outbox.allocator();
-    let Prepared { outcome, plan } = prepare(alloc, g, space, subs, loads, choice, foreseen)?;
     let before = copy.len();
-    let count = plan.sent.len();
-    make_room(&plan, subs, outbox, copy)?;
+    let Prepared { outcome, plan } = prepare_with_room(
+        g, space, subs, outbox, loads, choice, foreseen, copy,
+    )?;
     match uncounted::conclude(space, g, choice, outcome) {
         Ok(answer) => {
+            let count = plan.sent.len();
             carry_out(plan, subs, outbox);
             Ok((answer, count))
         }
         Err(refused) => {
+            drop(plan);
             copy.truncate(before);
             Err(refused)
         }

@@ -10,13 +10,14 @@ ghost use Rattle.aw_react.specs.Receiving.{clash as plain_clash};
 ghost use Rattle.aw_react.specs.Sites as P;
 ghost use Rattle.aw_repeat.specs.Holders.{holder};
 ghost use Rattle.aw_repeat.specs.Views.{kind_of};
-ghost use Rattle.aw_site.specs.Judged.{Judges};
+ghost use Rattle.aw_site.specs.Judged.{Carries, Judges, Sees, answered};
 ghost use Rattle.aw_site.specs.Shown.{HoldsAs};
 ghost use Rattle.aw_site.specs.Views.{clash_of};
 ghost use Rattle.aw_term.specs.Rules as T;
 
 use crate::belonging::is_mine;
 use crate::clashes::{Clash, call_clash, first_clash};
+use crate::received::Received;
 use crate::validity::message_ok;
 use aw_accept::Accepted;
 use aw_held::Holding;
@@ -36,6 +37,14 @@ pub enum Judged {
     Repeat,
     /// Something of it is new.
     Fresh,
+}
+
+/// What is to be done with a message: no more than to answer it, or to react to it, with the equations that it carries.
+#[derive(Drop)]
+pub enum Sight {
+    Answered(Received),
+    /// Something of it is new.
+    Fresh(Equations),
 }
 
 /// Copies of the equations that a message carries: that of a tell, and the load.
@@ -94,7 +103,7 @@ fn clash<F: Facts>(
 }
 
 /// The first of the five answers to a message that holds.
-pub fn judge<'g, F: Facts>(
+fn judge<'g, F: Facts>(
     alloc: Global,
     g: &Accepted,
     space: &Space<'g, F>,
@@ -122,4 +131,49 @@ pub fn judge<'g, F: Facts>(
         return Ok(Judged::Repeat);
     }
     Ok(Judged::Fresh)
+}
+
+/// The answer to a message of which nothing is new.
+fn answered(judged: Judged) -> Option<Received>
+    ensures { result ≡ answered judged }
+{
+    match judged {
+        Judged::BadName => Some(Received::BadName),
+        Judged::NotMine => Some(Received::NotMine),
+        Judged::Clashes(clash) => Some(Received::Conflict {
+            kept: clash.kept,
+            came: clash.came,
+        }),
+        Judged::Repeat => Some(Received::Repeat),
+        Judged::Fresh => None,
+    }
+}
+
+/// What is to be done with a message.
+pub fn look_at<'g, F: Facts>(
+    alloc: Global,
+    g: &Accepted,
+    space: &Space<'g, F>,
+    subs: &Subs,
+    m: &Message,
+) -> Result<Sight, AllocError>
+    requires { g.now.grammar ≡ space.now.accepted.now.grammar }
+    ensures sees { IfOk result (λ sight. (loads : Bool) (s : P.Site) → HoldsAs ⟦<F as Facts>⟧ space.now subs.now loads s →
+        Sees (grammar_of g.now.grammar) s (message_of (grammar_of g.now.grammar) m.now) sight) }
+    ensures carried { IfOk result (λ sight. (g : T.Grammar) → Carries g m.now.kind sight) }
+{
+    let es = carried(alloc, m.kind.get())?;
+    match judge(alloc, g, space, subs, m, &es) {
+        Ok(judged) => match answered(judged) {
+            Some(answer) => {
+                drop(es);
+                Ok(Sight::Answered(answer))
+            }
+            None => Ok(Sight::Fresh(es)),
+        },
+        Err(refused) => {
+            drop(es);
+            Err(refused)
+        }
+    }
 }

@@ -1,5 +1,5 @@
 //! What a site sends, and asks for, made before anything of the site changes.
-ghost use Rattle.std.specs.Prelude.{◌≡◌, ◌++◌, [], true, IfOk, map as list_map};
+ghost use Rattle.std.specs.Prelude.{◌≡◌, ◌++◌, [], true, IfOk, OnOk, map as list_map};
 ghost use Rattle.aw_grammar.specs.GrammarOf.{grammar_of};
 ghost use Rattle.aw_store.specs.EquationView.{equation_of};
 ghost use Rattle.aw_msg.specs.MessageView.{message_of};
@@ -41,6 +41,34 @@ impl<'a, F: Facts> Sender<'a, F> {
         Ok(Plan { sent, wanted })
     }
 
+    /// The messages where these valid equations and children were made here, calls of the children of other roles and tells of the
+    /// equations that are watched, and the references that are then wanted. There are none of either before; an error may leave some.
+    fn put_made(
+        &self,
+        sent: &mut Vec<Message>,
+        wanted: &mut Vec<Ref>,
+        subs: &Subs,
+        made: &Made,
+    ) -> Result<(), AllocError>
+        requires none_sent { sent.old.items ≡ [] }
+        requires none_wanted { wanted.old.items ≡ [] }
+        requires equations { equations_ok (grammar_of self.now.grammar.now) (list_map equation_of made.now.equations) ≡ true }
+        requires children { Each (λ child. call_ok (grammar_of self.now.grammar.now) (child_call (grammar_of self.now.grammar.now) child) ≡ true) made.now.children }
+        ensures names { OnOk result (refs_ok (grammar_of self.now.grammar.now) wanted.new.items ≡ true) }
+        ensures wanted { OnOk result ((s : P.Site) → SendsAs ⟦<F as Facts>⟧ self.now s → ShowsAsked subs.now s.asked →
+            wanted.new.items ≡ wanted_of (grammar_of self.now.grammar.now) s (made_mentions (grammar_of self.now.grammar.now) s
+            (list_map equation_of made.now.equations) (list_map (child_call (grammar_of self.now.grammar.now)) made.now.children))) }
+        ensures sent { OnOk result ((s : P.Site) → SendsAs ⟦<F as Facts>⟧ self.now s → ShowsWatchers subs.now s.watchers →
+            list_map (message_of (grammar_of self.now.grammar.now)) sent.new.items ≡ told (grammar_of self.now.grammar.now) s (list_map equation_of made.now.equations)
+            (list_map (child_call (grammar_of self.now.grammar.now)) made.now.children)) }
+    {
+        self.push_calls_out(sent, made.children.as_slice())?;
+        self.push_tells(sent, subs, made.equations.as_slice())?;
+        self.insert_inherited(wanted, subs, made.children.as_slice())?;
+        self.insert_mentions(wanted, subs, made.equations.as_slice())?;
+        Ok(())
+    }
+
     /// What is sent where these valid equations and children were made here: calls of the children of other roles, tells of the
     /// equations that are watched, and questions. The equations are those that come behind the store.
     pub fn plan_made(&self, subs: &Subs, made: &Made) -> Result<Plan, AllocError>
@@ -54,12 +82,15 @@ impl<'a, F: Facts> Sender<'a, F> {
             (list_map (child_call (grammar_of self.now.grammar.now)) made.now.children) ++ asks_for (grammar_of self.now.grammar.now) s p.wanted.items) }
     {
         let mut sent = Vec::new(self.alloc);
-        self.push_calls_out(&mut sent, made.children.as_slice())?;
-        self.push_tells(&mut sent, subs, made.equations.as_slice())?;
         let mut wanted = Vec::new(self.alloc);
-        self.insert_inherited(&mut wanted, subs, made.children.as_slice())?;
-        self.insert_mentions(&mut wanted, subs, made.equations.as_slice())?;
-        self.asking(sent, wanted)
+        match self.put_made(&mut sent, &mut wanted, subs, made) {
+            Ok(()) => self.asking(sent, wanted),
+            Err(refused) => {
+                drop(sent);
+                drop(wanted);
+                Err(refused)
+            }
+        }
     }
 
     /// What is sent where a node with these valid references and these valid equations came: questions.

@@ -1,6 +1,7 @@
 //! A message at a site, over the parts of the site.
-ghost use Rattle.std.specs.Prelude.{◌≡◌, ◌++◌, ◌<◌, [], None, true, IfOk, OnOk, OnErr, length, map as list_map};
+ghost use Rattle.std.specs.Prelude.{◌≡◌, ◌+◌, ◌++◌, ◌<◌, ◌≤◌, List, [], None, true, All, IfOk, OnOk, OnErr, length, map as list_map, vec_len, vec_capacity};
 ghost use Rattle.std.specs.Option.{option_copied};
+ghost use Rattle.aw_term.specs.Names.{Ref as RefName};
 ghost use Rattle.aw_grammar.specs.GrammarOf.{grammar_of};
 ghost use Rattle.aw_store.specs.EquationView.{equation_of};
 ghost use Rattle.aw_apply.specs.Messages.{Asks};
@@ -8,10 +9,13 @@ ghost use Rattle.aw_msg.specs.MessageView.{message_of};
 ghost use Rattle.aw_react.specs.Reacting.{receive as plain_receive, react as plain_react};
 ghost use Rattle.aw_react.specs.SiteEvents.{after_message};
 ghost use Rattle.aw_react.specs.Sites as P;
+ghost use Rattle.aw_react.specs.Sites.{Watch};
 ghost use Rattle.aw_space.specs.Keeping.{KeepsFacts, KeepsNodes};
 ghost use Rattle.aw_space.specs.Placings.{MayBeCalledIf, MayBeLearnt, called_by};
 ghost use Rattle.aw_space.specs.Seen.{space_seen};
 ghost use Rattle.aw_space.specs.Spaces.{clash_with};
+ghost use Rattle.aw_subs.specs.Entries.{is_ready};
+ghost use Rattle.aw_repeat.specs.Holders.{ShowsAsked, ShowsWatchers};
 ghost use Rattle.aw_repeat.specs.Views.{kind_of};
 ghost use Rattle.aw_site.specs.Answers.{sent_for, IsReceived};
 ghost use Rattle.aw_site.specs.Came.{came, holding, inherited_by, watching};
@@ -23,7 +27,7 @@ ghost use Rattle.aw_site.specs.Walks.{listed};
 ghost use Rattle.aw_term.specs.Rules as T;
 ghost use Rattle.aw_apply.specs.Messages.{carried};
 
-use crate::judging::{Judged, carried, judge};
+use crate::judging::{Sight, look_at};
 use crate::plan::Plan;
 use crate::received::Received;
 use crate::sender::Sender;
@@ -31,7 +35,7 @@ use crate::sending::{carry_out, make_room};
 use crate::uncounted;
 use aw_accept::Accepted;
 use aw_msg::{Message, MsgKind};
-use aw_name::{Ref, Refs, copy_node};
+use aw_name::{Node, Ref, Refs, copy_node};
 use aw_space::{Placing, Space};
 use aw_store::{Equations, Facts};
 use aw_subs::Subs;
@@ -155,6 +159,44 @@ fn plan_came<'g, F: Facts>(
     sender.plan_came(subs, inherited.as_slice(), es.as_slice())
 }
 
+/// What is sent where a call, if there is one, and equations come, all of which are valid; the memory for it is taken, and its messages are
+/// added to a copy. An error leaves the copy as it was, too.
+fn plan_with_room<'g, F: Facts>(
+    g: &Accepted,
+    space: &Space<'g, F>,
+    subs: &mut Subs,
+    outbox: &mut Vec<Message>,
+    loads: bool,
+    call: Option<&Placing>,
+    es: &Equations,
+    copy: &mut Vec<Message>,
+) -> Result<Plan, AllocError>
+    requires grammar { g.now.grammar ≡ space.now.accepted.now.grammar }
+    requires call { MayBeCalledIf (grammar_of g.now.grammar) space.now.role (called_by (grammar_of g.now.grammar) (option_copied call)) }
+    requires ok { MayBeLearnt (grammar_of g.now.grammar) space.now.role (list_map equation_of es.now) }
+    ensures plan { IfOk result (λ p. (s : P.Site) → HoldsAs ⟦<F as Facts>⟧ space.now subs.old loads s → IsPlanned (grammar_of g.now.grammar)
+        (holding s (called_by (grammar_of g.now.grammar) (option_copied call.entry)) (list_map equation_of es.now))
+        (came (grammar_of g.now.grammar) s (called_by (grammar_of g.now.grammar) (option_copied call.entry)) (list_map equation_of es.now)) p) }
+    ensures outbox { outbox.new.items ≡ outbox.old.items }
+    ensures copy { IfOk result (λ p. copy.new.items ≡ copy.old.items ++ p.sent.items) }
+    ensures err_copy { OnErr result (copy.new.items ≡ copy.old.items) }
+    ensures asked { (asked : List RefName) → ShowsAsked subs.old asked → ShowsAsked subs.new asked }
+    ensures watchers { (ws : List Watch) → ShowsWatchers subs.old ws → ShowsWatchers subs.new ws }
+    ensures room { IfOk result (λ p. vec_len outbox.new + vec_len p.sent ≤ vec_capacity outbox.new) }
+    ensures ready { IfOk result (λ p. All (λ x. is_ready subs.new.subs x ≡ true) p.wanted.items) }
+    ensures short { IfOk result (λ p. all_short p.sent.items ≡ true) }
+{
+    let alloc = *outbox.allocator();
+    let plan = plan_came(alloc, g, space, subs, loads, call, es)?;
+    match make_room(&plan, subs, outbox, copy) {
+        Ok(()) => Ok(plan),
+        Err(refused) => {
+            drop(plan);
+            Err(refused)
+        }
+    }
+}
+
 /// Takes in a call, if there is one, and equations, and asks for what is then wanted; how many messages were sent. An error changes
 /// nothing.
 fn take_in<'g, F: Facts>(
@@ -186,18 +228,38 @@ fn take_in<'g, F: Facts>(
     ensures facts { KeepsFacts (F.map space.old.facts) (F.map space.new.facts) }
     ensures nodes { KeepsNodes (space_seen ⟦<F as Facts>⟧ space.old).held (space_seen ⟦<F as Facts>⟧ space.new).held }
 {
-    let alloc = *outbox.allocator();
-    let plan = plan_came(alloc, g, space, subs, loads, call, &es)?;
     let before = copy.len();
-    let count = plan.sent.len();
-    make_room(&plan, subs, outbox, copy)?;
+    let plan = match plan_with_room(g, space, subs, outbox, loads, call, &es, copy) {
+        Ok(plan) => plan,
+        Err(refused) => {
+            drop(es);
+            return Err(refused);
+        }
+    };
     match uncounted::take_in(space, g, call, es) {
         Ok(()) => {
+            let count = plan.sent.len();
             carry_out(plan, subs, outbox);
             Ok(count)
         }
         Err(refused) => {
+            drop(plan);
             copy.truncate(before);
+            Err(refused)
+        }
+    }
+}
+
+/// A called node with the references that it inherits.
+fn placing_of(node: &Node, inherited: &Refs) -> Result<Placing, AllocError>
+    ensures node { IfOk result (λ placing. placing.node ≡ node.now) }
+    ensures inherited { IfOk result (λ placing. placing.inherited ≡ inherited.now) }
+{
+    let node = copy_node(node)?;
+    match inherited.clone() {
+        Ok(inherited) => Ok(Placing { node, inherited }),
+        Err(refused) => {
+            drop(node);
             Err(refused)
         }
     }
@@ -238,14 +300,19 @@ fn react<'g, F: Facts>(
             node,
             inherited,
             ..
-        } => {
-            let placing = Placing {
-                node: copy_node(node)?,
-                inherited: inherited.clone()?,
-            };
-            take_in(g, space, subs, outbox, loads, Some(&placing), es, copy)
-        }
+        } => match placing_of(node, inherited) {
+            Ok(placing) => {
+                let count = take_in(g, space, subs, outbox, loads, Some(&placing), es, copy);
+                drop(placing);
+                count
+            }
+            Err(refused) => {
+                drop(es);
+                Err(refused)
+            }
+        },
         MsgKind::Ask { reference, from } => {
+            drop(es);
             answer_ask(g, space, subs, outbox, loads, reference, *from, copy)
         }
         MsgKind::Tell { .. } => take_in(g, space, subs, outbox, loads, None, es, copy),
@@ -280,16 +347,9 @@ pub fn receive<'g, F: Facts>(
     ensures nodes { KeepsNodes (space_seen ⟦<F as Facts>⟧ space.old).held (space_seen ⟦<F as Facts>⟧ space.new).held }
 {
     let alloc = *outbox.allocator();
-    let es = carried(alloc, m.kind.get())?;
-    match judge(alloc, g, space, subs, m, &es)? {
-        Judged::BadName => Ok(Received::BadName),
-        Judged::NotMine => Ok(Received::NotMine),
-        Judged::Clashes(clash) => Ok(Received::Conflict {
-            kept: clash.kept,
-            came: clash.came,
-        }),
-        Judged::Repeat => Ok(Received::Repeat),
-        Judged::Fresh => {
+    match look_at(alloc, g, space, subs, m)? {
+        Sight::Answered(answer) => Ok(answer),
+        Sight::Fresh(es) => {
             let count = react(g, space, subs, outbox, loads, m, es, copy)?;
             Ok(Received::New(count))
         }

@@ -94,19 +94,33 @@ impl<'a, F: Facts> Sender<'a, F> {
         Ok(())
     }
 
+    /// The valid equation of a reference and a body for a role, with its load.
+    fn tell_body(&self, left: &Ref, body: Body, role: u16) -> Result<Message, AllocError>
+        requires { equation_ok (grammar_of self.now.grammar.now) (record { left = left.now; body = body_of body }) ≡ true }
+        ensures { IfOk result (λ m. (s : P.Site) → SendsAs ⟦<F as Facts>⟧ self.now s →
+            message_of (grammar_of self.now.grammar.now) m ≡ tell (grammar_of self.now.grammar.now) s (record { left = left.now; body = body_of body }) role) }
+    {
+        match copy_ref(left) {
+            Ok(copy) => {
+                let e = Equation { left: copy, body };
+                let told = self.tell(&e, role);
+                drop(e);
+                told
+            }
+            Err(refused) => {
+                drop(body);
+                Err(refused)
+            }
+        }
+    }
+
     /// The answer to a question: the equation, where it is here.
     pub fn tell_back(&self, r: &Ref, from: u16) -> Result<Option<Message>, AllocError>
         ensures { IfOk result (λ m. (s : P.Site) → SendsAs ⟦<F as Facts>⟧ self.now s →
             listed (option_map (message_of (grammar_of self.now.grammar.now)) m) ≡ tell_back (grammar_of self.now.grammar.now) s (find s.equations r.now) r.now from) }
     {
         match body_in_both(self.alloc, self.facts, self.more, r)? {
-            Some(body) => {
-                let e = Equation {
-                    left: copy_ref(r)?,
-                    body,
-                };
-                Ok(Some(self.tell(&e, from)?))
-            }
+            Some(body) => Ok(Some(self.tell_body(r, body, from)?)),
             None => Ok(None),
         }
     }

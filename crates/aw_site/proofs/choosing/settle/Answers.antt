@@ -34,13 +34,13 @@ returns-in-Ok-clause-site g c = λ s shows.
     let planned = (c.in_ok-outcome.ensures.prepares s h).plan in
     subst (λ (p : Site). Shows g.F.Facts c.conclude.new.space c.carry_out.new.subs c.carry_out.new.outbox.items c.args.loads p) (site_reacted s (choose gr s ch))
     (shown_planned g.F.Facts c.conclude.new.space c.carry_out.new.subs c.args.loads c.args.g.now.grammar t x c.in_ok-outcome.field-0.plan
-    c.args.outbox.now.items c.make_room.new.outbox.items c.carry_out.new.outbox.items
+    c.args.outbox.now.items c.prepare_with_room.new.outbox.items c.carry_out.new.outbox.items
     (c.requires.grammar ∙ sym c.conclude.ensures.grammar) (h.role ∙ sym c.conclude.ensures.role) h.flag
     ((λ i. space_on gr (h.role i) (h.holds i) ch (S.outcome gr (h.holds i) ch)) ∙ sym c.in-Ok.ensures.space)
-    (c.carry_out.ensures.asked s.asked (c.make_room.ensures.asked s.asked h.asked))
-    (c.carry_out.ensures.watchers s.watchers (c.make_room.ensures.watchers s.watchers h.watchers))
+    (c.carry_out.ensures.asked s.asked (c.prepare_with_room.ensures.asked s.asked h.asked))
+    (c.carry_out.ensures.watchers s.watchers (c.prepare_with_room.ensures.watchers s.watchers h.watchers))
     (shows.sent ∙ (λ i. map (message_of (grammar_of (sym c.requires.grammar i))) c.args.outbox.now.items))
-    c.make_room.ensures.outbox c.carry_out.ensures.outbox planned)
+    c.prepare_with_room.ensures.outbox c.carry_out.ensures.outbox planned)
 
 pub returns-in-Ok-clause-copy : goal.returns-in-Ok-clause-copy
 returns-in-Ok-clause-copy g c = λ s shows.
@@ -49,9 +49,9 @@ returns-in-Ok-clause-copy g c = λ s shows.
     let t = worked gr s ch (outcome gr s ch) in
     let x = reaction_of s (choose gr s ch) in
     let planned = (c.in_ok-outcome.ensures.prepares s shows.holds).plan in
-    copy_planned c.args.g.now.grammar t x c.in_ok-outcome.field-0.plan c.args.copy.now.items c.make_room.new.copy.items c.in_ok-make_room.ensures.copy planned
+    copy_planned c.args.g.now.grammar t x c.in_ok-outcome.field-0.plan c.args.copy.now.items c.prepare_with_room.new.copy.items c.in_ok-outcome.ensures.copy planned
     ∙ ap (λ ms. map (message_of gr) c.args.copy.now.items ++ ms) (sent_reacted s (choose gr s ch))
 
 pub returns-in-Ok-clause-short : goal.returns-in-Ok-clause-short
 returns-in-Ok-clause-short g c =
-    short_more c.args.outbox.now.items c.make_room.new.outbox.items c.in_ok-outcome.field-0.plan.sent.items c.carry_out.new.outbox.items c.make_room.ensures.outbox c.carry_out.ensures.outbox c.in_ok-make_room.ensures.short
+    short_more c.args.outbox.now.items c.prepare_with_room.new.outbox.items c.in_ok-outcome.field-0.plan.sent.items c.carry_out.new.outbox.items c.prepare_with_room.ensures.outbox c.carry_out.ensures.outbox c.in_ok-outcome.ensures.short

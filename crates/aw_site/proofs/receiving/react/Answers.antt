@@ -12,32 +12,32 @@ use Rattle.aw_site.proofs.Coming.{call_fits, tell_fits, call_clashes, tell_clash
 use Rattle.aw_site.proofs.Holding.{of_role}
 use Rattle.aw_site.proofs.receiving.react.Goals as goal
 
-pub take_in-requires-clause-call : goal.take_in-requires-clause-call
-take_in-requires-clause-call g c =
+pub take_in-count-requires-clause-call : goal.take_in-count-requires-clause-call
+take_in-count-requires-clause-call g c =
     let gr = grammar_of c.args.g.now.grammar in
     let role = c.args.space.now.role in
     let m = message_of gr c.args.m.now in
     let holds = HoldsAs g.F.Facts c.args.space.now c.args.subs.now c.args.loads in
-    (call_fits gr role c.args.m.now c.in-Call.node _ c.in-Call.inherited _ c.in-Call.load c.args.es (sym c.get.ensures ∙ c.in-Call.is) c.in_ok-copy_node-in-Call.ensures c.in_ok-clone-in-Call.ensures.cases (c.requires.carried gr)
+    (call_fits gr role c.args.m.now c.in-Call.node _ c.in-Call.inherited _ c.in-Call.load c.args.es (sym c.get.ensures ∙ c.in-Call.is) c.in-Ok.ensures.node c.in-Ok.ensures.inherited (c.requires.carried gr)
     (fresh_ok gr role holds m c.requires.holds (λ s h. h.role) c.requires.fresh) (fresh_mine gr role holds m c.requires.holds (λ s h. h.role) c.requires.fresh)).0
 
-pub take_in-requires-clause-ok : goal.take_in-requires-clause-ok
-take_in-requires-clause-ok g c =
+pub take_in-count-requires-clause-ok : goal.take_in-count-requires-clause-ok
+take_in-count-requires-clause-ok g c =
     let gr = grammar_of c.args.g.now.grammar in
     let role = c.args.space.now.role in
     let m = message_of gr c.args.m.now in
     let holds = HoldsAs g.F.Facts c.args.space.now c.args.subs.now c.args.loads in
-    (call_fits gr role c.args.m.now c.in-Call.node c.in_ok-copy_node-in-Call.field-0 c.in-Call.inherited c.in_ok-clone-in-Call.field-0 c.in-Call.load c.args.es (sym c.get.ensures ∙ c.in-Call.is) c.in_ok-copy_node-in-Call.ensures c.in_ok-clone-in-Call.ensures.cases (c.requires.carried gr)
+    (call_fits gr role c.args.m.now c.in-Call.node c.in-Ok.placing.node c.in-Call.inherited c.in-Ok.placing.inherited c.in-Call.load c.args.es (sym c.get.ensures ∙ c.in-Call.is) c.in-Ok.ensures.node c.in-Ok.ensures.inherited (c.requires.carried gr)
     (fresh_ok gr role holds m c.requires.holds (λ s h. h.role) c.requires.fresh) (fresh_mine gr role holds m c.requires.holds (λ s h. h.role) c.requires.fresh)).1
 
-pub take_in-requires-clause-free : goal.take_in-requires-clause-free
-take_in-requires-clause-free g c =
+pub take_in-count-requires-clause-free : goal.take_in-count-requires-clause-free
+take_in-count-requires-clause-free g c =
     let gr = grammar_of c.args.g.now.grammar in
     let role = c.args.space.now.role in
     let holds = HoldsAs g.F.Facts c.args.space.now c.args.subs.now c.args.loads in
-    fresh_free gr role holds (message_of gr c.args.m.now) c.requires.holds (λ s h. h.role) c.requires.fresh (space_seen g.F.Facts c.args.space.now) (Some (call_of gr c.in_ok-copy_node-in-Call.field-0 c.in_ok-clone-in-Call.field-0)) (map equation_of c.args.es)
-    (λ s h. call_clashes gr s (space_seen g.F.Facts c.args.space.now) c.args.m.now.kind c.in-Call.node c.in_ok-copy_node-in-Call.field-0 c.in-Call.inherited c.in_ok-clone-in-Call.field-0 c.in-Call.load c.args.es
-    (sym c.get.ensures ∙ c.in-Call.is) c.in_ok-copy_node-in-Call.ensures c.in_ok-clone-in-Call.ensures.cases (c.requires.carried gr) h.holds)
+    fresh_free gr role holds (message_of gr c.args.m.now) c.requires.holds (λ s h. h.role) c.requires.fresh (space_seen g.F.Facts c.args.space.now) (Some (call_of gr c.in-Ok.placing.node c.in-Ok.placing.inherited)) (map equation_of c.args.es)
+    (λ s h. call_clashes gr s (space_seen g.F.Facts c.args.space.now) c.args.m.now.kind c.in-Call.node c.in-Ok.placing.node c.in-Call.inherited c.in-Ok.placing.inherited c.in-Call.load c.args.es
+    (sym c.get.ensures ∙ c.in-Call.is) c.in-Ok.ensures.node c.in-Ok.ensures.inherited (c.requires.carried gr) h.holds)
 
 pub answer_ask-requires-clause-role : goal.answer_ask-requires-clause-role
 answer_ask-requires-clause-role g c =
@@ -46,8 +46,8 @@ answer_ask-requires-clause-role g c =
     let holds = HoldsAs g.F.Facts c.args.space.now c.args.subs.now c.args.loads in
     subst (λ k. IsOfRole (plain_kind k)) (sym c.get.ensures ∙ c.in-Ask.is) (of_role c.args.g.now.grammar role c.args.m.now (fresh_ok gr role holds (message_of gr c.args.m.now) c.requires.holds (λ s h. h.role) c.requires.fresh))
 
-pub take_in-requires-in-Tell-clause-ok : goal.take_in-requires-in-Tell-clause-ok
-take_in-requires-in-Tell-clause-ok g c =
+pub take_in-requires-clause-ok : goal.take_in-requires-clause-ok
+take_in-requires-clause-ok g c =
     let gr = grammar_of c.args.g.now.grammar in
     let role = c.args.space.now.role in
     let m = message_of gr c.args.m.now in
@@ -55,53 +55,53 @@ take_in-requires-in-Tell-clause-ok g c =
     tell_fits gr role c.args.m.now c.in-Tell.equation c.in-Tell.load c.args.es (sym c.get.ensures ∙ c.in-Tell.is) (c.requires.carried gr)
     (fresh_ok gr role holds m c.requires.holds (λ s h. h.role) c.requires.fresh) (fresh_mine gr role holds m c.requires.holds (λ s h. h.role) c.requires.fresh)
 
-pub take_in-requires-in-Tell-clause-free : goal.take_in-requires-in-Tell-clause-free
-take_in-requires-in-Tell-clause-free g c =
+pub take_in-requires-clause-free : goal.take_in-requires-clause-free
+take_in-requires-clause-free g c =
     let gr = grammar_of c.args.g.now.grammar in
     let role = c.args.space.now.role in
     let holds = HoldsAs g.F.Facts c.args.space.now c.args.subs.now c.args.loads in
     fresh_free gr role holds (message_of gr c.args.m.now) c.requires.holds (λ s h. h.role) c.requires.fresh (space_seen g.F.Facts c.args.space.now) None (map equation_of c.args.es)
     (λ s h. tell_clashes gr s (space_seen g.F.Facts c.args.space.now) c.args.m.now.kind c.in-Tell.equation c.in-Tell.load c.args.es (sym c.get.ensures ∙ c.in-Tell.is) (c.requires.carried gr) h.holds)
 
-pub returns-in_ok-clone-in-Call-clause-count : goal.returns-in_ok-clone-in-Call-clause-count
-returns-in_ok-clone-in-Call-clause-count g c =
+pub returns-in-Ok-clause-count : goal.returns-in-Ok-clause-count
+returns-in-Ok-clause-count g c =
     let gr = grammar_of c.args.g.now.grammar in
-    IfOk-weaker c.take_in.result _ _
+    IfOk-weaker c.take_in-count.result _ _
     (λ n h s shows. h s shows
-    ∙ ap (λ (x : Reaction). length x.sent) (reacts_to_call gr s c.args.m.now.kind c.in-Call.node c.in_ok-copy_node-in-Call.field-0 c.in-Call.inherited c.in_ok-clone-in-Call.field-0 c.in-Call.load c.args.es
-    (sym c.get.ensures ∙ c.in-Call.is) c.in_ok-copy_node-in-Call.ensures c.in_ok-clone-in-Call.ensures.cases (c.requires.carried gr)))
-    c.take_in.ensures.count
+    ∙ ap (λ (x : Reaction). length x.sent) (reacts_to_call gr s c.args.m.now.kind c.in-Call.node c.in-Ok.placing.node c.in-Call.inherited c.in-Ok.placing.inherited c.in-Call.load c.args.es
+    (sym c.get.ensures ∙ c.in-Call.is) c.in-Ok.ensures.node c.in-Ok.ensures.inherited (c.requires.carried gr)))
+    c.take_in-count.ensures.count
 
-pub returns-in_ok-clone-in-Call-clause-site : goal.returns-in_ok-clone-in-Call-clause-site
-returns-in_ok-clone-in-Call-clause-site g c =
+pub returns-in-Ok-clause-site : goal.returns-in-Ok-clause-site
+returns-in-Ok-clause-site g c =
     let gr = grammar_of c.args.g.now.grammar in
-    on_ok c.take_in.result _ _
+    on_ok c.take_in-count.result _ _
     (λ h s shows.
-    subst (λ (x : Reaction). Shows g.F.Facts c.take_in.new.space c.take_in.new.subs c.take_in.new.outbox.items c.args.loads x.site)
-    (reacts_to_call gr s c.args.m.now.kind c.in-Call.node c.in_ok-copy_node-in-Call.field-0 c.in-Call.inherited c.in_ok-clone-in-Call.field-0 c.in-Call.load c.args.es
-    (sym c.get.ensures ∙ c.in-Call.is) c.in_ok-copy_node-in-Call.ensures c.in_ok-clone-in-Call.ensures.cases (c.requires.carried gr))
+    subst (λ (x : Reaction). Shows g.F.Facts c.take_in-count.new.space c.take_in-count.new.subs c.take_in-count.new.outbox.items c.args.loads x.site)
+    (reacts_to_call gr s c.args.m.now.kind c.in-Call.node c.in-Ok.placing.node c.in-Call.inherited c.in-Ok.placing.inherited c.in-Call.load c.args.es
+    (sym c.get.ensures ∙ c.in-Call.is) c.in-Ok.ensures.node c.in-Ok.ensures.inherited (c.requires.carried gr))
     (h s shows))
-    c.take_in.ensures.site
+    c.take_in-count.ensures.site
 
-pub returns-in_ok-clone-in-Call-clause-copy : goal.returns-in_ok-clone-in-Call-clause-copy
-returns-in_ok-clone-in-Call-clause-copy g c =
+pub returns-in-Ok-clause-copy : goal.returns-in-Ok-clause-copy
+returns-in-Ok-clause-copy g c =
     let gr = grammar_of c.args.g.now.grammar in
-    on_ok c.take_in.result _ _
+    on_ok c.take_in-count.result _ _
     (λ h s shows. h s shows
-    ∙ ap (λ (x : Reaction). map (message_of gr) c.args.copy.now.items ++ x.sent) (reacts_to_call gr s c.args.m.now.kind c.in-Call.node c.in_ok-copy_node-in-Call.field-0 c.in-Call.inherited c.in_ok-clone-in-Call.field-0 c.in-Call.load c.args.es
-    (sym c.get.ensures ∙ c.in-Call.is) c.in_ok-copy_node-in-Call.ensures c.in_ok-clone-in-Call.ensures.cases (c.requires.carried gr)))
-    c.take_in.ensures.copy
+    ∙ ap (λ (x : Reaction). map (message_of gr) c.args.copy.now.items ++ x.sent) (reacts_to_call gr s c.args.m.now.kind c.in-Call.node c.in-Ok.placing.node c.in-Call.inherited c.in-Ok.placing.inherited c.in-Call.load c.args.es
+    (sym c.get.ensures ∙ c.in-Call.is) c.in-Ok.ensures.node c.in-Ok.ensures.inherited (c.requires.carried gr)))
+    c.take_in-count.ensures.copy
 
 pub returns-in-Tell-clause-count : goal.returns-in-Tell-clause-count
 returns-in-Tell-clause-count g c =
     let gr = grammar_of c.args.g.now.grammar in
-    IfOk-weaker c.take_in-in-Tell.result _ _
+    IfOk-weaker c.take_in.result _ _
     (λ n h s shows. h s shows ∙ ap (λ (x : Reaction). length x.sent) (reacts_to_tell gr s c.args.m.now.kind c.in-Tell.equation c.in-Tell.load c.args.es (sym c.get.ensures ∙ c.in-Tell.is) (c.requires.carried gr)))
-    c.take_in-in-Tell.ensures.count
+    c.take_in.ensures.count
 
 pub returns-in-Tell-clause-copy : goal.returns-in-Tell-clause-copy
 returns-in-Tell-clause-copy g c =
     let gr = grammar_of c.args.g.now.grammar in
-    on_ok c.take_in-in-Tell.result _ _
+    on_ok c.take_in.result _ _
     (λ h s shows. h s shows ∙ ap (λ (x : Reaction). map (message_of gr) c.args.copy.now.items ++ x.sent) (reacts_to_tell gr s c.args.m.now.kind c.in-Tell.equation c.in-Tell.load c.args.es (sym c.get.ensures ∙ c.in-Tell.is) (c.requires.carried gr)))
-    c.take_in-in-Tell.ensures.copy
+    c.take_in.ensures.copy

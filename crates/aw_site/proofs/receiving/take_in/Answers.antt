@@ -10,21 +10,21 @@ use Rattle.aw_site.proofs.Holding.{shown_planned}
 use Rattle.aw_site.proofs.InRange.{short_more}
 use Rattle.aw_site.proofs.receiving.take_in.Goals as goal
 
-pub returns-in-Ok-clause-site : goal.returns-in-Ok-clause-site
-returns-in-Ok-clause-site g c = λ s shows.
+pub returns-in-Ok-take_in-clause-site : goal.returns-in-Ok-take_in-clause-site
+returns-in-Ok-take_in-clause-site g c = λ s shows.
     let gr = grammar_of c.args.g.now.grammar in
     let h = shows.holds in
     let call = option_map (placed_call gr) (option_copied c.args.call) in
     let es = map equation_of c.args.es in
-    shown_planned g.F.Facts c.take_in.new.space c.carry_out.new.subs c.args.loads c.args.g.now.grammar (holding s call es) (came gr s call es) c.in_ok-plan.plan
-    c.args.outbox.now.items c.make_room.new.outbox.items c.carry_out.new.outbox.items
-    (c.requires.grammar ∙ sym c.take_in.ensures.grammar) (h.role ∙ sym c.take_in.ensures.role) h.flag (ap (taken_in call es) h.holds ∙ sym c.in-Ok.ensures.space)
-    (c.carry_out.ensures.asked s.asked (c.make_room.ensures.asked s.asked h.asked))
-    (c.carry_out.ensures.watchers s.watchers (c.make_room.ensures.watchers s.watchers h.watchers))
+    shown_planned g.F.Facts c.take_in.new.space c.carry_out.new.subs c.args.loads c.args.g.now.grammar (holding s call es) (came gr s call es) c.in-Ok.plan
+    c.args.outbox.now.items c.plan_with_room.new.outbox.items c.carry_out.new.outbox.items
+    (c.requires.grammar ∙ sym c.take_in.ensures.grammar) (h.role ∙ sym c.take_in.ensures.role) h.flag (ap (taken_in call es) h.holds ∙ sym c.in-Ok-take_in.ensures.space)
+    (c.carry_out.ensures.asked s.asked (c.plan_with_room.ensures.asked s.asked h.asked))
+    (c.carry_out.ensures.watchers s.watchers (c.plan_with_room.ensures.watchers s.watchers h.watchers))
     (shows.sent ∙ (λ i. map (message_of (grammar_of (sym c.requires.grammar i))) c.args.outbox.now.items))
-    c.make_room.ensures.outbox c.carry_out.ensures.outbox
-    (c.in_ok-plan.ensures s h)
+    c.plan_with_room.ensures.outbox c.carry_out.ensures.outbox
+    (c.in-Ok.ensures.plan s h)
 
-pub returns-in-Ok-clause-short : goal.returns-in-Ok-clause-short
-returns-in-Ok-clause-short g c =
-    short_more c.args.outbox.now.items c.make_room.new.outbox.items c.in_ok-plan.plan.sent.items c.carry_out.new.outbox.items c.make_room.ensures.outbox c.carry_out.ensures.outbox c.in_ok-make_room.ensures.short
+pub returns-in-Ok-take_in-clause-short : goal.returns-in-Ok-take_in-clause-short
+returns-in-Ok-take_in-clause-short g c =
+    short_more c.args.outbox.now.items c.plan_with_room.new.outbox.items c.in-Ok.plan.sent.items c.carry_out.new.outbox.items c.plan_with_room.ensures.outbox c.carry_out.ensures.outbox c.in-Ok.ensures.short
