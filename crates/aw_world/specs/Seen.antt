@@ -57,6 +57,12 @@ pub record ChoseAt {W : Type 0} (f : Ghosts W) (g : Grammar) (new : List W) (at 
   pub sites : Pairs (λ y s. f.shows y s) new (slice_set ss at (after_choice (get (empty_site false at) ss at) x))
   pub messages : map (message_of (grammar_of g)) new_messages ≡ map (message_of (grammar_of g)) old_messages ++ sent_by x
 
+-- a site that a workspace can be seen as answered a choice so
+pub record ChoseHere {W : Type 0} (f : Ghosts W) (g : Grammar) (new : W) (s : Site) (old_messages new_messages : List Message) (x : Chosen) (a : Answer) : Type 0 where
+  pub answer : answer_of a ≡ answer_to x
+  pub site : f.shows new (after_choice s x)
+  pub messages : map (message_of (grammar_of g)) new_messages ≡ map (message_of (grammar_of g)) old_messages ++ sent_by x
+
 -- the site of this workspace took in a message so
 pub record GotAt {W : Type 0} (f : Ghosts W) (g : Grammar) (new : List W) (at : ℕ) (ss : List Site) (old_messages new_messages : List Message) (x : Received Reaction) (b : Bool) : Type 0 where
   pub fresh : b ≡ is_new x
@@ -79,6 +85,10 @@ KeepEach f g report ws ps = Pairs (λ x p. f.keeps x g report p) ws ps
 -- whatever plain world is seen before, it is seen after
 abbrev pub SeenStill : {W : Type 0} → Ghosts W → Grammar → List W → List Message → List Bool → List Choice → List W → List Message → List Bool → List Choice → Type 0
 SeenStill f g ws ms bs cs xs ns fs ds = (v : P.World) → Seen f g ws ms bs cs v → Seen f g xs ns fs ds v
+
+-- whatever site a workspace is seen as before, it answers the choice, and the site and messages behind the answer are seen after
+abbrev pub Answers : {W : Type 0} → Ghosts W → Grammar → W → W → List Message → List Message → Choice → Answer → Type 0
+Answers f g w x ms ns c a = (s : Site) → f.shows w s → ChoseHere f g x s ms ns (choice_at g s c) a
 
 -- whatever sites are seen before, that of this role answers the choice, and the sites and messages behind the answer are seen after
 abbrev pub AnswersAt : {W : Type 0} → Ghosts W → Grammar → List W → List W → ℕ → List Message → List Message → Choice → Answer → Type 0

@@ -7,8 +7,9 @@ ghost use Rattle.aw_react.specs.Homes.{home};
 ghost use Rattle.aw_react.specs.Sites as P;
 ghost use Rattle.aw_react.specs.Worlds as V;
 ghost use Rattle.aw_term.specs.Choices.{is_taken};
+ghost use Rattle.aw_term.specs.SameGrammar.{same_grammar};
 ghost use Rattle.aw_world.specs.Marked.{StaysSeenForAllDelivered};
-ghost use Rattle.aw_world.specs.Seen.{ArePlaced, ShowEach, AnswersAt, Chooses};
+ghost use Rattle.aw_world.specs.Seen.{ArePlaced, ShowEach, Answers, AnswersAt, Chooses};
 
 use crate::workspace::Workspace;
 use aw_accept::Accepted;
@@ -48,6 +49,27 @@ fn role_of(alloc: Global, g: &Grammar, choice: &Choice) -> u16
     }
 }
 
+/// Makes a choice at a workspace.
+fn choose_here<W: Workspace>(
+    accepted: &Accepted,
+    site: &mut W,
+    choice: &Choice,
+    messages: &mut Messages,
+) -> Result<Answer, AllocError>
+    requires grammar { same_grammar (W.its_grammar site.old) (grammar_of accepted.now.grammar) ≡ true }
+    requires ok { choice_ok (grammar_of accepted.now.grammar) (choice_of choice.now) ≡ true }
+    requires here { home (grammar_of accepted.now.grammar) (V.node_of (choice_of choice.now)) ≡ W.its_role site.old }
+    ensures grammar { W.its_grammar site.new ≡ W.its_grammar site.old }
+    ensures role { W.its_role site.new ≡ W.its_role site.old }
+    ensures grows { length messages.old ≤ length messages.new }
+    ensures chose { IfOk result (λ a. Answers ⟦<W as Workspace>⟧ accepted.now.grammar site.old site.new messages.old messages.new choice.now a) }
+    ensures err { OnErr result ((s : P.Site) → W.shows site.old s → W.shows site.new s) }
+    ensures err_messages { OnErr result (messages.new ≡ messages.old) }
+{
+    let (answer, _) = site.choose_into(accepted, choice, messages)?;
+    Ok(answer)
+}
+
 /// Makes a choice at the workspace of a role.
 fn choose_at<W: Workspace>(
     accepted: &Accepted,
@@ -67,8 +89,7 @@ fn choose_at<W: Workspace>(
     ensures err_messages { OnErr result (messages.new ≡ messages.old) }
 {
     let site = &mut sites[at];
-    let (answer, _) = site.choose_into(accepted, choice, messages)?;
-    Ok(answer)
+    choose_here(accepted, site, choice, messages)
 }
 
 /// Whether a choice was taken.

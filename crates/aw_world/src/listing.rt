@@ -62,6 +62,29 @@ fn print_at<W: Workspace>(
     site.print_row(alloc, accepted, spot.place, names, own, report)
 }
 
+/// Prints the lines of all nodes, each by the printer of its workspace.
+fn print_each<W: Workspace>(
+    alloc: Global,
+    accepted: &Accepted,
+    sites: &[W],
+    spots: &[Spot],
+    names: &mut NameWriter<'_>,
+    printers: &mut Vec<Printer>,
+    report: &mut Report,
+) -> Result<(), PrintFault>
+    requires placed { ArePlaced ⟦<W as Workspace>⟧ accepted.now.grammar sites.now }
+    requires homes { AreAtHome ⟦<W as Workspace>⟧ (grammar_of accepted.now.grammar) sites.now }
+    requires order { AreAllInOrder ⟦<W as Workspace>⟧ sites.now spots.now }
+    requires named { names.old.grammar.now ≡ accepted.now.grammar }
+    requires ready { KeepEach ⟦<W as Workspace>⟧ accepted.now.grammar report.old sites.now printers.old.items }
+    ensures { (v : V.World) → ShowEach ⟦<W as Workspace>⟧ sites.now v.sites → PrintsRows accepted.now.grammar v report.old report.new result }
+{
+    for spot in spots {
+        print_at(alloc, accepted, sites, spot, names, printers, report)?;
+    }
+    Ok(())
+}
+
 /// Prints the lines of all nodes, those of a workspace by one printer.
 fn print_all<W: Workspace>(
     alloc: Global,
@@ -75,20 +98,17 @@ fn print_all<W: Workspace>(
     requires order { AreAllInOrder ⟦<W as Workspace>⟧ sites.now spots.now }
     ensures { (v : V.World) → ShowEach ⟦<W as Workspace>⟧ sites.now v.sites → PrintsRows accepted.now.grammar v report.old report.new result }
 {
-    let mut names = NameWriter::new(alloc, accepted.grammar());
     let mut printers = new_printers(alloc, sites)?;
-    for spot in spots {
-        print_at(
-            alloc,
-            accepted,
-            sites,
-            spot,
-            &mut names,
-            &mut printers,
-            report,
-        )?;
-    }
-    Ok(())
+    let mut names = NameWriter::new(alloc, accepted.grammar());
+    print_each(
+        alloc,
+        accepted,
+        sites,
+        spots,
+        &mut names,
+        &mut printers,
+        report,
+    )
 }
 
 impl<'g, W: Workspace> World<'g, W> {

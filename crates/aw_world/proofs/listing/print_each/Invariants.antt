@@ -8,7 +8,7 @@ use Rattle.aw_out.specs.Report.{Bounded, Prints}
 use Rattle.aw_react.specs.Worlds.{World}
 use Rattle.aw_merge.specs.ReadRows.{AreRead}
 use Rattle.aw_world.specs.Seen.{ShowEach, KeepEach}
-use Rattle.aw_world.proofs.listing.print_all.Given as goal
+use Rattle.aw_world.proofs.listing.print_each.Given as goal
 
 -- whatever prints what is left has printed the whole; each workspace has its printer
 abbrev pub invariant-loop-spot : goal.invariant-loop-spot
