@@ -1,7 +1,7 @@
 //! Matching patterns with values: the first place in depth-first order that does not match decides.
-ghost use Rattle.std.specs.Prelude.{◌≡◌, ◌≤◌, ◌+◌, ◌++◌, true, IfOk, OnOk, map, length};
+ghost use Rattle.std.specs.Prelude.{◌≡◌, ◌≤◌, ◌+◌, ◌++◌, ◌∷◌, [], true, IfOk, OnOk, map, length};
 ghost use Rattle.aw_term.specs.Trees.{join, Made, Text as PlainText, Nil};
-ghost use Rattle.aw_term.specs.Matching.{match as plain_match, match_parts as plain_parts};
+ghost use Rattle.aw_term.specs.Matching.{Yes, match as plain_match, match_parts as plain_parts};
 ghost use Rattle.aw_term.specs.WellFormed.{nesting, all_nesting};
 ghost use Rattle.aw_term.specs.Views.{pattern_of};
 ghost use Rattle.aw_choice.specs.ChoiceView.{path_of};
@@ -59,6 +59,15 @@ fn match_lit(alloc: Global, lit: &Lit, tree: &Tree, at: &Path) -> Result<Matched
     }
 }
 
+/// A variable takes all that stands here.
+fn bind(alloc: Global, tree: &Tree) -> Result<Matched, AllocError>
+    ensures { IfOk result (λ m. matched_of m ≡ Yes (value_of tree.now ∷ [])) }
+{
+    let mut taken = Items::new(alloc);
+    taken.push(copy_tree(tree)?)?;
+    Ok(Matched::Yes(taken))
+}
+
 pub(crate) fn append(taken: &mut Vec<Tree>, found: Trees) -> Result<(), AllocError>
     ensures { OnOk result (taken.new.items ≡ taken.old.items ++ found) }
 {
@@ -102,11 +111,7 @@ fn match_at(alloc: Global, pattern: &Pattern, tree: &Tree, at: &Path) -> Result<
     ensures { IfOk result (λ m. matched_of m ≡ behind (path_of at.now) (plain_match (pattern_of pattern.now) (value_of tree.now))) }
 {
     match pattern {
-        Pattern::Var(_) => {
-            let mut taken = Items::new(alloc);
-            taken.push(copy_tree(tree)?)?;
-            Ok(Matched::Yes(taken))
-        }
+        Pattern::Var(_) => bind(alloc, tree),
         Pattern::Lit(lit) => match_lit(alloc, lit, tree, at),
         Pattern::Con(c, parts) => match tree {
             Tree::Hole(n, j) => waits(n, *j),
