@@ -15,7 +15,7 @@ use Rattle.aw_term.specs.Rules.{Grammar}
 use Rattle.aw_world.specs.declared.workspace.Workspace.{Ghosts}
 use Rattle.aw_world.specs.Shown.{Shows}
 use Rattle.aw_replay.specs.Replays.{Ends, HasHeadline, HasTold, IsPastLimit, TellsMore, lines_from_empty, most, whole_output}
-use Rattle.aw_replay.specs.Telling.{Does, PrintsEnding, PrintsEvent}
+use Rattle.aw_replay.specs.Telling.{Does, EndsReport, PrintsEnding, PrintsEvent}
 use Rattle.aw_replay.specs.declared.stepwise.Replay.{Replay}
 use Rattle.aw_replay.proofs.Replays.{replay_headline, settling_ends}
 
@@ -76,7 +76,7 @@ module _ {W : Type 0} (f : Ghosts W) where
       omega (arith, past, all)
 
   -- the ending was printed behind all lines
-  pub ends_told : (r : Replay W f) (new : Bounded) → PrintsEnding f r.world r.report new (Ok tt) → (a : Accepted) (carried : Bool) (es : List Event) → HasTold f r a carried es → new ≡ record { text = whole_output a carried es; limit = most }
+  ends_told : (r : Replay W f) (new : Bounded) → PrintsEnding f r.world r.report new (Ok tt) → (a : Accepted) (carried : Bool) (es : List Event) → HasTold f r a carried es → new ≡ record { text = whole_output a carried es; limit = most }
   ends_told r new prints a carried es h =
       let g = grammar_of a.grammar in
       let v = after_events g (empty_world g carried) es in
@@ -95,9 +95,13 @@ module _ {W : Type 0} (f : Ghosts W) where
       let all : length (whole_output a carried es) ≡ length (lines_from_empty a carried es) + length (ending w g v) = length-append (lines_from_empty a carried es) (ending w g v) in
       omega (arith, past, all)
 
-  pub ends_fault : (r : Replay W f) (new : Bounded) (fault : PrintFault) → PrintsEnding f r.world r.report new (Err fault) → Ends f r (Err fault)
+  ends_fault : (r : Replay W f) (new : Bounded) (fault : PrintFault) → PrintsEnding f r.world r.report new (Err fault) → Ends f r (Err fault)
   ends_fault r new TooLarge prints = ends_past r new (Err TooLarge) prints refl
   ends_fault r new NoMemory prints = tt
+
+  pub ends_either : (r : Replay W f) (result : Result Bounded PrintFault) → EndsReport f r.world r.report result → Ends f r result
+  ends_either r (Ok new) prints = ends_told r new prints
+  ends_either r (Err fault) prints = ends_fault r prints.0 fault prints.1
 
   pub has_headline : (r : Replay W f) → HasHeadline f r
   has_headline r a carried es h may = (replay_headline a carried es may, settling_ends a carried es may)

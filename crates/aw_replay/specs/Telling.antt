@@ -2,10 +2,12 @@
 use Rattle.std.specs.Prelude.{◌≡◌, ◌≤◌, ℕ, Bool, List, [], ◌∷◌, ◌++◌, map, drop, take, codes, Some, ◌⊎◌}
 use Rattle.std.specs.Fmt.{decimal}
 use Rattle.std.specs.declared.result.Result.{Result}
+use Rattle.std.specs.declared.result.Result.TheVariants.{Ok, Err}
+use Rattle.aw_term.specs.Artifacts.{Item, Words}
 use Rattle.aw_term.specs.Choices.{undivided}
 use Rattle.aw_term.specs.Configs.{Config}
-use Rattle.aw_term.specs.Runs.{artifacts}
-use Rattle.aw_term.specs.Rules.{Grammar}
+use Rattle.aw_term.specs.Runs.{artifacts, item_lines}
+use Rattle.aw_term.specs.Rules.{Grammar, get}
 use Rattle.aw_grammar.specs.declared.grammar.Grammar as made
 use Rattle.aw_grammar.specs.GrammarOf.{grammar_of, words_of}
 use Rattle.aw_choice.specs.ChoiceView.{choice_of}
@@ -34,6 +36,10 @@ undelivered_line n = codes "undelivered " ++ (decimal n ++ codes "\n")
 -- `artifacts 2`
 abbrev pub artifacts_line : ℕ → List ℕ
 artifacts_line n = codes "artifacts " ++ (decimal n ++ codes "\n")
+
+-- `list lab`, and a line for each of these items
+abbrev pub listed : Words → ℕ → List Item → List ℕ
+listed w role items = codes "list " ++ (get [] w.roles role ++ (codes "\n" ++ item_lines w items))
 
 -- behind each settling among these events no message is undelivered
 abbrev pub SettlingEnds : Grammar → Bool → List Event → Type 0
@@ -96,6 +102,11 @@ module _ {W : Type 0} (f : Ghosts W) where
   -- ---- behind all events
   abbrev pub PrintsEnding : World W f → Bounded → Bounded → Result Unit PrintFault → Type 0
   PrintsEnding w old new result = (v : V.World) → Shows f w v → Prints (ending (named_by w) (plain_of w) v) old new result
+
+  -- the report with the ending behind what it had, or why it was not printed
+  abbrev pub EndsReport : World W f → Bounded → Result Bounded PrintFault → Type 0
+  EndsReport w old (Ok new) = PrintsEnding w old new (Ok tt)
+  EndsReport w old (Err fault) = (new : Bounded) × PrintsEnding w old new (Err fault)
 
   -- the artifacts of the choices taken are printed
   abbrev pub PrintsQuiet : World W f → Bounded → Bounded → Result Unit PrintFault → Type 0

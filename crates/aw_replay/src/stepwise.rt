@@ -3,7 +3,7 @@ ghost use Rattle.std.specs.Prelude.{◌≡◌, [], Err, OnOk};
 ghost use Rattle.aw_sched.specs.Answers.{event_seen, MayCome};
 ghost use Rattle.aw_world.specs.WorldView.{plain_of};
 ghost use Rattle.aw_replay.specs.Replays.{Ends, HasHeadline, HasTold, IsNamed, IsPastLimit, TellsMore};
-ghost use Rattle.aw_replay.specs.Telling.{IsNew};
+ghost use Rattle.aw_replay.specs.Telling.{EndsReport, IsNew};
 
 use crate::ending::print_ending;
 use crate::replaying::{roomy_text, tell_event};
@@ -22,6 +22,14 @@ pub struct Replay<'g, W: Workspace> {
     names: NameWriter<'g>,
     text: Text,
     report: Report,
+}
+
+/// A report with the ending of a world behind what it has.
+fn print_ended<W: Workspace>(world: &World<W>, mut report: Report) -> Result<Report, PrintFault>
+    ensures { EndsReport ⟦<W as Workspace>⟧ world.now report result }
+{
+    print_ending(world, &mut report)?;
+    Ok(report)
 }
 
 impl<'g, W: Workspace> Replay<'g, W> {
@@ -70,14 +78,9 @@ impl<'g, W: Workspace> Replay<'g, W> {
         ensures ends { Ends ⟦<W as Workspace>⟧ self.entry result }
         ensures headline { HasHeadline ⟦<W as Workspace>⟧ self.entry }
     {
-        let Replay {
-            world,
-            mut report,
-            ..
-        } = self;
-        let told = print_ending(&world, &mut report);
+        let Replay { world, report, .. } = self;
+        let told = print_ended(&world, report);
         mem::forget(world);
-        told?;
-        Ok(report)
+        told
     }
 }

@@ -1,16 +1,17 @@
 //! What an event does in a world, and its lines.
-ghost use Rattle.std.specs.Prelude.{◌≡◌, ◌<◌, [], true, OnOk, OnErr};
+ghost use Rattle.std.specs.Prelude.{◌≡◌, ◌<◌, ◌++◌, [], true, map, OnOk, OnErr};
 ghost use Rattle.aw_base.specs.ChoiceFits.{choice_ok};
-ghost use Rattle.aw_choice.specs.ChoiceView.{choice_of};
+ghost use Rattle.aw_choice.specs.ChoiceView.{choice_of, item_of};
 ghost use Rattle.aw_choice.specs.Events as E;
+ghost use Rattle.aw_grammar.specs.GrammarOf.{words_of};
 ghost use Rattle.aw_react.specs.Worlds as V;
 ghost use Rattle.aw_sched.specs.Answers.{event_seen, MayCome};
 ghost use Rattle.aw_world.specs.WorldView.{plain_of};
-ghost use Rattle.aw_replay.specs.Telling.{Steps, AddsStep, StepsOrNot, IsSettled, AddsSettling, SettlesSome, Does, Tells, DoesSome};
+ghost use Rattle.aw_replay.specs.Telling.{Steps, AddsStep, StepsOrNot, IsSettled, AddsSettling, SettlesSome, Does, Tells, DoesSome, listed};
 
 use crate::lines::{push_chosen, push_delivery, push_settled};
 use aw_base::{NameWriter, push_item_lines, role_name};
-use aw_choice::Choice;
+use aw_choice::{Choice, Item};
 use aw_list::{Counted, Text};
 use aw_sched::Event;
 use aw_world::{Move, Workspace, World};
@@ -140,6 +141,22 @@ fn settling_lines<W: Workspace>(
     Ok(())
 }
 
+/// Adds the lines of a worklist.
+fn push_list(
+    text: &mut Text,
+    names: &mut NameWriter<'_>,
+    role: u16,
+    items: &[Item],
+) -> Result<(), AllocError>
+    ensures text { OnOk result (text.new ≡ text.old ++ listed (words_of names.old.grammar.now) role (map item_of items.now)) }
+    ensures grammar { names.new.grammar.now ≡ names.old.grammar.now }
+{
+    text.push_array(b"list ")?;
+    text.push_bytes(role_name(names.grammar(), role))?;
+    text.push(b'\n')?;
+    push_item_lines(text, names, items)
+}
+
 /// The lines of a worklist, into an empty text.
 fn list_lines<W: Workspace>(
     world: &World<W>,
@@ -154,10 +171,7 @@ fn list_lines<W: Workspace>(
     ensures names { names.new.grammar.now ≡ names.old.grammar.now }
 {
     let items = world.list(role)?;
-    text.push_array(b"list ")?;
-    text.push_bytes(role_name(names.grammar(), role))?;
-    text.push(b'\n')?;
-    push_item_lines(text, names, items.as_slice())
+    push_list(text, names, role, items.as_slice())
 }
 
 /// Does what an event asks for; its lines, into an empty text. After an error some first choices and deliveries of it were made.

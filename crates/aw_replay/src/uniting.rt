@@ -26,15 +26,25 @@ pub fn unite(alloc: Global, g: &Grammar) -> Result<Grammar, AllocError>
     Ok(one)
 }
 
+/// Accepts a grammar with one role alone. It has no circle where the grammar that it was made from has none.
+fn accept_united(alloc: Global, accepted: &Accepted, one: Grammar) -> Result<Accepted, AllocError>
+    requires words { words_of one ≡ united_words (words_of accepted.now.grammar) }
+    requires grammar { grammar_of one ≡ united (grammar_of accepted.now.grammar) }
+    ensures words { IfOk result (λ one. words_of one.grammar ≡ united_words (words_of accepted.now.grammar)) }
+    ensures grammar { IfOk result (λ one. grammar_of one.grammar ≡ united (grammar_of accepted.now.grammar)) }
+{
+    match accept(alloc, one) {
+        Ok(one) => Ok(one),
+        Err(Refused::NoMemory) => Err(AllocError),
+        Err(Refused::Circular { .. }) => unreachable!(),
+    }
+}
+
 /// The same accepted grammar with one role alone. It has no circle either, so that want of memory is the only error.
 pub fn unite_accepted(alloc: Global, accepted: &Accepted) -> Result<Accepted, AllocError>
     ensures words { IfOk result (λ one. words_of one.grammar ≡ united_words (words_of accepted.now.grammar)) }
     ensures grammar { IfOk result (λ one. grammar_of one.grammar ≡ united (grammar_of accepted.now.grammar)) }
 {
     let one = unite(alloc, accepted.grammar())?;
-    match accept(alloc, one) {
-        Ok(one) => Ok(one),
-        Err(Refused::NoMemory) => Err(AllocError),
-        Err(Refused::Circular { .. }) => unreachable!(),
-    }
+    accept_united(alloc, accepted, one)
 }
