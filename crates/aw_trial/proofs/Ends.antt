@@ -94,14 +94,13 @@ pub no_memory : (s : Summary) (r : Result Summary PrintFault) → r ≡ Err NoMe
 no_memory s r e = subst (Tells s) (sym e) tt
 
 -- from the world in which no site holds anything
-pub tried : {W : Type 0} (f : Ghosts W) (w : World W f) (a : Accepted) (count n : ℕ) (t : Tally) (r : Result Summary PrintFault) → w.accepted.now ≡ a → t ≡ tally_from n
-    → Shows f w (V.empty_world (grammar_of a.grammar) false)
+pub tried : {W : Type 0} (f : Ghosts W) (w : World W f) (count n : ℕ) (t : Tally) (r : Result Summary PrintFault) → t ≡ tally_from n
+    → Shows f w (V.empty_world (plain_of w) false)
     → ((v : V.World) (es : List Event) → Shows f w v → Tells (counted_after (named_by w) (plain_of w) (turns count (plain_of w) (record { world = v; tally = t; events = es }))) r)
-    → Tells (trial_in (words_of a.grammar) (grammar_of a.grammar) count n) r
-tried f w a count n t r ea et S tells =
-    let v = V.empty_world (grammar_of a.grammar) false in
-    subst (λ q. Tells (counted_after (words_of a.grammar) (grammar_of a.grammar) (turns count (grammar_of a.grammar) (record { world = v; tally = q; events = [] }))) r) et
-    (subst (λ (b : Accepted). Tells (counted_after (words_of b.grammar) (grammar_of b.grammar) (turns count (grammar_of b.grammar) (record { world = v; tally = t; events = [] }))) r) ea (tells v [] S))
+    → Tells (trial_in (named_by w) (plain_of w) count n) r
+tried f w count n t r et S tells =
+    let v = V.empty_world (plain_of w) false in
+    subst (λ q. Tells (counted_after (named_by w) (plain_of w) (turns count (plain_of w) (record { world = v; tally = q; events = [] }))) r) et (tells v [] S)
 
 -- in the grammar of the trial
 pub tried_there : (w : Words) (g : Grammar) (count n : ℕ) (r : Result Summary PrintFault) → w ≡ trial_words → g ≡ trial_grammar → Tells (trial_in w g count n) r → Tells (trial_in trial_words trial_grammar count n) r
@@ -118,8 +117,3 @@ told_within s (Err e) told = tt
 
 pub told_too_large : (s : Summary) (r : Result Summary PrintFault) → Tells s r → r ≡ Err TooLarge → most_bytes < s.bytes
 told_too_large s r told e = subst (Tells s) e told
-
-pub not_too_large : {A : Type 0} (r : Result Summary PrintFault) → r ≡ Err NoMemory → r ≡ Err TooLarge → A
-not_too_large (Ok x) e f = absurd cc
-not_too_large (Err TooLarge) e f = absurd cc
-not_too_large (Err NoMemory) e f = absurd cc

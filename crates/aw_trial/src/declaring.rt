@@ -162,49 +162,99 @@ fn two_children(alloc: Global, first: RawChild, second: RawChild) -> Result<RawC
     Ok(children)
 }
 
+/// Two texts.
+fn two_texts(alloc: Global, first: &[u8], second: &[u8]) -> Result<(Text, Text), AllocError>
+    ensures first { IfOk result (λ texts. texts.0 ≡ first.now) }
+    ensures second { IfOk result (λ texts. texts.1 ≡ second.now) }
+{
+    let first = Text::from_bytes(alloc, first)?;
+    let second = Text::from_bytes(alloc, second)?;
+    Ok((first, second))
+}
+
+/// A rule of these parts. Its name and its sort are copied.
+fn rule(
+    alloc: Global,
+    name: &[u8],
+    sort: &[u8],
+    params: Names,
+    patterns: RawTerms,
+    results: RawTerms,
+    children: RawChildren,
+) -> Result<RawRule, AllocError>
+    ensures { IfOk result (λ r. rule_of_raw r ≡ record { name = name.now; params = params; sort = sort.now; patterns = map written_of patterns; results = map written_of results; children = map child_of_raw children }) }
+{
+    let (name, sort) = two_texts(alloc, name, sort)?;
+    Ok(RawRule {
+        name,
+        params,
+        sort,
+        patterns,
+        results,
+        children,
+    })
+}
+
+/// The subtasks `test(item(n, ok))<a> ; note(a, n)<b>`.
+fn begin_children(alloc: Global) -> Result<RawChildren, AllocError>
+    ensures { IfOk result (λ children. map child_of_raw children ≡ begin_rule.children) }
+{
+    let test = child(alloc, b"test", one_pair(alloc, b"item", b"n", b"ok")?, b"a")?;
+    let note = child(alloc, b"note", two_words(alloc, b"a", b"n")?, b"b")?;
+    two_children(alloc, test, note)
+}
+
 /// `begin {n} : case()<pair(a, b)> = test(item(n, ok))<a> ; note(a, n)<b>`
 fn begin_rule(alloc: Global) -> Result<RawRule, AllocError>
     ensures { IfOk result (λ r. rule_of_raw r ≡ begin_rule) }
 {
-    let test = child(alloc, b"test", one_pair(alloc, b"item", b"n", b"ok")?, b"a")?;
-    let note = child(alloc, b"note", two_words(alloc, b"a", b"n")?, b"b")?;
-    Ok(RawRule {
-        name: Text::from_bytes(alloc, b"begin")?,
-        params: one_name(alloc, b"n")?,
-        sort: Text::from_bytes(alloc, b"case")?,
-        patterns: RawTerms::new(alloc),
-        results: one_pair(alloc, b"pair", b"a", b"b")?,
-        children: two_children(alloc, test, note)?,
-    })
+    rule(
+        alloc,
+        b"begin",
+        b"case",
+        one_name(alloc, b"n")?,
+        RawTerms::new(alloc),
+        one_pair(alloc, b"pair", b"a", b"b")?,
+        begin_children(alloc)?,
+    )
 }
 
 /// `measure {v} : test(item(x, y))<pair(x, v)>`
 fn measure_rule(alloc: Global) -> Result<RawRule, AllocError>
     ensures { IfOk result (λ r. rule_of_raw r ≡ measure_rule) }
 {
-    Ok(RawRule {
-        name: Text::from_bytes(alloc, b"measure")?,
-        params: one_name(alloc, b"v")?,
-        sort: Text::from_bytes(alloc, b"test")?,
-        patterns: one_pair(alloc, b"item", b"x", b"y")?,
-        results: one_pair(alloc, b"pair", b"x", b"v")?,
-        children: RawChildren::new(alloc),
-    })
+    rule(
+        alloc,
+        b"measure",
+        b"test",
+        one_name(alloc, b"v")?,
+        one_pair(alloc, b"item", b"x", b"y")?,
+        one_pair(alloc, b"pair", b"x", b"v")?,
+        RawChildren::new(alloc),
+    )
+}
+
+/// The subtask `note(x, x)<b>`.
+fn refer_children(alloc: Global) -> Result<RawChildren, AllocError>
+    ensures { IfOk result (λ children. map child_of_raw children ≡ refer_rule.children) }
+{
+    let note = child(alloc, b"note", two_words(alloc, b"x", b"x")?, b"b")?;
+    one_child(alloc, note)
 }
 
 /// `refer : test(item(x, ok))<b> = note(x, x)<b>`
 fn refer_rule(alloc: Global) -> Result<RawRule, AllocError>
     ensures { IfOk result (λ r. rule_of_raw r ≡ refer_rule) }
 {
-    let note = child(alloc, b"note", two_words(alloc, b"x", b"x")?, b"b")?;
-    Ok(RawRule {
-        name: Text::from_bytes(alloc, b"refer")?,
-        params: no_names(alloc),
-        sort: Text::from_bytes(alloc, b"test")?,
-        patterns: one_pair(alloc, b"item", b"x", b"ok")?,
-        results: one_word(alloc, b"b")?,
-        children: one_child(alloc, note)?,
-    })
+    rule(
+        alloc,
+        b"refer",
+        b"test",
+        no_names(alloc),
+        one_pair(alloc, b"item", b"x", b"ok")?,
+        one_word(alloc, b"b")?,
+        refer_children(alloc)?,
+    )
 }
 
 /// The patterns `pair(x, y), z`.
@@ -220,59 +270,105 @@ fn write_patterns(alloc: Global) -> Result<RawTerms, AllocError>
 fn write_rule(alloc: Global) -> Result<RawRule, AllocError>
     ensures { IfOk result (λ r. rule_of_raw r ≡ write_rule) }
 {
-    Ok(RawRule {
-        name: Text::from_bytes(alloc, b"write")?,
-        params: one_name(alloc, b"t")?,
-        sort: Text::from_bytes(alloc, b"note")?,
-        patterns: write_patterns(alloc)?,
-        results: one_pair(alloc, b"item", b"x", b"t")?,
-        children: RawChildren::new(alloc),
-    })
+    rule(
+        alloc,
+        b"write",
+        b"note",
+        one_name(alloc, b"t")?,
+        write_patterns(alloc)?,
+        one_pair(alloc, b"item", b"x", b"t")?,
+        RawChildren::new(alloc),
+    )
+}
+
+/// The subtask `keep(pair(x, y))<k>`.
+fn file_children(alloc: Global) -> Result<RawChildren, AllocError>
+    ensures { IfOk result (λ children. map child_of_raw children ≡ file_rule.children) }
+{
+    let keep = child(alloc, b"keep", one_pair(alloc, b"pair", b"x", b"y")?, b"k")?;
+    one_child(alloc, keep)
 }
 
 /// `file : note(x, y)<k> = keep(pair(x, y))<k>`
 fn file_rule(alloc: Global) -> Result<RawRule, AllocError>
     ensures { IfOk result (λ r. rule_of_raw r ≡ file_rule) }
 {
-    let keep = child(alloc, b"keep", one_pair(alloc, b"pair", b"x", b"y")?, b"k")?;
-    Ok(RawRule {
-        name: Text::from_bytes(alloc, b"file")?,
-        params: no_names(alloc),
-        sort: Text::from_bytes(alloc, b"note")?,
-        patterns: two_words(alloc, b"x", b"y")?,
-        results: one_word(alloc, b"k")?,
-        children: one_child(alloc, keep)?,
-    })
+    rule(
+        alloc,
+        b"file",
+        b"note",
+        no_names(alloc),
+        two_words(alloc, b"x", b"y")?,
+        one_word(alloc, b"k")?,
+        file_children(alloc)?,
+    )
 }
 
 /// `hold : keep(x)<x>`
 fn hold_rule(alloc: Global) -> Result<RawRule, AllocError>
     ensures { IfOk result (λ r. rule_of_raw r ≡ hold_rule) }
 {
-    Ok(RawRule {
-        name: Text::from_bytes(alloc, b"hold")?,
-        params: no_names(alloc),
-        sort: Text::from_bytes(alloc, b"keep")?,
-        patterns: one_word(alloc, b"x")?,
-        results: one_word(alloc, b"x")?,
-        children: RawChildren::new(alloc),
-    })
+    rule(
+        alloc,
+        b"hold",
+        b"keep",
+        no_names(alloc),
+        one_word(alloc, b"x")?,
+        one_word(alloc, b"x")?,
+        RawChildren::new(alloc),
+    )
+}
+
+/// The subtasks `keep(x)<a> ; keep(y)<b>`.
+fn split_children(alloc: Global) -> Result<RawChildren, AllocError>
+    ensures { IfOk result (λ children. map child_of_raw children ≡ split_rule.children) }
+{
+    let first = child(alloc, b"keep", one_word(alloc, b"x")?, b"a")?;
+    let second = child(alloc, b"keep", one_word(alloc, b"y")?, b"b")?;
+    two_children(alloc, first, second)
 }
 
 /// `split : keep(pair(x, y))<pair(a, b)> = keep(x)<a> ; keep(y)<b>`
 fn split_rule(alloc: Global) -> Result<RawRule, AllocError>
     ensures { IfOk result (λ r. rule_of_raw r ≡ split_rule) }
 {
-    let first = child(alloc, b"keep", one_word(alloc, b"x")?, b"a")?;
-    let second = child(alloc, b"keep", one_word(alloc, b"y")?, b"b")?;
-    Ok(RawRule {
-        name: Text::from_bytes(alloc, b"split")?,
-        params: no_names(alloc),
-        sort: Text::from_bytes(alloc, b"keep")?,
-        patterns: one_pair(alloc, b"pair", b"x", b"y")?,
-        results: one_pair(alloc, b"pair", b"a", b"b")?,
-        children: two_children(alloc, first, second)?,
-    })
+    rule(
+        alloc,
+        b"split",
+        b"keep",
+        no_names(alloc),
+        one_pair(alloc, b"pair", b"x", b"y")?,
+        one_pair(alloc, b"pair", b"a", b"b")?,
+        split_children(alloc)?,
+    )
+}
+
+/// Adds the rules of cases and of tests.
+fn push_test_rules(alloc: Global, rules: &mut RawRules) -> Result<(), AllocError>
+    ensures { OnOk result (map rule_of_raw rules.new ≡ map rule_of_raw rules.old ++ (begin_rule ∷ measure_rule ∷ refer_rule ∷ [])) }
+{
+    rules.push(begin_rule(alloc)?)?;
+    rules.push(measure_rule(alloc)?)?;
+    rules.push(refer_rule(alloc)?)?;
+    Ok(())
+}
+
+/// Adds the rules of notes.
+fn push_note_rules(alloc: Global, rules: &mut RawRules) -> Result<(), AllocError>
+    ensures { OnOk result (map rule_of_raw rules.new ≡ map rule_of_raw rules.old ++ (write_rule ∷ file_rule ∷ [])) }
+{
+    rules.push(write_rule(alloc)?)?;
+    rules.push(file_rule(alloc)?)?;
+    Ok(())
+}
+
+/// Adds the rules of what is kept.
+fn push_keep_rules(alloc: Global, rules: &mut RawRules) -> Result<(), AllocError>
+    ensures { OnOk result (map rule_of_raw rules.new ≡ map rule_of_raw rules.old ++ (hold_rule ∷ split_rule ∷ [])) }
+{
+    rules.push(hold_rule(alloc)?)?;
+    rules.push(split_rule(alloc)?)?;
+    Ok(())
 }
 
 /// The seven rules.
@@ -280,13 +376,9 @@ fn rules(alloc: Global) -> Result<RawRules, AllocError>
     ensures { IfOk result (λ rules. map rule_of_raw rules ≡ trial_rules) }
 {
     let mut rules = RawRules::new(alloc);
-    rules.push(begin_rule(alloc)?)?;
-    rules.push(measure_rule(alloc)?)?;
-    rules.push(refer_rule(alloc)?)?;
-    rules.push(write_rule(alloc)?)?;
-    rules.push(file_rule(alloc)?)?;
-    rules.push(hold_rule(alloc)?)?;
-    rules.push(split_rule(alloc)?)?;
+    push_test_rules(alloc, &mut rules)?;
+    push_note_rules(alloc, &mut rules)?;
+    push_keep_rules(alloc, &mut rules)?;
     Ok(rules)
 }
 

@@ -21,15 +21,25 @@ fn trial_grammar(alloc: Global) -> Result<Grammar, AllocError>
     }
 }
 
+/// Accepts the grammar of the trial, in which nothing can come to depend on itself.
+fn accept_trial(alloc: Global, g: Grammar) -> Result<Accepted, AllocError>
+    requires grammar { grammar_of g ≡ trial_grammar }
+    requires words { words_of g ≡ trial_words }
+    ensures grammar { IfOk result (λ a. grammar_of a.grammar ≡ trial_grammar) }
+    ensures words { IfOk result (λ a. words_of a.grammar ≡ trial_words) }
+{
+    match accept(alloc, g) {
+        Ok(accepted) => Ok(accepted),
+        Err(Refused::Circular { .. }) => unreachable!(),
+        Err(Refused::NoMemory) => Err(AllocError),
+    }
+}
+
 /// The grammar of the trial, accepted: no value in it can come to depend on itself, so it is missing only where memory is.
 pub fn trial_accepted(alloc: Global) -> Result<Accepted, AllocError>
     ensures grammar { IfOk result (λ a. grammar_of a.grammar ≡ trial_grammar) }
     ensures words { IfOk result (λ a. words_of a.grammar ≡ trial_words) }
 {
     let g = trial_grammar(alloc)?;
-    match accept(alloc, g) {
-        Ok(accepted) => Ok(accepted),
-        Err(Refused::Circular { .. }) => unreachable!(),
-        Err(Refused::NoMemory) => Err(AllocError),
-    }
+    accept_trial(alloc, g)
 }

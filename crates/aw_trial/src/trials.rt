@@ -1,5 +1,5 @@
 //! A whole trial.
-ghost use Rattle.std.specs.Prelude.{◌≡◌, ◌<◌, ◌≤◌, List, true, None, Err, IfOk, map, slice_get};
+ghost use Rattle.std.specs.Prelude.{◌≡◌, ◌<◌, ◌≤◌, List, true, false, None, Err, IfOk, map, slice_get};
 ghost use Rattle.aw_base.specs.NodeNames.{is_start};
 ghost use Rattle.aw_choice.specs.Events.{Event};
 ghost use Rattle.aw_choice.specs.ChoiceView.{choice_of};
@@ -62,12 +62,12 @@ fn run_trial<W: Workspace>(world: &mut World<W>, tally: &mut Tally) -> Result<Su
     count_all(world, tally)
 }
 
-/// A trial in the world of an accepted grammar.
-fn trial_in(alloc: Global, accepted: &Accepted, n: u64) -> Result<Summary, PrintFault>
-    requires { is_start (slice_get (grammar_of accepted.now.grammar).sorts 0) ≡ true }
-    ensures { Tells (trial_in (words_of accepted.now.grammar) (grammar_of accepted.now.grammar) 2000 n) result }
+/// A trial in a world in which nothing happened yet.
+fn try_in<W: Workspace>(world: &mut World<W>, n: u64) -> Result<Summary, PrintFault>
+    requires start { is_start (slice_get (plain_of world.old).sorts 0) ≡ true }
+    requires empty { Shows ⟦<W as Workspace>⟧ world.old (V.empty_world (plain_of world.old) false) }
+    ensures { Tells (trial_in (named_by world.old) (plain_of world.old) 2000 n) result }
 {
-    let mut world = SiteWorld::new(alloc, accepted, false)?;
     let mut tally = Tally {
         seed: n,
         starts: 0,
@@ -75,7 +75,24 @@ fn trial_in(alloc: Global, accepted: &Accepted, n: u64) -> Result<Summary, Print
         taken: 0,
         repeats: 0,
     };
-    run_trial(&mut world, &mut tally)
+    run_trial(world, &mut tally)
+}
+
+/// A trial in the world of an accepted grammar.
+fn trial_in(alloc: Global, accepted: &Accepted, n: u64) -> Result<Summary, PrintFault>
+    requires { is_start (slice_get (grammar_of accepted.now.grammar).sorts 0) ≡ true }
+    ensures { Tells (trial_in (words_of accepted.now.grammar) (grammar_of accepted.now.grammar) 2000 n) result }
+{
+    let mut world = SiteWorld::new(alloc, accepted, false)?;
+    try_in(&mut world, n)
+}
+
+/// A trial in the world of the trial's grammar, which is let go then.
+fn try_once(alloc: Global, n: u64) -> Result<Summary, PrintFault>
+    ensures { Tells (trial n) result }
+{
+    let accepted = trial_accepted(alloc)?;
+    trial_in(alloc, &accepted, n)
 }
 
 /// A trial: 2,000 turns that are drawn from a number, each of which starts a case, makes a choice or delivers a message; then everything
@@ -85,6 +102,5 @@ pub fn trial(alloc: Global, n: u64) -> Result<Summary, PrintFault>
     ensures within { IfOk result (λ s. s.bytes ≤ OUTPUT_LIMIT) }
     ensures too_large { result ≡ Err PrintFault.TooLarge → OUTPUT_LIMIT < (trial n).bytes }
 {
-    let accepted = trial_accepted(alloc)?;
-    trial_in(alloc, &accepted, n)
+    try_once(alloc, n)
 }
