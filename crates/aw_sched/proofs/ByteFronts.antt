@@ -106,7 +106,7 @@ quoted_says bs rest content e =
 abbrev pub others : List ℕ → List ℕ
 others bs = take (length bs - 1) (drop 1 bs)
 
-behind_first : (bs : List ℕ) (d : ℕ) → 1 ≤ length bs → bs ≡ get_or bs 0 d ∷ others bs
+pub behind_first : (bs : List ℕ) (d : ℕ) → 1 ≤ length bs → bs ≡ get_or bs 0 d ∷ others bs
 behind_first [] d some = absurd (omega (arith, some))
 behind_first (b ∷ bs) d some = ap (λ k. b ∷ k) (sym (take_all (length (b ∷ bs) - 1) bs (omega arith)))
 

@@ -1,5 +1,5 @@
 -- Arguments with their names looked up, by their parts.
-use Rattle.std.proofs.Common.{◌≡◌, ℕ, ◌+◌, ◌≤◌, ◌<◌, ◌⊎◌, inl, inr, refl, sym, ap, ◌∙◌, Bool, true, false, ◌||◌, not, List, [], ◌∷◌, map, length, Option, Some, None, is_some, option_map, option_and_then, arith, nat_lt}
+use Rattle.std.proofs.Common.{◌≡◌, ℕ, suc, ◌+◌, ◌≤◌, ◌<◌, ◌⊎◌, inl, inr, refl, sym, ap, ◌∙◌, Bool, true, false, ◌||◌, not, List, [], ◌∷◌, map, length, Option, Some, None, is_some, option_map, option_and_then, arith, nat_lt}
 use Rattle.std.specs.Prelude.{Result, Ok, Err, is_none, IsErrAnd, MatchOption}
 use Rattle.std.proofs.lemmas.Bool.{le-ltb}
 use Rattle.std.proofs.lemmas.Bool.Decides.{nat_tests}
@@ -12,8 +12,9 @@ use Rattle.aw_term.proofs.ViewLemmas.{ground_con}
 use Rattle.aw_term.specs.declared.ground.Ground as grounds
 use Rattle.aw_grammar.specs.Written.{Written, Word, Apply, side_by_side}
 use Rattle.aw_grammar.specs.Named.{number_named}
-use Rattle.aw_grammar.specs.Terms.{symbols_in_all, depth_of_all}
+use Rattle.aw_grammar.specs.Terms.{symbols_in, symbols_in_parts, symbols_in_all, depth_of_all}
 use Rattle.aw_sched.specs.Events.{args_are_past}
+use Rattle.aw_sched.specs.ArgumentRoots.{FindsRoot, HasParts}
 use Rattle.aw_sched.specs.Grounds.{known_ground, known_parts, known_grounds, Finds}
 use Rattle.aw_sched.specs.declared.fault.LineFault.{LineFault}
 use Rattle.aw_sched.specs.declared.fault.LineFault.TheVariants.{Bad, NoMemory}
@@ -46,12 +47,25 @@ pub apply_known : (cons : List (List ℕ)) (x : List ℕ) (c : ℕ) (ts : List W
 apply_known cons x c ts parts e f =
     apply_is cons x c ts e ∙ ap (λ o. option_map (λ ps. Made (P.Con c) ps) (option_map join o)) f ∙ ap Some (sym (ground_con c parts))
 
-pub apply_unknown : (cons : List (List ℕ)) (x : List ℕ) (c : ℕ) (ts : List Written) (e : LineFault) → number_named cons x ≡ Some c
-    → Finds (λ (found : List grounds.Ground). map ground_of found) (known_grounds cons ts) (Err e)
-    → Finds ground_of (known_ground cons (Apply x (side_by_side ts))) (Err e)
-apply_unknown cons x c ts (Bad k) e f =
-    (apply_is cons x c ts e ∙ ap (λ o. option_map (λ ps. Made (P.Con c) ps) (option_map join o)) f.0, f.1)
-apply_unknown cons x c ts NoMemory e f = tt
+pub symbols_side : (ts : List Written) → symbols_in_parts (side_by_side ts) ≡ symbols_in_all ts
+symbols_side [] = refl
+symbols_side (t ∷ ts) = ap (λ n. symbols_in t + n) (symbols_side ts)
+
+-- what holds of a term by its root and its parts
+module _ (cons : List (List ℕ)) (t : Written) (c : ℕ) (ts : List Written) (root : HasParts cons t c ts) where
+  pub root_symbols : symbols_in t ≡ suc (symbols_in_all ts)
+  root_symbols = ap symbols_in root.is ∙ ap (λ n. suc n) (symbols_side ts)
+
+  pub root_known : (parts : List grounds.Ground) → known_grounds cons ts ≡ Some (map ground_of parts) → known_ground cons t ≡ Some (ground_of (grounds.Con c parts))
+  root_known parts f = ap (known_ground cons) root.is ∙ apply_known cons root.name c ts parts root.number f
+
+  pub root_unknown : {X : Type 0} (view : X → List R.Ground) (e : LineFault) → Finds view (known_grounds cons ts) (Err e) → Finds ground_of (known_ground cons t) (Err e)
+  root_unknown view (Bad k) f = (ap (known_ground cons) root.is ∙ apply_is cons root.name c ts root.number ∙ ap (λ o. option_map (λ ps. Made (P.Con c) ps) (option_map join o)) f.0, f.1)
+  root_unknown view NoMemory f = tt
+
+pub no_root : (cons : List (List ℕ)) (t : Written) (e : LineFault) → FindsRoot cons t (Err e) → Finds ground_of (known_ground cons t) (Err e)
+no_root cons t (Bad k) h = h
+no_root cons t NoMemory h = tt
 
 -- the limits of arguments
 past : (depth symbols : ℕ) → (32 < depth) ⊎ (256 < symbols) → true ≡ (nat_lt 256 symbols || nat_lt 32 depth)

@@ -10,27 +10,26 @@ use Rattle.aw_term.specs.declared.ground.Ground.{Ground}
 use Rattle.aw_term.specs.declared.ground.Ground as grounds
 use Rattle.aw_grammar.specs.declared.rule.Con.{Con}
 use Rattle.aw_grammar.specs.Written.{Written, Word, Apply, Literal, side_by_side}
-use Rattle.aw_grammar.specs.Terms.{symbols_in, symbols_in_parts, symbols_in_all, depth_of, depth_of_parts, depth_of_all}
+use Rattle.aw_grammar.specs.Terms.{symbols_in, symbols_in_all, depth_of, depth_of_parts, depth_of_all}
 use Rattle.aw_grammar.specs.Kinds.{has_arity, con_called, has_arities, parts_have_arities, all_have_arities}
 use Rattle.aw_grammar.proofs.TermLemmas.{count_side}
 use Rattle.aw_form.specs.Lexemes.{Lexeme, Name, Number, Quoted, Mark}
 use Rattle.aw_form.specs.Laws.{AreWritten}
 use Rattle.aw_form.specs.Terms.{spelling, spellings, spellings_behind}
 use Rattle.aw_sched.specs.Arguments.{names_of, IsCon, Means}
+use Rattle.aw_sched.specs.ArgumentFronts.{AreInBraces, IsFront, OpensParts}
 use Rattle.aw_sched.specs.ByteArguments.{Says, SaysBefore, TakesArgument, TakesArguments, TakesAll}
 use Rattle.aw_sched.proofs.ByteFronts.{says_nothing, says_same}
 use Rattle.aw_sched.specs.Grounds.{known_grounds}
 use Rattle.aw_sched.specs.LineSpelling.{args_spelling}
-use Rattle.aw_sched.proofs.KnownGrounds.{word_known, apply_known}
+use Rattle.aw_sched.specs.declared.known.ArgumentFront.{ArgumentFront}
+use Rattle.aw_sched.specs.declared.known.ArgumentFront.TheVariants.{Whole, Parts}
+use Rattle.aw_sched.proofs.KnownGrounds.{word_known, apply_known, symbols_side}
 
--- terms side by side are as deep, have as many symbols, and have the arities that they have one by one
+-- terms side by side are as deep and have the arities that they have one by one
 depth_side : (ts : List Written) → depth_of_parts (side_by_side ts) ≡ depth_of_all ts
 depth_side [] = refl
 depth_side (t ∷ ts) = ap (λ n. max (depth_of t) n) (depth_side ts)
-
-symbols_side : (ts : List Written) → symbols_in_parts (side_by_side ts) ≡ symbols_in_all ts
-symbols_side [] = refl
-symbols_side (t ∷ ts) = ap (λ n. symbols_in t + n) (symbols_side ts)
 
 arities_side : (cons : List Con) (ts : List Written) → parts_have_arities cons (side_by_side ts) ≡ all_have_arities cons ts
 arities_side cons [] = refl
@@ -179,31 +178,40 @@ word_read cons depth room left name con parts none bytes rest some e is no_parts
 }
 
 -- a constructor with parts is read
-pub parts_read : (cons : List Con) (depth room within inside left : ℕ) (name : List ℕ) (con parts : ℕ) (xs : List Ground) (bytes behind first rest : List ℕ) → within + 1 ≡ depth → inside + 1 ≡ room
-    → IsCon cons name con parts → length xs ≡ parts → SaysBefore bytes (Name name ∷ []) behind → SaysBefore behind (Mark 40 ∷ []) first → TakesArguments cons 41 within inside first xs left rest
+pub parts_read : (cons : List Con) (depth room within inside left : ℕ) (con parts : ℕ) (xs : List Ground) (bytes first rest : List ℕ) → within + 1 ≡ depth → inside + 1 ≡ room
+    → OpensParts cons bytes con parts first → length xs ≡ parts → TakesArguments cons 41 within inside first xs left rest
     → TakesArgument cons depth room bytes (grounds.Con con xs) left rest
-parts_read cons depth room within inside left name con parts xs bytes behind first rest d e is number front opened read =
+parts_read cons depth room within inside left con parts xs bytes first rest d e opened number read =
     let ts = read.terms in
     let all = spellings (side_by_side ts) ++ Mark 41 ∷ [] in
     record {
-      term = Apply name (side_by_side ts);
+      term = Apply opened.name (side_by_side ts);
       means = record {
         written = written_all cons within ts xs read.means;
         shallow = omega (arith, d, depth_side ts, shallow_all cons within ts xs read.means);
-        known = apply_known (names_of cons) name con ts xs is.number (known_all cons within ts xs read.means);
-        arities = and_from _ _ (ap (λ n. has_arity n (con_called name cons)) (count_side ts ∙ length_all cons within ts xs read.means ∙ number) ∙ is.arity)
+        known = apply_known (names_of cons) opened.name con ts xs opened.is.number (known_all cons within ts xs read.means);
+        arities = and_from _ _ (ap (λ n. has_arity n (con_called opened.name cons)) (count_side ts ∙ length_all cons within ts xs read.means ∙ number) ∙ opened.is.arity)
             (arities_side cons ts ∙ arities_all cons within ts xs read.means);
       };
-      spelled = λ ls s. front (Mark 40 ∷ (all ++ ls)) (opened (all ++ ls) (read.spelled ls s));
+      spelled = λ ls s. opened.spelled (all ++ ls) (read.spelled ls s);
       symbols = omega (arith, e, symbols_side ts, read.symbols);
     }
 
--- an argument whose name was read
-pub takes_behind_name : {E : Type 0} (cons : List Con) (depth room left : ℕ) (name bytes behind rest : List ℕ) (r : Result Ground E)
-    → IfOk r (λ x. (bs : List ℕ) → SaysBefore bs (Name name ∷ []) behind → TakesArgument cons depth room bs x left rest)
-    → SaysBefore bytes (Name name ∷ []) behind → IfOk r (λ x. TakesArgument cons depth room bytes x left rest)
-takes_behind_name cons depth room left name bytes behind rest (Ok x) h front = h bytes front
-takes_behind_name cons depth room left name bytes behind rest (Err e) h front = tt
+-- an argument whose parts were read, where they are as many as they have to be
+pub with_parts_read : {E : Type 0} (cons : List Con) (depth room within inside left : ℕ) (con parts : ℕ) (xs : List Ground) (bytes first rest : List ℕ) (r : Result Ground E) → within + 1 ≡ depth → inside + 1 ≡ room
+    → OpensParts cons bytes con parts first → TakesArguments cons 41 within inside first xs left rest → IfOk r (λ x. (x ≡ grounds.Con con xs) × (length xs ≡ parts))
+    → IfOk r (λ x. TakesArgument cons depth room bytes x left rest)
+with_parts_read cons depth room within inside left con parts xs bytes first rest (Ok x) d e opened read made =
+    subst (λ y. TakesArgument cons depth room bytes y left rest) (sym made.0) (parts_read cons depth room within inside left con parts xs bytes first rest d e opened made.1 read)
+with_parts_read cons depth room within inside left con parts xs bytes first rest (Err f) d e opened read made = tt
+
+-- what stands at the front of an argument stands there behind blanks
+pub front_behind : (cons : List Con) (line bytes : List ℕ) (x : ArgumentFront) (rest : List ℕ) → SaysBefore line [] bytes → IsFront cons bytes x rest → IsFront cons line x rest
+front_behind cons line bytes (Whole x) rest blanks is = λ depth room left some e.
+    let read = is depth room left some e in
+    record { term = read.term; means = read.means; spelled = λ ls s. blanks (spelling read.term ++ ls) (read.spelled ls s); symbols = read.symbols }
+front_behind cons line bytes (Parts con arity parts) rest blanks is =
+    (record { name = is.0.name; is = is.0.is; spelled = λ ls s. blanks (Name is.0.name ∷ Mark 40 ∷ ls) (is.0.spelled ls s) }, is.1)
 
 -- no arguments, or some between braces, behind which nothing is left
 pub none_read : (cons : List Con) (xs : List Ground) (bytes : List ℕ) → xs ≡ [] → SaysBefore bytes [] [] → TakesAll cons bytes xs
@@ -221,19 +229,19 @@ spelled_some (t ∷ ts) some = refl
 few_is : (number symbols depth : ℕ) → number ≤ 8 → symbols ≤ 256 → depth ≤ 32 → (nat_lt 8 number || (nat_lt 256 symbols || nat_lt 32 depth)) ≡ false
 few_is number symbols depth a b c = grind (arith, nat_tests)
 
-pub some_read : (cons : List Con) (left : ℕ) (bytes first rest : List ℕ) (xs : List Ground) → SaysBefore bytes (Mark 123 ∷ []) first → TakesArguments cons 125 32 256 first xs left rest → SaysBefore rest [] [] → length xs ≤ 8
-    → TakesAll cons bytes xs
-some_read cons left bytes first rest xs opened read end few =
+pub some_read : (cons : List Con) (bytes first : List ℕ) (xs : List Ground) → SaysBefore bytes (Mark 123 ∷ []) first → AreInBraces cons first xs → TakesAll cons bytes xs
+some_read cons bytes first xs opened braces =
+    let read = braces.reads in
     let ts = read.terms in
     let inside = spellings (side_by_side ts) ++ Mark 125 ∷ [] in
     record {
       spelled = Mark 123 ∷ inside;
-      says = subst (λ k. Says bytes (Mark 123 ∷ k)) (append-nil inside) (opened (inside ++ []) (read.spelled [] (end [] says_nothing)));
+      says = subst (λ k. Says bytes (Mark 123 ∷ k)) (append-nil inside) (opened (inside ++ []) (read.spelled [] (braces.ends [] says_nothing)));
       reads = record {
         terms = ts;
         written = written_all cons 32 ts xs read.means;
         spelled = spelled_some ts (omega (arith, read.symbols, read.some));
-        within = few_is (length ts) (symbols_in_all ts) (depth_of_all ts) (omega (arith, few, length_all cons 32 ts xs read.means)) (omega (arith, read.symbols)) (shallow_all cons 32 ts xs read.means);
+        within = few_is (length ts) (symbols_in_all ts) (depth_of_all ts) (omega (arith, braces.few, length_all cons 32 ts xs read.means)) (omega (arith, read.symbols)) (shallow_all cons 32 ts xs read.means);
         known = known_all cons 32 ts xs read.means;
         arities = arities_all cons 32 ts xs read.means;
       };

@@ -1,6 +1,6 @@
 -- Events that are read one after the other.
 use Rattle.std.proofs.Common.{◌≡◌, ℕ, refl, ap, sym, subst, ◌∙◌, List, [], ◌∷◌, ◌++◌, map}
-use Rattle.std.specs.Prelude.{Err, IfSome, None, Ok, Option, Some}
+use Rattle.std.specs.Prelude.{Err, IfSome, None, Ok, Option, Result, Some}
 use Rattle.aw_term.specs.WellFormed.{Each}
 use Rattle.aw_grammar.specs.declared.grammar.Grammar.{Grammar}
 use Rattle.aw_grammar.specs.GrammarOf.{grammar_of}
@@ -9,8 +9,8 @@ use Rattle.aw_typed.specs.declared.data.Typed.{Typed}
 use Rattle.aw_sched.specs.Events as P
 use Rattle.aw_sched.specs.Schedules.{LineRead, Read, Events, FaultAt, in_front, with_event}
 use Rattle.aw_sched.specs.Answers.{Answers, HasTypes, MayCome, event_seen}
-use Rattle.aw_sched.specs.LineEvents.{ReadsLine, fault_at, with_events}
-use Rattle.aw_sched.specs.Readers.{AreRead, Passes, ReadsNext, left}
+use Rattle.aw_sched.specs.LineEvents.{ReadsLine, found_at, with_events}
+use Rattle.aw_sched.specs.Readers.{AreRead, Passes, ReadsNext, ReadsOn, left}
 use Rattle.aw_sched.specs.declared.fault.LineFault.{LineFault}
 use Rattle.aw_sched.specs.declared.fault.LineFault.TheVariants.{Bad, NoMemory}
 use Rattle.aw_sched.specs.declared.fault.SchedFault.{SchedFault}
@@ -35,10 +35,19 @@ pub with_more : (before more : List Event) (later : Read) → with_events (map e
 with_more [] more later = refl
 with_more (e ∷ es) more later = ap (with_event (event_seen e)) (with_more es more later)
 
--- the fault of a line is that of all that is read from it on
-pub fault_next : (n : ℕ) (read : LineRead) (later after : Read) (fault : LineFault) → ReadsLine read (Err fault) → ReadsNext (in_front n read later) (Err (fault_at n fault)) after
-fault_next n read later after (Bad kind) h = ap (λ r. in_front n r later) h
-fault_next n read later after NoMemory h = tt
+-- what a line gives is what is read next
+pub reads_on : (n : ℕ) (read : LineRead) (later : Read) (found : Result (Option Event) LineFault) → ReadsLine read found → ReadsOn (in_front n read later) (found_at n found) later
+reads_on n read later (Ok None) h = ap (λ r. in_front n r later) h
+reads_on n read later (Ok (Some e)) h = ap (λ r. in_front n r later) h
+reads_on n read later (Err (Bad kind)) h = ap (λ r. in_front n r later) h
+reads_on n read later (Err NoMemory) h = tt
+
+-- where a line is not passed over, what it gives is next
+pub next_is : (before middle after : Read) (found : Result (Option Event) SchedFault) → middle ≡ before → (found ≡ Ok None → ⊥) → ReadsOn middle found after → ReadsNext before found after
+next_is before middle after (Ok None) same told h = absurd (told refl)
+next_is before middle after (Ok (Some e)) same told h = sym same ∙ h
+next_is before middle after (Err (Told line kind)) same told h = sym same ∙ h
+next_is before middle after (Err Unread) same told h = tt
 
 each_more : {A : Type 0} (P : A → Type 0) (as' bs : List A) → Each P as' → Each P bs → Each P (as' ++ bs)
 each_more P [] bs front back = back

@@ -1,4 +1,6 @@
 pub mod Answers
+pub mod ArgumentFronts
+pub mod ArgumentRoots
 pub mod Arguments
 pub mod ByteArguments
 pub mod ChoiceFronts

@@ -74,3 +74,8 @@ with_events (e ∷ es) read = with_event e (with_events es read)
 abbrev pub fault_at : ℕ → LineFault → SchedFault
 fault_at line (Bad kind) = fault.Bad line kind
 fault_at line NoMemory = fault.NoMemory
+
+-- what was found in the line with this number
+abbrev pub found_at : ℕ → Result (Option Event) LineFault → Result (Option Event) SchedFault
+found_at line (Ok found) = Ok found
+found_at line (Err fault) = Err (fault_at line fault)

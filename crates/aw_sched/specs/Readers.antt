@@ -32,6 +32,13 @@ ReadsNext before (Ok (Some e)) after = before ≡ with_event (event_seen e) afte
 ReadsNext before (Err (Bad line kind)) after = before ≡ FaultAt line kind
 ReadsNext before (Err NoMemory) after = Unit {0}
 
+-- The same of one line alone. Where it is passed over, the same is left behind it.
+abbrev pub ReadsOn : Read → Result (Option Event) SchedFault → Read → Type 0
+ReadsOn before (Ok None) after = before ≡ after
+ReadsOn before (Ok (Some e)) after = before ≡ with_event (event_seen e) after
+ReadsOn before (Err (Bad line kind)) after = before ≡ FaultAt line kind
+ReadsOn before (Err NoMemory) after = Unit {0}
+
 -- These events are read next, and then this is left. They may come, and the arguments of their choices have their types.
 pub record AreRead (r : ScheduleReader) (es : List Event) (later : Read) : Type 0 where
   pub read : left r ≡ with_events (map event_seen es) later

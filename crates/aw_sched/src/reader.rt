@@ -1,12 +1,13 @@
 //! A schedule, read event by event.
-ghost use Rattle.std.specs.Prelude.{◌≡◌, ◌<◌, IfOk, IfSome, length};
+ghost use Rattle.std.specs.Prelude.{◌≡◌, ◌<◌, ◌∷◌, ◌↔◌, IsTrue, IfOk, IfSome, Ok, None, length};
+ghost use Rattle.aw_lex.specs.Lines.{lines_of};
 ghost use Rattle.aw_typed.specs.Typing.{types_of, IsMadeFor};
 ghost use Rattle.aw_term.specs.WellFormed.{Each};
 ghost use Rattle.aw_grammar.specs.GrammarOf.{declarations_of, grammar_of};
 ghost use Rattle.aw_sched.specs.Schedules.{schedule_of};
 ghost use Rattle.aw_sched.specs.Answers.{Answers, HasTypes, MayCome};
-ghost use Rattle.aw_sched.specs.LineEvents.{fault_at};
-ghost use Rattle.aw_sched.specs.Readers.{IsReading, Passes, ReadsNext, left};
+ghost use Rattle.aw_sched.specs.LineEvents.{fault_at, found_at};
+ghost use Rattle.aw_sched.specs.Readers.{IsReading, Passes, ReadsNext, ReadsOn, left};
 
 use crate::choice_line::LastNode;
 use crate::event::{Event, Events};
@@ -24,6 +25,23 @@ fn fault_at(line: u64, fault: LineFault) -> SchedFault
         LineFault::Bad(kind) => SchedFault::Bad { line, kind },
         LineFault::NoMemory => SchedFault::NoMemory,
     }
+}
+
+/// What was found in the line of this number, its fault told with that number.
+fn at_line(line: u64, found: Result<Option<Event>, LineFault>) -> Result<Option<Event>, SchedFault>
+    ensures { result ≡ found_at line found }
+{
+    match found {
+        Ok(event) => Ok(event),
+        Err(fault) => Err(fault_at(line, fault)),
+    }
+}
+
+/// Whether a line was passed over.
+fn is_passed_over(found: &Result<Option<Event>, SchedFault>) -> bool
+    ensures { IsTrue result ↔ (found.now ≡ Ok None) }
+{
+    matches!(found, Ok(None))
 }
 
 /// Reads the events of a schedule one after the other, whose choices have arguments of these types. No event is kept: who reads one
@@ -73,22 +91,37 @@ impl<'a> ScheduleReader<'a> {
         ensures shorter { IfOk result (λ found. IfSome found (λ event. length self.new.rest.now < length self.old.rest.now)) }
     {
         while let Some((line, behind)) = next_line(self.rest) {
-            self.rest = behind;
-            self.line += 1;
-            match line_event(
-                &mut self.found,
-                &mut self.nodes,
-                &mut self.last,
-                self.grammar,
-                self.typed,
-                line,
-            ) {
-                Ok(Some(event)) => return Ok(Some(event)),
-                Ok(None) => {}
-                Err(fault) => return Err(fault_at(self.line, fault)),
+            let found = self.read_line(line, behind);
+            if !is_passed_over(&found) {
+                return found;
             }
         }
         Ok(None)
+    }
+
+    /// What the next line gives, behind which this is left. It is counted.
+    fn read_line(&mut self, line: &'a [u8], behind: &'a [u8]) -> Result<Option<Event>, SchedFault>
+        requires reading { IsReading self.old }
+        requires line { lines_of self.old.rest.now ≡ line.now ∷ lines_of behind.now }
+        requires shorter { length behind.now < length self.old.rest.now }
+        ensures reading { IsReading self.new }
+        ensures kept { (self.new.grammar.now ≡ self.old.grammar.now) × (self.new.typed.now ≡ self.old.typed.now) }
+        ensures rest { self.new.rest.now ≡ behind.now }
+        ensures next { ReadsOn (left self.old) result (left self.new) }
+        ensures fits { IfOk result (λ found. IfSome found (MayCome (grammar_of self.old.grammar.now))) }
+        ensures types { IfOk result (λ found. IfSome found (HasTypes (types_of self.old.typed.now.types) (grammar_of self.old.grammar.now))) }
+    {
+        self.rest = behind;
+        self.line += 1;
+        let found = line_event(
+            &mut self.found,
+            &mut self.nodes,
+            &mut self.last,
+            self.grammar,
+            self.typed,
+            line,
+        );
+        at_line(self.line, found)
     }
 
     /// Reads what is left for its faults alone.

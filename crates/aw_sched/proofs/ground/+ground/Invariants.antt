@@ -10,11 +10,11 @@ use Rattle.aw_sched.proofs.ground.+ground.Given as goal
 abbrev pub decreases-ground : goal.decreases-ground
 decreases-ground l = 2 * symbols_in (written_of l.term)
 
-abbrev pub decreases-grounds : goal.decreases-grounds
-decreases-grounds l = 2 * symbols_in_all (map written_of l.terms) + 1
+abbrev pub decreases-add_grounds : goal.decreases-add_grounds
+decreases-add_grounds l = 2 * symbols_in_all (map written_of l.terms) + 1
 
-abbrev pub invariant-grounds-loop-term : goal.invariant-grounds-loop-term
-invariant-grounds-loop-term l = record {
+abbrev pub invariant-add_grounds-loop-term : goal.invariant-add_grounds-loop-term
+invariant-add_grounds-loop-term l = record {
   known : option_map (λ more. map ground_of l.found ++ more) (known_grounds (words_of l.g).cons (map written_of (into_iter_items l.term-iterator)))
       ≡ known_grounds (words_of l.g).cons (map written_of l.fn.terms);
   few : symbols_in_all (map written_of (into_iter_items l.term-iterator)) ≤ symbols_in_all (map written_of l.fn.terms);

@@ -2,14 +2,11 @@ use Rattle.std.proofs.Common.{◌+◌, ◌*◌, ◌≡◌}
 use Rattle.aw_sched.proofs.ReadArguments.{ReadSoFar}
 use Rattle.aw_sched.proofs.known.ArgumentReader.+argument.Given as goal
 
-abbrev pub decreases-constructor : goal.decreases-constructor
-decreases-constructor l = 3 * l.depth
-
 abbrev pub decreases-argument : goal.decreases-argument
-decreases-argument l = 3 * l.depth + 1
+decreases-argument l = 2 * l.depth
 
 abbrev pub decreases-arguments : goal.decreases-arguments
-decreases-arguments l = 3 * l.depth + 2
+decreases-arguments l = 2 * l.depth + 1
 
 abbrev pub invariant-arguments-reading : goal.invariant-arguments-reading
 invariant-arguments-reading l = record {
