@@ -1,5 +1,5 @@
 -- What a file stands for before, while and after a record is added to it.
-use Rattle.std.specs.Prelude.{◌≡◌, ◌≢◌, ℕ, ◌+◌, ◌^◌, ◌<◌, List, [], ◌∷◌, ◌++◌, Bool, IsTrue, length, drop}
+use Rattle.std.specs.Prelude.{◌≡◌, ◌≢◌, ℕ, ◌+◌, ◌^◌, ◌<◌, List, [], ◌∷◌, ◌++◌, Bool, IsTrue, length, drop, Result, Ok, Err}
 use Rattle.std.proofs.Common.{inl, inr, sym, ◌∙◌, ap, arith, length-append, append_assoc, append-nil}
 use Rattle.std.proofs.lemmas.Bool.{cases_eq}
 use Rattle.aw_journal.specs.Format.{events_of, events_from, front, head, records, record_of}
@@ -9,6 +9,14 @@ use Rattle.aw_journal.specs.declared.payload.NodeEvent.{NodeEvent}
 use Rattle.aw_journal.proofs.Events.{events_push}
 use Rattle.aw_journal.proofs.Bytes.{closed, events_front, events_spelled, length-head, length-spelled}
 use Rattle.aw_journal.specs.Journal.{Kept, IsSettled, StandsAt, IsAround, IsBeforeOrAfter, behind_gate}
+
+-- the fault of a result, where it is one
+abbrev fault_or : {T E : Type 0} → E → Result T E → E
+fault_or d (Ok x) = d
+fault_or d (Err e) = e
+
+pub same_Err : {T E : Type 0} (a b : E) (r : Result T E) → r ≡ Err a → r ≡ Err b → a ≡ b
+same_Err a b r is so = sym (ap (fault_or a) is) ∙ ap (fault_or a) so
 
 pub length-front : (role : ℕ) (text : List ℕ) (events : List Event) → length (front role text events) ≡ 11 + length text + length (records events)
 length-front role text events = omega (arith, length-append (head role text) (records events), length-head role text)

@@ -10,6 +10,7 @@ use Rattle.aw_journal.specs.Events.{Event, AllEvents, event_in}
 use Rattle.aw_journal.specs.declared.payload.NodeEvent.{NodeEvent}
 use Rattle.aw_journal.proofs.Bytes.{headless, events_front, u64_in-take, closed}
 use Rattle.aw_journal.specs.Journal.{StandsAt, IsSettled, IsAround, behind_gate, Kept}
+use Rattle.aw_journal.specs.Openings.{Resumed}
 use Rattle.aw_journal.specs.Opens.{IsEnded, HasThisHead}
 use Rattle.aw_journal.specs.Scan.{FoundAll}
 use Rattle.aw_journal.proofs.Found.{no_more, of_short}
@@ -96,15 +97,7 @@ ended_events role text rest c events gate all fits none left =
       ]
     ]
 
--- a file with this head is its open records, a last gate and what lies past it
-pub record Resumed (role : ℕ) (text bytes : List ℕ) (gate : ℕ) (events : List Event) : Type 0 where
-  pub place : gate ≡ length (front role text events)
-  pub is : bytes ≡ front role text events ++ get_or bytes gate 0 ∷ drop (gate + 1) bytes
-  pub none : events_from 0 (get_or bytes gate 0 ∷ drop (gate + 1) bytes) ≡ []
-  pub events_are : events_of bytes ≡ events
-  pub fits : length (front role text events) < 2 ^ 64
-  pub all : AllEvents events
-
+-- a file with this head, whose records were found
 pub resumed : (role : ℕ) (text bytes : List ℕ) (from gate : ℕ) (events : List Event) → HasThisHead role text bytes → from ≡ length (1 ∷ head role text) → FoundAll bytes from gate events → Resumed role text bytes gate events
 resumed role text bytes from gate events has is found =
     let back : drop from bytes ≡ has.0 ∷ has.1 = ap (λ (l : List ℕ). drop from l) has.2 ∙ drop_at (1 ∷ head role text) (has.0 ∷ has.1) from (sym is) in
@@ -114,6 +107,8 @@ resumed role text bytes from gate events has is found =
     let place : gate ≡ length (front role text events) = omega (arith, ap length parts, length-append (front role text events) (drop gate bytes), length-drop gate bytes, found.within) in
     let long = length-front role text events in
     record {
+      own = has;
+      within = found.within;
       place = place;
       is = parts ∙ ap (λ (l : List ℕ). front role text events ++ l) here;
       none = ap (events_from 0) (sym here) ∙ found.no_more;

@@ -9,3 +9,4 @@ pub mod Appends
 pub mod Found
 pub mod Ends
 pub mod Heads
+pub mod Openings

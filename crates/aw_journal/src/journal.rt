@@ -1,18 +1,19 @@
 //! The events of a node, each on the disk before it is acknowledged.
-ghost use Rattle.std.specs.Prelude.{◌≡◌, ◌≢◌, ◌≤◌, ◌<◌, ◌+◌, ◌++◌, ◌∷◌, ◌^◌, ◌↔◌, [], ℕ, List, IsTrue, true, false, length, IfOk, OnOk, IsErrOf, MatchOption};
+ghost use Rattle.std.specs.Prelude.{◌≡◌, ◌≢◌, ◌≤◌, ◌<◌, ◌+◌, ◌++◌, ◌∷◌, ◌^◌, ◌↔◌, [], ℕ, List, IsTrue, true, false, length, IfOk, IfErr, OnOk, IsErrOf, MatchOption, vec_len, vec_capacity};
 ghost use Rattle.aw_out.specs.Causes.{Rose};
 ghost use Rattle.aw_disk.specs.Disk.{LeavesOnly};
 ghost use Rattle.aw_journal.specs.declared.journal.AppendFault.TheVariants.{NoMemory};
-ghost use Rattle.aw_journal.specs.Format.{u64_bytes, u16_bytes, head, front, has_head, events_of, end_of_head};
+ghost use Rattle.aw_journal.specs.Format.{u64_bytes, u16_bytes, head, front, has_head, events_of, end_of_head, record_of};
 ghost use Rattle.aw_journal.specs.Journal.{IsSettled, IsBeforeOrAfter, StandsAt, IsAround, IsAll, StartsClosed, behind_gate, end_after};
-ghost use Rattle.aw_journal.specs.Events.{AllEvents, EventInRange};
+ghost use Rattle.aw_journal.specs.Events.{AllEvents, EventInRange, EventSized, payload_of};
 ghost use Rattle.aw_journal.specs.EventView.{event_of, events_seen};
+ghost use Rattle.aw_journal.specs.Openings.{IsHeadFault, IsStartFault, KeepsEvents, KeepsFile, OpensFile, Reopens, Resumed};
 ghost use Rattle.aw_journal.specs.Opens.{HasThisHead, IsForeign, IsOldOrSame, AllOldOrAllSame, BeginsClosed};
 
 use crate::lengths::payload_len;
 use crate::payload::{NodeEvent, record_bytes};
-use crate::reads::{OpenFault, read_file, settle};
-use crate::scan::{RECORD_FRONT, scan};
+use crate::reads::{OpenFault, read_settled, settle};
+use crate::scan::{RECORD_FRONT, Scanned, scan};
 use crate::steps::{end_at, write_synced};
 use aw_disk::{Did, Disk};
 use aw_list::Text;
@@ -115,16 +116,7 @@ impl Journal {
         ensures fault { IsErrOf result OpenFault.DiskFault → Rose (D.faults disk.old) (D.faults disk.new) }
         ensures kept { (IsErrOf result OpenFault.DiskFault → ⊥) → D.faults disk.new ≡ D.faults disk.old }
     {
-        match settle(disk) {
-            Did::Done => {}
-            Did::Failed => return Err(OpenFault::DiskFault),
-        }
-        let bytes = read_file(alloc, disk)?;
-        if stands(&bytes) {
-            resume(alloc, disk, role, text, &bytes, limit)
-        } else {
-            start(alloc, disk, role, text, &bytes, limit)
-        }
+        open_journal(alloc, disk, role, text, limit)
     }
 
     /// The events, in order.
@@ -154,13 +146,12 @@ impl Journal {
         ensures never_falls { D.faults disk.old ≤ D.faults disk.new }
         ensures kept { (IsErrOf result AppendFault.DiskFault → ⊥) → D.faults disk.new ≡ D.faults disk.old }
     {
-        let count = payload_len(&event);
-        let next = match next_gate(self.gate, count, self.limit) {
-            Some(next) => next,
-            None => return Err(AppendFault::Full),
+        let made = make_ready(self.alloc, &mut self.events, self.gate, self.limit, &event);
+        let record = match made {
+            Ok(record) => record,
+            Err(fault) => return Err(fault),
         };
-        let bytes = record_bytes(self.alloc, count, &event)?;
-        self.events.reserve(1)?;
+        let Ready { next, bytes } = record;
         match put_whole(disk, self.gate, bytes) {
             Did::Done => {
                 self.gate = next;
@@ -173,6 +164,44 @@ impl Journal {
             }
         }
     }
+}
+
+/// What is ready before an event is put on the disk.
+#[derive(Drop)]
+struct Ready {
+    /// Where the next gate stands behind its record.
+    next: u64,
+    /// The bytes of its record, and that gate.
+    bytes: Text,
+}
+
+/// The record of an event, and room for the event among the others. That the journal is full is told whether or not there is memory.
+fn make_ready(
+    alloc: Global,
+    events: &mut Vec<NodeEvent>,
+    gate: u64,
+    limit: u64,
+    event: &NodeEvent,
+) -> Result<Ready, AppendFault>
+    requires { EventInRange (event_of event.now) }
+    ensures next { IfOk result (λ r. (r.next ≡ gate + length (payload_of (event_of event.now)) + 9) × (r.next < limit)) }
+    ensures fits { IfOk result (λ r. r.next < 2 ^ 64) }
+    ensures bytes { IfOk result (λ r. r.bytes ≡ record_of (event_of event.now) ++ 0 ∷ []) }
+    ensures sized { OnOk result (EventSized (event_of event.now)) }
+    ensures room { OnOk result (vec_len events.new < vec_capacity events.new) }
+    ensures events { events.new.items ≡ events.old.items }
+    ensures full { IfErr result (λ e. e ≡ AppendFault.Full → limit < gate + length (payload_of (event_of event.now)) + 10) }
+    ensures full_always { IfErr result (λ e. limit < gate + length (payload_of (event_of event.now)) + 10 → e ≡ AppendFault.Full) }
+    ensures no_fault { IfErr result (λ e. e ≡ AppendFault.DiskFault → ⊥) }
+{
+    let count = payload_len(event);
+    let next = match next_gate(gate, count, limit) {
+        Some(next) => next,
+        None => return Err(AppendFault::Full),
+    };
+    let bytes = record_bytes(alloc, count, event)?;
+    events.reserve(1)?;
+    Ok(Ready { next, bytes })
 }
 
 /// Where the next gate stands behind a record of an event of this length, if it stands within the limit.
@@ -299,6 +328,50 @@ fn must_close(bytes: &[u8]) -> bool
     bytes.is_empty() || bytes.len() == 1 && bytes[0] == 1
 }
 
+/// What is ready before a journal is started.
+#[derive(Drop)]
+struct Beginning {
+    /// The text, kept.
+    text: Text,
+    /// The head behind its gate, and a closed gate.
+    head: Vec<u8>,
+}
+
+/// The head of a journal that is started, where it has its place within the limit.
+fn make_beginning(alloc: Global, role: u16, text: &[u8], limit: u64) -> Result<Beginning, OpenFault>
+    ensures text { IfOk result (λ b. b.text ≡ text.now) }
+    ensures bytes { IfOk result (λ b. b.head.items ≡ head role text.now ++ 0 ∷ []) }
+    ensures place { OnOk result (end_of_head (length text.now) ≤ limit) }
+    ensures fault { IfErr result (IsStartFault (length text.now) limit) }
+{
+    if !has_place(text.len(), limit) {
+        return Err(OpenFault::Full);
+    }
+    let kept = Text::from_bytes(alloc, text)?;
+    let head = head_behind(alloc, role, text)?;
+    Ok(Beginning { text: kept, head })
+}
+
+/// Puts a head behind the first gate of a file without one, which is closed before, and opens it; the bytes are let go.
+fn put_head<D: Disk>(disk: &mut D, bytes: &[u8], fresh: Vec<u8>) -> Did
+    requires headless { has_head bytes.now ≡ false }
+    requires read { IsTrue (D.tells disk.old) → IsAll D.seen D.may_leave disk.old bytes.now }
+    requires some { 0 < length fresh.items }
+    ensures done { result ≡ Did.Done → IsTrue (D.tells disk.old) → (rest : List ℕ) × StandsAt D.tells D.seen D.may_leave disk.new 0 [] (behind_gate fresh.items rest) 1 }
+    ensures any_moment { IsTrue (D.tells disk.old) → (role : ℕ) (text : List ℕ) → length (front role text []) < 2 ^ 64 → fresh.items ≡ head role text ++ 0 ∷ []
+        → LeavesOnly D.moment D.left_since disk.old disk.new (λ c. events_of c ≡ []) }
+    ensures tells { D.tells disk.new ≡ D.tells disk.old }
+    ensures never_falls { D.faults disk.old ≤ D.faults disk.new }
+    ensures cause { result ≡ Did.Failed → Rose (D.faults disk.old) (D.faults disk.new) }
+    ensures kept { result ≢ Did.Failed → D.faults disk.new ≡ D.faults disk.old }
+{
+    match close_first(disk, bytes) {
+        Did::Done => put_record(disk, 0, &fresh),
+        Did::Failed => Did::Failed,
+    }
+}
+
+/// Starts a journal in a file without a head.
 fn start<D: Disk>(
     alloc: Global,
     disk: &mut D,
@@ -309,29 +382,15 @@ fn start<D: Disk>(
 ) -> Result<Journal, OpenFault>
     requires headless { has_head bytes.now ≡ false }
     requires read { IsTrue (D.tells disk.old) → IsAll D.seen D.may_leave disk.old bytes.now }
-    ensures ok { IfOk result (λ j. j ≡ record { role = role; text = text.now; events = []; limit = limit; usable = true }) }
-    ensures settled { IfOk result (λ j. IsTrue (D.tells disk.old) → IsSettled D.seen D.may_leave disk.new j) }
-    ensures any_moment { IsTrue (D.tells disk.old) → LeavesOnly D.moment D.left_since disk.old disk.new (λ c. events_of c ≡ []) }
-    ensures reads { IsTrue (D.tells disk.old) → events_of (D.seen disk.new) ≡ [] }
-    ensures not_bad { IsErrOf result OpenFault.BadHead → ⊥ }
-    ensures full { IsErrOf result OpenFault.Full → (limit < end_of_head (length text.now)) × (disk.new ≡ disk.old) }
-    ensures full_always { limit < end_of_head (length text.now) → IsErrOf result OpenFault.Full }
-    ensures not_full { OnOk result (end_of_head (length text.now) ≤ limit) }
-    ensures tells { D.tells disk.new ≡ D.tells disk.old }
-    ensures never_falls { D.faults disk.old ≤ D.faults disk.new }
-    ensures fault { IsErrOf result OpenFault.DiskFault → Rose (D.faults disk.old) (D.faults disk.new) }
-    ensures kept { (IsErrOf result OpenFault.DiskFault → ⊥) → D.faults disk.new ≡ D.faults disk.old }
+    ensures keeps { KeepsEvents D.tells D.seen D.moment D.left_since D.faults (events_of bytes.now) disk.old disk.new }
+    ensures opens { OpensFile D.tells D.seen D.may_leave D.faults role text.now limit bytes.now disk.old disk.new result }
 {
-    if !has_place(text.len(), limit) {
-        return Err(OpenFault::Full);
-    }
-    let kept = Text::from_bytes(alloc, text)?;
-    let head = head_behind(alloc, role, text)?;
-    match close_first(disk, bytes) {
-        Did::Done => {}
-        Did::Failed => return Err(OpenFault::DiskFault),
-    }
-    match put_record(disk, 0, &head) {
+    let made = match make_beginning(alloc, role, text, limit) {
+        Ok(made) => made,
+        Err(fault) => return Err(fault),
+    };
+    let Beginning { text: kept, head } = made;
+    match put_head(disk, bytes, head) {
         Did::Done => Ok(Journal::made(
             alloc,
             role,
@@ -344,6 +403,42 @@ fn start<D: Disk>(
     }
 }
 
+/// Where this head ends, which must stand there.
+fn head_end(alloc: Global, role: u16, text: &[u8], bytes: &[u8]) -> Result<usize, OpenFault>
+    ensures own { OnOk result (HasThisHead role text.now bytes.now) }
+    ensures place { IfOk result (λ end. end ≡ length (1 ∷ head role text.now)) }
+    ensures fault { IfErr result (IsHeadFault role text.now bytes.now) }
+{
+    let head = open_head(alloc, role, text)?;
+    if !goes_on(bytes, &head) {
+        return Err(OpenFault::BadHead);
+    }
+    Ok(head.len())
+}
+
+/// The text of a journal, kept, and the events that stand behind its head.
+#[derive(Drop)]
+struct Known {
+    text: Text,
+    found: Scanned,
+}
+
+/// The events behind this head, which must stand there.
+fn find_events(alloc: Global, role: u16, text: &[u8], bytes: &[u8]) -> Result<Known, OpenFault>
+    ensures text { IfOk result (λ k. k.text ≡ text.now) }
+    ensures found { IfOk result (λ k. Resumed role text.now bytes.now k.found.gate (events_seen k.found.events.items)) }
+    ensures fault { IfErr result (IsHeadFault role text.now bytes.now) }
+{
+    let from = match head_end(alloc, role, text, bytes) {
+        Ok(from) => from,
+        Err(fault) => return Err(fault),
+    };
+    let text = Text::from_bytes(alloc, text)?;
+    let found = scan(alloc, bytes, from)?;
+    Ok(Known { text, found })
+}
+
+/// Goes on with a journal whose head stands, and repairs its end.
 fn resume<D: Disk>(
     alloc: Global,
     disk: &mut D,
@@ -354,29 +449,56 @@ fn resume<D: Disk>(
 ) -> Result<Journal, OpenFault>
     requires headed { has_head bytes.now ≡ true }
     requires read { IsTrue (D.tells disk.old) → IsAll D.seen D.may_leave disk.old bytes.now }
-    ensures ok { IfOk result (λ j. events_seen j.events ≡ events_of bytes.now) }
-    ensures made { IfOk result (λ j. (j.role ≡ role) × (j.text ≡ text.now) × (j.limit ≡ limit) × IsTrue j.usable) }
-    ensures settled { IfOk result (λ j. IsTrue (D.tells disk.old) → IsSettled D.seen D.may_leave disk.new j) }
-    ensures any_moment { IsTrue (D.tells disk.old) → LeavesOnly D.moment D.left_since disk.old disk.new (λ c. events_of c ≡ events_of bytes.now) }
-    ensures reads { IsTrue (D.tells disk.old) → events_of (D.seen disk.new) ≡ events_of bytes.now }
-    ensures bad_head { IsErrOf result OpenFault.BadHead → (HasThisHead role text.now bytes.now → ⊥) × (disk.new ≡ disk.old) }
-    ensures good_head { OnOk result (HasThisHead role text.now bytes.now) }
-    ensures not_full { IsErrOf result OpenFault.Full → ⊥ }
-    ensures tells { D.tells disk.new ≡ D.tells disk.old }
-    ensures never_falls { D.faults disk.old ≤ D.faults disk.new }
-    ensures fault { IsErrOf result OpenFault.DiskFault → Rose (D.faults disk.old) (D.faults disk.new) }
-    ensures kept { (IsErrOf result OpenFault.DiskFault → ⊥) → D.faults disk.new ≡ D.faults disk.old }
+    ensures keeps { KeepsEvents D.tells D.seen D.moment D.left_since D.faults (events_of bytes.now) disk.old disk.new }
+    ensures opens { OpensFile D.tells D.seen D.may_leave D.faults role text.now limit bytes.now disk.old disk.new result }
 {
-    let head = open_head(alloc, role, text)?;
-    if !goes_on(bytes, &head) {
-        return Err(OpenFault::BadHead);
-    }
-    let kept = Text::from_bytes(alloc, text)?;
-    let found = scan(alloc, bytes, head.len())?;
+    let known = match find_events(alloc, role, text, bytes) {
+        Ok(known) => known,
+        Err(fault) => return Err(fault),
+    };
+    let Known { text: kept, found } = known;
     match end_at(disk, found.gate as u64, bytes[found.gate] == 1) {
         Did::Done => Ok(Journal::made(alloc, role, kept, found.events, found.gate as u64, limit)),
         Did::Failed => Err(OpenFault::DiskFault),
     }
+}
+
+/// Opens the journal of this role and text in a file of these bytes.
+fn open_file<D: Disk>(
+    alloc: Global,
+    disk: &mut D,
+    role: u16,
+    text: &[u8],
+    bytes: &[u8],
+    limit: u64,
+) -> Result<Journal, OpenFault>
+    requires { IsTrue (D.tells disk.old) → IsAll D.seen D.may_leave disk.old bytes.now }
+    ensures keeps { KeepsEvents D.tells D.seen D.moment D.left_since D.faults (events_of bytes.now) disk.old disk.new }
+    ensures opens { OpensFile D.tells D.seen D.may_leave D.faults role text.now limit bytes.now disk.old disk.new result }
+{
+    if stands(bytes) {
+        resume(alloc, disk, role, text, bytes, limit)
+    } else {
+        start(alloc, disk, role, text, bytes, limit)
+    }
+}
+
+/// Reads the file and opens the journal of this role and text in it.
+fn open_journal<D: Disk>(
+    alloc: Global,
+    disk: &mut D,
+    role: u16,
+    text: &[u8],
+    limit: u64,
+) -> Result<Journal, OpenFault>
+    ensures keeps { KeepsFile D.tells D.seen D.may_leave D.moment D.left_since D.faults disk.old disk.new }
+    ensures opens { Reopens D.tells D.seen D.may_leave D.faults role text.now limit disk.old disk.new result }
+{
+    let bytes = match read_settled(alloc, disk) {
+        Ok(bytes) => bytes,
+        Err(fault) => return Err(fault),
+    };
+    open_file(alloc, disk, role, text, &bytes, limit)
 }
 
 /// Whether the bytes begin with these and go on.
