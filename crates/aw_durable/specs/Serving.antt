@@ -9,6 +9,7 @@ use Rattle.aw_session.specs.declared.log.SessionLog.{SessionLog}
 use Rattle.aw_disk.specs.Disk.{LeavesOnly}
 use Rattle.aw_disk.specs.declared.edge.Disk as disks
 use Rattle.aw_journal.specs.Events.{Event}
+use Rattle.aw_journal.specs.EventView.{events_seen}
 use Rattle.aw_journal.specs.Format.{events_of, has_head, end_of_head}
 use Rattle.aw_journal.specs.Opens.{IsForeign, IsOldOrSame, AllOldOrAllSame}
 use Rattle.aw_journal.specs.declared.journal.AppendFault.{AppendFault}
@@ -17,7 +18,7 @@ use Rattle.aw_node.specs.TypedNodes.{Rules}
 use Rattle.aw_durable.specs.Exits.{IsLeft, IsWithin, Origin, Stands, Halts}
 use Rattle.aw_durable.specs.KeptEvents.{AreKept, IsFirstBad}
 use Rattle.aw_durable.specs.KeptSites.{KeptSite, keeps, reopened, IsMadeOf}
-use Rattle.aw_journal.specs.Journal.{Kept}
+use Rattle.aw_journal.specs.Journal.{Kept, IsSettled}
 use Rattle.aw_session.specs.declared.serving.Stopped.{Stopped}
 use Rattle.aw_session.specs.declared.serving.Stopped.TheVariants as stopped
 use Rattle.aw_durable.specs.declared.node.Unanswered.{Unanswered}
@@ -38,6 +39,19 @@ pub record IsReopened {D : Type 0} (d : disks.Ghosts D) (role : ℕ) (text : Lis
   pub are_read : IsTrue (d.tells old) → events ≡ events_of (d.seen old)
   pub own_head : IsTrue (d.tells old) → IsForeign role text (d.seen old) → ⊥
   pub head_fits : IsTrue (d.tells old) → has_head (d.seen old) ≡ false → end_of_head (length text) ≤ kept_limit
+
+-- The journal was reopened at this disk, which was the other before, and nothing was added to it.
+pub record WasReopened {D : Type 0} (d : disks.Ghosts D) (role : ℕ) (text : List ℕ) (old new : D) (j : Kept) : Type 0 where
+  pub opened : IsReopened d role text old (events_seen j.events)
+  pub same_role : j.role ≡ role
+  pub same_text : j.text ≡ text
+  pub same_limit : j.limit ≡ kept_limit
+  pub settled : IsTrue (d.tells old) → IsSettled d.seen d.may_leave new j
+  pub moments : IsTrue (d.tells old) → LeavesOnly d.moment d.left_since old new (IsOldOrSame (d.may_leave old) (d.seen old))
+  pub images : IsTrue (d.tells old) → AllOldOrAllSame (d.may_leave old) (d.seen old) (d.may_leave new)
+  pub reads : IsTrue (d.tells old) → events_of (d.seen new) ≡ events_of (d.seen old)
+  pub tells : d.tells new ≡ d.tells old
+  pub never_falls : d.faults old ≤ d.faults new
 
 -- The events of the journal made a site of the first one, each of them one when it came; from there the sessions of the log were served, and the disk has
 -- the events of the site that they left.

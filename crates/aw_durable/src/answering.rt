@@ -1,11 +1,17 @@
 //! Answering a frame, whose event is appended first.
 ghost use Rattle.std.specs.Prelude.{◌≡◌, IsTrue, IfOk, IfErr, OnOk, IsErrOf};
+ghost use Rattle.aw_append.specs.Appending.{Appends, Fails};
+ghost use Rattle.aw_append.specs.News.{event_by};
 ghost use Rattle.aw_durable.specs.Answering.{AnswersAndKeepsBy, FailsAsSeen};
 ghost use Rattle.aw_journal.specs.Journal.{IsSettled};
 ghost use Rattle.aw_msg.specs.Frames.{FrameInRange};
 ghost use Rattle.aw_msg.specs.FrameView.{frame_of};
-ghost use Rattle.aw_grammar.specs.GrammarOf.{grammar_of};
+ghost use Rattle.aw_msg.specs.Replies.{spelled_reply};
+ghost use Rattle.aw_msg.specs.ReplyRanges.{ReplyInRange};
+ghost use Rattle.aw_msg.specs.ResponseView.{response_of};
+ghost use Rattle.aw_grammar.specs.GrammarOf.{grammar_of, words_of};
 ghost use Rattle.aw_node.specs.TypedNodes.{rules_of};
+ghost use Rattle.aw_term.specs.Rules.{Grammar};
 ghost use Rattle.aw_typed.specs.Typing.{IsMadeFor};
 
 use aw_accept::Accepted;
@@ -13,10 +19,39 @@ use aw_append::keep;
 use aw_disk::Disk;
 use aw_journal::{AppendFault, Journal};
 use aw_list::Text;
-use aw_msg::{Frame, reply_bytes};
+use aw_msg::{Answered, Frame, reply_bytes};
 use aw_node::{Workspace, handle};
 use aw_typed::Typed;
 use std::alloc::Global;
+
+/// Appends what a frame was by its reply, and makes the bytes of the reply.
+fn keep_and_tell<D: Disk>(
+    alloc: Global,
+    accepted: &Accepted,
+    journal: &mut Journal,
+    disk: &mut D,
+    frame: &Frame,
+    answered: &Answered,
+) -> Result<Text, AppendFault>
+    requires usable { IsTrue journal.old.usable }
+    requires settled { IsTrue (D.tells disk.old) → IsSettled D.seen D.may_leave disk.old journal.old }
+    requires range { FrameInRange (frame_of frame.now) }
+    requires reply { ReplyInRange answered.now }
+    ensures usable { OnOk result (IsTrue journal.new.usable) }
+    ensures settled { OnOk result (IsTrue (D.tells disk.new) → IsSettled D.seen D.may_leave disk.new journal.new) }
+    ensures bytes { IfOk result (λ text. text ≡ spelled_reply (words_of accepted.now.grammar) (response_of (grammar_of accepted.now.grammar) answered.now)) }
+    ensures ok { (g : Grammar) → OnOk result (Appends ⟦<D as Disk>⟧ (event_by (frame_of frame.now) (response_of g answered.now)) journal.old journal.new disk.old disk.new) }
+    ensures err { (g : Grammar) → IfErr result (Fails ⟦<D as Disk>⟧ (event_by (frame_of frame.now) (response_of g answered.now)) journal.old disk.old disk.new) }
+    ensures kept { (IsErrOf result AppendFault.DiskFault → ⊥) → D.faults disk.new ≡ D.faults disk.old }
+{
+    match keep(journal, disk, frame, answered) {
+        Ok(()) => match reply_bytes(alloc, accepted.grammar(), answered) {
+            Ok(reply) => Ok(reply),
+            Err(_) => Err(AppendFault::NoMemory),
+        },
+        Err(fault) => Err(fault),
+    }
+}
 
 /// Answers a frame: what it was is on the disk before its reply is handed out.
 pub(crate) fn answer<P: Workspace, D: Disk>(
@@ -41,6 +76,7 @@ pub(crate) fn answer<P: Workspace, D: Disk>(
     ensures kept { (IsErrOf result AppendFault.DiskFault → ⊥) → D.faults disk.new ≡ D.faults disk.old }
 {
     let answered = handle(accepted, typed, site, frame)?;
-    keep(journal, disk, frame, &answered)?;
-    Ok(reply_bytes(alloc, accepted.grammar(), &answered)?)
+    let reply = keep_and_tell(alloc, accepted, journal, disk, frame, &answered);
+    drop(answered);
+    reply
 }

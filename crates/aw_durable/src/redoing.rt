@@ -66,7 +66,9 @@ fn redo<P: Workspace>(
     ensures site { (s : Site) → P.shows site.old s → OnOk result (P.shows site.new (kept.after_event (rules_of g.now.grammar t.now) s (event_of event.now))) }
 {
     let answered = ask(g, t, site, event)?;
-    Ok(is_news(&answered))
+    let news = is_news(&answered);
+    drop(answered);
+    Ok(news)
 }
 
 /// Does the next event again.

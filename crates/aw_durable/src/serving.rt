@@ -1,8 +1,8 @@
 //! Serving a workspace that survives crashes.
-ghost use Rattle.std.specs.Prelude.{◌≡◌, ◌≢◌, ◌⊎◌, ◌<◌, ◌≤◌, IsTrue, length, IfOk, IfErr, OnOk, IsErrOf};
+ghost use Rattle.std.specs.Prelude.{◌≡◌, ◌≢◌, ◌⊎◌, ◌<◌, ◌≤◌, ℕ, List, IsTrue, length, IfOk, IfErr, OnOk, IsErrOf};
 ghost use Rattle.aw_durable.specs.Exits.{Origin, Stands};
 ghost use Rattle.aw_durable.specs.KeptSites.{KeptSite};
-ghost use Rattle.aw_durable.specs.Serving.{IsKeptServing, StopsKept, GoesOn, StopsNode};
+ghost use Rattle.aw_durable.specs.Serving.{IsKeptServing, StopsKept, GoesOn, StopsNode, WasReopened};
 ghost use Rattle.aw_grammar.specs.GrammarOf.{grammar_of};
 ghost use Rattle.aw_journal.specs.Journal.{IsSettled};
 ghost use Rattle.aw_node.specs.TypedNodes.{rules_of};
@@ -56,6 +56,41 @@ fn serve_node<W: Wire, D: Disk, P: Workspace>(
     serve_sessions(alloc, node, role, sessions, wire)
 }
 
+/// Serves a workspace whose journal was reopened: the events in it are done again first.
+fn serve_reopened<W: Wire, D: Disk, P: Workspace>(
+    alloc: Global,
+    g: &Accepted,
+    t: &Typed,
+    site: &mut P,
+    role: u16,
+    sessions: u32,
+    wire: &mut W,
+    journal: &mut Journal,
+    disk: &mut D,
+) -> Result<Log, KeptFault>
+    requires role { role < 64 }
+    requires made { P.grammar site.old ≡ g.now.grammar }
+    requires types { IsMadeFor (grammar_of g.now.grammar) t.now }
+    requires usable { IsTrue journal.old.usable }
+    requires settled { IsTrue (D.tells disk.old) → IsSettled D.seen D.may_leave disk.old journal.old }
+    ensures served { (head : List ℕ) (before : D) (s : Site) → WasReopened ⟦<D as Disk>⟧ role head before disk.old journal.old → P.shows site.old s →
+        IfOk result (IsKeptServing ⟦<W as Wire>⟧ ⟦<D as Disk>⟧ (rules_of g.now.grammar t.now) role head s wire.old wire.new before disk.new) }
+    ensures most { IfOk result (λ log. length log ≤ sessions) }
+    ensures all { IfOk result (λ log. (length log ≡ sessions) ⊎ NoneComes (W.content wire.new)) }
+    ensures stopped { (head : List ℕ) (before : D) (s : Site) → WasReopened ⟦<D as Disk>⟧ role head before disk.old journal.old → P.shows site.old s →
+        IfErr result (StopsKept ⟦<W as Wire>⟧ ⟦<D as Disk>⟧ (rules_of g.now.grammar t.now) role head s wire.old wire.new before disk.new) }
+    ensures kept { (IsErrOf result KeptFault.DiskFault → ⊥) → D.faults disk.new ≡ D.faults disk.old }
+    ensures openings_kept { (IsErrOf result KeptFault.NetFault → ⊥) → W.failed_openings wire.new ≡ W.failed_openings wire.old }
+{
+    redo_all(g, t, site, journal.events())?;
+    let mut node = KeptNode::new(alloc, g, t, site, journal, disk);
+    match serve_node(alloc, &mut node, role, sessions, wire) {
+        Ok(log) => Ok(log),
+        Err(Stopped::NetFault) => Err(KeptFault::NetFault),
+        Err(Stopped::Node(_)) => Err(KeptFault::from(node.reason)),
+    }
+}
+
 /// Serves a workspace in so many sessions, or as many as come, and tells of each. Its journal is reopened first, and the events in it are done
 /// again; then each event is on the disk before its reply is written, so that a crash at any moment loses no event of which a reply was seen.
 ///
@@ -88,11 +123,18 @@ pub fn serve_kept_workspace<W: Wire, D: Disk, P: Workspace + Drop>(
 {
     let mut journal = Journal::reopen(alloc, disk, role, text, JOURNAL_LIMIT)?;
     let mut site = site;
-    redo_all(g, t, &mut site, journal.events())?;
-    let mut node = KeptNode::new(alloc, g, t, &mut site, &mut journal, disk);
-    match serve_node(alloc, &mut node, role, sessions, wire) {
-        Ok(log) => Ok(log),
-        Err(Stopped::NetFault) => Err(KeptFault::NetFault),
-        Err(Stopped::Node(_)) => Err(KeptFault::from(node.reason)),
-    }
+    let served = serve_reopened(
+        alloc,
+        g,
+        t,
+        &mut site,
+        role,
+        sessions,
+        wire,
+        &mut journal,
+        disk,
+    );
+    drop(journal);
+    drop(site);
+    served
 }

@@ -1,12 +1,15 @@
 //! Answering the frames that are there.
-ghost use Rattle.std.specs.Prelude.{◌≡◌, ◌+◌, ◌-◌, ◌<◌, ◌≤◌, ◌^◌, [], true, false, length, IfOk, IfErr, OnOk};
+ghost use Rattle.std.specs.Prelude.{◌≡◌, ◌+◌, ◌-◌, ◌<◌, ◌≤◌, ◌^◌, [], true, false, length, Ok, IfOk, IfErr, OnOk};
+ghost use Rattle.aw_msg.specs.Frames.{frame as frame_at, FrameInRange};
+ghost use Rattle.aw_msg.specs.FrameView.{frame_of};
+ghost use Rattle.aw_msg.specs.Streams.{Stream};
 ghost use Rattle.aw_session.specs.Broken.{StopsAt};
 ghost use Rattle.aw_session.specs.Steps.{Goes, IsStoppedStretch, IsHaltedStretch};
 ghost use Rattle.aw_session.specs.Talking.{TalksOver};
 
 use crate::handles::Handles;
 use crate::writing::write_all;
-use aw_msg::{FrameReader, Next};
+use aw_msg::{Frame, FrameReader, Next};
 use aw_out::Wire;
 
 /// What became of the next frame.
@@ -30,6 +33,26 @@ pub(crate) enum Stop {
     Broken,
 }
 
+/// Answers a frame, and writes the reply.
+fn answer_frame<W: Wire, H: Handles>(
+    frame: &Frame,
+    node: &mut H,
+    wire: &mut W,
+) -> Result<Went, H::Fault>
+    requires ready { H.ready node.old }
+    requires range { FrameInRange (frame_of frame.now) }
+    requires open { W.is_open wire.old ≡ true }
+    ensures ready { OnOk result (H.ready node.new) }
+    ensures ok { IfOk result (λ went. (from to : Stream) → frame_at from.bytes ≡ Ok (frame_of frame.now, to.bytes) → to.failed ≡ false → Goes H.answers (TalksOver ⟦<W as Wire>⟧ wire.old wire.new []) node.old node.new from to went) }
+    ensures err { IfErr result (λ fault. H.breaks node.old (frame_of frame.now) fault node.new × TalksOver ⟦<W as Wire>⟧ wire.old wire.new [] [] false) }
+{
+    let reply = node.reply_to(frame)?;
+    match write_all(wire, reply.as_slice()) {
+        Ok(()) => Ok(Went::Answered),
+        Err(_) => Ok(Went::Broken),
+    }
+}
+
 /// Answers the next frame, if one is there.
 fn answer_next<W: Wire, H: Handles>(
     reader: &mut FrameReader,
@@ -46,13 +69,7 @@ fn answer_next<W: Wire, H: Handles>(
     match reader.next()? {
         Next::Need => Ok(Went::Waits),
         Next::Bad => Ok(Went::Bad),
-        Next::Frame(frame) => {
-            let reply = node.reply_to(&frame)?;
-            match write_all(wire, reply.as_slice()) {
-                Ok(()) => Ok(Went::Answered),
-                Err(_) => Ok(Went::Broken),
-            }
-        }
+        Next::Frame(frame) => answer_frame(&frame, node, wire),
     }
 }
 

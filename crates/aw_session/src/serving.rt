@@ -56,6 +56,33 @@ fn serve_next<W: Wire, H: Handles>(
     }
 }
 
+/// Serves so many sessions, or as many as come, and notes each.
+fn serve_some<W: Wire, H: Handles>(
+    alloc: Global,
+    node: &mut H,
+    role: u16,
+    sessions: u32,
+    log: &mut Vec<SessionLog>,
+    wire: &mut W,
+) -> Result<(), Stopped<H::Fault>>
+    requires ready { H.ready node.old }
+    requires role { role < 64 }
+    requires none { log.old.items ≡ [] }
+    ensures ready { OnOk result (H.ready node.new) }
+    ensures ok { OnOk result (IsServing H.answers W.content W.faults W.failed_openings role node.old node.new wire.old wire.new log.new.items) }
+    ensures most { OnOk result (length log.new.items ≤ sessions) }
+    ensures all { OnOk result ((length log.new.items ≡ sessions) ⊎ NoneComes (W.content wire.new)) }
+    ensures err { IfErr result (StopsServing H.answers H.breaks W.content W.failed_openings role node.old node.new wire.old wire.new) }
+    ensures openings_kept { (IsErrOf result Stopped.NetFault → ⊥) → W.failed_openings wire.new ≡ W.failed_openings wire.old }
+{
+    while log.len() < sessions as usize {
+        if !serve_next(alloc, node, role, log, wire)? {
+            return Ok(());
+        }
+    }
+    Ok(())
+}
+
 /// Serves so many sessions, or as many as come, and tells of each. The workspace stays as it is from one session to the next.
 pub fn serve_sessions<W: Wire, H: Handles>(
     alloc: Global,
@@ -75,10 +102,6 @@ pub fn serve_sessions<W: Wire, H: Handles>(
     ensures openings_kept { (IsErrOf result Stopped.NetFault → ⊥) → W.failed_openings wire.new ≡ W.failed_openings wire.old }
 {
     let mut log = Vec::new(alloc);
-    while log.len() < sessions as usize {
-        if !serve_next(alloc, node, role, &mut log, wire)? {
-            return Ok(Log::from_vec(log));
-        }
-    }
+    serve_some(alloc, node, role, sessions, &mut log, wire)?;
     Ok(Log::from_vec(log))
 }

@@ -1,6 +1,6 @@
 use Rattle.std.proofs.Common.{◌≡◌, ◌+◌, ◌∷◌, [], length, ap, ◌∙◌, arith, length-append}
 use Rattle.aw_session.proofs.Servings.{serves-at, serving-one}
-use Rattle.aw_session.proofs.serving.serve_sessions.Goals as goal
+use Rattle.aw_session.proofs.serving.serve_some.Goals as goal
 
 pub loop-alloc-preserved : goal.loop-alloc-preserved
 loop-alloc-preserved g c =

@@ -1,6 +1,6 @@
 use Rattle.std.proofs.Common.{◌≤◌, ◌-◌, length}
 use Rattle.aw_session.specs.Sessions.{IsServing}
-use Rattle.aw_session.proofs.serving.serve_sessions.Given as goal
+use Rattle.aw_session.proofs.serving.serve_some.Given as goal
 
 abbrev pub invariant-loop-alloc : goal.invariant-loop-alloc
 invariant-loop-alloc g l = record {
