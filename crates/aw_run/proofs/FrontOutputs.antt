@@ -1,6 +1,6 @@
 -- What comes of the front of an input.
 use Rattle.std.proofs.Common.{◌≡◌, ℕ, ◌≤◌, ◌<◌, Bool, IsTrue, List, length, Option, None, Some, refl, sym, ap, ◌∙◌, subst, inl, inr}
-use Rattle.std.specs.Prelude.{Ok}
+use Rattle.std.specs.Prelude.{Result, Ok, Err, IfOk, IfErr}
 use Rattle.aw_lex.specs.Lines.{lines_of}
 use Rattle.aw_term.specs.Rules as R
 use Rattle.aw_term.specs.Artifacts.{Words}
@@ -8,6 +8,7 @@ use Rattle.aw_grammar.specs.declared.grammar.Grammar.{Grammar}
 use Rattle.aw_grammar.specs.GrammarOf.{grammar_of, words_of, declarations_of}
 use Rattle.aw_grammar.specs.Declarations.{Declarations, grammar_in, words_in}
 use Rattle.aw_grammar.proofs.Entries.{declared_grammar}
+use Rattle.aw_accept.specs.declared.accepted.Accepted.{Accepted}
 use Rattle.aw_accept.specs.declared.refused.Fault.{Fault}
 use Rattle.aw_accept.specs.declared.refused.Refused as refused
 use Rattle.aw_accept.specs.Circular.{LeastFault}
@@ -15,6 +16,7 @@ use Rattle.aw_accept.specs.Refusals.{Tells}
 use Rattle.aw_iograph.specs.Dependence.{IO, HasNoCircle}
 use Rattle.aw_typed.specs.TypeFaults.{Fault as TypeFault, type_fault}
 use Rattle.aw_typed.specs.Typing.{types_of, IsMadeFor, TellsTypes}
+use Rattle.aw_typed.specs.declared.data.Typed.{Typed}
 use Rattle.aw_typed.specs.declared.data.Types.{Types}
 use Rattle.aw_typed.specs.declared.data.TypeFault as told
 use Rattle.aw_spec.specs.KindNames.{kind_name}
@@ -35,7 +37,7 @@ use Rattle.aw_run.specs.Serving.{ServesNamed, IsServingOutputOf}
 use Rattle.aw_run.specs.Keeping.{KeepsNamed, IsKeepingOutputOf, StopsKeeping, StopsNamed}
 use Rattle.aw_run.specs.Carrying.{CarriesOver, IsCarryingOutputOf}
 use Rattle.aw_run.specs.Opening.{Opens}
-use Rattle.aw_run.specs.Fronts.{IsFrontOf, IsReady, Nothing, ReadyOr}
+use Rattle.aw_run.specs.Fronts.{IsFrontOf, IsJudged, IsReady, Nothing, ReadyOr}
 use Rattle.aw_run.proofs.Outputs.{by-input-map, by-input-past, by-input-read}
 use Rattle.aw_run.proofs.Verdicts.{bad-line, refuses-grammar, refuses-types, reply-same, types-hold}
 
@@ -123,7 +125,7 @@ carried-past rounds x input past = of-past (CarriesOver rounds x) input past
 
 -- ---- the front itself
 -- what stands ready behind acceptance
-pub ready-accepted : (s : Spec) (writes : Bool) (o : Opened) (g : Grammar) (t : Types) → s.declared ≡ declarations_of g → s.types ≡ t → o.accepted.grammar ≡ g → o.typed.types ≡ t → IsMadeFor (grammar_of g) o.typed →
+ready-accepted : (s : Spec) (writes : Bool) (o : Opened) (g : Grammar) (t : Types) → s.declared ≡ declarations_of g → s.types ≡ t → o.accepted.grammar ≡ g → o.typed.types ≡ t → IsMadeFor (grammar_of g) o.typed →
     HasNoCircle (grammar_of g) (IO (grammar_of g)) → (IsTrue writes → o.text ≡ written s) → IsReady s writes o
 ready-accepted s writes o g t same typed accepted types made sound text = record {
   declared = same ∙ ap declarations_of (sym accepted);
@@ -136,6 +138,14 @@ ready-accepted s writes o g t same typed accepted types made sound text = record
 -- the refusals of a grammar, of types and of a line, of one reply
 pub front-circular : (said : Reply) (why : refused.Refused) (s : Spec) (g : Grammar) → s.declared ≡ declarations_of g → Tells g why → RefusesGrammar why said → Replies (IfAccepted s Nothing) said
 front-circular said why s g same tells is = refuses-grammar {E = Unit {0}} (Ok said) why s g Nothing same tells is
+
+-- what acceptance said, and the text
+pub front-judged : (judged : Result Accepted Reply) (front : Front) (s : Spec) (writes : Bool) (g : Grammar) (t : Types) (typed : Typed) (text : List ℕ) → s.declared ≡ declarations_of g → s.types ≡ t → typed.types ≡ t → IsMadeFor (grammar_of g) typed →
+    (IsTrue writes → text ≡ written s) → IsJudged g judged → IfOk judged (λ a. front ≡ Ready (record { accepted = a; typed = typed; text = text })) → IfErr judged (λ said. front ≡ Refused said) → ReadyOr (IfAccepted s Nothing) s writes front
+front-judged (Ok a) front s writes g t typed text same known types made written_so said is none =
+    subst (ReadyOr (IfAccepted s Nothing) s writes) (sym is) (ready-accepted s writes (record { accepted = a; typed = typed; text = text }) g t same known said.0 types made said.1 written_so)
+front-judged (Err reply) front s writes g t typed text same known types made written_so said none is =
+    subst (ReadyOr (IfAccepted s Nothing) s writes) (sym is) (said s same)
 
 pub front-untyped : (said : Reply) (fault : told.TypeFault) (s : Spec) (g : Grammar) → s.declared ≡ declarations_of g → TellsTypes (types_of s.types) (grammar_of g) fault → RefusesTypes (words_of g) fault said → Replies (IfTyped s (IfAccepted s Nothing)) said
 front-untyped said fault s g same tells is = refuses-types {E = Unit {0}} (Ok said) fault s g (IfAccepted s Nothing) same tells is

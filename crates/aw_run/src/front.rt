@@ -1,17 +1,18 @@
 //! The front of an input, for the commands that serve: its specification is read, its types are checked, and it is accepted.
-ghost use Rattle.std.specs.Prelude.{◌≡◌, ◌≤◌, length, IfOk, IsTrue};
+ghost use Rattle.std.specs.Prelude.{◌≡◌, ◌≤◌, length, IfErr, IfOk, IsTrue};
 ghost use Rattle.aw_grammar.specs.GrammarOf.{grammar_of};
 ghost use Rattle.aw_typed.specs.Types.{AreFor};
 ghost use Rattle.aw_typed.specs.Typing.{types_of, IsMadeFor, NumbersInRange};
 ghost use Rattle.aw_spec.specs.Views.{spec_seen};
 ghost use Rattle.aw_write.specs.SpecLines.{written};
-ghost use Rattle.aw_run.specs.Fronts.{IsFrontOf, Nothing, ReadyOr};
+ghost use Rattle.aw_run.specs.Fronts.{IsFrontOf, IsJudged, Nothing, ReadyOr};
 ghost use Rattle.aw_run.specs.Output.{IfAccepted, IfTyped};
 
 use crate::refusals::{bad_specification, bad_types, not_accepted};
 use crate::reply::Reply;
 use crate::source::INPUT_LIMIT;
 use aw_accept::{Accepted, accept};
+use aw_base::Grammar;
 use aw_list::Text;
 use aw_spec::{SpecFault, SpecText, read_spec};
 use aw_typed::{Typed, type_check};
@@ -46,6 +47,53 @@ fn text_of(alloc: Global, spec: &SpecText, writes: bool) -> Result<Text, AllocEr
     }
 }
 
+/// The grammar of a specification, the rest of which is let go.
+fn grammar_alone(spec: SpecText) -> Grammar
+    ensures { result ≡ spec.grammar }
+{
+    let SpecText { grammar, .. } = spec;
+    grammar
+}
+
+/// A grammar that is accepted, or what is said of one that is not.
+fn judge(alloc: Global, grammar: Grammar) -> Result<Result<Accepted, Reply>, AllocError>
+    ensures { IfOk result (λ judged. IsJudged grammar judged) }
+{
+    match accept(alloc, grammar) {
+        Ok(accepted) => Ok(Ok(accepted)),
+        Err(refused) => Ok(Err(not_accepted(alloc, refused)?)),
+    }
+}
+
+/// What acceptance says of a specification, and its text where that is asked for.
+fn judge_with_text(
+    alloc: Global,
+    spec: SpecText,
+    writes: bool,
+) -> Result<(Result<Accepted, Reply>, Text), AllocError>
+    ensures judged { IfOk result (λ r. IsJudged spec.grammar r.0) }
+    ensures text { IfOk result (λ r. IsTrue writes → r.1 ≡ written (spec_seen spec)) }
+{
+    let text = text_of(alloc, &spec, writes)?;
+    let judged = judge(alloc, grammar_alone(spec))?;
+    Ok((judged, text))
+}
+
+/// The front of a specification by what acceptance said of it.
+fn front_of_judged(judged: Result<Accepted, Reply>, typed: Typed, text: Text) -> Front
+    ensures ready { IfOk judged (λ a. result ≡ Front.Ready (record { accepted = a; typed = typed; text = text })) }
+    ensures refused { IfErr judged (λ said. result ≡ Front.Refused said) }
+{
+    match judged {
+        Ok(accepted) => Front::Ready(Opened {
+            accepted,
+            typed,
+            text,
+        }),
+        Err(reply) => Front::Refused(reply),
+    }
+}
+
 /// The front of a good specification whose types have no fault.
 fn front_of_typed(
     alloc: Global,
@@ -57,16 +105,8 @@ fn front_of_typed(
     requires made { IsMadeFor (grammar_of spec.grammar) typed }
     ensures { IfOk result (λ front. ReadyOr (IfAccepted (spec_seen spec) Nothing) (spec_seen spec) writes front) }
 {
-    let text = text_of(alloc, &spec, writes)?;
-    let SpecText { grammar, .. } = spec;
-    match accept(alloc, grammar) {
-        Ok(accepted) => Ok(Front::Ready(Opened {
-            accepted,
-            typed,
-            text,
-        })),
-        Err(refused) => Ok(Front::Refused(not_accepted(alloc, refused)?)),
-    }
+    let (judged, text) = judge_with_text(alloc, spec, writes)?;
+    Ok(front_of_judged(judged, typed, text))
 }
 
 /// The front of a good specification.

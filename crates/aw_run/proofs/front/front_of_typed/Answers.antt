@@ -1,10 +1,9 @@
 use Rattle.std.proofs.Common.{refl}
 use Rattle.aw_spec.specs.Views.{spec_seen}
-use Rattle.aw_run.proofs.FrontOutputs.{front-circular, ready-accepted}
+use Rattle.aw_run.proofs.FrontOutputs.{front-judged}
 use Rattle.aw_run.proofs.front.front_of_typed.Goals as goal
 
-pub returns-in-Ok : goal.returns-in-Ok
-returns-in-Ok c = ready-accepted (spec_seen c.args.spec) c.args.writes _ c.args.spec.grammar c.args.spec.types refl refl c.in-Ok.ensures.accepted c.requires.types c.requires.made c.in-Ok.ensures.sound c.in_ok-text.ensures
-
 pub returns : goal.returns
-returns c = front-circular _ c.in-Err.refused (spec_seen c.args.spec) c.args.spec.grammar refl c.in-Err.ensures.circular c.in_ok-not_accepted-in-Err.ensures
+returns c =
+    front-judged c.in_ok-judged.judged c.front_of_judged.result (spec_seen c.args.spec) c.args.writes c.args.spec.grammar c.args.spec.types c.args.typed c.in_ok-judged.text refl refl c.requires.types c.requires.made
+    c.in_ok-judged.ensures.text c.in_ok-judged.ensures.judged c.front_of_judged.ensures.ready c.front_of_judged.ensures.refused
