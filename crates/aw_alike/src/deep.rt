@@ -33,15 +33,26 @@ fn open_row(alloc: Global) -> Result<Row, AllocError> {
     })
 }
 
-/// Adds the lines of rows, or that they pass the limit.
-fn push_rows(alloc: Global, told: &mut Text, rows: &[Row], limit: usize) -> Result<(), AllocError> {
-    let grammar = Grammar::new(alloc);
-    let mut report = Report::new(alloc, limit);
-    match print_rows(alloc, &grammar, rows, &mut report) {
+/// Adds what was printed, or that it passes the limit.
+fn push_printed(
+    told: &mut Text,
+    report: &Report,
+    printed: Result<(), PrintFault>,
+) -> Result<(), AllocError> {
+    match printed {
         Ok(()) => told.push_bytes(report.bytes()),
         Err(PrintFault::TooLarge) => told.push_bytes(b"too large\n"),
         Err(PrintFault::NoMemory) => Err(AllocError),
     }
+}
+
+/// Adds the lines of rows, or that they pass the limit.
+fn push_rows(alloc: Global, told: &mut Text, rows: &[Row], limit: usize) -> Result<(), AllocError> {
+    let grammar = Grammar::new(alloc);
+    let mut report = Report::new(alloc, limit);
+    let printed = print_rows(alloc, &grammar, rows, &mut report);
+    drop(grammar);
+    push_printed(told, &report, printed)
 }
 
 /// A constructor around the number 1 and a value.

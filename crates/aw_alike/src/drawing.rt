@@ -99,25 +99,53 @@ fn elsewhere(alloc: Global, draws: &mut Draws, stand: &Stand<'_>) -> Result<Choi
     Ok(Choice::Develop { node, rule, args })
 }
 
-/// A rule of the sort of an open row, with as many arguments as it has; a start where there is none.
-fn fitting(alloc: Global, draws: &mut Draws, stand: &Stand<'_>) -> Result<Choice, AllocError> {
-    let open = open_rows(alloc, stand.rows)?;
+/// The place of an open row, where there is one.
+fn open_row(alloc: Global, draws: &mut Draws, rows: &[Row]) -> Result<Option<usize>, AllocError> {
+    let open = open_rows(alloc, rows)?;
     if open.is_empty() {
-        return start(alloc, draws, stand);
+        return Ok(None);
     }
-    let at = open[draws.draw(open.len() as u64) as usize];
-    let Some(row) = stand.rows.get(at) else {
-        return start(alloc, draws, stand);
-    };
+    Ok(Some(open[draws.draw(open.len() as u64) as usize]))
+}
+
+/// One of these rules on the node of a row, with as many arguments as it has.
+fn on_row(
+    alloc: Global,
+    draws: &mut Draws,
+    g: &Grammar,
+    row: &Row,
+    rules: &[u16],
+) -> Result<Choice, AllocError> {
+    let rule = draws.among(rules, 0);
+    let count = params_of(g, rule);
+    let args = arguments(alloc, draws, g, count)?;
+    let node = copy_node(&row.node)?;
+    Ok(Choice::Develop { node, rule, args })
+}
+
+/// A rule of the sort of a row; a start where there is none.
+fn ruled(
+    alloc: Global,
+    draws: &mut Draws,
+    stand: &Stand<'_>,
+    row: &Row,
+) -> Result<Choice, AllocError> {
     let rules = rules_of(alloc, stand.grammar, row.sort)?;
     if rules.is_empty() {
         return start(alloc, draws, stand);
     }
-    let rule = draws.among(rules.as_slice(), 0);
-    let count = params_of(stand.grammar, rule);
-    let args = arguments(alloc, draws, stand.grammar, count)?;
-    let node = copy_node(&row.node)?;
-    Ok(Choice::Develop { node, rule, args })
+    on_row(alloc, draws, stand.grammar, row, rules.as_slice())
+}
+
+/// A rule of the sort of an open row, with as many arguments as it has; a start where there is none.
+fn fitting(alloc: Global, draws: &mut Draws, stand: &Stand<'_>) -> Result<Choice, AllocError> {
+    let Some(at) = open_row(alloc, draws, stand.rows)? else {
+        return start(alloc, draws, stand);
+    };
+    match stand.rows.get(at) {
+        Some(row) => ruled(alloc, draws, stand, row),
+        None => start(alloc, draws, stand),
+    }
 }
 
 /// The choice of a turn.

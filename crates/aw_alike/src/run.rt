@@ -1,5 +1,5 @@
 //! One run, over whole trees and over flat equations.
-ghost use Rattle.std.specs.Prelude.{◌≡◌, true, IfOk};
+ghost use Rattle.std.specs.Prelude.{◌≡◌, true, IfOk, OnOk};
 ghost use Rattle.aw_base.specs.ChoiceFits.{choice_ok};
 ghost use Rattle.aw_choice.specs.ChoiceView.{choice_of};
 ghost use Rattle.aw_grammar.specs.GrammarOf.{grammar_of};
@@ -17,6 +17,28 @@ use aw_replay::run_undivided;
 use aw_rows::Row;
 use aw_sched::Event;
 use std::alloc::{AllocError, Global};
+
+/// Adds the line of a choice and its answer.
+fn push_answer(
+    told: &mut Text,
+    g: &Grammar,
+    choice: &Choice,
+    answer: &Answer,
+) -> Result<(), AllocError> {
+    let mut names = NameWriter::new(told.allocator(), g);
+    push_choice_line(told, &mut names, choice, answer)
+}
+
+/// Adds the event that a choice is made.
+fn push_event(g: &Grammar, events: &mut Vec<Event>, choice: Choice) -> Result<(), AllocError>
+    requires fit { Each (MayCome (grammar_of g.now)) events.old.items }
+    requires fits { choice_ok (grammar_of g.now) (choice_of choice) ≡ true }
+    ensures { OnOk result (Each (MayCome (grammar_of g.now)) events.new.items) }
+{
+    let event = Event::of_choice(*events.allocator(), choice)?;
+    events.push(event)?;
+    Ok(())
+}
 
 /// The rows over whole trees that choices lead to, the choices, and the lines of their answers.
 #[derive(Drop)]
@@ -44,6 +66,18 @@ impl<'g> Run<'g> {
         self.plain.rows()
     }
 
+    /// Makes a choice over whole trees, and adds the line of its answer.
+    fn answer(&mut self, accepted: &Accepted, choice: &Choice) -> Result<Answer, AllocError>
+        requires same { self.old.plain.grammar.now ≡ accepted.now.grammar }
+        requires fits { choice_ok (grammar_of accepted.now.grammar) (choice_of choice.now) ≡ true }
+        ensures same { self.new.plain.grammar.now ≡ accepted.now.grammar }
+        ensures events { self.new.events ≡ self.old.events }
+    {
+        let answer = self.plain.choose(accepted, choice)?;
+        push_answer(&mut self.told, accepted.grammar(), choice, &answer)?;
+        Ok(answer)
+    }
+
     /// Makes a choice over whole trees.
     pub fn choose(&mut self, accepted: &Accepted, choice: Choice) -> Result<Answer, AllocError>
         requires same { self.old.plain.grammar.now ≡ accepted.now.grammar }
@@ -52,12 +86,8 @@ impl<'g> Run<'g> {
         ensures same { self.new.plain.grammar.now ≡ accepted.now.grammar }
         ensures fit { IfOk result (λ a. Each (MayCome (grammar_of accepted.now.grammar)) self.new.events.items) }
     {
-        let answer = self.plain.choose(accepted, &choice)?;
-        let alloc = self.told.allocator();
-        let mut names = NameWriter::new(alloc, accepted.grammar());
-        push_choice_line(&mut self.told, &mut names, &choice, &answer)?;
-        let event = Event::of_choice(alloc, choice)?;
-        self.events.push(event)?;
+        let answer = self.answer(accepted, &choice)?;
+        push_event(accepted.grammar(), &mut self.events, choice)?;
         Ok(answer)
     }
 

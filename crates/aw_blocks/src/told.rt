@@ -3,6 +3,7 @@ ghost use Rattle.std.specs.Prelude.{◌≡◌, ◌≤◌, IfOk, length};
 ghost use Rattle.aw_grammar.specs.GrammarOf.{grammar_of};
 ghost use Rattle.aw_sched.specs.Answers.{MayCome};
 ghost use Rattle.aw_term.specs.WellFormed.{Each};
+ghost use Rattle.aw_typed.specs.Typing.{IsMadeFor};
 ghost use Rattle.aw_world.specs.WorldView.{plain_of};
 
 use crate::fault::EntryFault;
@@ -14,7 +15,7 @@ use aw_out::{OUTPUT_LIMIT, PrintFault, Report};
 use aw_replay::tell_events;
 use aw_sched::{Event, Events, SchedFault, read_schedule};
 use aw_spec::{SpecFault, SpecText, read_spec};
-use aw_typed::untyped;
+use aw_typed::{Typed, untyped};
 use aw_world::{SiteWorld, Workspace, World};
 use std::alloc::{AllocError, Global};
 
@@ -29,16 +30,29 @@ fn push_pairs(told: &mut Text, g: &Grammar, pairs: &[Pair]) -> Result<(), AllocE
     Ok(())
 }
 
+/// The events of a schedule with these types.
+fn events_with(
+    alloc: Global,
+    g: &Grammar,
+    typed: &Typed,
+    schedule: &[u8],
+) -> Result<Events, EntryFault>
+    requires { IsMadeFor (grammar_of g.now) typed.now }
+    ensures { IfOk result (λ events. Each (MayCome (grammar_of g.now)) events) }
+{
+    match read_schedule(alloc, g, typed, schedule) {
+        Ok(events) => Ok(events),
+        Err(SchedFault::Bad { .. }) => Err(EntryFault::Unreadable),
+        Err(SchedFault::NoMemory) => Err(EntryFault::NoMemory),
+    }
+}
+
 /// The events of a schedule without types.
 fn events_of(alloc: Global, g: &Grammar, schedule: &[u8]) -> Result<Events, EntryFault>
     ensures { IfOk result (λ events. Each (MayCome (grammar_of g.now)) events) }
 {
     let typed = untyped(alloc, g)?;
-    match read_schedule(alloc, g, &typed, schedule) {
-        Ok(events) => Ok(events),
-        Err(SchedFault::Bad { .. }) => Err(EntryFault::Unreadable),
-        Err(SchedFault::NoMemory) => Err(EntryFault::NoMemory),
-    }
+    events_with(alloc, g, &typed, schedule)
 }
 
 /// Does the events of a schedule. What is told of them is let go.
