@@ -1,6 +1,6 @@
-//! A table of flat equations, in three parts, each behind a line with its name: `cases`, choices that are answered over a store; `stores`,
-//! calls on the two stores; and `lines`, the lines of nodes that are printed over both. What stands in `stdin` and `stdout` was worked out by
-//! hand or by scripts that know nothing of the program; nothing in them comes from it.
+//! A table of flat equations, in four parts, each behind a line with its name: `cases`, choices that are answered over a store; `stores`,
+//! calls on the two stores; `lines`, the lines of nodes that are printed over both; and `works`, work for a store of many nodes. What stands
+//! in `stdin` and `stdout` was worked out by hand or by programs that know nothing of this one; nothing in them comes from it.
 #![tactic(auto)]
 
 mod both;
@@ -11,11 +11,14 @@ mod draws;
 mod filling;
 mod lines;
 mod narrow;
+mod nodes;
 mod reading;
 mod stores;
 mod told;
 mod typed;
 mod weigh;
+mod work;
+mod works;
 
 use aw_list::Text;
 use aw_tables::{TableFault, input_of, tell};
@@ -25,6 +28,7 @@ use lines::push_lines;
 use std::alloc::Global;
 use std::process::ExitCode;
 use stores::push_stores;
+use works::push_works;
 
 /// What stands in front of a part's name.
 const PART: &[u8] = b"+++ ";
@@ -35,6 +39,7 @@ fn push_told(alloc: Global, told: &mut Text, name: &[u8], text: &[u8]) -> Result
         b"cases" => Ok(push_cases(alloc, told, text)?),
         b"stores" => Ok(push_stores(alloc, told, text)?),
         b"lines" => push_lines(alloc, told),
+        b"works" => push_works(alloc, told, text),
         _ => Err(TableFault::Unreadable),
     }
 }

@@ -26,6 +26,20 @@ fn size_of(word: &[u8], whole: usize) -> Result<usize, EntryFault> {
     }
 }
 
+/// Adds what is answered to a session in pieces of the size that a word names.
+fn push_pieces(
+    alloc: Global,
+    told: &mut Text,
+    bytes: &[u8],
+    word: &[u8],
+) -> Result<(), EntryFault> {
+    told.push_bytes(b"pieces ")?;
+    told.push_bytes(word)?;
+    told.push_bytes(b"\n")?;
+    let size = size_of(word, bytes.len())?;
+    Ok(push_session(alloc, told, bytes, size)?)
+}
+
 /// Adds what is answered to a session, for each size of pieces.
 fn push_sessions(
     alloc: Global,
@@ -34,10 +48,7 @@ fn push_sessions(
     sizes: &[u8],
 ) -> Result<(), EntryFault> {
     for word in sizes.split_str(b" ") {
-        told.push_bytes(b"pieces ")?;
-        told.push_bytes(word)?;
-        told.push_bytes(b"\n")?;
-        push_session(alloc, told, bytes, size_of(word, bytes.len())?)?;
+        push_pieces(alloc, told, bytes, word)?;
     }
     Ok(())
 }

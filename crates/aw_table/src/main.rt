@@ -1,12 +1,21 @@
-//! A table of specifications, in three parts, each behind a line with its name: `inputs`, whether a specification and its schedule are good;
-//! `relations`, what flows where in the text of each rule; and `parts`, what roles find that are checked apart. What stands in `stdin` and
-//! `stdout` was made from the stated limits or worked out by hand; nothing in them comes from the program.
+//! A table of the lower crates, in five parts, each behind a line with its name: `texts`, names, numbers, texts and tokens, and what is read
+//! and written whole; `index`, calls on a waiting index; `inputs`, whether a specification and its schedule are good; `relations`, what
+//! flows where in the text of each rule; and `parts`, what roles find that are checked apart. What stands in `stdin` and `stdout` was made
+//! from the stated limits or worked out by hand; nothing in them comes from the program.
 #![tactic(auto)]
 
+mod asked;
+mod edges;
 mod inputs;
+mod lexed;
 mod parts;
 mod relations;
+mod spelled;
+mod texts;
 mod told;
+mod waiting;
+mod wire;
+mod words;
 
 use aw_list::Text;
 use aw_tables::{TableFault, input_of, tell};
@@ -16,6 +25,8 @@ use parts::push_apart;
 use relations::push_relations;
 use std::alloc::Global;
 use std::process::ExitCode;
+use texts::push_texts;
+use waiting::push_index;
 
 /// What stands in front of a part's name.
 const PART: &[u8] = b"+++ ";
@@ -23,6 +34,8 @@ const PART: &[u8] = b"+++ ";
 /// Adds what is told of the part of this name.
 fn push_told(alloc: Global, told: &mut Text, name: &[u8], text: &[u8]) -> Result<(), TableFault> {
     match name {
+        b"texts" => push_texts(alloc, told, text),
+        b"index" => Ok(push_index(alloc, told, text)?),
         b"inputs" => Ok(push_inputs(alloc, told, text)?),
         b"relations" => Ok(push_relations(alloc, told, text)?),
         b"parts" => Ok(push_apart(alloc, told, text)?),

@@ -2,7 +2,7 @@
 //! declared, then the whole of its parts joined where each part says yes, and last waiting. Parts may be given more than is
 //! declared: the first behind the word `first`, the others behind `other`. What stands in `stdout` was worked out by hand;
 //! nothing in it comes from the program.
-ghost use Rattle.std.specs.Prelude.{◌≡◌, None, IfOk};
+ghost use Rattle.std.specs.Prelude.{◌≡◌, IsTrue, None, IfOk};
 ghost use Rattle.aw_term.specs.WellFormed.{Each};
 ghost use Rattle.aw_grammar.specs.GrammarOf.{grammar_of};
 ghost use Rattle.aw_face.specs.Faces.{face_fault};
@@ -173,7 +173,54 @@ fn push_whole(
     }
 }
 
-/// Adds what is found of roles, and the whole where each says yes with what its part is given.
+/// What an entry declares: of all roles, and what the first part and the others are given.
+#[derive(Drop)]
+struct Given {
+    all: Declared,
+    first: Declared,
+    others: Declared,
+}
+
+/// What the lines in front of a specification declare.
+fn read_given(alloc: Global, g: &Grammar, head: &[u8]) -> Result<Given, AllocError> {
+    let all = declared(alloc, g, head, b"")?;
+    let first = declared(alloc, g, head, b"first")?;
+    let others = declared(alloc, g, head, b"other")?;
+    Ok(Given { all, first, others })
+}
+
+/// Whether all that is declared is in the range of its sorts.
+fn is_in_range(g: &Grammar, given: &Given) -> bool
+    ensures all { IsTrue result → Each (IsPosition (grammar_of g.now).sorts) given.now.all }
+    ensures first { IsTrue result → Each (IsPosition (grammar_of g.now).sorts) given.now.first }
+    ensures others { IsTrue result → Each (IsPosition (grammar_of g.now).sorts) given.now.others }
+{
+    are_positions(g, &given.all)
+        && are_positions(g, &given.first)
+        && are_positions(g, &given.others)
+}
+
+/// Adds what is found of roles, and the whole where each says yes with what its part is given, which is in range.
+fn push_found(
+    alloc: Global,
+    told: &mut Text,
+    g: &Grammar,
+    f: &Faces,
+    given: &Given,
+) -> Result<(), AllocError>
+    requires faces { face_fault (grammar_of g.now) f.now.offers f.now.uses ≡ None }
+    requires all { Each (IsPosition (grammar_of g.now).sorts) given.now.all }
+    requires first { Each (IsPosition (grammar_of g.now).sorts) given.now.first }
+    requires others { Each (IsPosition (grammar_of g.now).sorts) given.now.others }
+{
+    told.push_bytes(roles_text(alloc, g, f, &given.all)?.as_slice())?;
+    match parts_of(alloc, g, f, &given.first, &given.others)? {
+        Some(parts) => push_whole(alloc, told, parts, g),
+        None => Ok(()),
+    }
+}
+
+/// Adds what is found of roles with what is declared, or that this is not in range.
 fn push_roles(
     alloc: Global,
     told: &mut Text,
@@ -183,16 +230,11 @@ fn push_roles(
 ) -> Result<(), AllocError>
     requires { face_fault (grammar_of g.now) f.now.offers f.now.uses ≡ None }
 {
-    let all = declared(alloc, g, head, b"")?;
-    let first = declared(alloc, g, head, b"first")?;
-    let others = declared(alloc, g, head, b"other")?;
-    if !are_positions(g, &all) || !are_positions(g, &first) || !are_positions(g, &others) {
-        return told.push_bytes(b"not in range\n");
-    }
-    told.push_bytes(roles_text(alloc, g, f, &all)?.as_slice())?;
-    match parts_of(alloc, g, f, &first, &others)? {
-        Some(parts) => push_whole(alloc, told, parts, g),
-        None => Ok(()),
+    let given = read_given(alloc, g, head)?;
+    if is_in_range(g, &given) {
+        push_found(alloc, told, g, f, &given)
+    } else {
+        told.push_bytes(b"not in range\n")
     }
 }
 

@@ -1,5 +1,5 @@
 //! What is read and written whole, over objects that move pieces and fail.
-use crate::told::{push_count, push_word};
+use crate::words::{push_count, push_word};
 use aw_list::Text;
 use aw_out::{
     Calls, MemSink, MemSource, PrintFault, ReadError, Report, Sink, Sizes, Source, read_all,

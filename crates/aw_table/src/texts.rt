@@ -1,30 +1,16 @@
-//! A table of the lowest crates, in two parts. The first is of names, numbers, texts and tokens, and of what is read and written whole:
-//! each line is a word and what it is about, and behind it stands what came of it. Bytes are written in hexadecimal. The second, whose
-//! entries have a mark and a name, is of calls on a waiting index. What stands in `stdin` and `stdout` was worked out by hand;
-//! nothing in it comes from the program.
-#![tactic(auto)]
-
-mod asked;
-mod edges;
-mod lexed;
-mod session;
-mod spelled;
-mod told;
-mod waiting;
-
+//! Names, numbers, texts and tokens, and what is read and written whole. Each line is a word and what it is about, and behind it stands
+//! what came of it. Bytes are written in hexadecimal.
+use crate::edges::{push_read, push_report, push_written};
+use crate::lexed::{push_line, push_passed_over, push_tokens};
+use crate::spelled::{
+    push_content, push_cut, push_end, push_length, push_name, push_node, push_text,
+};
+use crate::wire::push_sessions;
 use aw_list::Text;
-use aw_tables::{TableFault, bytes_of, input_of, numbers_of, tell};
+use aw_tables::{TableFault, bytes_of, numbers_of};
 use aw_text::cut_at;
 use bstr::ByteSlice;
-use edges::{push_read, push_report, push_written};
-use lexed::{push_line, push_passed_over, push_tokens};
-use session::push_sessions;
-use spelled::{push_content, push_cut, push_end, push_length, push_name, push_node, push_text};
 use std::alloc::Global;
-use std::process::ExitCode;
-
-/// What stands in front of the name of an entry of the second part.
-pub(crate) const MARK: &[u8] = b"=== ";
 
 /// Adds what is told of bytes that are tokens or lines.
 fn push_lexed(alloc: Global, told: &mut Text, word: &[u8], bytes: &[u8]) -> Result<(), TableFault> {
@@ -92,27 +78,9 @@ fn push_entry(alloc: Global, told: &mut Text, line: &[u8]) -> Result<(), TableFa
 }
 
 /// Adds all lines.
-fn push_entries(alloc: Global, told: &mut Text, text: &[u8]) -> Result<(), TableFault> {
+pub fn push_texts(alloc: Global, told: &mut Text, text: &[u8]) -> Result<(), TableFault> {
     for line in text.lines() {
         push_entry(alloc, told, line)?;
     }
     Ok(())
-}
-
-/// What is told of both parts.
-fn table(alloc: Global, text: &[u8]) -> Result<Text, TableFault> {
-    let mut told = Text::new(alloc);
-    let Some((lines, entries)) = text.split_once_str(MARK) else {
-        return Err(TableFault::Unreadable);
-    };
-    push_entries(alloc, &mut told, lines)?;
-    waiting::push_entries(alloc, &mut told, entries)?;
-    Ok(told)
-}
-
-fn main(rt: HostRuntime) -> ExitCode {
-    match input_of(&rt) {
-        Ok(input) => tell(&rt, table(rt.alloc(), input.as_slice())),
-        Err(status) => status,
-    }
 }

@@ -1,7 +1,7 @@
 //! Sessions on a wire that always works: the first one comes, the second one is dialed, and a third one that is dialed has nothing.
 ghost use Rattle.std.specs.Prelude.{◌≡◌, true};
 
-use crate::told::{push_count, push_word};
+use crate::words::{push_count, push_word};
 use aw_list::{Items, Text};
 use aw_out::{Arrival, Dialed, Got, Put, SureWire, Texts, Wire};
 use std::alloc::{AllocError, Global};

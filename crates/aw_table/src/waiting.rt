@@ -1,8 +1,8 @@
 //! Calls on a waiting index. Each line of an entry is a call, and behind it stands what the index answered. Which of several pairs of
 //! a slot comes out first is left open, so a line that takes all of them tells how many they were, and the sums of their numbers.
 
-use crate::MARK;
 use crate::asked::{Asked, read_line};
+use crate::told::{MARK, push_name};
 use aw_list::Text;
 use aw_text::push_number;
 use aw_work::{Pair, Work};
@@ -147,14 +147,12 @@ fn push_entry(alloc: Global, told: &mut Text, entry: &[u8]) -> Result<(), AllocE
     let Some((name, input)) = entry.split_once_str(b"\n") else {
         return Ok(());
     };
-    told.push_bytes(MARK)?;
-    told.push_bytes(name)?;
-    told.push_bytes(b"\n")?;
+    push_name(told, name)?;
     push_answers(alloc, told, input)
 }
 
-/// Adds the lines of all entries, of which the first has no mark any more.
-pub(crate) fn push_entries(alloc: Global, told: &mut Text, text: &[u8]) -> Result<(), AllocError> {
+/// Adds the lines of all entries. What stands before the first mark is none.
+pub fn push_index(alloc: Global, told: &mut Text, text: &[u8]) -> Result<(), AllocError> {
     for entry in text.split_str(MARK) {
         push_entry(alloc, told, entry)?;
     }

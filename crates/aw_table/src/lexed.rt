@@ -1,5 +1,5 @@
 //! Tokens and lines.
-use crate::told::{push_count, push_hex, push_word, push_yes};
+use crate::words::{push_count, push_hex, push_word, push_yes};
 use aw_lex::{LexFault, Token, TokenKind, is_passed_over, next_line, tokens};
 use aw_list::Text;
 use std::alloc::{AllocError, Global};

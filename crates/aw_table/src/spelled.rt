@@ -1,5 +1,5 @@
 //! Names, numbers, texts and the names of nodes.
-use crate::told::{push_count, push_hex, push_word, push_yes};
+use crate::words::{push_count, push_hex, push_word, push_yes};
 use aw_list::Text;
 use aw_text::{
     StepPart, content_ok, content_value, cut_at, is_node_name, is_number, name_len, name_ok,

@@ -1,4 +1,4 @@
-//! What the lines of the table ask for.
+//! What the lines of the part on a waiting index ask for.
 
 use aw_text::{cut_at, number_value};
 use aw_work::Pair;
