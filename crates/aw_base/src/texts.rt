@@ -187,7 +187,7 @@ fn add_place(text: &mut Text, place: &Place) -> Result<(), AllocError>
 pub fn path_steps(path: &Path) -> &[u8]
     ensures { result.now ≡ path_of path.now }
 {
-    let (steps, _) = path.steps.split_at(usize::from(path.len));
+    let (steps, _) = path.steps.split_at(path.len);
     steps
 }
 

@@ -29,7 +29,7 @@ pub fn copy_choice(choice: &Choice) -> Result<Choice, AllocError>
 #[derive(Clone, Copy, Debug, PartialEq, Eq)]
 pub struct Path {
     pub steps: [u8; 32],
-    pub len: u8,
+    pub len: usize,
     ghost within: { len ≤ 32 },
     ghost rest: { (k : ℕ) → len ≤ k → k < 32 → slice_index steps k ≡ 0 },
 }
@@ -55,7 +55,7 @@ impl Path {
         ensures steps { path_of self.new ≡ path_of self.old ++ step ∷ [] }
         ensures length { self.new.len ≡ self.old.len + 1 }
     {
-        self.steps[usize::from(self.len)] = step;
+        self.steps[self.len] = step;
         self.len += 1;
     }
 }
