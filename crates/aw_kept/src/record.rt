@@ -70,8 +70,8 @@ fn waits_so(mark: &Mark, rule: u16, slot: usize) -> bool
     }
 }
 
-/// The place of the mark of this rule, where the marks are in the order of their rules.
-pub(crate) fn rule_place(marks: &[Mark], rule: u16) -> Option<usize>
+/// The place of the mark of this rule, found by halving, where the marks are in the order of their rules.
+fn sought_place(marks: &[Mark], rule: u16) -> Option<usize>
     ensures found { IfSome result (λ at. (m : MarkValue) × (slice_get marks.now at ≡ Some m) × (m.rule ≡ rule)) }
     ensures within { IfSome result (λ at. at < length marks.now) }
     ensures none { IfNone result (AreRising (map mark_rule marks.now) → (j : ℕ) (m : MarkValue) → slice_get marks.now j ≡ Some m → m.rule ≢ rule) }
@@ -81,6 +81,40 @@ pub(crate) fn rule_place(marks: &[Mark], rule: u16) -> Option<usize>
         Some(at)
     } else {
         None
+    }
+}
+
+/// Where the mark of this rule stands if the rules of the sort were declared one right behind the other.
+fn guessed_place(marks: &[Mark], rule: u16) -> usize {
+    match marks.first() {
+        Some(mark) => usize::from(rule.wrapping_sub(mark.rule)),
+        None => 0,
+    }
+}
+
+/// Whether the mark at a place, if there is one, is of this rule.
+fn is_of_rule(marks: &[Mark], at: usize, rule: u16) -> bool
+    ensures found { result ≡ true → (m : MarkValue) × (slice_get marks.now at ≡ Some m) × (m.rule ≡ rule) }
+    ensures within { result ≡ true → at < length marks.now }
+{
+    match marks.get(at) {
+        Some(mark) => mark.rule == rule,
+        None => false,
+    }
+}
+
+/// The place of the mark of this rule, where the marks are in the order of their rules. It is looked for first where a guess says that
+/// it stands.
+pub(crate) fn rule_place(marks: &[Mark], rule: u16) -> Option<usize>
+    ensures found { IfSome result (λ at. (m : MarkValue) × (slice_get marks.now at ≡ Some m) × (m.rule ≡ rule)) }
+    ensures within { IfSome result (λ at. at < length marks.now) }
+    ensures none { IfNone result (AreRising (map mark_rule marks.now) → (j : ℕ) (m : MarkValue) → slice_get marks.now j ≡ Some m → m.rule ≢ rule) }
+{
+    let guess = guessed_place(marks, rule);
+    if is_of_rule(marks, guess, rule) {
+        Some(guess)
+    } else {
+        sought_place(marks, rule)
     }
 }
 

@@ -5,7 +5,7 @@ use Rattle.std.proofs.lemmas.Option.{slice_get_read, slice_get_past, same_Some}
 use Rattle.aw_kept.specs.declared.record.Mark.{Mark}
 use Rattle.aw_kept.specs.Records.{mark_rule}
 use Rattle.aw_kept.proofs.Rising.{not_falling, none_of_rule}
-use Rattle.aw_kept.proofs.record.rule_place.Goals as goal
+use Rattle.aw_kept.proofs.record.sought_place.Goals as goal
 
 none_some : {A : Type 0} (x : A) → None ≡ Some x → ⊥
 none_some x e = absurd cc
