@@ -1,6 +1,6 @@
 -- Events that are replayed while they are read.
 use Rattle.std.proofs.Common.{◌≡◌, ◌<◌, Bool, true, false, List, [], ◌∷◌, ◌++◌, length, map, Ok, Err, refl, sym, ap, subst, ◌∙◌, append_assoc, append-nil}
-use Rattle.std.specs.Prelude.{◌≢◌, IfSome, None, OnOk, Option, Some, filter}
+use Rattle.std.specs.Prelude.{IfSome, None, OnOk, Option, Some, filter}
 use Rattle.std.specs.declared.result.Result.{Result}
 use Rattle.std.proofs.lemmas.List.{map-append}
 use Rattle.std.proofs.lemmas.List.Elements.{filter-append}
@@ -22,7 +22,7 @@ use Rattle.aw_sched.proofs.ReadEvents.{end_read, fault_read, more_read, next_rea
 use Rattle.aw_typed.specs.Typing.{types_of}
 use Rattle.aw_world.specs.declared.workspace.Workspace.{Ghosts}
 use Rattle.aw_replay.specs.Faults.{after_end, of_printing, of_schedule}
-use Rattle.aw_replay.specs.Replays.{Ends, HasTold, IsKeptPastLimit, IsPastLimit, Replays, TellsKept, TellsLeft, TellsMore, is_kept, kept_of, lines_from_empty, most, whole_output}
+use Rattle.aw_replay.specs.Replays.{Ends, HasTold, IsKeptPastLimit, IsPastLimit, Replays, StopsWith, TellsKept, TellsLeft, TellsMore, is_kept, kept_of, lines_from_empty, most, whole_output}
 use Rattle.aw_replay.specs.declared.stepwise.Replay.{Replay}
 use Rattle.aw_replay.specs.declared.scheduled.Kept.{Kept}
 use Rattle.aw_replay.specs.declared.scheduled.Kept.TheVariants.{All}
@@ -108,18 +108,16 @@ module _ {W : Type 0} (f : Ghosts W) (kept : Kept) where
     whole_told told (Err print.TooLarge) ends = (told.0, told.1, ends a carried (kept_of kept told.0) (told.2 a carried [] begun))
     whole_told told (Err print.NoMemory) ends = tt
 
-    pub whole_past : later.grammar.now ≡ reader.grammar.now → later.typed.now ≡ reader.typed.now → TellsLeft f kept reader old later new (Err TooLarge) → Passes later (Ok tt) → Replays a carried kept reader (Err TooLarge)
+    whole_past : later.grammar.now ≡ reader.grammar.now → later.typed.now ≡ reader.typed.now → TellsLeft f kept reader old later new (Err TooLarge) → Passes later (Ok tt) → Replays a carried kept reader (Err TooLarge)
     whole_past grammar typed told passed = (
       told.0 ++ passed.0,
       more_read reader later told.0 (Events []) grammar typed told.1 passed.0 passed.1,
       subst (λ xs. most < length (whole_output a carried xs)) (sym (kept_more kept told.0 passed.0)) (longer a carried (kept_of kept told.0) (kept_of kept passed.0) (told.2 a carried [] begun)),
     )
 
-    pub fault_behind : TellsLeft f kept reader old later new (Err TooLarge) → (fault : SchedFault) → Passes later (Err fault) → Replays a carried kept reader (Err (of_schedule fault))
-    fault_behind told (read.Bad line kind) passed = told.1.read ∙ ap (with_events (map event_seen told.0)) passed ∙ with_fault (map event_seen told.0) line kind
-    fault_behind told read.NoMemory passed = tt
-
-    pub other_fault : (fault : ReplayFault) → fault ≢ TooLarge → TellsLeft f kept reader old later new (Err fault) → Replays a carried kept reader (Err fault)
-    other_fault (Bad line kind) other told = told
-    other_fault TooLarge other told = absurd (other refl)
-    other_fault NoMemory other told = tt
+    pub stopped : later.grammar.now ≡ reader.grammar.now → later.typed.now ≡ reader.typed.now → (fault result : ReplayFault) → TellsLeft f kept reader old later new (Err fault) → StopsWith later fault result → Replays a carried kept reader (Err result)
+    stopped grammar typed TooLarge TooLarge told passed = whole_past grammar typed told passed
+    stopped grammar typed TooLarge (Bad line kind) told passed = told.1.read ∙ ap (with_events (map event_seen told.0)) passed ∙ with_fault (map event_seen told.0) line kind
+    stopped grammar typed TooLarge NoMemory told passed = tt
+    stopped grammar typed (Bad line kind) result told same = subst (λ z. Replays a carried kept reader (Err z)) (sym same) told
+    stopped grammar typed NoMemory result told same = subst (λ z. Replays a carried kept reader (Err z)) (sym same) tt

@@ -107,6 +107,15 @@ TellsLeft f kept reader old later new (Err TooLarge) = (es : List E.Event) × Ar
 TellsLeft f kept reader old later new (Err (Bad line kind)) = left reader ≡ FaultAt line kind
 TellsLeft f kept reader old later new (Err NoMemory) = Unit {0}
 
+-- Why a schedule is not replayed, if telling stopped with a fault and this was left then: output that is too long is told where what is left has
+-- no fault, and else the first fault in it; any other fault is told as it is.
+abbrev pub StopsWith : ScheduleReader → ReplayFault → ReplayFault → Type 0
+StopsWith reader TooLarge TooLarge = (es : List E.Event) × AreRead reader es (Events [])
+StopsWith reader TooLarge (Bad line kind) = left reader ≡ FaultAt line kind
+StopsWith reader TooLarge NoMemory = Unit {0}
+StopsWith reader (Bad line kind) told = told ≡ Bad line kind
+StopsWith reader NoMemory told = told ≡ NoMemory
+
 -- What is told of all events that were left of a schedule, as a text of them; or that it is too long; or the first faulty line, counted
 -- from 1, and the first kind of fault there, whatever stands before it. Want of memory says nothing.
 abbrev pub Tells : (List E.Event → List ℕ) → ScheduleReader → Result Bounded ReplayFault → Type 0

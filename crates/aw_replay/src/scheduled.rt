@@ -4,7 +4,7 @@ ghost use Rattle.aw_grammar.specs.GrammarOf.{grammar_of};
 ghost use Rattle.aw_sched.specs.Answers.{MayCome};
 ghost use Rattle.aw_sched.specs.Readers.{IsReading};
 ghost use Rattle.aw_world.specs.WorldView.{plain_of};
-ghost use Rattle.aw_replay.specs.Replays.{IsKeptPastLimit, IsNamed, MayReplay, Replays, TellsKept, TellsLeft, is_kept};
+ghost use Rattle.aw_replay.specs.Replays.{IsKeptPastLimit, IsNamed, MayReplay, Replays, StopsWith, TellsKept, TellsLeft, is_kept};
 
 use crate::stepwise::Replay;
 use aw_accept::Accepted;
@@ -124,6 +124,21 @@ fn tell_left<W: Workspace>(
     Ok(())
 }
 
+/// Why a schedule is not replayed whose telling stopped with this fault. An output that would be too long comes after a faulty line,
+/// wherever that stands, and so what is left is read.
+fn fault_with_left(reader: &mut ScheduleReader<'_>, fault: ReplayFault) -> ReplayFault
+    requires { IsReading reader.old }
+    ensures { StopsWith reader.old fault result }
+{
+    match fault {
+        ReplayFault::TooLarge => match reader.pass() {
+            Ok(()) => ReplayFault::TooLarge,
+            Err(fault) => ReplayFault::from(fault),
+        },
+        other => other,
+    }
+}
+
 /// Replays the events that are left of a schedule and are kept, between sites that hold nothing, one for each role: the lines of all
 /// events, and then the artifacts where every message was delivered, and otherwise how many were not. Messages carry loads, or none
 /// does. An event is let go before the next is read, so that beside its text a schedule takes memory for the tokens of one line and the
@@ -145,14 +160,9 @@ pub fn replay_schedule(
     let mut replay = Replay::new(SiteWorld::new(alloc, accepted, loads)?);
     match tell_left(reader, kept, &mut replay) {
         Ok(()) => Ok(replay.finish()?),
-        Err(ReplayFault::TooLarge) => {
-            mem::forget(replay);
-            reader.pass()?;
-            Err(ReplayFault::TooLarge)
-        }
         Err(fault) => {
             mem::forget(replay);
-            Err(fault)
+            Err(fault_with_left(reader, fault))
         }
     }
 }
