@@ -21,6 +21,7 @@ use Rattle.aw_sched.specs.declared.event.Event.TheVariants as event
 use Rattle.aw_sched.specs.declared.reader.ScheduleReader.{ScheduleReader}
 use Rattle.aw_world.specs.declared.workspace.Workspace.{Ghosts}
 use Rattle.aw_world.specs.Shown.{Shows}
+use Rattle.aw_replay.specs.Faults.{after_end}
 use Rattle.aw_replay.specs.Telling.{SettlingEnds}
 use Rattle.aw_replay.specs.declared.stepwise.Replay.{Replay}
 use Rattle.aw_replay.specs.declared.scheduled.Kept.{Kept}
@@ -65,6 +66,10 @@ module _ {W : Type 0} (f : Ghosts W) where
   Ends r (Ok report) = (a : Accepted) (carried : Bool) (es : List Event) → HasTold r a carried es → report ≡ record { text = whole_output a carried es; limit = most }
   Ends r (Err fault.TooLarge) = (a : Accepted) (carried : Bool) (es : List Event) → HasTold r a carried es → most < length (whole_output a carried es)
   Ends r (Err fault.NoMemory) = Unit {0}
+
+  -- whatever events were replayed, their whole output is told; or why it is not
+  abbrev pub EndsWhole : Replay W f → Result Bounded ReplayFault → Type 0
+  EndsWhole r result = (ended : Result Bounded PrintFault) × Ends r ended × (result ≡ after_end ended)
 
   -- Whatever events were replayed, if they may stand: however late, repeated or reordered their deliveries are, what is told is the
   -- same, and behind each settling no message is undelivered.

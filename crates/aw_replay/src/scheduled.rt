@@ -4,7 +4,7 @@ ghost use Rattle.aw_grammar.specs.GrammarOf.{grammar_of};
 ghost use Rattle.aw_sched.specs.Answers.{MayCome};
 ghost use Rattle.aw_sched.specs.Readers.{IsReading};
 ghost use Rattle.aw_world.specs.WorldView.{plain_of};
-ghost use Rattle.aw_replay.specs.Replays.{IsKeptPastLimit, IsNamed, MayReplay, Replays, StopsWith, TellsKept, TellsLeft, is_kept};
+ghost use Rattle.aw_replay.specs.Replays.{EndsWhole, IsKeptPastLimit, IsNamed, MayReplay, Replays, StopsWith, TellsKept, TellsLeft, is_kept};
 
 use crate::stepwise::Replay;
 use aw_accept::Accepted;
@@ -124,6 +124,14 @@ fn tell_left<W: Workspace>(
     Ok(())
 }
 
+/// Ends a replay: the whole output of what was replayed.
+fn finish<W: Workspace>(replay: Replay<'_, W>) -> Result<Report, ReplayFault>
+    requires { IsNamed ⟦<W as Workspace>⟧ replay }
+    ensures { EndsWhole ⟦<W as Workspace>⟧ replay.entry result }
+{
+    Ok(replay.finish()?)
+}
+
 /// Why a schedule is not replayed whose telling stopped with this fault. An output that would be too long comes after a faulty line,
 /// wherever that stands, and so what is left is read.
 fn fault_with_left(reader: &mut ScheduleReader<'_>, fault: ReplayFault) -> ReplayFault
@@ -159,7 +167,7 @@ pub fn replay_schedule(
 {
     let mut replay = Replay::new(SiteWorld::new(alloc, accepted, loads)?);
     match tell_left(reader, kept, &mut replay) {
-        Ok(()) => Ok(replay.finish()?),
+        Ok(()) => finish(replay),
         Err(fault) => {
             mem::forget(replay);
             Err(fault_with_left(reader, fault))

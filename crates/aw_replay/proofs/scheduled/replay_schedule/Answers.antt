@@ -1,20 +1,14 @@
-use Rattle.std.proofs.Common.{rules, ◌≡◌, sym, subst, Ok, Err}
-use Rattle.aw_replay.specs.Faults.{of_printing}
+use Rattle.std.proofs.Common.{sym, subst}
 use Rattle.aw_replay.specs.Replays.{Replays}
 use Rattle.aw_replay.proofs.WhileRead.{begun_for, stopped, whole_told}
 use Rattle.aw_replay.proofs.scheduled.replay_schedule.Goals as goal
 
-pub returns-in_err-finish-in-Ok : goal.returns-in_err-finish-in-Ok
-returns-in_err-finish-in-Ok c =
+pub returns-in-Ok : goal.returns-in-Ok
+returns-in-Ok c =
     let begun = begun_for _ c.new-replay.result _ _ _ _ c.in_ok-new.ensures.accepted c.in_ok-new.ensures.loads c.new-replay.ensures.told in
-    let same : c.from_residual-in_err-finish-in-Ok.result ≡ Err (of_printing c.in_err-finish-in-Ok.field-0.0) = search rules in
-    subst (Replays c.args.accepted.now c.args.loads c.args.kept c.args.reader.now) (sym same)
-    (whole_told _ c.args.kept c.args.accepted.now c.args.loads c.args.reader.now c.tell_left.new.reader c.new-replay.result c.tell_left.new.replay begun c.in-Ok.ensures.tells (Err c.in_err-finish-in-Ok.field-0.0) c.in_err-finish-in-Ok.ensures.ends)
-
-pub returns-in_ok-finish-in-Ok : goal.returns-in_ok-finish-in-Ok
-returns-in_ok-finish-in-Ok c =
-    let begun = begun_for _ c.new-replay.result _ _ _ _ c.in_ok-new.ensures.accepted c.in_ok-new.ensures.loads c.new-replay.ensures.told in
-    whole_told _ c.args.kept c.args.accepted.now c.args.loads c.args.reader.now c.tell_left.new.reader c.new-replay.result c.tell_left.new.replay begun c.in-Ok.ensures.tells (Ok c.in_ok-finish-in-Ok.field-0) c.in_ok-finish-in-Ok.ensures.ends
+    let whole = c.finish.ensures in
+    subst (Replays c.args.accepted.now c.args.loads c.args.kept c.args.reader.now) (sym whole.2)
+    (whole_told _ c.args.kept c.args.accepted.now c.args.loads c.args.reader.now c.tell_left.new.reader c.new-replay.result c.tell_left.new.replay begun c.in-Ok.ensures.tells whole.0 whole.1)
 
 pub returns-in-Err : goal.returns-in-Err
 returns-in-Err c =
