@@ -90,11 +90,19 @@ fn tell_specification(
     })
 }
 
-/// The reply to a good specification.
-pub fn check(alloc: Global, spec: SpecText) -> Result<Reply, AllocError>
-    requires faces { face_fault (grammar_of spec.grammar) spec.faces.offers spec.faces.uses ≡ None }
-    requires fits { TypesFit (spec_seen spec) }
-    ensures { IfOk result (λ reply. Replies (IfAccepted (spec_seen spec) (TellsSpecification (spec_seen spec))) reply) }
+/// What is asked of a specification beside its grammar: its faces, its declared dependences, and whether it says that it is free of
+/// waiting.
+#[derive(Drop)]
+struct Asked {
+    faces: Faces,
+    depends: Declared,
+    free: bool,
+}
+
+/// The grammar of a specification, and what is asked of it. The rest is let go.
+fn grammar_and_asked(spec: SpecText) -> (Grammar, Asked)
+    ensures grammar { result.0 ≡ spec.grammar }
+    ensures asked { result.1 ≡ record { faces = spec.faces; depends = spec.depends; free = spec.free } }
 {
     let SpecText {
         grammar,
@@ -103,8 +111,41 @@ pub fn check(alloc: Global, spec: SpecText) -> Result<Reply, AllocError>
         free,
         ..
     } = spec;
+    let asked = Asked {
+        faces,
+        depends,
+        free,
+    };
+    (grammar, asked)
+}
+
+/// The reply to a specification that was accepted, of which this is asked.
+fn tell_asked(alloc: Global, accepted: &Accepted, asked: &Asked) -> Result<Reply, AllocError>
+    requires relation { IsRelation accepted.now.grammar accepted.now.io }
+    requires faces { face_fault (grammar_of accepted.now.grammar) asked.now.faces.offers asked.now.faces.uses ≡ None }
+    requires range { Each (IsPosition (grammar_of accepted.now.grammar).sorts) asked.now.depends }
+    ensures { IfOk result (λ reply. Replies (WritesChecked asked.now.depends asked.now.faces.offers asked.now.free (words_of accepted.now.grammar) (grammar_of accepted.now.grammar)) reply) }
+{
+    tell_specification(alloc, accepted, &asked.faces, &asked.depends, asked.free)
+}
+
+/// The reply to a good specification.
+pub fn check(alloc: Global, spec: SpecText) -> Result<Reply, AllocError>
+    requires faces { face_fault (grammar_of spec.grammar) spec.faces.offers spec.faces.uses ≡ None }
+    requires fits { TypesFit (spec_seen spec) }
+    ensures { IfOk result (λ reply. Replies (IfAccepted (spec_seen spec) (TellsSpecification (spec_seen spec))) reply) }
+{
+    let (grammar, asked) = grammar_and_asked(spec);
     match accept(alloc, grammar) {
-        Ok(accepted) => tell_specification(alloc, &accepted, &faces, &depends, free),
-        Err(refused) => not_accepted(alloc, refused),
+        Ok(accepted) => {
+            let reply = tell_asked(alloc, &accepted, &asked);
+            drop(accepted);
+            drop(asked);
+            reply
+        }
+        Err(refused) => {
+            drop(asked);
+            not_accepted(alloc, refused)
+        }
     }
 }

@@ -1,5 +1,5 @@
 //! The front of an input, for the commands that serve: its specification is read, its types are checked, and it is accepted.
-ghost use Rattle.std.specs.Prelude.{◌≡◌, ◌≤◌, length, IfErr, IfOk, IsTrue};
+ghost use Rattle.std.specs.Prelude.{◌≡◌, ◌≤◌, length, IfErr, IfOk, IsTrue, Ok};
 ghost use Rattle.aw_grammar.specs.GrammarOf.{grammar_of};
 ghost use Rattle.aw_typed.specs.Types.{AreFor};
 ghost use Rattle.aw_typed.specs.Typing.{types_of, IsMadeFor, NumbersInRange};
@@ -48,7 +48,7 @@ fn text_of(alloc: Global, spec: &SpecText, writes: bool) -> Result<Text, AllocEr
 }
 
 /// The grammar of a specification, the rest of which is let go.
-fn grammar_alone(spec: SpecText) -> Grammar
+pub fn grammar_alone(spec: SpecText) -> Grammar
     ensures { result ≡ spec.grammar }
 {
     let SpecText { grammar, .. } = spec;
@@ -65,6 +65,27 @@ fn judge(alloc: Global, grammar: Grammar) -> Result<Result<Accepted, Reply>, All
     }
 }
 
+/// What acceptance says of a grammar, behind a text that was made.
+fn judge_behind(
+    alloc: Global,
+    grammar: Grammar,
+    text: Result<Text, AllocError>,
+) -> Result<(Result<Accepted, Reply>, Text), AllocError>
+    ensures judged { IfOk result (λ r. IsJudged grammar r.0) }
+    ensures text { IfOk result (λ r. text ≡ Ok r.1) }
+{
+    match text {
+        Ok(text) => {
+            let judged = judge(alloc, grammar)?;
+            Ok((judged, text))
+        }
+        Err(error) => {
+            drop(grammar);
+            Err(error)
+        }
+    }
+}
+
 /// What acceptance says of a specification, and its text where that is asked for.
 fn judge_with_text(
     alloc: Global,
@@ -74,9 +95,9 @@ fn judge_with_text(
     ensures judged { IfOk result (λ r. IsJudged spec.grammar r.0) }
     ensures text { IfOk result (λ r. IsTrue writes → r.1 ≡ written (spec_seen spec)) }
 {
-    let text = text_of(alloc, &spec, writes)?;
-    let judged = judge(alloc, grammar_alone(spec))?;
-    Ok((judged, text))
+    let text = text_of(alloc, &spec, writes);
+    let grammar = grammar_alone(spec);
+    judge_behind(alloc, grammar, text)
 }
 
 /// The front of a specification by what acceptance said of it.
@@ -117,7 +138,11 @@ fn front_of_specification(alloc: Global, spec: SpecText, writes: bool) -> Result
 {
     match type_check(alloc, &spec.grammar, &spec.types) {
         Ok(typed) => front_of_typed(alloc, spec, typed, writes),
-        Err(fault) => Ok(Front::Refused(bad_types(alloc, &spec.grammar, fault)?)),
+        Err(fault) => {
+            let said = bad_types(alloc, &spec.grammar, fault);
+            drop(spec);
+            Ok(Front::Refused(said?))
+        }
     }
 }
 

@@ -63,8 +63,16 @@ fn reply_to_specification(
     ensures promises { IfOk result (λ reply. reply.status ≡ Status.Done → IfTells job (OfSchedule Promises (spec_seen spec) spec.loads (lines_of schedule.now))) }
 {
     match type_check(alloc, &spec.grammar, &spec.types) {
-        Ok(typed) => reply_to_typed(alloc, job, spec, &typed, schedule),
-        Err(fault) => bad_types(alloc, &spec.grammar, fault),
+        Ok(typed) => {
+            let reply = reply_to_typed(alloc, job, spec, &typed, schedule);
+            drop(typed);
+            reply
+        }
+        Err(fault) => {
+            let reply = bad_types(alloc, &spec.grammar, fault);
+            drop(spec);
+            reply
+        }
     }
 }
 

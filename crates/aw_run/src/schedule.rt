@@ -10,6 +10,7 @@ ghost use Rattle.aw_run.specs.Promises.{OfSchedule, Promises};
 ghost use Rattle.aw_run.specs.Replies.{Replies};
 ghost use Rattle.aw_run.specs.Scheduled.{KeepsPromises, RepliesTo, TellsLeft};
 
+use crate::front::grammar_alone;
 use crate::refusals::{bad_schedule, not_accepted};
 use crate::reply::{Reply, Status};
 use crate::words::Telling;
@@ -81,14 +82,14 @@ pub fn tell_schedule(
     ensures reply { IfOk result (λ reply. Replies (IfAccepted (spec_seen spec) (TellsSchedule telling (spec_seen spec) spec.lines spec.loads (lines_of schedule.now))) reply) }
     ensures promises { IfOk result (λ reply. reply.status ≡ Status.Done → OfSchedule Promises (spec_seen spec) spec.loads (lines_of schedule.now)) }
 {
-    let SpecText {
-        grammar,
-        lines,
-        loads,
-        ..
-    } = spec;
-    match accept(alloc, grammar) {
-        Ok(accepted) => reply_to_schedule(alloc, telling, &accepted, typed, lines, loads, schedule),
+    let lines = spec.lines;
+    let loads = spec.loads;
+    match accept(alloc, grammar_alone(spec)) {
+        Ok(accepted) => {
+            let reply = reply_to_schedule(alloc, telling, &accepted, typed, lines, loads, schedule);
+            drop(accepted);
+            reply
+        }
         Err(refused) => not_accepted(alloc, refused),
     }
 }
