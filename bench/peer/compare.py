@@ -34,9 +34,13 @@ def run(bin_, words, inp, out):
         p.returncode = os.waitstatus_to_exitcode(st)
     return t, use.ru_utime + use.ru_stime, "late" if t >= a.limit else p.returncode
 
-def held(bin_, words, inp, out):
-    """The most memory in MiB that one run held. Not by wait4, which counts what this program holds as well."""
-    if not HAS_TIME:
+def is_late(turns):
+    """Whether a run of the last turn took too long; then no more are made."""
+    return bool(turns) and any(r[2] == "late" for r in turns[-1])
+
+def held(bin_, words, inp, out, runs):
+    """The most memory in MiB that one more run held, where the others were not late. Not by wait4, which counts what this program holds as well."""
+    if not HAS_TIME or is_late([runs]):
         return 0
     told = out + ".time"
     with open(inp, "rb") as i:
@@ -69,15 +73,17 @@ for line in open(os.path.join(a.dir, "cases.tsv")):
     words = words.split()
     inp = os.path.join(a.dir, name + ".txt") if int(size) else os.devnull
     outs = [os.path.join(OUT, f"aw_bench_{os.getpid()}_{i}.out") for i in range(len(a.bins))]
-    turns = [[run(b, words, inp, o) for b, o in zip(a.bins, outs)] for _ in range(a.runs)]
+    turns = []
+    while len(turns) < a.runs and not is_late(turns):
+        turns.append([run(b, words, inp, o) for b, o in zip(a.bins, outs)])
     first, *second = zip(*turns)
     st = first[-1][2]
-    text = f"{name:26} {int(size)/1e6:6.2f} {os.path.getsize(outs[0])/1e6:6.2f} {st!s:>4} {told_of(first, held(a.bins[0], words, inp, outs[0]))}"
+    text = f"{name:26} {int(size)/1e6:6.2f} {os.path.getsize(outs[0])/1e6:6.2f} {st!s:>4} {told_of(first, held(a.bins[0], words, inp, outs[0], first))}"
     for runs in second:
         eq = st == runs[-1][2] and same(*outs)
         bad += not eq
         clock, cpu = (statistics.median(y[i] / max(x[i], 1e-4) for x, y in zip(first, runs)) for i in (0, 1))
-        text += f" | {told_of(runs, held(a.bins[1], words, inp, outs[1]))} {clock:7.2f} {cpu:6.2f}  {'equal' if eq else f'DIFFER (status {st} {runs[-1][2]})'}"
+        text += f" | {told_of(runs, held(a.bins[1], words, inp, outs[1], runs))} {clock:7.2f} {cpu:6.2f}  {'equal' if eq else f'DIFFER (status {st} {runs[-1][2]})'}"
     for out in outs:
         os.unlink(out)
     print(text, flush=True)
