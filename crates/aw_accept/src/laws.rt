@@ -1,6 +1,4 @@
 //! What holds of every run, on a grammar without circles or on any, apart from any code.
-ghost use Rattle.std.specs.Prelude.{ℕ, Bool};
-ghost use Rattle.aw_iograph.specs.Dependence.{passed};
 ghost use Rattle.aw_accept.specs.Acyclic.{KeepsAcyclic, AllAcyclic, LeavesNoHole, AcyclicOver, IsGivenGrammar};
 ghost use Rattle.aw_accept.specs.Missing.{WaitsForMissing, TellsNoCircle};
 ghost use Rattle.aw_accept.specs.Sorts.{KeepsSorts, RowsHaveTheirSorts};
@@ -8,19 +6,21 @@ ghost use Rattle.aw_term.specs.Artifacts.{Words};
 ghost use Rattle.aw_term.specs.WellFormed.{IsWellFormed};
 ghost use Rattle.aw_term.specs.Rules as P;
 
+use aw_iograph::Related;
+
 /// On a grammar in which no value depends on itself no hole ever needs itself: a taken choice keeps that, also where a
 /// node is fed by its own result, and so it holds of each configuration of an undivided run. No hole of a developed node
 /// is left.
-///
-/// The same holds over each relation that is closed under the rules and over which no occurrence reaches itself. A clause
-/// cannot range over all relations, so the last one is over those of tests; `proofs/UndividedRuns.antt` has it for every
-/// relation.
 pub fn acyclic_laws()
     ensures given { (w : Words) (g : P.Grammar) → IsWellFormed w g → IsGivenGrammar g }
     ensures keeps { (g : P.Grammar) → KeepsAcyclic g }
     ensures all { (g : P.Grammar) → AllAcyclic g }
     ensures leaves_no_hole { (g : P.Grammar) → LeavesNoHole g }
-    ensures over_tests { (g : P.Grammar) (test : ℕ → ℕ → ℕ → Bool) → AcyclicOver g (passed test) }
+{}
+
+/// The same over every relation that is closed under the rules and over which no occurrence reaches itself.
+pub fn acyclic_over<R: Related>()
+    ensures { (g : P.Grammar) → AcyclicOver g R.relates }
 {}
 
 /// In each undivided run the sort of a row is that of its node's name, where each start is at a start sort.

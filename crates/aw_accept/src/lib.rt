@@ -8,5 +8,5 @@ pub mod refused;
 
 pub use accepted::Accepted;
 pub use check::{accept, least_fault};
-pub use laws::{acyclic_laws, answer_laws, sort_laws};
+pub use laws::{acyclic_laws, acyclic_over, answer_laws, sort_laws};
 pub use refused::{Fault, Refused};

@@ -3,7 +3,7 @@ use Rattle.std.proofs.Common.{◌≡◌, ℕ, ◌+◌, ◌≤◌, ◌<◌, refl,
 use Rattle.std.specs.Prelude.{Err}
 use Rattle.std.proofs.lemmas.Bool.{lt-ltb, le-ltb}
 use Rattle.std.proofs.lemmas.List.Splits.{length-slice_split}
-use Rattle.aw_text.specs.Spelling.{parts, steps_of, step_of, name_from, start_of, parts_of_name}
+use Rattle.aw_spelling.specs.Spelling.{parts, steps_of, step_of, name_from, start_of, parts_of_name}
 use Rattle.aw_term.specs.Names.{Step}
 use Rattle.aw_term.specs.Rules.{Grammar}
 use Rattle.aw_term.specs.Artifacts.{Words}

@@ -6,7 +6,7 @@ use Rattle.std.proofs.lemmas.List.Sums.{sum_by-take-le}
 use Rattle.std.proofs.lemmas.Bool.{cases_lt}
 use Rattle.std.proofs.lemmas.Option.{slice_get_within}
 use Rattle.std.proofs.lemmas.List.Splits.{slice_split-cons_yes, length-slice_split}
-use Rattle.aw_text.specs.Spelling.{parts, steps_of, step_of, name_from, start_of, parts_of_name}
+use Rattle.aw_spelling.specs.Spelling.{parts, steps_of, step_of, name_from, start_of, parts_of_name}
 use Rattle.aw_term.specs.Names.{Step, Node}
 use Rattle.aw_term.specs.Rules.{Grammar, sort_of_step, sort_after}
 use Rattle.aw_term.specs.Artifacts.{Words}

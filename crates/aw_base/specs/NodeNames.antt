@@ -1,7 +1,7 @@
 -- Which node a text names.
 use Rattle.std.specs.Prelude.{ℕ, ◌+◌, Bool, false, List, [], ◌∷◌, length, Option, None, Some, slice_get, nat_lt, if◌then◌else◌, option_map, option_and_then}
 use Rattle.aw_grammar.specs.Named.{number_named}
-use Rattle.aw_text.specs.Spelling.{parts_of_name}
+use Rattle.aw_spelling.specs.Spelling.{parts_of_name}
 use Rattle.aw_term.specs.Names.{Step, Node}
 use Rattle.aw_term.specs.Rules.{Sort, Grammar, sort_of_step}
 use Rattle.aw_term.specs.Artifacts.{Words}

@@ -1,6 +1,6 @@
 -- Reading the name of a node, part by part.
 use Rattle.std.specs.Prelude.{◌≡◌, ℕ, Bool, List, ◌∷◌, Option, None, Some, Result, Ok, Err, slice_get, if◌then◌else◌, option_map, option_and_then, option_copied}
-use Rattle.aw_text.specs.Spelling.{steps_of, parts_behind}
+use Rattle.aw_spelling.specs.Spelling.{steps_of, parts_behind}
 use Rattle.aw_term.specs.Names.{Step, Node}
 use Rattle.aw_term.specs.Rules.{Grammar}
 use Rattle.aw_term.specs.Artifacts.{Words}

@@ -1,6 +1,6 @@
 -- What a reader of names keeps: names that it read last, and where the first steps of each end.
 use Rattle.std.specs.Prelude.{◌≡◌, ◌≤◌, ◌<◌, ◌+◌, ◌-◌, ◌++◌, ℕ, List, [], ◌∷◌, Some, All, length, take, slice_get}
-use Rattle.aw_text.specs.Spelling.{parts_of_name}
+use Rattle.aw_spelling.specs.Spelling.{parts_of_name}
 use Rattle.aw_term.specs.Names.{Step}
 use Rattle.aw_term.specs.Rules.{Grammar, sort_after}
 use Rattle.aw_term.specs.Artifacts.{Words}

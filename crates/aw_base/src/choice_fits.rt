@@ -12,8 +12,8 @@ ghost use Rattle.aw_base.specs.Allowance.{left_after, left_after_all};
 use crate::names::sort_of;
 use aw_choice::Choice;
 use aw_grammar::Grammar;
+use aw_spelling::content_ok;
 use aw_term::{Ground, Grounds};
-use aw_text::content_ok;
 
 /// The most arguments of a choice.
 pub const MOST_ARGUMENTS: usize = 8;

@@ -22,8 +22,8 @@ pub use aw_list::{Items, Text};
 pub use aw_name::{
     Node, Ref, Refs, Slot, Step, Trail, compare_nodes, compare_refs, is_same_node, is_same_ref,
 };
+pub use aw_spelling::{content_ok, name_ok};
 pub use aw_term::{Expr, Ground, Grounds, Lit, Pattern, Patterns, Terms};
-pub use aw_text::{content_ok, name_ok};
 pub use choice_fits::{MOST_ARGUMENTS, MOST_NESTING, MOST_SYMBOLS, args_ok, choice_ok, is_start};
 pub use declared::{Declared, Triple};
 pub use homes::{home_at, home_of_valid, role_of, sort_at};

@@ -12,7 +12,7 @@ use crate::texts::{push_answer, push_item, rule_name, sort_name};
 use aw_choice::{Answer, Choice, Item};
 use aw_list::Text;
 use aw_name::Node;
-use aw_text::push_number;
+use aw_spelling::push_number;
 use std::alloc::AllocError;
 
 fn add_start(

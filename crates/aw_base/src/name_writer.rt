@@ -10,7 +10,7 @@ use crate::texts::{add_step, sort_name};
 use aw_grammar::Grammar;
 use aw_list::Text;
 use aw_name::{Node, Step, Trail, copy_node, is_same_node};
-use aw_text::push_number;
+use aw_spelling::push_number;
 use std::alloc::{AllocError, Global};
 
 /// The name that was written last, with the places where the names of the nodes above it end, from that of the start node on. Where

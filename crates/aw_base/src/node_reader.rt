@@ -13,7 +13,7 @@ use crate::names::sort_of_step;
 use crate::read_node::{NameFault, named_step, parse_node, start_named};
 use aw_grammar::Grammar;
 use aw_name::{Node, Step, Trail, copy_node};
-use aw_text::node_start;
+use aw_spelling::node_start;
 use std::alloc::{AllocError, Global};
 
 /// How many bytes of a name name a node on the way to its own, and that node's sort.

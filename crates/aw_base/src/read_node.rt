@@ -1,8 +1,8 @@
 //! Reading the name of a node, as `visit#1/admit.1`.
 ghost use Rattle.std.specs.Prelude.{◌≡◌, is_some, true, ◌≤◌, ◌<◌, ◌==◌, Some, count_by, length, IfOk, IfSome, option_map, option_and_then, option_copied};
 ghost use Rattle.aw_term.specs.Rules.{sort_of};
-ghost use Rattle.aw_text.specs.NodeParts.{begins};
-ghost use Rattle.aw_text.specs.Spelling.{node_name, parts_of_name};
+ghost use Rattle.aw_spelling.specs.NodeParts.{begins};
+ghost use Rattle.aw_spelling.specs.Spelling.{node_name, parts_of_name};
 ghost use Rattle.aw_grammar.specs.GrammarOf.{grammar_of, words_of};
 ghost use Rattle.aw_base.specs.NodeNames.{first_misfit, node_read};
 ghost use Rattle.aw_base.specs.NodeReading.{Reads, leads_on, long_fault, name_fault, start_named, steps_behind};
@@ -11,7 +11,7 @@ ghost use Rattle.aw_base.specs.declared.read_node.NameFault.TheVariants.{NoMemor
 use crate::names::sort_of_step;
 use aw_grammar::Grammar;
 use aw_name::{Node, Step, Trail};
-use aw_text::{NodeStart, is_node_name, next_step, node_start};
+use aw_spelling::{NodeStart, is_node_name, next_step, node_start};
 use std::alloc::{AllocError, Global};
 
 /// Why a text names no node; the first that holds is told.

@@ -11,7 +11,7 @@ use aw_choice::{Answer, Item, Path, Place, Standing};
 use aw_grammar::Grammar;
 use aw_list::Text;
 use aw_name::{Node, Ref, Slot, Step};
-use aw_text::push_number;
+use aw_spelling::push_number;
 use std::alloc::{AllocError, Global};
 
 /// The name of a role.

@@ -1,27 +1,18 @@
 -- One request, bit by bit.
-use Rattle.std.proofs.Common.{◌≡◌, ℕ, Bool, true, false, List, [], ◌++◌, take, drop, Option, Some, None, Result, Ok, Err, refl, sym, ap, subst, ◌∙◌, append-nil}
+use Rattle.std.proofs.Common.{◌≡◌, ℕ, Bool, true, false, List, [], ◌++◌, take, drop, Option, Result, Ok, Err, refl, sym, ap, subst, ◌∙◌, append-nil}
 use Rattle.std.specs.Prelude.{IfOk, IfErr}
 use Rattle.std.proofs.lemmas.List.{take-append-drop}
-use Rattle.aw_out.specs.Wires.{Content, Both}
-use Rattle.aw_out.specs.Wires.{ReadsInSession}
-use Rattle.aw_out.specs.declared.edge.Got.TheVariants.{End}
+use Rattle.aw_out.specs.Wires.{Content}
 use Rattle.aw_term.specs.Rules.{Grammar}
-use Rattle.aw_wire.specs.Reading.{Short}
+use Rattle.aw_codec.specs.Reading.{Short}
 use Rattle.aw_session.specs.Talking.{Talks, TalksInPart}
-use Rattle.aw_courier.specs.Asking.{NothingLeft, Wrong, Ended, is_net, WhyBroken, IsBrokenOff, IsUnread, IsAsked, ReadsNoMore}
+use Rattle.aw_courier.specs.Asking.{Wrong, Ended, is_net, WhyBroken, IsBrokenOff, IsUnread, IsAsked, ReadsNoMore}
 use Rattle.aw_courier.specs.Replies.{reply, IsNone}
 use Rattle.aw_courier.specs.declared.broken.Broken.{Broken}
 use Rattle.aw_courier.specs.declared.broken.Broken.TheVariants as broken
 use Rattle.aw_courier.specs.declared.replies.Request.{Request}
 use Rattle.aw_courier.proofs.ReplyLemmas.{reply-nothing}
 use Rattle.aw_courier.proofs.TurnLemmas.{TalksThen}
-
--- the wire has ended
-pub none-left-at-end : (buf : List ℕ) (a b : Option Content) → Both (ReadsInSession End buf) a b → NothingLeft b
-none-left-at-end buf None None h = tt
-none-left-at-end buf None (Some b) h = absurd h
-none-left-at-end buf (Some a) None h = absurd h
-none-left-at-end buf (Some a) (Some b) h = ap (λ (c : Content). c.left) h.1 ∙ h.0
 
 -- some more bytes of a reply
 pub more-read : {W' : Type 0} (talks : W' → W' → List ℕ → List ℕ → Bool → Type 0) → TalksThen talks → (u v w : W') (bytes piece : List ℕ) → talks u v bytes [] false → talks v w piece [] false → talks u w (bytes ++ piece) [] false

@@ -1,12 +1,12 @@
 -- What a pull brought, by all bytes of the reply.
 use Rattle.std.proofs.Common.{◌≡◌, ◌≢◌, ℕ, ◌<◌, ◌≤◌, Bool, true, false, cond, List, [], ◌∷◌, ◌++◌, length, drop, Some, None, Result, Ok, Err, refl, sym, ap, subst, ◌∙◌, arith, append-nil}
 use Rattle.std.specs.Prelude.{slice_index, ◌==◌, ◌||◌}
-use Rattle.std.specs.Int.{w32, w64, from_be_bytes, to_be_bytes}
+use Rattle.std.specs.Int.{w32, to_be_bytes}
 use Rattle.std.proofs.lemmas.Bool.{lt-ltb, le-ltb, eqb-true}
 use Rattle.aw_term.specs.Rules.{Grammar}
-use Rattle.aw_wire.specs.Bytes.{AreBytes}
-use Rattle.aw_wire.specs.Reading.{Fault}
-use Rattle.aw_wire.proofs.Laws.{AreBytes-rest, number32}
+use Rattle.aw_codec.specs.Bytes.{AreBytes}
+use Rattle.aw_codec.specs.Reading.{Fault}
+use Rattle.aw_codec.proofs.Laws.{AreBytes-rest, number32}
 use Rattle.aw_msg.specs.Frames.{whole, all_of}
 use Rattle.aw_msg.specs.Messages as M
 use Rattle.aw_msg.specs.Messages.{message}
@@ -15,8 +15,8 @@ use Rattle.aw_msg.specs.Spelling as S
 use Rattle.aw_msg.specs.declared.message.MsgKind.TheVariants as kinds
 use Rattle.aw_msg.specs.declared.message.Message.{Message}
 use Rattle.aw_msg.proofs.MessageLaws.{message_law}
-use Rattle.aw_nodes.specs.Couriers.{Gave, Had, behind}
-use Rattle.aw_nodes.specs.Nodes.{Push as PushFrame}
+use Rattle.aw_law_nodes.specs.Couriers.{Gave, NoMore, behind}
+use Rattle.aw_law_nodes.specs.Nodes.{Push as PushFrame}
 use Rattle.aw_courier.specs.Frames.{spelled_frame}
 use Rattle.aw_courier.specs.Replies.{gave, heard_in, known, reply, IsNone, IsSized, Brings, IsAddressed}
 use Rattle.aw_courier.specs.declared.replies.Brought.{Brought}
@@ -42,11 +42,11 @@ kind-is kind e n = go (kind == 7) refl e
     go false t e = absurd (n (eqb-true kind 10 e))
 
 -- there are no more messages
-pub brings-nothing : (g : Grammar) (bytes : List ℕ) → IsSized Pull bytes → slice_index bytes 0 ≡ 10 → (n : ℕ) × (reply g Pull bytes ≡ Ok (Had n, []))
+pub brings-nothing : (g : Grammar) (bytes : List ℕ) → IsSized Pull bytes → slice_index bytes 0 ≡ 10 → reply g Pull bytes ≡ Ok (NoMore, [])
 brings-nothing g bytes sized ten =
     let w = whole-of Pull bytes sized in
     let k : w.kind ≡ 10 = sym (ap (λ (xs : List ℕ). slice_index xs 0) w.bytes_are) ∙ ten in
-    (from_be_bytes w64 w.payload, w.reply_is g ∙ ap (λ j. known w.count (heard_in g j w.payload) []) k)
+    w.reply_is g ∙ ap (λ j. known w.count (heard_in g j w.payload) []) k
 
 -- what else is none is no reply
 pub brings-unknown : (g : Grammar) (bytes : List ℕ) → IsSized Pull bytes → slice_index bytes 0 ≢ 10 → gave g (whole message (drop 5 bytes)) ≡ None → IsNone (reply g Pull bytes)

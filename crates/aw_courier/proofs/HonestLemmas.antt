@@ -1,20 +1,25 @@
--- What Quiet means over an honest wire.
+-- What the answers mean over an honest wire.
 use Rattle.std.proofs.Common.{◌≡◌, ℕ, ◌+◌, ◌-◌, ◌<◌, ◌≤◌, ◌^◌, Bool, true, false, cond, List, [], ◌∷◌, ◌++◌, map, length, take, drop, Option, Some, None, Result, Ok, Err, refl, sym, ap, subst, ◌∙◌, arith, append_assoc, append-nil, length-append}
 use Rattle.std.specs.Prelude.{nat_lt, IfOk}
-use Rattle.std.specs.Int.{w32, w64, from_be_bytes, to_be_bytes}
+use Rattle.std.specs.Int.{w32, to_be_bytes}
 use Rattle.std.proofs.lemmas.Bool.{ltb-false}
 use Rattle.std.proofs.lemmas.List.{length-drop}
 use Rattle.aw_list.proofs.Members.{never}
 use Rattle.aw_term.specs.Artifacts.{Words}
+use Rattle.aw_term.specs.Choices.{Choice}
 use Rattle.aw_term.specs.Rules.{Grammar}
 use Rattle.aw_term.specs.Trees.{Never}
 use Rattle.aw_term.specs.WellFormed.{Each}
-use Rattle.aw_wire.specs.Reading.{Fault, Short, ◌>>=◌, number}
-use Rattle.aw_wire.proofs.Laws.{ok_is, number32, number64}
-use Rattle.aw_react.specs.Sites.{Site}
-use Rattle.aw_react.specs.Worlds as world
-use Rattle.aw_react.specs.Worlds.{Move}
-use Rattle.aw_merge.specs.Laws.{MayCome, world_after}
+use Rattle.aw_term.proofs.Eaches.{each_append}
+use Rattle.aw_base.specs.ChoiceFits.{choice_ok}
+use Rattle.aw_codec.specs.Ranges.{ChoiceSized}
+use Rattle.aw_codec.specs.Reading.{Fault, Short, ◌>>=◌, number}
+use Rattle.aw_codec.proofs.Laws.{ok_is, number32}
+use Rattle.aw_law_sites.specs.Sites.{Site}
+use Rattle.aw_law_sites.specs.Worlds as world
+use Rattle.aw_law_sites.specs.Worlds.{Move}
+use Rattle.aw_law_worlds.specs.Laws.{MayCome, world_after}
+use Rattle.aw_law_worlds.proofs.Lists.{length-mapped}
 use Rattle.aw_msg.specs.Frames as F
 use Rattle.aw_msg.specs.Frames.{whole}
 use Rattle.aw_msg.specs.Messages as M
@@ -26,23 +31,26 @@ use Rattle.aw_msg.specs.declared.message.Message.{Message}
 use Rattle.aw_msg.proofs.Lengths.{payload_short}
 use Rattle.aw_msg.proofs.MessageLaws.{message_law}
 use Rattle.aw_session.specs.Frames.{joined}
-use Rattle.aw_nodes.specs.Couriers as C
-use Rattle.aw_nodes.specs.Couriers.{Heard, Gave, Had, hear, flat, IsPrefix, IsHonestWire, choice_frames, session_frames, visit_frames, turn_room, ChoicesOk, IsQuietCall, QuietMeansQuiet}
-use Rattle.aw_nodes.specs.Nodes.{Frame, Pull as PullFrame, happenings, ReadAs, Response, WasNew, WasHeld, Contradicts, NotForMe, NotValid, Answers, Sends, Shows, Ended, sites_after, all_replies}
-use Rattle.aw_nodes.specs.Told.{told}
-use Rattle.aw_nodes.proofs.ListParts.{cons-inj}
-use Rattle.aw_nodes.proofs.HeardBytes.{cancel}
+use Rattle.aw_law_nodes.specs.Couriers as C
+use Rattle.aw_law_nodes.specs.Couriers.{Heard, Gave, NoMore, hear, flat, IsPrefix, IsHonestWire, choice_frames, session_frames, visit_frames, turn_room, new_courier, AreTurns, HasRole, ChoicesOk, IsQuietCall, IsSpentCall, QuietMeansQuiet}
+use Rattle.aw_law_nodes.specs.Encodable.{HasBytes, IsHonestInBytes, BytesAreHonest}
+use Rattle.aw_law_nodes.specs.Sizes.{ChoicesSized, GrammarSized}
+use Rattle.aw_law_nodes.specs.Ending.{RoundsAreBounded}
+use Rattle.aw_law_nodes.specs.Nodes.{Frame, Pull as PullFrame, happenings, ReadAs, Response, WasNew, WasHeld, Contradicts, NotForMe, NotValid, Answers, Sends, Shows, Ended, sites_after, all_replies}
+use Rattle.aw_law_nodes.specs.Told.{told}
+use Rattle.aw_law_nodes.proofs.ListParts.{cons-inj}
+use Rattle.aw_law_nodes.proofs.HeardBytes.{cancel}
+use Rattle.aw_law_nodes.proofs.Turns.{round-known, rounds-known}
 use Rattle.aw_out.specs.Wires.{Content}
 use Rattle.aw_courier.specs.Carrying.{sessions_of, Carries}
 use Rattle.aw_courier.specs.declared.carrying.Carried.{Carried}
 use Rattle.aw_courier.specs.declared.carrying.Carried.TheVariants.{Quiet, RoundsSpent}
 use Rattle.aw_courier.specs.declared.carrying.CarryFault.{CarryFault}
 use Rattle.aw_courier.specs.Frames.{size}
-use Rattle.aw_courier.specs.Honest.{reply_bytes, HasBytes, Visit, turn_of, visit_of, IsHonest, QuietOverHonest, MeansQuiet}
+use Rattle.aw_courier.specs.Honest.{reply_bytes, Visit, turn_of, visit_of, IsHonest, QuietOverHonest, BoundOverHonest, MeansOverHonest}
 use Rattle.aw_courier.specs.Replies.{may_have, fits_length, gave, heard_in, known, payload_at, reply, request_of}
 use Rattle.aw_courier.specs.Turns.{Turn, AreHeard, IsHeard}
 use Rattle.aw_courier.specs.declared.replies.Request.{Request}
-use Rattle.aw_courier.specs.declared.replies.Request.TheVariants.{Push, Pull}
 use Rattle.aw_courier.proofs.BroughtLemmas.{same-spelling}
 use Rattle.aw_courier.proofs.ReplyLemmas.{sized, begun, fitted, reply-parts, reply-nothing, number-long, number-more, take-all}
 
@@ -100,28 +108,19 @@ short-message : (k : Message) → M.MessageInRange k → length (M.spelled_messa
 short-message k range = let s = payload_short (F.Push k) range in omega (arith, s)
 
 -- the length of its payload has four bytes
-payload-few : (w : Words) (g : Grammar) (x : Response) → HasBytes w g x → length (reply_payload w (told x)) < 2 ^ 32
+payload-few : (w : Words) (g : Grammar) (x : Response) → HasBytes g x → length (reply_payload w (told x)) < 2 ^ 32
 payload-few w g WasNew h = omega arith
 payload-few w g WasHeld h = omega arith
-payload-few w g (Contradicts kept came) h = h
-payload-few w g NotForMe h = omega arith
-payload-few w g NotValid h = omega arith
-payload-few w g (Answers answer) h = h
+payload-few w g (Contradicts kept came) h = never h
+payload-few w g NotForMe h = never h
+payload-few w g NotValid h = never h
+payload-few w g (Answers answer) h = never h
 payload-few w g (Sends m) (k, e, fits, range) = subst (λ t. length t < 2 ^ 32) (sym (ap S.spelled_message e ∙ same-spelling g k)) (short-message k range)
-payload-few w g (Shows item) h = h
+payload-few w g (Shows item) h = never h
 payload-few w g (Ended n) h = omega arith
 
 some-is : {A : Type 0} {x y : A} → Some x ≡ Some y → x ≡ y
 some-is e = cc
-
--- some kinds are no replies to a courier
-no-answer : (request : Request) → may_have request 6 ≡ true → Never
-no-answer Push e = absurd cc
-no-answer Pull e = absurd cc
-
-no-item : (request : Request) → may_have request 11 ≡ true → Never
-no-item Push e = absurd cc
-no-item Pull e = absurd cc
 
 gave-is : (g : Grammar) (k : Message) (h : Heard) → gave g (Some k) ≡ Some h → h ≡ Gave (message_of g k)
 gave-is g k h e = go (nat_lt k.to g.roles) e
@@ -134,21 +133,17 @@ whole-message : (k : Message) → M.MessageSized k → M.MessageInRange k → wh
 whole-message k fits range = ap (λ r. F.all_of r) (ap message (sym (append-nil (M.spelled_message k))) ∙ message_law.again k [] fits range)
 
 -- what is heard in the payload of a site's reply
-heard-is : (w : Words) (g : Grammar) (request : Request) (x : Response) (h : Heard) → HasBytes w g x → may_have request (reply_kind (told x)) ≡ true → heard_in g (reply_kind (told x)) (reply_payload w (told x)) ≡ Some h → h ≡ hear x
+heard-is : (w : Words) (g : Grammar) (request : Request) (x : Response) (h : Heard) → HasBytes g x → may_have request (reply_kind (told x)) ≡ true → heard_in g (reply_kind (told x)) (reply_payload w (told x)) ≡ Some h → h ≡ hear x
 heard-is w g request WasNew h t m e = sym (some-is e)
 heard-is w g request WasHeld h t m e = sym (some-is e)
-heard-is w g request (Contradicts kept came) h t m e = sym (some-is e)
-heard-is w g request NotForMe h t m e = sym (some-is e)
-heard-is w g request NotValid h t m e = sym (some-is e)
-heard-is w g request (Answers answer) h t m e = absurd (elim (no-answer request m) [ ])
+heard-is w g request (Contradicts kept came) h t m e = never t
+heard-is w g request NotForMe h t m e = never t
+heard-is w g request NotValid h t m e = never t
+heard-is w g request (Answers answer) h t m e = never t
 heard-is w g request (Sends m) h (k, i, fits, range) may e =
     gave-is g k h (ap (λ o. gave g o) (sym (ap (λ t. whole message t) (ap S.spelled_message i ∙ same-spelling g k) ∙ whole-message k fits range)) ∙ e) ∙ ap Gave (sym i)
-heard-is w g request (Shows item) h t m e = absurd (elim (no-item request m) [ ])
-heard-is w g request (Ended n) h t m e =
-    sym (some-is e) ∙ ap Had (number-back n t)
-  where
-    number-back : (n : ℕ) → n < 2 ^ 64 → from_be_bytes w64 (to_be_bytes w64 n) ≡ n
-    number-back n lt = ap (λ (p : ℕ × List ℕ). p.0) (ok_is (from_be_bytes w64 (to_be_bytes w64 n), []) (n, []) (ap (λ r. number w64 r) (sym (append-nil (to_be_bytes w64 n))) ∙ number64.again n [] lt tt))
+heard-is w g request (Shows item) h t m e = never t
+heard-is w g request (Ended n) h t m e = sym (some-is e)
 
 -- ---- the bytes of one reply
 
@@ -161,7 +156,7 @@ front-same (x ∷ xs) (y ∷ ys) us vs l e =
     let l' : length xs ≡ length ys = omega (arith, l) in
     ap (λ z. z ∷ xs) s.0 ∙ ap (λ zs. y ∷ zs) (front-same xs ys us vs l' s.1)
 
-one-reply : (w : Words) (g : Grammar) (request : Request) (b u v : List ℕ) (h : Heard) (x : Response) → reply g request b ≡ Ok (h, []) → HasBytes w g x → b ++ u ≡ reply_bytes w x ++ v → (b ≡ reply_bytes w x) × (h ≡ hear x)
+one-reply : (w : Words) (g : Grammar) (request : Request) (b u v : List ℕ) (h : Heard) (x : Response) → reply g request b ≡ Ok (h, []) → HasBytes g x → b ++ u ≡ reply_bytes w x ++ v → (b ≡ reply_bytes w x) × (h ≡ hear x)
 one-reply w g request b u v h x e has q =
     let k = reply-ok g request b h e in
     let P = reply_payload w (told x) in
@@ -187,7 +182,7 @@ none-empty : (g : Grammar) (request : Request) (b : List ℕ) (h : Heard) → re
 none-empty g request [] h e c zs q = absurd (let n = reply-nothing g request in cc)
 none-empty g request (y ∷ b) h e c zs q = absurd cc
 
-all-heard : (w : Words) (g : Grammar) (fs : List Frame) (hs : List Heard) (bs : List (List ℕ)) (xs : List Response) → AreHeard g fs hs bs → Each (HasBytes w g) xs → IsPrefix (joined bs) (joined (map (reply_bytes w) xs)) → IsPrefix hs (map hear xs)
+all-heard : (w : Words) (g : Grammar) (fs : List Frame) (hs : List Heard) (bs : List (List ℕ)) (xs : List Response) → AreHeard g fs hs bs → Each (HasBytes g) xs → IsPrefix (joined bs) (joined (map (reply_bytes w) xs)) → IsPrefix hs (map hear xs)
 all-heard w g [] [] [] xs k has p = (map hear xs, refl)
 all-heard w g (f ∷ fs) (h ∷ hs) (b ∷ bs) [] k has (zs, q) = never (none-empty g (request_of f) b h k.0 (joined bs) zs q)
 all-heard w g (f ∷ fs) (h ∷ hs) (b ∷ bs) (x ∷ xs) k has (zs, q) =
@@ -201,11 +196,11 @@ all-heard w g [] (h ∷ hs) bs xs k has p = absurd (elim k [ ])
 all-heard w g (f ∷ fs) [] bs xs k has p = absurd (elim k [ ])
 all-heard w g (f ∷ fs) (h ∷ hs) [] xs k has p = absurd (elim k [ ])
 
-honest-heard : (w : Words) (g : Grammar) (ss : List Site) (vs : List Visit) → Each (IsHeard g) (map turn_of vs) → IsHonest w g ss vs → IsHonestWire g ss (map visit_of vs)
+honest-heard : (w : Words) (g : Grammar) (ss : List Site) (vs : List Visit) → Each (IsHeard g) (map turn_of vs) → IsHonest w g ss vs → IsHonestInBytes g ss (map visit_of vs)
 honest-heard w g ss [] k h = tt
 honest-heard w g ss (v ∷ vs) k h = (
-  all-heard w g v.turn.session.asked v.turn.session.heard v.turn.replies (all_replies g (sites_after g ss (choice_frames g (visit_of v))) (session_frames (visit_of v))) k.0 h.0 h.1,
-  honest-heard w g (sites_after g (sites_after g ss (choice_frames g (visit_of v))) (session_frames (visit_of v))) vs k.1 h.2,
+  (λ has. all-heard w g v.turn.session.asked v.turn.session.heard v.turn.replies (all_replies g (sites_after g ss (choice_frames g (visit_of v))) (session_frames (visit_of v))) k.0 has h.0),
+  honest-heard w g (sites_after g (sites_after g ss (choice_frames g (visit_of v))) (session_frames (visit_of v))) vs k.1 h.1,
 )
 
 -- ---- the world
@@ -235,25 +230,57 @@ same-rounds (vs ∷ rounds) = ap (λ ss. ss ∷ map (λ vs. map C.session_of vs)
 pull-fits : (p : ℕ) → size (PullFrame p) ≤ turn_room
 pull-fits p = omega arith
 
-pub quiet-over-honest : (w : Words) (g : Grammar) → QuietMeansQuiet g → (before : List (List Turn)) (last : List Turn) → IsQuietCall size g (map sessions_of before) (sessions_of last) →
+-- rounds as their sessions
+turns-as : (g : Grammar) (rounds : List (List C.Visit)) (end : List C.Visit) → AreTurns size g (new_courier g) (flat (map (λ vs. map C.session_of vs) rounds) ++ map C.session_of end) → AreTurns size g (new_courier g) (map C.session_of (flat rounds ++ end))
+turns-as g rounds end t = subst (λ ss. AreTurns size g (new_courier g) ss) (sym (map-append C.session_of (flat rounds) end ∙ ap (λ ss. ss ++ map C.session_of end) (flat-map C.session_of rounds))) t
+
+pub quiet-over-honest : (w : Words) (g : Grammar) → QuietMeansQuiet g → BytesAreHonest g → GrammarSized g → (before : List (List Turn)) (last : List Turn) → IsQuietCall size g (map sessions_of before) (sessions_of last) →
     Each (IsHeard g) (flat before ++ last) → QuietOverHonest w g before last
-quiet-over-honest w g law before last call heard loads es ok rounds end i j choices none honest =
+quiet-over-honest w g law bytes sized before last call heard loads es ok moves rounds end i j choices sizes none honest =
     let vss = map (λ vs. map visit_of vs) rounds in
     let vs = map visit_of end in
     let call' : IsQuietCall size g (map (λ vs. map C.session_of vs) vss) (map C.session_of vs) =
     subst (λ ss. IsQuietCall size g ss (map C.session_of vs)) (sym (same-rounds rounds ∙ ap (λ ts. map sessions_of ts) i))
     (subst (λ ss. IsQuietCall size g (map sessions_of before) ss) (sym (same-sessions end ∙ ap sessions_of j)) call) in
     let heard' : Each (IsHeard g) (map turn_of (flat rounds ++ end)) = subst (λ ts. Each (IsHeard g) ts) (sym (turns-are rounds end ∙ ap (λ ts. flat ts ++ map turn_of end) i ∙ ap (λ ts. flat before ++ ts) j)) heard in
+    let choices' = subst (λ ks. Each (ChoicesOk g) ks) (visits-are rounds end) choices in
+    let sizes' = subst (λ ks. Each ChoicesSized ks) (visits-are rounds end) sizes in
+    let known = each_append (HasRole g) (flat vss) vs (rounds-known g vss call'.each) (round-known g vs 0 g.roles (omega arith) call'.one) in
     let wire : IsHonestWire g (world_after g loads es).sites (flat vss ++ vs) =
-    subst (λ ks. IsHonestWire g (world_after g loads es).sites ks) (visits-are rounds end) (honest-heard w g (world_after g loads es).sites (flat rounds ++ end) heard' honest) in
+    bytes sized size loads es ok moves (flat vss ++ vs) (turns-as g vss vs call'.turns) known choices' sizes'
+    (subst (λ ks. IsHonestInBytes g (world_after g loads es).sites ks) (visits-are rounds end) (honest-heard w g (world_after g loads es).sites (flat rounds ++ end) heard' honest)) in
     subst (λ ks. (fs : List Move) × ReadAs g (world_after g loads es) (happenings (visit_frames g ks)) fs × Each (MayCome g) fs
     × ((world_after g loads (es ++ fs)).sites ≡ sites_after g (world_after g loads es).sites (visit_frames g ks))
     × world.IsQuiet (world_after g loads (es ++ fs))) (sym (visits-are rounds end))
-    (law size pull-fits loads es ok vss vs call' (subst (λ ks. Each (ChoicesOk g) ks) (visits-are rounds end) choices) none wire)
+    (law size pull-fits loads es ok vss vs call' choices' none wire)
 
--- what was carried, with what Quiet means
-pub means-quiet : (w : Words) (g : Grammar) → QuietMeansQuiet g → {W' : Type 0} (content : W' → Option Content) (faults failed_openings : W' → ℕ) (rounds : ℕ) (u v : W') (r : Result Carried CarryFault) →
-    IfOk r (Carries g content faults failed_openings rounds u v) → IfOk r (MeansQuiet w g content faults failed_openings rounds u v)
-means-quiet w g law content faults failed_openings rounds u v (Ok Quiet) q = record { quiet = q; world = quiet-over-honest w g law q.before q.last q.call q.made.heard }
-means-quiet w g law content faults failed_openings rounds u v (Ok RoundsSpent) q = tt
-means-quiet w g law content faults failed_openings rounds u v (Err e) q = tt
+none-ok : (g : Grammar) (vs : List C.Visit) → Each C.NoChoice vs → Each (ChoicesOk g) vs × Each ChoicesSized vs
+none-ok g [] n = (tt, tt)
+none-ok g (v ∷ vs) n =
+    let z = none-ok g vs n.1 in
+    ((subst (λ cs. Each (λ (c : Choice). choice_ok g c ≡ true) cs) (sym n.0) tt, z.0), (subst (λ cs. Each ChoiceSized cs) (sym n.0) tt, z.1))
+
+pub bound-over-honest : (w : Words) (g : Grammar) → RoundsAreBounded g → BytesAreHonest g → GrammarSized g → (before : List (List Turn)) → IsSpentCall size g (map sessions_of before) → Each (IsHeard g) (flat before) →
+    (n : ℕ) → length before ≡ n → BoundOverHonest w g before n
+bound-over-honest w g law bytes sized before call heard n all loads es ok moves rounds i none honest =
+    let vss = map (λ vs. map visit_of vs) rounds in
+    let call' : IsSpentCall size g (map (λ vs. map C.session_of vs) vss) =
+    subst (λ ss. IsSpentCall size g ss) (sym (same-rounds rounds ∙ ap (λ ts. map sessions_of ts) i)) call in
+    let heard' : Each (IsHeard g) (map turn_of (flat rounds)) = subst (λ ts. Each (IsHeard g) ts) (sym (flat-map turn_of rounds ∙ ap (λ ts. flat ts) i)) heard in
+    let none' = subst (λ ks. Each C.NoChoice ks) (flat-map visit_of rounds) none in
+    let fit = none-ok g (flat vss) none' in
+    let wire : IsHonestWire g (world_after g loads es).sites (flat vss) =
+    bytes sized size loads es ok moves (flat vss) (subst (λ ss. AreTurns size g (new_courier g) ss) (sym (flat-map C.session_of vss)) call'.turns) (rounds-known g vss call'.each) fit.0 fit.1
+    (subst (λ ks. IsHonestInBytes g (world_after g loads es).sites ks) (flat-map visit_of rounds) (honest-heard w g (world_after g loads es).sites (flat rounds) heard' honest)) in
+    let few = law size loads es ok vss call' none' wire in
+    let as_visits = length-mapped (λ vs. map visit_of vs) rounds in
+    let as_turns = ap length (sym i) ∙ length-mapped (map turn_of) rounds in
+    omega (arith, few, as_visits, as_turns, all)
+
+-- what was carried, with what that means
+pub means-over-honest : (w : Words) (g : Grammar) → QuietMeansQuiet g → RoundsAreBounded g → BytesAreHonest g → GrammarSized g → {W' : Type 0} (content : W' → Option Content) (faults failed_openings : W' → ℕ) (rounds : ℕ) (u v : W') (r : Result Carried CarryFault) →
+    IfOk r (Carries g content faults failed_openings rounds u v) → IfOk r (MeansOverHonest w g content faults failed_openings rounds u v)
+means-over-honest w g law ends bytes sized content faults failed_openings rounds u v (Ok Quiet) q = record { quiet = q; world = quiet-over-honest w g law bytes sized q.before q.last q.call q.made.heard }
+means-over-honest w g law ends bytes sized content faults failed_openings rounds u v (Ok RoundsSpent) q =
+    record { spent = q; world = bound-over-honest w g ends bytes sized q.before q.call q.made.heard rounds q.all }
+means-over-honest w g law ends bytes sized content faults failed_openings rounds u v (Err e) q = tt

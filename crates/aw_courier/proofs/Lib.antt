@@ -1,6 +1,7 @@
 pub mod AskLemmas
 pub mod BroughtLemmas
 pub mod HonestLemmas
+pub mod SizeLemmas
 pub mod Lists
 pub mod MailLemmas
 pub mod PullLemmas

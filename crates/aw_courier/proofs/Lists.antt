@@ -5,11 +5,11 @@ use Rattle.std.proofs.lemmas.Bool.{cases_lt, lt-ltb, eqb-true}
 use Rattle.aw_term.specs.Rules.{Grammar, get}
 use Rattle.aw_term.specs.Trees.{Never}
 use Rattle.aw_apply.specs.Messages.{Message}
-use Rattle.aw_merge.proofs.Places.{get-set, get-set_other}
+use Rattle.aw_law_worlds.proofs.Places.{get-set, get-set_other}
 use Rattle.aw_session.specs.Frames.{joined}
-use Rattle.aw_nodes.specs.Nodes.{Frame, Push}
-use Rattle.aw_nodes.specs.Couriers.{Heard, Courier, for_role, without, note, noted, IsReplyTo, AreReplies, move, moves}
-use Rattle.aw_nodes.proofs.ListParts.{cons-inj}
+use Rattle.aw_law_nodes.specs.Nodes.{Frame, Push}
+use Rattle.aw_law_nodes.specs.Couriers.{Heard, Courier, for_role, without, note, noted, IsReplyTo, AreReplies, move, moves}
+use Rattle.aw_law_nodes.proofs.ListParts.{cons-inj}
 use Rattle.aw_courier.specs.Frames.{size, spelled_frame, spelled_frames}
 use Rattle.aw_courier.specs.Mails.{pushed_frames}
 use Rattle.aw_courier.specs.Replies.{reply, request_of}

@@ -2,8 +2,8 @@
 use Rattle.std.proofs.Common.{◌≡◌, ℕ, suc, ◌≤◌, Bool, false, List, [], ◌∷◌, length, Option, Some, None, refl, sym, ap, subst, ◌∙◌, arith, append-nil}
 use Rattle.aw_out.specs.Wires.{Content}
 use Rattle.aw_term.specs.Rules.{Grammar}
-use Rattle.aw_nodes.specs.Nodes.{Pull}
-use Rattle.aw_nodes.specs.Couriers.{behind}
+use Rattle.aw_law_nodes.specs.Nodes.{Pull}
+use Rattle.aw_law_nodes.specs.Couriers.{behind}
 use Rattle.aw_courier.specs.Asking.{Wrong, IsAsked, IsBrokenOff}
 use Rattle.aw_courier.specs.Frames.{spelled_frame}
 use Rattle.aw_courier.specs.Pulls.{IsPulled}
@@ -27,7 +27,7 @@ pulled-letter g place talks text bytes to frame e k h f =
 
 -- there are no more
 pub pulled-nothing : (g : Grammar) (place : ℕ) (talks : List ℕ → List ℕ → Bool → Type 0) (text bytes : List ℕ) → text ≡ spelled_frame (Pull place) → IsAsked request.Pull text talks bytes → Brings g bytes brought.Nothing → IsPulled g place talks None
-pulled-nothing g place talks text bytes e k h = (bytes, h.0, subst (λ t. talks bytes t false) e k.talked, h.1)
+pulled-nothing g place talks text bytes e k h = (bytes, subst (λ t. talks bytes t false) e k.talked, h)
 
 -- what came is no reply
 pub pulled-unknown : (g : Grammar) (place : ℕ) (talks : List ℕ → List ℕ → Bool → Type 0) (left : Option Content) (text bytes : List ℕ) → text ≡ spelled_frame (Pull place) → IsAsked request.Pull text talks bytes → Brings g bytes brought.Unknown →

@@ -11,12 +11,12 @@ use Rattle.aw_term.proofs.Eaches.{each_append, each_push}
 use Rattle.aw_session.specs.Sessions.{Follow}
 use Rattle.aw_session.specs.Talking.{Counts, Talks}
 use Rattle.aw_session.proofs.Servings.{follow-none, follow-then}
-use Rattle.aw_nodes.specs.Couriers.{Session, Courier, new_courier, requests, after_session, after_all, flat, AreTurns, IsRound, moves, round_moves}
+use Rattle.aw_law_nodes.specs.Couriers.{Session, Courier, new_courier, requests, after_session, after_all, flat, AreTurns, IsRound, moves, round_moves}
 use Rattle.aw_courier.specs.Asking.{is_net}
 use Rattle.aw_courier.specs.Carrying.{sessions_of, AreMade, IsRoundMade, fault_at, IsRoundBroken, IsQuiet, IsSpent, AreBefore, IsBrokenOff}
 use Rattle.aw_courier.specs.Frames.{size}
 use Rattle.aw_courier.specs.Mails.{Mailed, Shows}
-use Rattle.aw_courier.specs.Turns.{Turn, session_of, told_as, IsHeard, IsUnderway, ending, BreaksOff, CutFits, IsTurn, IsStopped}
+use Rattle.aw_courier.specs.Turns.{Turn, session_of, told_as, IsHeard, IsUnderway, ending, IsCut, BreaksOff, CutFits, IsTurn, IsStopped}
 use Rattle.aw_courier.specs.declared.broken.Broken.{Broken}
 use Rattle.aw_courier.specs.declared.broken.Broken.TheVariants as broken
 use Rattle.aw_courier.specs.declared.carrying.CarryFault.{CarryFault}
@@ -31,7 +31,7 @@ pub turn-made : {W' : Type 0} (g : Grammar) (content : W' → Option Content) (i
     IsUnderway g (Talks content is_open faults failed_openings) c r u1 v m ending moved → IsTurn g content faults failed_openings c r u v m moved
 turn-made {W'} g content is_open faults failed_openings c r u u1 v m moved d f o h =
     let session : Session = record { role = r; asked = h.asked; heard = h.heard } in
-    let turn : Turn = record { session = session; replies = h.replies } in
+    let turn : Turn = record { session = session; replies = h.replies; left = W.unread (content v) } in
     record {
       turn = turn;
       role = refl;
@@ -45,13 +45,32 @@ turn-made {W'} g content is_open faults failed_openings c r u u1 v m moved d f o
       openings = h.talked.openings ∙ o;
     }
 
+-- a turn that broke off did so whatever its session left
+cut-left : (g : Grammar) (c : Courier) (r : ℕ) (told : Option Content) (fault : Broken) (x : W.Session) (left : List ℕ) → IsCut g c r told fault x → IsCut g c r told fault (record x { left = left })
+cut-left g c r told fault x left k = record {
+  asked = k.asked;
+  heard = k.heard;
+  replies = k.replies;
+  more = k.more;
+  few = k.few;
+  role = k.role;
+  dialed = k.dialed;
+  failed = k.failed;
+  are = k.are;
+  fit = k.fit;
+  begun = k.begun;
+  read = k.read;
+  part = k.part;
+  why = k.why;
+}
+
 -- a turn that broke off
 pub turn-stopped : {W' : Type 0} (g : Grammar) (content : W' → Option Content) (is_open : W' → Bool) (faults failed_openings : W' → ℕ) (c : Courier) (r : ℕ) (u u1 v : W') (fault : Broken) →
     Both (Dials r Opened) (content u) (content u1) → faults u1 ≡ faults u →
     BreaksOff g c r (Talks content is_open faults failed_openings u1 v) (content v) fault → IsStopped g content faults c r u v fault
 turn-stopped {W'} g content is_open faults failed_openings c r u u1 v fault d f (x, t, k) = record {
-  cut = Some x;
-  fits = k;
+  cut = Some (record x { left = W.unread (content v) });
+  fits = cut-left g c r (content v) fault x (W.unread (content v)) k;
   told = follow-dialed x r (content u) (content u1) (content v) k.role k.dialed d t.told;
   counts = subst (λ n. Counts (is_net fault) n (faults v)) f (subst (λ b. Counts b (faults u1) (faults v)) k.failed t.counts);
 }

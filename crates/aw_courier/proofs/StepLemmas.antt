@@ -6,8 +6,8 @@ use Rattle.std.proofs.lemmas.List.{set-get_or}
 use Rattle.aw_out.specs.Wires.{Content}
 use Rattle.aw_term.specs.Rules.{Grammar, get}
 use Rattle.aw_apply.specs.Messages.{Message}
-use Rattle.aw_nodes.specs.Nodes.{Push, Pull}
-use Rattle.aw_nodes.specs.Couriers.{Pushed, Gave, Had, Courier, for_role, turn_messages, note, pushes}
+use Rattle.aw_law_nodes.specs.Nodes.{Push, Pull}
+use Rattle.aw_law_nodes.specs.Couriers.{Pushed, Gave, NoMore, Courier, for_role, turn_messages, note, pushes}
 use Rattle.aw_courier.specs.Asking.{IsAsked, IsBrokenOff}
 use Rattle.aw_courier.specs.Frames.{size, spelled_frame}
 use Rattle.aw_courier.specs.Mails.{Mailed, Shows, pushed_frames, place_at, queue_at, with_queue}
@@ -151,11 +151,11 @@ pulled-one {W'} g talks then c r room left u v w m m' moved letter h few some fi
 -- there are no more
 pub pulled-none : {W' : Type 0} (g : Grammar) (talks : W' → W' → List ℕ → List ℕ → Bool → Type 0) → TalksThen talks → (c : Courier) (r room left : ℕ) (u v w : W') (m : Mailed) (moved : Bool) →
     IsUnderway g talks c r u v m (pulling r room left) moved → 0 < left → 13 ≤ room → IsPulled g (place_at m r) (talks v w) None → IsUnderway g talks c r u w m ending moved
-pulled-none {W'} g talks then c r room left u v w m moved h some fits (bytes, n, t, e) =
+pulled-none {W'} g talks then c r room left u v w m moved h some fits (bytes, t, e) =
     let p = get 0 h.now.places r in
-    one-more g talks then c r u v w m m (pulling r room left) ending moved moved h (Pull p) (Had n) bytes
+    one-more g talks then c r u v w m m (pulling r room left) ending moved moved h (Pull p) NoMore bytes
     (subst (λ k. talks v w bytes (spelled_frame (Pull k)) false) (place-is g m h.now r h.shows) t) e tt h.shows
-    (λ ys. last-pull r room left h.now n ys some fits)
+    (λ ys. last-pull r room left h.now ys some fits)
     (or-false moved)
 
 -- a pull got no reply

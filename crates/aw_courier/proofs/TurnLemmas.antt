@@ -6,12 +6,13 @@ use Rattle.aw_out.specs.Wires.{Content}
 use Rattle.aw_term.specs.Rules.{Grammar, get}
 use Rattle.aw_term.specs.Trees.{Never}
 use Rattle.aw_apply.specs.Messages.{Message}
-use Rattle.aw_merge.proofs.Places.{get-set, length-set, same_or_not}
+use Rattle.aw_law_worlds.proofs.Places.{get-set, length-set, same_or_not}
 use Rattle.aw_session.specs.Frames.{joined}
-use Rattle.aw_nodes.specs.Nodes.{Frame, Push, Pull}
-use Rattle.aw_nodes.specs.Couriers.{Heard, Gave, Had, Courier, for_role, turn_room, turn_messages, asks, after_reply, behind, pulls, pushes, requests, note, without, IsReplyTo, move, moves}
-use Rattle.aw_nodes.proofs.ListParts.{filter-append}
-use Rattle.aw_nodes.proofs.Knowing.{rest-waits}
+use Rattle.aw_session.proofs.Servings.{session_with}
+use Rattle.aw_law_nodes.specs.Nodes.{Frame, Push, Pull}
+use Rattle.aw_law_nodes.specs.Couriers.{Heard, Gave, NoMore, Courier, for_role, turn_room, turn_messages, asks, after_reply, behind, pulls, pushes, requests, note, without, IsReplyTo, move, moves}
+use Rattle.aw_law_nodes.proofs.ListParts.{filter-append}
+use Rattle.aw_law_nodes.proofs.Knowing.{rest-waits}
 use Rattle.aw_courier.specs.Asking.{is_net, WhyBroken, IsBrokenOff}
 use Rattle.aw_courier.specs.Frames.{size, spelled_frame, spelled_frames}
 use Rattle.aw_courier.specs.Mails.{Mailed, Shows, pushed_frames, place_at, queue_at, with_queue}
@@ -93,7 +94,7 @@ stops {W'} g talks then c r u v w m rest moved h few f later left fault next k =
     let text : spelled_frames (requests size c r h.heard) ≡ (spelled_frames h.asked ++ k.written) ++ (k.part.0 ++ spelled_frames later) =
     ap spelled_frames all ∙ spelled-append h.asked (f ∷ later) ∙ ap (λ t. spelled_frames h.asked ++ (t ++ spelled_frames later)) k.part.1
     ∙ ap (λ t. spelled_frames h.asked ++ t) (append_assoc k.written k.part.0 (spelled_frames later)) ∙ sym (append_assoc (spelled_frames h.asked) k.written (k.part.0 ++ spelled_frames later)) in (
-      record { role = r; dialed = true; read = joined h.replies ++ k.read; written = spelled_frames h.asked ++ k.written; failed = is_net fault },
+      session_with r true (joined h.replies ++ k.read) (spelled_frames h.asked ++ k.written) (is_net fault) [],
       then u v w (joined h.replies) (spelled_frames h.asked) k.read k.written (is_net fault) h.talked k.talked,
       record {
         asked = h.asked;
@@ -182,9 +183,9 @@ next-pull g r room left now a ys few some fits =
     ∙ ap (λ q. Pull p ∷ pulls size (room - 13) (left - 1) q ys) (sym (get-set 0 now.places r (suc p) few))
 
 -- there are no more
-pub last-pull : (r room left : ℕ) (now : Courier) (n : ℕ) (ys : List Heard) → 0 < left → 13 ≤ room →
-    pulling r room left now (Had n ∷ ys) ≡ Pull (get 0 now.places r) ∷ []
-last-pull r room left now n ys some fits =
+pub last-pull : (r room left : ℕ) (now : Courier) (ys : List Heard) → 0 < left → 13 ≤ room →
+    pulling r room left now (NoMore ∷ ys) ≡ Pull (get 0 now.places r) ∷ []
+last-pull r room left now ys some fits =
     let p = get 0 now.places r in
     ap (λ b. asks (b && nat_le 13 room) (Pull p) []) (lt-ltb 0 left some) ∙ ap (λ b. asks b (Pull p) []) (le-leb 13 room fits)
 

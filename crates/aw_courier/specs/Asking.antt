@@ -1,9 +1,9 @@
 -- One request and its reply.
-use Rattle.std.specs.Prelude.{◌≡◌, ℕ, ◌<◌, ◌≤◌, length, List, [], ◌++◌, Bool, true, false, Option, None, Some, Err}
-use Rattle.aw_out.specs.Wires.{Content}
+use Rattle.std.specs.Prelude.{◌≡◌, ℕ, ◌<◌, ◌≤◌, length, List, [], ◌++◌, Bool, true, false, Option, Err}
+use Rattle.aw_out.specs.Wires.{Content, unread}
 use Rattle.aw_term.specs.Rules.{Grammar}
-use Rattle.aw_wire.specs.Reading.{Short}
-use Rattle.aw_nodes.specs.Couriers.{IsPrefix}
+use Rattle.aw_codec.specs.Reading.{Short}
+use Rattle.aw_law_nodes.specs.Couriers.{IsPrefix}
 use Rattle.aw_courier.specs.Replies.{reply, IsNone, IsSized}
 use Rattle.aw_courier.specs.declared.broken.Broken.{Broken}
 use Rattle.aw_courier.specs.declared.broken.Broken.TheVariants.{Net, Reply, NoMemory}
@@ -11,8 +11,7 @@ use Rattle.aw_courier.specs.declared.replies.Request.{Request}
 
 -- where it is told, nothing is left to read
 abbrev pub NothingLeft : Option Content → Type 0
-NothingLeft None = Unit {0}
-NothingLeft (Some c) = c.left ≡ []
+NothingLeft told = unread told ≡ []
 
 -- the bytes in a reply's place are no reply, however they go on, or they ended within one
 pub data IsNoReply (g : Grammar) (request : Request) (read : List ℕ) (left : Option Content) : Type 0 where
@@ -25,8 +24,8 @@ is_net Net = true
 is_net Reply = false
 is_net NoMemory = false
 
--- why a request got no reply: a call on the wire failed, while what was read could go on to be one; it was written whole, and what was read is none; or
--- memory ran out
+-- why a request got no reply: a call on the wire failed before the reply was whole, of which the kind and the length could be right (a payload is judged
+-- once it is whole); it was written whole, and what was read is none; or memory ran out
 abbrev pub WhyBroken : Grammar → Request → List ℕ → List ℕ → List ℕ → Option Content → Broken → Type 0
 WhyBroken g request frame written read left Net = reply g request read ≡ Err Short
 WhyBroken g request frame written read left Reply = (written ≡ frame) × IsNoReply g request read left

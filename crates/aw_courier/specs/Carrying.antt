@@ -6,7 +6,7 @@ use Rattle.aw_term.specs.Rules.{Grammar, upto}
 use Rattle.aw_term.specs.WellFormed.{Each}
 use Rattle.aw_session.specs.Sessions.{Follow}
 use Rattle.aw_session.specs.Talking.{Counts}
-use Rattle.aw_nodes.specs.Couriers.{Session, Courier, new_courier, after_all, flat, AreTurns, round_moves, IsQuietCall, IsSpentCall}
+use Rattle.aw_law_nodes.specs.Couriers.{Session, Courier, new_courier, after_all, flat, AreTurns, round_moves, IsQuietCall, IsSpentCall}
 use Rattle.aw_courier.specs.Asking.{is_net}
 use Rattle.aw_courier.specs.Frames.{size}
 use Rattle.aw_courier.specs.Mails.{Mailed, Shows}

@@ -1,9 +1,9 @@
 -- The requests of a courier as bytes.
 use Rattle.std.specs.Prelude.{ℕ, List, [], ◌∷◌, ◌++◌, length}
 use Rattle.std.specs.Int.{w32, w64, to_be_bytes}
-use Rattle.aw_wire.specs.Choices.{spelled_choice}
+use Rattle.aw_codec.specs.Choices.{spelled_choice}
 use Rattle.aw_msg.specs.Spelling.{spelled_message}
-use Rattle.aw_nodes.specs.Nodes.{Frame, Push, Choose, Pull, Listed}
+use Rattle.aw_law_nodes.specs.Nodes.{Frame, Push, Choose, Pull, Listed}
 
 -- 1 push, 2 choose, 3 pull, 4 list
 abbrev pub frame_kind : Frame → ℕ

@@ -2,8 +2,8 @@
 use Rattle.std.specs.Prelude.{◌≡◌, ℕ, ◌<◌, ◌≤◌, List, [], ◌∷◌, length, map, slice_index, slice_index_or, slice_set}
 use Rattle.aw_term.specs.Rules.{Grammar}
 use Rattle.aw_apply.specs.Messages.{Message}
-use Rattle.aw_nodes.specs.Couriers.{Courier, for_role}
-use Rattle.aw_nodes.specs.Nodes.{Push}
+use Rattle.aw_law_nodes.specs.Couriers.{Courier, for_role}
+use Rattle.aw_law_nodes.specs.Nodes.{Push}
 use Rattle.aw_courier.specs.Frames.{spelled_frame}
 use Rattle.aw_courier.specs.declared.queue.NextUp.{NextUp}
 use Rattle.aw_courier.specs.declared.queue.NextUp.TheVariants.{Frame, TooLong, Nothing}

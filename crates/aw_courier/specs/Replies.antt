@@ -1,16 +1,16 @@
 -- What is heard in the bytes of a reply. The kind is judged when its byte is there, the length when its four bytes are there, and the
 -- payload when it is whole.
 use Rattle.std.specs.Prelude.{◌≡◌, ℕ, ◌+◌, ◌<◌, ◌≤◌, ◌==◌, Bool, ◌&&◌, ◌||◌, nat_le, nat_lt, List, [], ◌∷◌, length, take, drop, Option, None, Some, Result, Ok, Err, if◌then◌else◌}
-use Rattle.std.specs.Int.{w32, w64, from_be_bytes}
+use Rattle.std.specs.Int.{w32}
 use Rattle.aw_term.specs.Rules.{Grammar}
-use Rattle.aw_wire.specs.Reading.{Fault, Short, Bad, Reader, ◌>>=◌, byte, number, such_that}
+use Rattle.aw_codec.specs.Reading.{Fault, Short, Bad, Reader, ◌>>=◌, byte, number, such_that}
 use Rattle.aw_apply.specs.Messages as P
 use Rattle.aw_msg.specs.Frames.{whole}
 use Rattle.aw_msg.specs.Messages.{message}
 use Rattle.aw_msg.specs.MessageView.{message_of}
 use Rattle.aw_msg.specs.declared.message.Message.{Message}
-use Rattle.aw_nodes.specs.Couriers.{Heard, Pushed, Gave, Had, behind}
-use Rattle.aw_nodes.specs.Nodes as N
+use Rattle.aw_law_nodes.specs.Couriers.{Heard, Pushed, Gave, NoMore, behind}
+use Rattle.aw_law_nodes.specs.Nodes as N
 use Rattle.aw_courier.specs.Frames.{spelled_frame}
 use Rattle.aw_courier.specs.declared.replies.Request.{Request}
 use Rattle.aw_courier.specs.declared.replies.Request.TheVariants.{Push, Pull}
@@ -34,7 +34,7 @@ gave g (Some m) = if nat_lt m.to g.roles then Some (Gave (message_of g m)) else 
 -- what is heard in a payload of this kind
 abbrev pub heard_in : Grammar → ℕ → List ℕ → Option Heard
 heard_in g kind bytes =
-    if kind == 7 then gave g (whole message bytes) else if kind == 10 then Some (Had (from_be_bytes w64 bytes)) else Some (Pushed kind)
+    if kind == 7 then gave g (whole message bytes) else if kind == 10 then Some NoMore else Some (Pushed kind)
 
 -- a payload that is none breaks its rule as a whole
 abbrev pub known : ℕ → Option Heard → List ℕ → Result (Heard × List ℕ) Fault
@@ -81,7 +81,7 @@ IsSized request bytes = size_from request bytes ≡ Some (length bytes)
 abbrev pub Brings : Grammar → List ℕ → Brought → Type 0
 Brings g bytes (brought.Message to) =
     (m : P.Message) × (reply g Pull bytes ≡ Ok (Gave m, [])) × (m.to ≡ to) × (to < g.roles) × (spelled_frame (N.Push m) ≡ 1 ∷ behind bytes)
-Brings g bytes brought.Nothing = (n : ℕ) × (reply g Pull bytes ≡ Ok (Had n, []))
+Brings g bytes brought.Nothing = reply g Pull bytes ≡ Ok (NoMore, [])
 Brings g bytes brought.Unknown = IsNone (reply g Pull bytes)
 
 -- a message is for one of so many roles

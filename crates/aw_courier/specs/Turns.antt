@@ -4,12 +4,12 @@ use Rattle.aw_out.specs.Wires as W
 use Rattle.aw_out.specs.Wires.{Content, Both}
 use Rattle.aw_term.specs.Rules.{Grammar, get}
 use Rattle.aw_term.specs.Trees.{Never}
-use Rattle.aw_wire.specs.Reading.{Short}
+use Rattle.aw_codec.specs.Reading.{Short}
 use Rattle.aw_session.specs.Frames.{joined}
 use Rattle.aw_session.specs.Sessions.{Follow}
 use Rattle.aw_session.specs.Talking.{Counts}
-use Rattle.aw_nodes.specs.Nodes.{Frame}
-use Rattle.aw_nodes.specs.Couriers.{Heard, Session, Courier, for_role, pulls, pushes, requests, noted, after_session, AreReplies, moves, IsPrefix}
+use Rattle.aw_law_nodes.specs.Nodes.{Frame}
+use Rattle.aw_law_nodes.specs.Couriers.{Heard, Session, Courier, for_role, pulls, pushes, requests, noted, after_session, AreReplies, moves, IsPrefix}
 use Rattle.aw_courier.specs.Asking.{is_net, IsNoReply}
 use Rattle.aw_courier.specs.Frames.{size, spelled_frames}
 use Rattle.aw_courier.specs.Mails.{Mailed, Shows}
@@ -25,10 +25,11 @@ AreHeard g [] [] [] = Unit {0}
 AreHeard g (f ∷ fs) (x ∷ xs) (b ∷ bs) = (reply g (request_of f) b ≡ Ok (x, [])) × AreHeard g fs xs bs
 AreHeard g _ _ _ = Never
 
--- a turn that came to its end, and the bytes of each reply
+-- a turn that came to its end, the bytes of each reply, and those that it left unread
 pub record Turn : Type 0 where
   pub session : Session
   pub replies : List (List ℕ)
+  pub left : List ℕ
 
 -- the session alone
 abbrev pub session_of : Turn → Session
@@ -40,7 +41,7 @@ IsHeard g t = AreHeard g t.session.asked t.session.heard t.replies
 
 -- how a wire tells it: it was dialed, its requests were written and their replies read, and nothing else
 abbrev pub told_as : Turn → W.Session
-told_as t = record { role = t.session.role; dialed = true; read = joined t.replies; written = spelled_frames t.session.asked; failed = false }
+told_as t = record { role = t.session.role; dialed = true; read = joined t.replies; left = t.left; written = spelled_frames t.session.asked; failed = false }
 
 -- ---- a turn underway
 
@@ -73,8 +74,8 @@ pub record IsUnderway {W' : Type 0} (g : Grammar) (talks : W' → W' → List �
 
 -- ---- a turn that broke off
 
--- Why it did, where `all` are its requests and the first of them got their replies: a call failed, while what was read for the next one could go on to
--- be a reply; the next one was written whole, and what was read for it is none; or memory ran out.
+-- Why it did, where `all` are its requests and the first of them got their replies: a call failed before the reply to the next one was whole, of which the
+-- kind and the length could be right; the next one was written whole, and what was read for it is none; or memory ran out.
 abbrev pub WhyStopped : Grammar → List Frame → List Frame → List ℕ → List ℕ → Option Content → Broken → Type 0
 WhyStopped g all asked written more left Net = (f : Frame) × (later : List Frame) × (all ≡ asked ++ f ∷ later) × (reply g (request_of f) more ≡ Err Short)
 WhyStopped g all asked written more left Reply =

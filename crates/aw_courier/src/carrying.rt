@@ -3,16 +3,17 @@ ghost use Rattle.std.specs.Prelude.{◌≡◌, ◌||◌, ◌≤◌, IfOk, IfErr,
 ghost use Rattle.aw_courier.specs.Carrying as spec;
 ghost use Rattle.aw_courier.specs.Carrying.{Carries, IsBrokenOff, IsRoundMade, IsRoundBroken};
 ghost use Rattle.aw_courier.specs.Mails.{Shows, SameSize, HasRoles};
-ghost use Rattle.aw_courier.specs.Honest.{MeansQuiet};
+ghost use Rattle.aw_courier.specs.Honest.{MeansOverHonest};
 ghost use Rattle.aw_grammar.specs.GrammarOf.{grammar_of, words_of};
-ghost use Rattle.aw_nodes.specs.Couriers.{Courier};
+ghost use Rattle.aw_law_nodes.specs.Couriers.{Courier};
 ghost use Rattle.aw_term.specs.Rules.{Grammar as PlainGrammar};
 
 use crate::broken::Broken;
 use crate::mails::Mails;
+use crate::sizes::see_rules;
 use crate::turns::turn;
 use aw_accept::Accepted;
-use aw_nodes::laws::courier_laws;
+use aw_law_nodes::laws::courier_laws;
 use aw_out::Wire;
 use std::alloc::{AllocError, Global};
 
@@ -124,9 +125,11 @@ pub fn carry<W: Wire>(
 ) -> Result<Carried, CarryFault>
     ensures ok { IfOk result (Carries (grammar_of g.now.grammar) W.content W.faults W.failed_openings rounds wire.old wire.new) }
     ensures err { IfErr result (IsBrokenOff (grammar_of g.now.grammar) W.content W.faults rounds wire.old wire.new) }
-    // Over a wire that was honest for a world and some choices, Quiet means that the world is quiet.
-    ensures world { ∥ IfOk result (MeansQuiet (words_of g.now.grammar) (grammar_of g.now.grammar) W.content W.faults W.failed_openings rounds wire.old wire.new) ∥₁ }
+    // Over a wire that was honest for a world and some choices, Quiet means that the world is quiet. Where no choice came meanwhile, the rounds
+    // are spent only where they are at most twice as many as the bound on the messages of that world.
+    ensures world { ∥ IfOk result (MeansOverHonest (words_of g.now.grammar) (grammar_of g.now.grammar) W.content W.faults W.failed_openings rounds wire.old wire.new) ∥₁ }
 {
     courier_laws();
+    see_rules(g.grammar());
     carry_rounds(alloc, g, wire, rounds)
 }

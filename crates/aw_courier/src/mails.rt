@@ -1,7 +1,7 @@
 //! What a courier keeps of all roles.
 ghost use Rattle.std.specs.Prelude.{◌≡◌, ◌+◌, ◌<◌, [], ◌∷◌, ◌++◌, length, slice_set, IfOk, OnOk};
 ghost use Rattle.aw_courier.specs.Mails.{IsNextUp, Shows, HasRoles, place_at, queue_at, with_queue};
-ghost use Rattle.aw_nodes.specs.Couriers.{new_courier};
+ghost use Rattle.aw_law_nodes.specs.Couriers.{new_courier};
 ghost use Rattle.aw_term.specs.Rules.{Grammar as PlainGrammar};
 
 use crate::queue::{NextUp, Queue};

@@ -1,15 +1,15 @@
 //! What is heard in the bytes of a reply.
 ghost use Rattle.std.specs.Prelude.{◌≡◌, drop, Ok, Err, IfOk, MatchOption};
 ghost use Rattle.std.specs.Int.{w32};
-ghost use Rattle.aw_wire.specs.Reading.{Short, number};
+ghost use Rattle.aw_codec.specs.Reading.{Short, number};
 ghost use Rattle.aw_courier.specs.Replies as spec;
 ghost use Rattle.aw_courier.specs.Replies.{IsAddressed, IsSized, Brings, NamesRole};
 ghost use Rattle.aw_term.specs.Rules.{Grammar as PlainGrammar};
 
+use aw_codec::Unread;
 use aw_msg::frame_reading::MOST_OF_PAYLOAD;
 use aw_msg::reading::message_at;
 use aw_msg::reply_writing::{BAD_NAME, CONFLICT, MESSAGE, NEW, NOTHING};
-use aw_wire::Unread;
 use std::alloc::{AllocError, Global};
 
 /// What is asked of a node.

@@ -5,8 +5,8 @@ ghost use Rattle.aw_courier.specs.Frames.{spelled_frame};
 ghost use Rattle.aw_courier.specs.Mails.{Shows, Holds, SameSize};
 ghost use Rattle.aw_courier.specs.Pulls.{IsPulled};
 ghost use Rattle.aw_courier.specs.Turns.{IsUnderway, IsTurn, IsStopped, BreaksOff, pulling, ending};
-ghost use Rattle.aw_nodes.specs.Couriers.{Courier, behind, turn_messages};
-ghost use Rattle.aw_nodes.specs.Nodes.{Pull};
+ghost use Rattle.aw_law_nodes.specs.Couriers.{Courier, behind, turn_messages};
+ghost use Rattle.aw_law_nodes.specs.Nodes.{Pull};
 ghost use Rattle.aw_session.specs.Talking.{Talks};
 ghost use Rattle.aw_term.specs.Rules.{Grammar as PlainGrammar};
 

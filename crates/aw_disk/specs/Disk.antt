@@ -43,5 +43,6 @@ ReadsAt at bytes Failed buffer = Unit {0}
 pub record LeavesOnly {D : Type 0} (moment : D → ℕ) (left_since : D → ℕ → List ℕ → Type 0) (old new : D) (P : List ℕ → Type 0) : Type 0 where
   pub later : moment old ≤ moment new
   pub each : (c : List ℕ) → left_since new (moment old) c → P c
-  -- for a run that began earlier
-  pub before : (t : ℕ) (c : List ℕ) → t ≤ moment old → left_since new t c → left_since old t c ⊎ P c
+  -- for a run that began earlier: what a crash might have left since then it still might, and what it may leave beside it may leave since old
+  pub keeps : (t : ℕ) (c : List ℕ) → t ≤ moment old → left_since old t c → left_since new t c
+  pub before : (t : ℕ) (c : List ℕ) → t ≤ moment old → left_since new t c → left_since old t c ⊎ ((s : ℕ) → s ≤ moment old → left_since new s c)

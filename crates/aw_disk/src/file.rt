@@ -5,20 +5,24 @@ ghost use Rattle.aw_out.specs.Causes.{Rose};
 
 use crate::edge::{Did, Disk, Size};
 use aw_out::Got;
-use std::fs::{OpenFile, OpenOptions};
+use std::fs::{File, OpenFile, OpenOptions};
 use std::io;
 use std::io::{Read, Seek, SeekFrom, Write};
+use std::os::unix::fs::OpenOptionsExt;
 use std::rt::Files;
+
+/// Who may read and write a journal that is made: its owner alone.
+const OWNER_ALONE: u32 = 0o600;
 
 /// The file `workspace.journal`, opened at its first call.
 #[derive(Drop)]
-pub struct FileDisk<'a, R: Files> {
+pub struct FileDisk<'a, R: Files<File = File>> {
     rt: &'a R,
-    file: Option<R::File>,
+    file: Option<File>,
     faults: u64,
 }
 
-impl<'a, R: Files> FileDisk<'a, R> {
+impl<'a, R: Files<File = File>> FileDisk<'a, R> {
     pub fn new(rt: &'a R) -> FileDisk<'a, R>
         ensures { ⟦<FileDisk<'static, R> as Disk>⟧.faults result ≡ 0 }
     {
@@ -30,22 +34,42 @@ impl<'a, R: Files> FileDisk<'a, R> {
     }
 }
 
-fn opened<'b, R: Files>(rt: &R, file: &'b mut Option<R::File>) -> io::Result<&'b mut R::File> {
+/// The journal's file, made where there is none and as it stands where there is one. Nothing of it changes before it is locked.
+fn open_locked<R: Files<File = File>>(rt: &R) -> io::Result<File> {
+    let mut how = OpenOptions::new();
+    how.read(true).write(true).create(true).mode(OWNER_ALONE);
+    // A program that is started without one of its standard streams is given that stream's number for the first file that it opens, and would
+    // write its answers into it. A clone's number is past theirs.
+    let file = how.open(rt, "workspace.journal")?.try_clone()?;
+    // Another process that serves this journal holds the lock until it ends, however it ends. Opening the journal would cut what it writes.
+    match file.try_lock() {
+        Ok(()) => {}
+        Err(error) => return Err(io::Error::from(error)),
+    }
+    // A sync of the file alone need not keep its name.
+    let mut look = OpenOptions::new();
+    look.read(true);
+    look.open(rt, ".")?.sync_all()?;
+    Ok(file)
+}
+
+fn opened<'b, R: Files<File = File>>(
+    rt: &R,
+    file: &'b mut Option<File>,
+) -> io::Result<&'b mut File> {
     if file.is_none() {
-        let mut how = OpenOptions::new();
-        how.read(true).write(true).create(true);
-        *file = Some(how.open(rt, "workspace.journal")?);
+        *file = Some(open_locked(rt)?);
     }
     Ok(file.as_mut().unwrap())
 }
 
-fn size_of<R: Files>(rt: &R, file: &mut Option<R::File>) -> io::Result<u64> {
+fn size_of<R: Files<File = File>>(rt: &R, file: &mut Option<File>) -> io::Result<u64> {
     Ok(opened(rt, file)?.metadata()?.len())
 }
 
-fn read_from<R: Files>(
+fn read_from<R: Files<File = File>>(
     rt: &R,
-    file: &mut Option<R::File>,
+    file: &mut Option<File>,
     at: u64,
     buf: &mut [u8],
 ) -> io::Result<usize>
@@ -56,17 +80,22 @@ fn read_from<R: Files>(
     file.read(buf)
 }
 
-fn write_to<R: Files>(rt: &R, file: &mut Option<R::File>, at: u64, b: &[u8]) -> io::Result<()> {
+fn write_to<R: Files<File = File>>(
+    rt: &R,
+    file: &mut Option<File>,
+    at: u64,
+    b: &[u8],
+) -> io::Result<()> {
     let file = opened(rt, file)?;
     file.seek(SeekFrom::Start(at))?;
     file.write_all(b)
 }
 
-fn cut_to<R: Files>(rt: &R, file: &mut Option<R::File>, len: u64) -> io::Result<()> {
+fn cut_to<R: Files<File = File>>(rt: &R, file: &mut Option<File>, len: u64) -> io::Result<()> {
     opened(rt, file)?.set_len(len)
 }
 
-fn sync_of<R: Files>(rt: &R, file: &mut Option<R::File>) -> io::Result<()> {
+fn sync_of<R: Files<File = File>>(rt: &R, file: &mut Option<File>) -> io::Result<()> {
     opened(rt, file)?.sync_all()
 }
 
@@ -82,7 +111,7 @@ fn noted(outcome: io::Result<()>, faults: &mut u64) -> Did
     Did::Failed
 }
 
-impl<R: Files> Disk for FileDisk<'_, R> {
+impl<R: Files<File = File>> Disk for FileDisk<'_, R> {
     ghost tells = { λ _. false };
 
     ghost seen = { λ _. [] };

@@ -2,9 +2,9 @@
 use Rattle.std.proofs.Common.{◌≡◌, ℕ, true, nat_lt, List, [], ◌∷◌, ◌++◌, map, length, slice_get, Option, Some, None, is_some, option_and_then, subst, sym, refl, ap, ◌∙◌, arith}
 use Rattle.std.proofs.lemmas.Bool.{false≢true, leb-false, ltb-false, not-false, or_parts}
 use Rattle.std.proofs.Math.Logic.{∥∥₁_map}
-use Rattle.aw_text.specs.Spelling.{is_name}
-use Rattle.aw_index.specs.Places.{stands, place_of, number_of, or_else}
-use Rattle.aw_index.proofs.Lookups.{number_within, stands_is_placed}
+use Rattle.aw_spelling.specs.Spelling.{is_name}
+use Rattle.aw_name_index.specs.Places.{stands, place_of, number_of, or_else}
+use Rattle.aw_name_index.proofs.Lookups.{number_within, stands_is_placed}
 use Rattle.aw_term.specs.WellFormed.{SortFits, IsWellFormed}
 use Rattle.aw_grammar.specs.declared.rule.Con.{Con}
 use Rattle.aw_grammar.specs.declared.rule.Sort.{Sort}
@@ -16,7 +16,7 @@ use Rattle.aw_grammar.specs.GrammarView.{sort_of, plain_grammar, plain_words}
 use Rattle.aw_grammar.specs.GrammarOf.{entry}
 use Rattle.aw_grammar.specs.Declarations.{Declarations, sort_declared, with_start_at}
 use Rattle.aw_grammar.specs.Kinds.{role_tests, con_tests, sort_tests, role_kind, con_kind, sort_kind, start_kind, start_kind_of}
-use Rattle.aw_index.proofs.FirstTold.{none_holds}
+use Rattle.aw_name_index.proofs.FirstTold.{none_holds}
 use Rattle.aw_grammar.proofs.Declared.{well_formed_role, well_formed_con, well_formed_sort, well_formed_start, names_of_start}
 
 -- the declarations of these lists

@@ -1,6 +1,6 @@
 -- Measures and tests of lists of terms, over one list after another.
 use Rattle.std.proofs.Common.{◌≡◌, ℕ, ◌+◌, Bool, true, false, ◌&&◌, ◌||◌, List, [], ◌∷◌, ◌++◌, max, refl, sym, ap, ◌∙◌, arith, append_assoc}
-use Rattle.aw_index.specs.Places.{stands, any_stands, all_stand}
+use Rattle.aw_name_index.specs.Places.{stands, any_stands, all_stand}
 use Rattle.aw_term.specs.WellFormed.{leaves, leaves_of}
 use Rattle.aw_grammar.specs.declared.rule.Con.{Con}
 use Rattle.aw_grammar.specs.Written.{Written}

@@ -2,8 +2,8 @@
 use Rattle.std.proofs.Common.{◌≡◌, ℕ, zero, suc, ◌<◌, ◌≤◌, true, false, List, [], ◌∷◌, ◌++◌, map, length, slice_get, Some, subst, sym, refl, ap, ◌∙◌, arith, length-append, get_or}
 use Rattle.std.proofs.Math.ListN.{set}
 use Rattle.std.proofs.lemmas.List.{length-map, map-append}
-use Rattle.aw_text.specs.Spelling.{is_name}
-use Rattle.aw_index.specs.Places.{stands}
+use Rattle.aw_spelling.specs.Spelling.{is_name}
+use Rattle.aw_name_index.specs.Places.{stands}
 use Rattle.aw_term.specs.WellFormed.{Each, Differ, SortFits, IsWellFormed}
 use Rattle.aw_grammar.specs.declared.rule.Con.{Con}
 use Rattle.aw_grammar.specs.declared.rule.Sort.{Sort}

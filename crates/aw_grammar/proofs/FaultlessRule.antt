@@ -1,10 +1,10 @@
 -- Which fault a rule has, by whether it is faultless word by word.
 use Rattle.std.proofs.Common.{◌≡◌, ℕ, Bool, true, false, ◌&&◌, ◌||◌, not, List, [], ◌∷◌, ◌++◌, map, length, Some, None, option_and_then, slice_get, refl, sym, ap, ◌∙◌, append_assoc}
 use Rattle.std.proofs.lemmas.Bool.{and_parts, or_parts, or_from, not-false}
-use Rattle.aw_index.specs.Places.{is_same, stands, any_stands, all_stand, has_double, first_told}
-use Rattle.aw_index.proofs.Lookups.{no_place}
-use Rattle.aw_index.proofs.Same.{same_self}
-use Rattle.aw_index.proofs.FirstTold.{none_holds, none_told}
+use Rattle.aw_name_index.specs.Places.{is_same, stands, any_stands, all_stand, has_double, first_told}
+use Rattle.aw_name_index.proofs.Lookups.{no_place}
+use Rattle.aw_name_index.proofs.Same.{same_self}
+use Rattle.aw_name_index.proofs.FirstTold.{none_holds, none_told}
 use Rattle.aw_term.specs.WellFormed.{leaves_of}
 use Rattle.aw_grammar.specs.declared.rule.Sort.{Sort}
 use Rattle.aw_grammar.specs.declared.fault.DeclKind.{DeclKind}

@@ -2,9 +2,9 @@
 use Rattle.std.proofs.Common.{◌≡◌, ℕ, zero, suc, ◌<◌, Bool, true, false, ◌&&◌, ◌||◌, is_some, List, [], ◌∷◌, ◌++◌, map, length, Option, Some, None, option_and_then, slice_get, refl, sym, ap, ◌∙◌, subst, arith}
 use Rattle.std.proofs.lemmas.Bool.{or_parts, or_from}
 use Rattle.std.proofs.lemmas.List.{length-map}
-use Rattle.aw_index.specs.Places.{is_same, place_of, or_else, number_of, stands, any_stands, all_stand}
-use Rattle.aw_index.proofs.Lookups.{stands_is_placed, no_place, place_within}
-use Rattle.aw_index.proofs.Same.{same_is}
+use Rattle.aw_name_index.specs.Places.{is_same, place_of, or_else, number_of, stands, any_stands, all_stand}
+use Rattle.aw_name_index.proofs.Lookups.{stands_is_placed, no_place, place_within}
+use Rattle.aw_name_index.proofs.Same.{same_is}
 use Rattle.aw_term.specs.Trees.{Leaf, bind}
 use Rattle.aw_term.specs.WellFormed.{leaves, all_leaves, leaves_of}
 use Rattle.aw_grammar.specs.declared.rule.Con.{Con}

@@ -2,8 +2,8 @@
 use Rattle.std.proofs.Common.{◌≡◌, ℕ, zero, suc, ◌+◌, ◌<◌, ◌≤◌, max, nat_eq, nat_lt, nat_le, true, false, not, ◌&&◌, ◌||◌, List, [], ◌∷◌, ◌++◌, length, map, Option, Some, None, option_and_then, slice_get, refl, sym, ap, ◌∙◌, subst, arith, length-append}
 use Rattle.std.proofs.lemmas.List.{length-map}
 use Rattle.std.proofs.lemmas.Bool.{and_parts, eqb-true, ltb-false, not-false, or_parts}
-use Rattle.aw_index.specs.Places.{place_of, or_else, number_of, stands, all_stand, has_double}
-use Rattle.aw_index.proofs.Lookups.{place_within}
+use Rattle.aw_name_index.specs.Places.{place_of, or_else, number_of, stands, all_stand, has_double}
+use Rattle.aw_name_index.proofs.Lookups.{place_within}
 use Rattle.aw_term.specs.Rules.{upto}
 use Rattle.aw_term.specs.Choices as Q
 use Rattle.aw_term.specs.WellFormed.{Each, leaves_of, symbols_of, child_symbols, outs_of, takes_of, variables, ChildFits, RuleFits}
@@ -15,7 +15,7 @@ use Rattle.aw_grammar.specs.Written.{Written, WrittenChild, WrittenRule}
 use Rattle.aw_grammar.specs.Terms.{args_of, results_of, uses_of, terms_of, all_have_contents, depth_of_all, symbols_in_all, has_contents}
 use Rattle.aw_grammar.specs.Resolved.{all_resolved, entering, numbered, child_numbered, rule_numbered}
 use Rattle.aw_grammar.specs.Kinds.{sort_called, takes_and_gives, children_fit, all_known, all_have_arities, is_past_counts, is_past_terms, child_sorts, rule_kind, rule_tests}
-use Rattle.aw_index.proofs.FirstTold.{none_holds}
+use Rattle.aw_name_index.proofs.FirstTold.{none_holds}
 use Rattle.aw_grammar.proofs.Added.{listed}
 use Rattle.aw_grammar.proofs.Appends.{and_more, known_append, arities_append, depth_append, symbols_append, variables_append, all_append}
 use Rattle.aw_grammar.proofs.Numbering.{numbers_first, numbers_below}

@@ -4,8 +4,8 @@ use Rattle.std.proofs.lemmas.Bool.{leb-false, or_parts}
 use Rattle.std.specs.Result.{IsErrAnd}
 use Rattle.std.proofs.lemmas.List.{length-map, map-append}
 use Rattle.std.proofs.Math.Logic.{∥∥₁_map}
-use Rattle.aw_text.specs.Spelling.{is_name}
-use Rattle.aw_index.specs.Places.{stands}
+use Rattle.aw_spelling.specs.Spelling.{is_name}
+use Rattle.aw_name_index.specs.Places.{stands}
 use Rattle.aw_term.specs.Rules as P
 use Rattle.aw_term.specs.WellFormed.{Each, Differ, RuleFits}
 use Rattle.aw_grammar.specs.declared.rule.Con.{Con}
@@ -22,7 +22,7 @@ use Rattle.aw_grammar.specs.Written.{WrittenRule}
 use Rattle.aw_grammar.specs.Terms.{all_have_contents, terms_of}
 use Rattle.aw_grammar.specs.Declarations.{Entry, Declarations, entry_of, with_rule}
 use Rattle.aw_grammar.specs.Kinds.{rule_kind, rule_tests, is_past_counts, is_past_terms}
-use Rattle.aw_index.proofs.FirstTold.{none_holds}
+use Rattle.aw_name_index.proofs.FirstTold.{none_holds}
 use Rattle.aw_term.proofs.Eaches.{each_push, each_map}
 use Rattle.aw_grammar.proofs.Counted.{rules_counted}
 use Rattle.aw_grammar.proofs.Growth.{differ_push, four_from, four_to}

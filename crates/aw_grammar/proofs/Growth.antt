@@ -1,7 +1,7 @@
 -- Lists that grow at their end.
 use Rattle.std.proofs.Common.{◌≡◌, ◌≢◌, ℕ, false, List, [], ◌∷◌, ◌++◌}
-use Rattle.aw_index.specs.Places.{stands}
-use Rattle.aw_index.proofs.Same.{stands_apart}
+use Rattle.aw_name_index.specs.Places.{stands}
+use Rattle.aw_name_index.proofs.Same.{stands_apart}
 use Rattle.aw_term.specs.WellFormed.{Each, Differ}
 use Rattle.aw_term.proofs.Eaches.{each_append, each_left, each_right, each_push}
 

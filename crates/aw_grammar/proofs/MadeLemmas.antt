@@ -1,6 +1,6 @@
 -- Patterns and expressions made from what their parts stand for.
 use Rattle.std.proofs.Common.{◌≡◌, ℕ, List, [], map, Some, sym, ap, ◌∙◌}
-use Rattle.aw_index.specs.Places.{place_of, number_of}
+use Rattle.aw_name_index.specs.Places.{place_of, number_of}
 use Rattle.aw_term.specs.Trees.{Con, Leaf, Made, Nil, bind, join}
 use Rattle.aw_term.specs.Views.{pattern_of, term_of}
 use Rattle.aw_term.specs.declared.term.Pattern as pattern

@@ -3,8 +3,8 @@ use Rattle.std.proofs.Common.{◌≡◌, ◌≢◌, Bool, true, false, List, ℕ
 use Rattle.std.proofs.Math.Bool.{Bool-set}
 use Rattle.std.proofs.Math.Logic.{∥∥₁_elim}
 use Rattle.std.proofs.lemmas.Bool.{or_parts}
-use Rattle.aw_index.specs.Places.{is_same, stands, stands_again, has_double}
-use Rattle.aw_index.proofs.Same.{same_is}
+use Rattle.aw_name_index.specs.Places.{is_same, stands, stands_again, has_double}
+use Rattle.aw_name_index.proofs.Same.{same_is}
 use Rattle.aw_term.specs.WellFormed.{Each, Differ}
 
 not_true : (b : Bool) → (b ≢ true) → b ≡ false

@@ -1,9 +1,9 @@
 -- Variables numbered in the order in which they enter.
 use Rattle.std.proofs.Common.{◌≡◌, ℕ, suc, ◌<◌, true, false, cond, List, [], ◌∷◌, ◌++◌, length, map, Some, option_map, refl, sym, ap, ◌∙◌, arith, append_assoc, length-append}
 use Rattle.std.proofs.lemmas.Bool.{and_parts, or_parts}
-use Rattle.aw_index.specs.Places.{is_same, place_of, or_else, number_of, stands, stands_again, has_double, all_stand}
-use Rattle.aw_index.proofs.Lookups.{number_within}
-use Rattle.aw_index.proofs.Same.{same_self}
+use Rattle.aw_name_index.specs.Places.{is_same, place_of, or_else, number_of, stands, stands_again, has_double, all_stand}
+use Rattle.aw_name_index.proofs.Lookups.{number_within}
+use Rattle.aw_name_index.proofs.Same.{same_self}
 use Rattle.aw_term.specs.Rules.{upto}
 use Rattle.aw_term.specs.WellFormed.{Each}
 

@@ -1,7 +1,7 @@
 -- A name among names that differ stands at its own place.
 use Rattle.std.proofs.Common.{◌≡◌, ◌≢◌, ℕ, zero, suc, ◌<◌, refl, sym, ap, ◌∙◌, Bool, true, false, cond, List, [], ◌∷◌, length, Some, option_map, arith}
-use Rattle.aw_index.specs.Places.{is_same, place_of}
-use Rattle.aw_index.proofs.Same.{same_self, same_is}
+use Rattle.aw_name_index.specs.Places.{is_same, place_of}
+use Rattle.aw_name_index.proofs.Same.{same_self, same_is}
 use Rattle.aw_term.specs.Rules.{get}
 use Rattle.aw_term.specs.WellFormed.{Differ}
 use Rattle.aw_term.proofs.Eaches.{each_get}

@@ -1,7 +1,7 @@
 -- Which kind of a rule is told, group by group of tests.
 use Rattle.std.proofs.Common.{◌≡◌, ℕ, ◌≤◌, Bool, true, false, cond, not, ◌||◌, nat_le, nat_lt, List, [], ◌∷◌, ◌++◌, length, Option, Some, None, MatchOption, refl, sym, ap, ◌∙◌}
 use Rattle.std.proofs.lemmas.Bool.{ltb-false, or_parts}
-use Rattle.aw_index.specs.Places.{has_double, first_told}
+use Rattle.aw_name_index.specs.Places.{has_double, first_told}
 use Rattle.aw_grammar.specs.declared.fault.DeclKind.{DeclKind}
 use Rattle.aw_grammar.specs.declared.fault.DeclKind.TheVariants.{Limit, Twice, Never}
 use Rattle.aw_grammar.specs.declared.variables.Variables.{Variables}

@@ -2,9 +2,9 @@
 use Rattle.std.proofs.Common.{◌≡◌, ℕ, zero, suc, ◌+◌, ◌<◌, ◌≤◌, max, true, ◌&&◌, List, [], ◌∷◌, ◌++◌, length, map, Option, Some, None, option_and_then, slice_get, refl, sym, ap, ◌∙◌, subst, arith}
 use Rattle.std.proofs.lemmas.Bool.{and_from, and_parts}
 use Rattle.std.proofs.lemmas.List.{map-append}
-use Rattle.aw_text.specs.Spelling.{is_content}
-use Rattle.aw_index.specs.Places.{place_of, or_else, number_of, stands}
-use Rattle.aw_index.proofs.Lookups.{some_place, place_within}
+use Rattle.aw_spelling.specs.Spelling.{is_content}
+use Rattle.aw_name_index.specs.Places.{place_of, or_else, number_of, stands}
+use Rattle.aw_name_index.proofs.Lookups.{some_place, place_within}
 use Rattle.aw_term.specs.Trees.{Head, Con, Num, Text, Tree, Leaf, Made, Trees, Nil, More, bind, binds, count}
 use Rattle.aw_term.specs.WellFormed.{Each, leaves, all_leaves, leaves_of, symbols, all_symbols, symbols_of, nesting, all_nesting, head_fits, heads_fit, all_heads_fit, TermFits}
 use Rattle.aw_grammar.specs.declared.rule.Con as decl

@@ -1,7 +1,7 @@
 -- What holds of a term in parentheses by what holds of its parts.
 use Rattle.std.proofs.Common.{◌≡◌, ℕ, suc, ◌+◌, ◌&&◌, List, [], ◌∷◌, ◌++◌, map, max, Result, Ok, Err, OnOk, length, refl, sym, ap, ◌∙◌}
 use Rattle.std.proofs.lemmas.List.{length-map}
-use Rattle.aw_index.specs.Places.{stands, number_of}
+use Rattle.aw_name_index.specs.Places.{stands, number_of}
 use Rattle.aw_term.specs.Trees.{Con, Leaf, Made, More, binds, join}
 use Rattle.aw_term.specs.WellFormed.{leaves, all_leaves, leaves_of}
 use Rattle.aw_grammar.specs.declared.raw.RawTerm.{RawTerm}

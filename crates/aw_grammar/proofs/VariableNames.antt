@@ -3,9 +3,9 @@ use Rattle.std.proofs.Common.{◌≡◌, ℕ, true, false, is_some, List, [], �
 use Rattle.std.proofs.lemmas.Bool.{and_parts, or_parts}
 use Rattle.std.proofs.lemmas.List.{append-nil}
 use Rattle.std.proofs.Math.Logic.{∥∥₁_map}
-use Rattle.aw_text.specs.Spelling.{is_name}
-use Rattle.aw_index.specs.Places.{place_of, stands, any_stands, stands_again}
-use Rattle.aw_index.proofs.Lookups.{stands_is_placed}
+use Rattle.aw_spelling.specs.Spelling.{is_name}
+use Rattle.aw_name_index.specs.Places.{place_of, stands, any_stands, stands_again}
+use Rattle.aw_name_index.proofs.Lookups.{stands_is_placed}
 use Rattle.aw_term.specs.WellFormed.{Each, Differ, leaves, all_leaves, leaves_of}
 use Rattle.aw_grammar.specs.declared.rule.Con.{Con}
 use Rattle.aw_grammar.specs.declared.rule.Sort.{Sort}
@@ -17,7 +17,7 @@ use Rattle.aw_grammar.specs.Declarations.{Entry, entry_of}
 use Rattle.aw_grammar.specs.GrammarOf.{entry}
 use Rattle.aw_grammar.specs.Kinds.{rule_kind, rule_tests}
 use Rattle.aw_grammar.specs.Variables.{VariablesFit, AllVariablesFit}
-use Rattle.aw_index.proofs.FirstTold.{none_holds}
+use Rattle.aw_name_index.proofs.FirstTold.{none_holds}
 use Rattle.aw_term.proofs.Eaches.{each_append, each_map, each_push}
 use Rattle.aw_grammar.proofs.Growth.{differ_push}
 use Rattle.aw_grammar.proofs.Added.{listed}

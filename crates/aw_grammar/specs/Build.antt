@@ -14,7 +14,7 @@ use Rattle.aw_grammar.specs.declared.fault.AddFault.TheVariants as add
 use Rattle.aw_grammar.specs.declared.fault.GrammarFault.{GrammarFault}
 use Rattle.aw_grammar.specs.declared.fault.GrammarFault.TheVariants as build
 use Rattle.aw_grammar.specs.declared.grammar.Grammar.{Grammar}
-use Rattle.aw_text.specs.Spelling.{is_name}
+use Rattle.aw_spelling.specs.Spelling.{is_name}
 use Rattle.aw_term.specs.WellFormed.{Each}
 use Rattle.aw_grammar.specs.Terms.{all_have_contents, are_names, results_of, terms_of}
 use Rattle.aw_grammar.specs.Written.{WrittenRule, rule_of_raw}

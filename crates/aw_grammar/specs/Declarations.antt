@@ -1,6 +1,6 @@
 -- What is declared, and what it is after one more declaration.
 use Rattle.std.specs.Prelude.{ℕ, zero, suc, true, false, List, [], ◌∷◌, ◌++◌, map, length}
-use Rattle.aw_index.specs.Places.{number_of}
+use Rattle.aw_name_index.specs.Places.{number_of}
 use Rattle.aw_term.specs.Rules as P
 use Rattle.aw_term.specs.Artifacts.{Words}
 use Rattle.aw_grammar.specs.declared.rule.Con.{Con}

@@ -1,6 +1,6 @@
 -- Terms in which nothing is wrong, told word by word, and what is made of them.
 use Rattle.std.specs.Prelude.{◌≡◌, ℕ, Bool, true, false, ◌&&◌, ◌||◌, List, [], ◌∷◌, length, Option, Some, None, nat_eq}
-use Rattle.aw_index.specs.Places.{stands}
+use Rattle.aw_name_index.specs.Places.{stands}
 use Rattle.aw_grammar.specs.declared.rule.Con.{Con}
 use Rattle.aw_grammar.specs.Written.{Written, Word, Apply, Literal, Writtens, Empty, Then, WrittenRule}
 use Rattle.aw_grammar.specs.Terms.{terms_of}

@@ -1,6 +1,6 @@
 -- What is wrong with a declaration, in the order in which it is told.
 use Rattle.std.specs.Prelude.{ℕ, suc, Bool, true, false, ◌&&◌, ◌||◌, not, List, [], ◌∷◌, ◌++◌, map, length, Option, Some, None, slice_get, nat_eq, nat_lt, nat_le, option_and_then}
-use Rattle.aw_index.specs.Places.{place_of, stands, any_stands, all_stand, has_double, first_told}
+use Rattle.aw_name_index.specs.Places.{place_of, stands, any_stands, all_stand, has_double, first_told}
 use Rattle.aw_term.specs.WellFormed.{leaves_of}
 use Rattle.aw_grammar.specs.declared.rule.Con.{Con}
 use Rattle.aw_grammar.specs.declared.rule.Sort.{Sort}

@@ -1,6 +1,6 @@
 -- What is made of written terms and children: it is made just where nothing is at fault, and then it is what they stand for.
 use Rattle.std.specs.Prelude.{◌≡◌, ℕ, false, List, Option, map}
-use Rattle.aw_index.specs.Places.{any_stands}
+use Rattle.aw_name_index.specs.Places.{any_stands}
 use Rattle.aw_term.specs.declared.term.Pattern.{Pattern}
 use Rattle.aw_term.specs.declared.term.Expr.{Expr}
 use Rattle.aw_term.specs.Views.{pattern_of, term_of}

@@ -1,6 +1,6 @@
 -- Which declaration a name means.
 use Rattle.std.specs.Prelude.{ℕ, List, Option}
-use Rattle.aw_index.specs.Places.{place_of}
+use Rattle.aw_name_index.specs.Places.{place_of}
 
 -- the position of a name among those that are declared
 abbrev pub number_named : List (List ℕ) → List ℕ → Option ℕ

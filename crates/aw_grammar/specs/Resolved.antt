@@ -1,6 +1,6 @@
 -- Written terms with their names looked up: first constructors, then variables.
 use Rattle.std.specs.Prelude.{ℕ, List, ◌++◌, map, length, Option, Some, None}
-use Rattle.aw_index.specs.Places.{place_of, number_of}
+use Rattle.aw_name_index.specs.Places.{place_of, number_of}
 use Rattle.aw_term.specs.Trees.{Con, Tree, Leaf, Made, Trees, Nil, More, bind}
 use Rattle.aw_term.specs.Artifacts.{Words}
 use Rattle.aw_term.specs.Rules.{Term}

@@ -1,6 +1,6 @@
 -- Sizes of written terms, how their words are spelled, and the terms of a rule.
 use Rattle.std.specs.Prelude.{ℕ, suc, ◌≡◌, ◌+◌, ◌<◌, ◌≤◌, ◌⊎◌, Bool, true, false, ◌&&◌, List, [], ◌∷◌, ◌++◌, max, Option, MatchOption}
-use Rattle.aw_text.specs.Spelling.{is_name, is_content}
+use Rattle.aw_spelling.specs.Spelling.{is_name, is_content}
 use Rattle.aw_term.specs.Trees.{Head, Con, Num, Text}
 use Rattle.aw_grammar.specs.Written.{Written, Word, Apply, Literal, Writtens, Empty, Then, WrittenChild, WrittenRule}
 

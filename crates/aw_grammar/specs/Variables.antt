@@ -1,7 +1,7 @@
 -- The names of a rule's variables.
 use Rattle.std.specs.Prelude.{◌≡◌, ℕ, true, false, List, map, length}
-use Rattle.aw_text.specs.Spelling.{is_name}
-use Rattle.aw_index.specs.Places.{stands}
+use Rattle.aw_spelling.specs.Spelling.{is_name}
+use Rattle.aw_name_index.specs.Places.{stands}
 use Rattle.aw_term.specs.Rules as P
 use Rattle.aw_term.specs.WellFormed.{Each, Differ, variables}
 use Rattle.aw_grammar.specs.GrammarView.{rule_of}

@@ -3,7 +3,7 @@
 //! A grammar that is given up is let go whole, by `drop`: it is proved in far less time than field by field.
 ghost use Rattle.std.specs.Prelude.{◌≡◌, ◌<◌, ◌++◌, true, [], length, IfOk, None};
 ghost use Rattle.aw_grammar.specs.Declarations.{with_start_at};
-ghost use Rattle.aw_text.specs.Spelling.{is_name};
+ghost use Rattle.aw_spelling.specs.Spelling.{is_name};
 
 use crate::fault::{AddFault, GrammarFault};
 use crate::grammar::Grammar;
@@ -12,8 +12,8 @@ use crate::named::added;
 use crate::raw::{Parts, RawCon, RawRule, RawSort};
 use crate::rule::{Con, Sort, Sorts};
 use crate::whole::add_all;
-use aw_index::NameIndex;
 use aw_list::{Items, Text};
+use aw_name_index::NameIndex;
 use std::alloc::Global;
 
 impl Grammar {

@@ -1,12 +1,12 @@
 //! Copies of declarations, and the index of their names.
 ghost use Rattle.std.specs.Prelude.{◌≡◌, map, false, IfOk};
-ghost use Rattle.aw_index.specs.Places.{has_double};
+ghost use Rattle.aw_name_index.specs.Places.{has_double};
 
 use crate::children::push_names;
 use crate::named::Named;
 use crate::rule::{Con, Cons, Names, Rule, Sort, Sorts};
-use aw_index::NameIndex;
 use aw_list::Items;
+use aw_name_index::NameIndex;
 use std::alloc::{AllocError, Global};
 
 /// A copy of names.

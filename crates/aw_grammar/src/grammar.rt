@@ -4,8 +4,8 @@ ghost use Rattle.std.specs.Option.{option_copied};
 ghost use Rattle.aw_grammar.specs.Named.{number_named};
 
 use crate::rule::{Con, Cons, Names, Rule, Rules, Sort, Sorts};
-use aw_index::NameIndex;
 use aw_list::Text;
+use aw_name_index::NameIndex;
 
 /// Roles, constructors, sorts and rules, each list in the order of the specification.
 #[derive(Debug, Drop)]

@@ -1,6 +1,6 @@
 //! What is wrong with a role, a constructor, a sort or a start.
 ghost use Rattle.std.specs.Prelude.{◌≡◌};
-ghost use Rattle.aw_index.specs.Places.{number_of};
+ghost use Rattle.aw_name_index.specs.Places.{number_of};
 
 use crate::fault::DeclKind;
 use crate::grammar::Grammar;

@@ -1,10 +1,10 @@
 //! Lists of what is declared, each with the index of its names.
 ghost use Rattle.std.specs.Prelude.{◌≡◌, ◌++◌, ◌∷◌, [], ℕ, List, false, IfOk};
-ghost use Rattle.aw_index.specs.Places.{stands};
+ghost use Rattle.aw_name_index.specs.Places.{stands};
 
 use crate::rule::{Con, Rule, Sort};
-use aw_index::NameIndex;
 use aw_list::{Items, Text};
+use aw_name_index::NameIndex;
 use std::alloc::AllocError;
 
 /// What is declared under a name.

@@ -1,6 +1,6 @@
 //! The grammar of declarations that are well formed together.
 ghost use Rattle.std.specs.Prelude.{◌≡◌, map, false, IfOk};
-ghost use Rattle.aw_index.specs.Places.{has_double};
+ghost use Rattle.aw_name_index.specs.Places.{has_double};
 ghost use Rattle.aw_grammar.specs.GrammarView.{plain_grammar, plain_words};
 ghost use Rattle.aw_term.specs.WellFormed.{IsWellFormed};
 
@@ -8,7 +8,7 @@ use crate::copies::index_of;
 use crate::grammar::Grammar;
 use crate::named::Named;
 use crate::rule::{Cons, Names, Rules, Sorts};
-use aw_index::NameIndex;
+use aw_name_index::NameIndex;
 use std::alloc::{AllocError, Global};
 
 /// The indexes of two classes of declarations.

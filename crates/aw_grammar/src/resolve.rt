@@ -1,6 +1,6 @@
 //! The terms that written terms stand for, and whether constructors have as many parts as they are declared with.
 ghost use Rattle.std.specs.Prelude.{◌≡◌, map, Some, false, IfOk};
-ghost use Rattle.aw_index.specs.Places.{place_of};
+ghost use Rattle.aw_name_index.specs.Places.{place_of};
 ghost use Rattle.aw_grammar.specs.Written.{Word, written_of};
 ghost use Rattle.aw_grammar.specs.Kinds.{con_called, has_arity, has_arities, all_have_arities};
 ghost use Rattle.aw_grammar.specs.Making.{AreNoCons, MakesPattern, MakesPatterns, MakesTerm, MakesTerms};

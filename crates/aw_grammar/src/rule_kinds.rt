@@ -1,6 +1,6 @@
 //! What is wrong with a rule.
 ghost use Rattle.std.specs.Prelude.{◌≡◌, ◌+◌, ◌++◌, ◌∷◌, [], true, Some, length, IfOk};
-ghost use Rattle.aw_index.specs.Places.{any_stands, first_told};
+ghost use Rattle.aw_name_index.specs.Places.{any_stands, first_told};
 ghost use Rattle.aw_grammar.specs.Written.{rule_of_raw};
 ghost use Rattle.aw_grammar.specs.Terms.{results_of, terms_of, depth_of_all, symbols_in_all, IsLeftOf};
 ghost use Rattle.aw_grammar.specs.Resolved.{entering};

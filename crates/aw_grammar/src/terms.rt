@@ -8,7 +8,7 @@ ghost use Rattle.aw_grammar.specs.Kinds.{is_known, all_known};
 
 use crate::raw::{RawTerm, RawTerms};
 use crate::rule::Names;
-use aw_index::NameIndex;
+use aw_name_index::NameIndex;
 use std::alloc::AllocError;
 
 /// What is left of the room for symbols after a term, or nothing where it is deeper than `depth` or has more symbols than `room`.

@@ -1,9 +1,9 @@
 //! The variables of a rule by name.
 ghost use Rattle.std.specs.Prelude.{◌≡◌, ◌≤◌, length, true, false, IfOk, MatchOption};
-ghost use Rattle.aw_index.specs.Places.{place_of, has_double};
+ghost use Rattle.aw_name_index.specs.Places.{place_of, has_double};
 
-use aw_index::NameIndex;
 use aw_list::Text;
+use aw_name_index::NameIndex;
 use std::alloc::{AllocError, Global};
 
 /// The variables of a rule, at most 64, in the order in which they enter.

@@ -58,14 +58,9 @@ IsKept rel r = (i j : ℕ) → Plus (Edge r rel) (inherited 0 i) (given 0 j) →
 abbrev pub IsClosedUnder : Grammar → (ℕ → ℕ → ℕ → Type 0) → Type 0
 IsClosedUnder g rel = (r : Rule) → Member r g.rules → IsKept rel r
 
--- A relation lies in each that holds a seed and is closed under the rules.
--- The others are here those of tests, since a clause cannot range over all relations.
+-- a relation lies in each that holds a seed and is closed under the rules, here of those that a test decides
 abbrev pub IsLeastFrom : (ℕ → ℕ → ℕ → Type 0) → Grammar → (ℕ → ℕ → ℕ → Type 0) → Type 0
 IsLeastFrom seed g rel = (test : ℕ → ℕ → ℕ → Bool) → IsHeldBy seed (passed test) → IsClosedUnder g (passed test) → IsHeldBy rel (passed test)
-
--- the same without a seed
-abbrev pub IsLeast : Grammar → (ℕ → ℕ → ℕ → Type 0) → Type 0
-IsLeast g rel = (test : ℕ → ℕ → ℕ → Bool) → IsClosedUnder g (passed test) → IsHeldBy rel (passed test)
 
 -- an occurrence of the rule reaches itself
 abbrev pub IsOnCircle : (ℕ → ℕ → ℕ → Type 0) → Rule → Occ → Type 0

@@ -17,7 +17,7 @@ pub mod visits;
 pub use circles::circle;
 pub use graph::{RuleGraph, rule_graph};
 pub use io::Io;
-pub use laws::relation_laws;
+pub use laws::{Related, least_laws, relation_laws};
 pub use occ::{Flow, Occ};
 pub use settle::{io_from, io_of};
 pub use tried::decided;

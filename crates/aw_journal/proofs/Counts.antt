@@ -8,9 +8,9 @@ use Rattle.aw_term.specs.Trees.{count}
 use Rattle.aw_term.specs.Views.{ground_of}
 use Rattle.aw_term.specs.declared.ground.Ground as grounds
 use Rattle.aw_term.proofs.ViewLemmas.{ground_con}
-use Rattle.aw_wire.specs.Grounds.{spelled_ground, spelled_grounds}
-use Rattle.aw_wire.proofs.GroundLaws.{parts_join}
-use Rattle.aw_wire.proofs.Adding.{one_more}
+use Rattle.aw_codec.specs.Grounds.{spelled_ground, spelled_grounds}
+use Rattle.aw_codec.proofs.GroundLaws.{parts_join}
+use Rattle.aw_codec.proofs.Adding.{one_more}
 use Rattle.aw_msg.specs.Frames.{Push, Choose}
 use Rattle.aw_msg.proofs.Lengths.{payload_short}
 use Rattle.aw_journal.specs.Events.{Event, Took, Got, payload_of, EventInRange}
@@ -22,9 +22,9 @@ use Rattle.aw_term.specs.Rules.{Ground}
 use Rattle.aw_store.specs.Equations.{Equation}
 use Rattle.aw_apply.specs.Made.{Call}
 use Rattle.aw_apply.specs.Messages.{Calls, Asks, Tells, Message}
-use Rattle.aw_wire.specs.Names.{spelled_step, spelled_node, spelled_slot, spelled_ref, spelled_refs}
-use Rattle.aw_wire.specs.Texts.{spelled_text}
-use Rattle.aw_wire.specs.Choices.{spelled_choice}
+use Rattle.aw_codec.specs.Names.{spelled_step, spelled_node, spelled_slot, spelled_ref, spelled_refs}
+use Rattle.aw_codec.specs.Texts.{spelled_text}
+use Rattle.aw_codec.specs.Choices.{spelled_choice}
 use Rattle.aw_msg.specs.Spelling.{spelled_body, spelled_equation, spelled_load, spelled_kind, spelled_message}
 
 steps_length : (steps : List Step) → length (flat_map spelled_step steps) ≡ 3 * length steps

@@ -1,10 +1,10 @@
 -- The payload of an event is one, and an event has no other.
 use Rattle.std.specs.Prelude.{◌≡◌, ℕ, zero, suc, List, [], ◌∷◌, ◌++◌, Some, option_map}
 use Rattle.std.proofs.Common.{refl, ap, subst}
-use Rattle.aw_wire.specs.Bytes.{AreBytes}
-use Rattle.aw_wire.specs.Choices.{choice}
-use Rattle.aw_wire.proofs.Laws.{AreBytes-drop}
-use Rattle.aw_wire.proofs.ChoiceLaws.{choice_law}
+use Rattle.aw_codec.specs.Bytes.{AreBytes}
+use Rattle.aw_codec.specs.Choices.{choice}
+use Rattle.aw_codec.proofs.Laws.{AreBytes-drop}
+use Rattle.aw_codec.proofs.ChoiceLaws.{choice_law}
 use Rattle.aw_msg.specs.Frames.{whole}
 use Rattle.aw_msg.specs.Messages.{message}
 use Rattle.aw_msg.proofs.FrameLaws.{whole_again, whole_taken, mapped_is}

@@ -2,19 +2,19 @@
 use Rattle.std.specs.Prelude.{◌≡◌, ◌≢◌, ℕ, ◌+◌, ◌-◌, ◌^◌, ◌<◌, ◌≤◌, List, [], ◌∷◌, ◌++◌, Bool, IsTrue, true, false, None, Some, length, take, drop, get_or, if◌then◌else◌, nat_lt, ◌==◌}
 use Rattle.std.specs.declared.option.Option.{Option}
 use Rattle.std.proofs.Common.{inl, inr, refl, sym, ◌∙◌, ap, subst, arith, length-append, append_assoc, append-nil, length-drop}
-use Rattle.std.proofs.lemmas.Bool.{cases_eq, ltb-true, ltb-false, lt-ltb}
+use Rattle.std.proofs.lemmas.Bool.{cases_eq, false≢true, ltb-true, ltb-false, lt-ltb}
 use Rattle.std.proofs.lemmas.Bool.Decides.{nat_tests}
 use Rattle.std.proofs.lemmas.List.{drop_more, length-take, take-take, drop-take, drop_all, drop_at}
 use Rattle.aw_journal.specs.Format.{has_head, head, front, records, events_of, events_from, whole, whole_of, with_length, then_more, u64_in}
 use Rattle.aw_journal.specs.Events.{Event, AllEvents, event_in}
 use Rattle.aw_journal.specs.declared.payload.NodeEvent.{NodeEvent}
-use Rattle.aw_journal.proofs.Bytes.{headless, events_front, u64_in-take, closed}
+use Rattle.aw_journal.proofs.Bytes.{headless, events_front, length-head, u64_in-take, closed}
 use Rattle.aw_journal.specs.Journal.{StandsAt, IsSettled, IsAround, behind_gate, Kept}
 use Rattle.aw_journal.specs.Openings.{Resumed}
-use Rattle.aw_journal.specs.Opens.{IsEnded, HasThisHead}
+use Rattle.aw_journal.specs.Opens.{HasEvents, IsEnded, HasThisHead}
 use Rattle.aw_journal.specs.Scan.{FoundAll}
 use Rattle.aw_journal.proofs.Found.{no_more, of_short}
-use Rattle.aw_journal.proofs.Appends.{at_rest, length-front}
+use Rattle.aw_journal.proofs.Appends.{behind_own_head, length-front, rests}
 
 pub headless_shut : (gate : ℕ) (tail : List ℕ) → gate ≢ 1 → has_head (gate ∷ tail) ≡ false
 headless_shut gate [] shut = refl
@@ -24,14 +24,18 @@ headless_shut gate (byte ∷ tail) shut = grind (arith, nat_tests)
 pub front_none : (role : ℕ) (text tail : List ℕ) → front role text [] ++ tail ≡ 1 ∷ (head role text ++ tail)
 front_none role text tail = ap (λ (l : List ℕ). 1 ∷ (l ++ tail)) (append-nil (head role text))
 
+-- a file without a head
+pub no_events : (role : ℕ) (text file : List ℕ) → has_head file ≡ false → HasEvents role text [] file
+no_events role text file none = record { events_are = headless file none; no_other_head = λ foreign. false≢true (sym none ∙ foreign.0) }
+
 -- while a head is written behind a closed gate, which is then opened
-pub around_head : (role : ℕ) (text rest c : List ℕ) (shut : ℕ) → length (front role text []) < 2 ^ 64 → shut ≢ 1 → IsAround [] shut (behind_gate (head role text ++ 0 ∷ []) rest) c → events_of c ≡ []
-around_head role text rest c shut fits closed_gate (inl p) = ap events_of p.1 ∙ headless (shut ∷ p.0) (headless_shut shut p.0 closed_gate)
+pub around_head : (role : ℕ) (text rest c : List ℕ) (shut : ℕ) → length (front role text []) < 2 ^ 64 → shut ≢ 1 → IsAround [] shut (behind_gate (head role text ++ 0 ∷ []) rest) c → HasEvents role text [] c
+around_head role text rest c shut fits closed_gate (inl p) = no_events role text c (ap has_head p.1 ∙ headless_shut shut p.0 closed_gate)
 around_head role text rest c shut fits closed_gate (inr p) = elim (cases_eq p.0 1) [
-  | inl is_open ↦ at_rest role text [] tt fits c (drop (length (head role text ++ 0 ∷ [])) rest) 0 (omega arith)
+  | inl is_open ↦ rests role text [] tt fits c (drop (length (head role text ++ 0 ∷ [])) rest) 0 (omega arith)
       (p.1 ∙ ap (λ (gate : ℕ). gate ∷ behind_gate (head role text ++ 0 ∷ []) rest) is_open ∙ ap (λ (l : List ℕ). 1 ∷ l) (append_assoc (head role text) (0 ∷ []) (drop (length (head role text ++ 0 ∷ [])) rest))
       ∙ sym (front_none role text (0 ∷ drop (length (head role text ++ 0 ∷ [])) rest)))
-  | inr still ↦ ap events_of p.1 ∙ headless (p.0 ∷ behind_gate (head role text ++ 0 ∷ []) rest) (headless_shut p.0 _ still)
+  | inr still ↦ no_events role text c (ap has_head p.1 ∙ headless_shut p.0 _ still)
 ]
 
 module _ {D : Type 0} (tells : D → Bool) (seen : D → List ℕ) (may_leave : D → List ℕ → Type 0) where
@@ -83,10 +87,10 @@ clash : (gate : ℕ) → gate ≢ 1 → IsTrue (gate == 1) → ⊥
 clash gate shut is = grind (arith, nat_tests)
 
 -- while what lies past the last gate is cut off
-pub ended_events : (role : ℕ) (text rest c : List ℕ) (events : List Event) (gate : ℕ) → AllEvents events → length (front role text events) < 2 ^ 64 → events_from 0 (gate ∷ rest) ≡ [] → IsEnded (front role text events) rest gate (gate == 1) c → events_of c ≡ events
+pub ended_events : (role : ℕ) (text rest c : List ℕ) (events : List Event) (gate : ℕ) → AllEvents events → length (front role text events) < 2 ^ 64 → events_from 0 (gate ∷ rest) ≡ [] → IsEnded (front role text events) rest gate (gate == 1) c → HasEvents role text events c
 ended_events role text rest c events gate all fits none left =
     let long = length-front role text events in
-    ap events_of left.2 ∙ events_front role text events (left.0 ∷ take left.1 rest) all (omega (arith, long)) (omega (arith, long)) (omega arith) ∙ ap (λ (es : List Event). events ++ es) behind ∙ append-nil events
+    behind_own_head role text c (take left.1 rest) events events left.0 left.2 (ap events_of left.2 ∙ events_front role text events (left.0 ∷ take left.1 rest) all (omega (arith, long)) (omega (arith, long)) (omega arith) ∙ ap (λ (es : List Event). events ++ es) behind ∙ append-nil events)
   where
     behind : events_from 0 (left.0 ∷ take left.1 rest) ≡ []
     behind = elim (cases_eq gate 1) [
@@ -98,11 +102,13 @@ ended_events role text rest c events gate all fits none left =
     ]
 
 -- a file with this head, whose records were found
-pub resumed : (role : ℕ) (text bytes : List ℕ) (from gate : ℕ) (events : List Event) → HasThisHead role text bytes → from ≡ length (1 ∷ head role text) → FoundAll bytes from gate events → Resumed role text bytes gate events
-resumed role text bytes from gate events has is found =
-    let back : drop from bytes ≡ has.0 ∷ has.1 = ap (λ (l : List ℕ). drop from l) has.2 ∙ drop_at (1 ∷ head role text) (has.0 ∷ has.1) from (sym is) in
+pub resumed : (role : ℕ) (text bytes : List ℕ) (from gate : ℕ) (events : List Event) → HasThisHead role text bytes → from ≡ 11 + length text → gate < 2 ^ 64 → AllEvents events → FoundAll bytes from gate events → Resumed role text bytes gate events
+resumed role text bytes from gate events has is small all found =
+    let h = 1 ∷ head role text in
+    let long_head : length h ≡ 11 + length text = omega (arith, length-head role text) in
+    let back : drop from bytes ≡ has.0 ∷ has.1 = ap (λ (l : List ℕ). drop from l) has.2 ∙ drop_at h (has.0 ∷ has.1) from (long_head ∙ sym is) in
     let parts : bytes ≡ front role text events ++ drop gate bytes =
-    has.2 ∙ ap (λ (l : List ℕ). (1 ∷ head role text) ++ l) (sym back ∙ found.parts) ∙ sym (append_assoc (1 ∷ head role text) (records events) (drop gate bytes)) in
+    has.2 ∙ ap (λ (l : List ℕ). h ++ l) (sym back ∙ found.parts) ∙ sym (append_assoc h (records events) (drop gate bytes)) in
     let here : drop gate bytes ≡ get_or bytes gate 0 ∷ drop (gate + 1) bytes = drop_more bytes gate 0 found.within in
     let place : gate ≡ length (front role text events) = omega (arith, ap length parts, length-append (front role text events) (drop gate bytes), length-drop gate bytes, found.within) in
     let long = length-front role text events in
@@ -112,10 +118,10 @@ resumed role text bytes from gate events has is found =
       place = place;
       is = parts ∙ ap (λ (l : List ℕ). front role text events ++ l) here;
       none = ap (events_from 0) (sym here) ∙ found.no_more;
-      events_are = ap events_of parts ∙ events_front role text events (drop gate bytes) found.all (omega (arith, long, place, found.small)) (omega (arith, long, place, found.small)) (omega (arith, length-drop gate bytes, found.within))
+      events_are = ap events_of parts ∙ events_front role text events (drop gate bytes) all (omega (arith, long, place, small)) (omega (arith, long, place, small)) (omega (arith, length-drop gate bytes, found.within))
           ∙ ap (λ (es : List Event). events ++ es) found.no_more ∙ append-nil events;
-      fits = omega (arith, place, found.small);
-      all = found.all;
+      fits = omega (arith, place, small);
+      all = all;
     }
 
 pub shut_after : (gate : ℕ) → (if gate == 1 then 0 else gate) ≢ 1

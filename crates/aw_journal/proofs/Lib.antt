@@ -4,6 +4,7 @@ pub mod Bytes
 pub mod Places
 pub mod Moments
 pub mod Quiets
+pub mod Reading
 pub mod Gates
 pub mod Appends
 pub mod Found

@@ -2,8 +2,8 @@
 use Rattle.std.specs.Prelude.{ℕ, zero, suc, List, [], ◌∷◌, Option, None, option_map}
 use Rattle.aw_term.specs.Choices as Q
 use Rattle.aw_term.specs.WellFormed.{Each}
-use Rattle.aw_wire.specs.Choices.{choice, spelled_choice}
-use Rattle.aw_wire.specs.Ranges.{ChoiceSized, ChoiceInRange}
+use Rattle.aw_codec.specs.Choices.{choice, spelled_choice}
+use Rattle.aw_codec.specs.Ranges.{ChoiceSized, ChoiceInRange}
 use Rattle.aw_msg.specs.declared.message.Message.{Message}
 use Rattle.aw_msg.specs.Messages.{message, spelled_message, MessageSized, MessageInRange}
 use Rattle.aw_msg.specs.Frames.{whole}

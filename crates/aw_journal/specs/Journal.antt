@@ -1,9 +1,10 @@
 -- What contracts see of a journal, and of the disk that it stands on.
 use Rattle.std.specs.Prelude.{◌≡◌, ◌≢◌, ◌⊎◌, ℕ, ◌+◌, List, [], ◌∷◌, ◌++◌, Bool, IsTrue, length, drop}
 use Rattle.aw_disk.specs.Disk.{Only, Torn, LeavesOnly}
-use Rattle.aw_journal.specs.Format.{events_of, front}
+use Rattle.aw_journal.specs.Format.{front}
 use Rattle.aw_journal.specs.Events.{Event, AllEvents}
 use Rattle.aw_journal.specs.EventView.{events_seen}
+use Rattle.aw_journal.specs.Opens.{HasEvents}
 use Rattle.aw_journal.specs.declared.payload.NodeEvent.{NodeEvent}
 use Rattle.aw_journal.specs.declared.journal.Journal.TheInside.{Inside}
 
@@ -36,9 +37,13 @@ pub record IsSettled {D : Type 0} (seen : D → List ℕ) (may_leave : D → Lis
   pub file : StandsFor j (seen disk)
   pub durable : Only (seen disk) (may_leave disk)
 
--- the file has the events, with one more or without it
-abbrev pub IsBeforeOrAfter : List Event → Event → List ℕ → Type 0
-IsBeforeOrAfter events event file = (events_of file ≡ events) ⊎ (events_of file ≡ events ++ event ∷ [])
+-- the file has the events of the journal, and no head but its own
+abbrev pub HasEventsOf : Kept → List ℕ → Type 0
+HasEventsOf j file = HasEvents j.role j.text (events_seen j.events) file
+
+-- the same, with one event more or without it
+abbrev pub IsBeforeOrAfter : Kept → Event → List ℕ → Type 0
+IsBeforeOrAfter j event file = HasEventsOf j file ⊎ HasEvents j.role j.text (events_seen j.events ++ event ∷ []) file
 
 -- an outcome of before after a write of n bytes that may have done any part of its work
 abbrev pub AfterTorn : ℕ → ℕ → (List ℕ → Type 0) → List ℕ → Type 0

@@ -5,4 +5,5 @@ pub mod Journal
 pub mod Lengths
 pub mod Openings
 pub mod Opens
+pub mod Reading
 pub mod Scan

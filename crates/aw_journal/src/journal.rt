@@ -1,18 +1,19 @@
 //! The events of a node, each on the disk before it is acknowledged.
-ghost use Rattle.std.specs.Prelude.{◌≡◌, ◌≢◌, ◌≤◌, ◌<◌, ◌+◌, ◌++◌, ◌∷◌, ◌^◌, ◌↔◌, [], ℕ, List, IsTrue, true, false, length, IfOk, IfErr, OnOk, IsErrOf, MatchOption, vec_len, vec_capacity};
+ghost use Rattle.std.specs.Prelude.{◌≡◌, ◌≢◌, ◌≤◌, ◌<◌, ◌+◌, ◌++◌, ◌∷◌, ◌^◌, ◌↔◌, [], ℕ, List, IsTrue, true, false, length, take, get_or, ◌==◌, IfOk, IfErr, OnOk, IsErrOf, MatchOption, vec_len, vec_capacity};
 ghost use Rattle.aw_out.specs.Causes.{Rose};
-ghost use Rattle.aw_disk.specs.Disk.{LeavesOnly};
+ghost use Rattle.aw_disk.specs.Disk.{LeavesOnly, Only};
 ghost use Rattle.aw_journal.specs.declared.journal.AppendFault.TheVariants.{NoMemory};
 ghost use Rattle.aw_journal.specs.Format.{u64_bytes, u16_bytes, head, front, has_head, events_of, end_of_head, record_of};
-ghost use Rattle.aw_journal.specs.Journal.{IsSettled, IsBeforeOrAfter, StandsAt, IsAround, IsAll, StartsClosed, behind_gate, end_after};
+ghost use Rattle.aw_journal.specs.Journal.{IsSettled, HasEventsOf, IsBeforeOrAfter, StandsAt, IsAround, StartsClosed, Quiet, behind_gate, end_after};
 ghost use Rattle.aw_journal.specs.Events.{AllEvents, EventInRange, EventSized, payload_of};
 ghost use Rattle.aw_journal.specs.EventView.{event_of, events_seen};
-ghost use Rattle.aw_journal.specs.Openings.{IsHeadFault, IsStartFault, KeepsEvents, KeepsFile, OpensFile, Reopens, Resumed};
-ghost use Rattle.aw_journal.specs.Opens.{HasThisHead, IsForeign, IsOldOrSame, AllOldOrAllSame, BeginsClosed};
+ghost use Rattle.aw_journal.specs.Openings.{IsStartFault, KeepsFile, KeepsJournal, Reopens, Resumed};
+ghost use Rattle.aw_journal.specs.Reading.{HasRoom, OnlyReads, Reads};
+ghost use Rattle.aw_journal.specs.Opens.{HasThisHead, HasEvents, IsForeign, IsSameJournal, IsOldOrSame, AllOldOrAllSame, OldUntilSynced, BeginsClosed};
 
 use crate::lengths::payload_len;
 use crate::payload::{NodeEvent, record_bytes};
-use crate::reads::{OpenFault, read_settled, settle};
+use crate::reads::{OpenFault, Reader, ask, begin, settle};
 use crate::scan::{RECORD_FRONT, Scanned, scan};
 use crate::steps::{end_at, write_synced};
 use aw_disk::{Did, Disk};
@@ -101,12 +102,16 @@ impl Journal {
         ensures ok { IfOk result (λ j. IsTrue (D.tells disk.old) → events_seen j.events ≡ events_of (D.seen disk.old)) }
         ensures made { IfOk result (λ j. (j.role ≡ role) × (j.text ≡ text.now) × (j.limit ≡ limit) × IsTrue j.usable) }
         ensures settled { IfOk result (λ j. IsTrue (D.tells disk.old) → IsSettled D.seen D.may_leave disk.new j) }
-        // A crash at any moment leaves a file that could be there before, or one with the same events.
-        ensures any_moment { IsTrue (D.tells disk.old) → LeavesOnly D.moment D.left_since disk.old disk.new (IsOldOrSame (D.may_leave disk.old) (D.seen disk.old)) }
+        // A crash at any moment leaves a file that could be there before, or one with the same events in which no new head stands.
+        ensures any_moment { IsTrue (D.tells disk.old) → LeavesOnly D.moment D.left_since disk.old disk.new (IsOldOrSame role text.now (D.may_leave disk.old) (D.seen disk.old)) }
+        // It leaves the first until the first sync is done, and the second from then on.
+        ensures first_sync { IsTrue (D.tells disk.old) → OldUntilSynced ⟦<D as Disk>⟧ (IsSameJournal role text.now (D.seen disk.old)) disk.old disk.new }
         // At the end no image is new, or each image has the same events.
-        ensures images { IsTrue (D.tells disk.old) → AllOldOrAllSame (D.may_leave disk.old) (D.seen disk.old) (D.may_leave disk.new) }
+        ensures images { IsTrue (D.tells disk.old) → AllOldOrAllSame role text.now (D.may_leave disk.old) (D.seen disk.old) (D.may_leave disk.new) }
         // What is read has the same events.
-        ensures reads_same { IsTrue (D.tells disk.old) → events_of (D.seen disk.new) ≡ events_of (D.seen disk.old) }
+        ensures reads_same { IsTrue (D.tells disk.old) → IsSameJournal role text.now (D.seen disk.old) (D.seen disk.new) }
+        // What is refused for another reason than a fault of the disk leaves the file and each image as they were, at every moment.
+        ensures untouched { IfErr result (λ e. (e ≡ OpenFault.DiskFault → ⊥) → Quiet D.tells D.seen D.may_leave D.moment D.left_since disk.old disk.new) }
         ensures bad_head { IsErrOf result OpenFault.BadHead → IsTrue (D.tells disk.old) → IsForeign role text.now (D.seen disk.old) × (D.seen disk.new ≡ D.seen disk.old) }
         ensures good_head { OnOk result (IsTrue (D.tells disk.old) → IsForeign role text.now (D.seen disk.old) → ⊥) }
         ensures full { IsErrOf result OpenFault.Full → IsTrue (D.tells disk.old) → (has_head (D.seen disk.old) ≡ false) × (limit < end_of_head (length text.now)) × (D.seen disk.new ≡ D.seen disk.old) }
@@ -134,9 +139,9 @@ impl Journal {
         requires event { EventInRange (event_of event) }
         ensures acknowledged { OnOk result (self.new ≡ record self.old { events = self.old.events ++ event ∷ [] }) }
         ensures settled { OnOk result (IsTrue (D.tells disk.old) → IsSettled D.seen D.may_leave disk.new self.new) }
-        ensures durable { OnOk result (IsTrue (D.tells disk.old) → (c : List ℕ) → D.may_leave disk.new c → events_of c ≡ events_seen self.new.events) }
-        // A crash at any moment of the call leaves the events from before it, with the new one or without.
-        ensures any_moment { IsTrue (D.tells disk.old) → LeavesOnly D.moment D.left_since disk.old disk.new (IsBeforeOrAfter (events_seen self.old.events) (event_of event)) }
+        ensures durable { OnOk result (IsTrue (D.tells disk.old) → (c : List ℕ) → D.may_leave disk.new c → HasEventsOf self.new c) }
+        // A crash at any moment of the call leaves the events from before it, with the new one or without, behind the journal's own head.
+        ensures any_moment { IsTrue (D.tells disk.old) → LeavesOnly D.moment D.left_since disk.old disk.new (IsBeforeOrAfter self.old (event_of event)) }
         ensures tells { D.tells disk.new ≡ D.tells disk.old }
         ensures fault { IsErrOf result AppendFault.DiskFault → Rose (D.faults disk.old) (D.faults disk.new) × (self.new ≡ record self.old { usable = false }) }
         ensures full { IsErrOf result AppendFault.Full → self.old.limit < end_after self.old (event_of event) }
@@ -302,10 +307,11 @@ fn role_bytes(role: u16) -> [u8; 2]
     role.to_be_bytes()
 }
 
-/// Closes the first byte of a file without a head, where it must be closed.
+/// Closes the first byte of a file without a head that begins with these two bytes or has fewer, where it must be closed.
 fn close_first<D: Disk>(disk: &mut D, bytes: &[u8]) -> Did
     requires headless { has_head bytes.now ≡ false }
-    requires read { IsTrue (D.tells disk.old) → IsAll D.seen D.may_leave disk.old bytes.now }
+    requires read { IsTrue (D.tells disk.old) → bytes.now ≡ take 2 (D.seen disk.old) }
+    requires durable { IsTrue (D.tells disk.old) → Only (D.seen disk.old) (D.may_leave disk.old) }
     ensures done { result ≡ Did.Done → IsTrue (D.tells disk.old) → StartsClosed D.tells D.seen D.may_leave disk.new }
     ensures any_moment { IsTrue (D.tells disk.old) → LeavesOnly D.moment D.left_since disk.old disk.new (λ c. has_head c ≡ false) }
     ensures tells { D.tells disk.new ≡ D.tells disk.old }
@@ -355,11 +361,12 @@ fn make_beginning(alloc: Global, role: u16, text: &[u8], limit: u64) -> Result<B
 /// Puts a head behind the first gate of a file without one, which is closed before, and opens it; the bytes are let go.
 fn put_head<D: Disk>(disk: &mut D, bytes: &[u8], fresh: Vec<u8>) -> Did
     requires headless { has_head bytes.now ≡ false }
-    requires read { IsTrue (D.tells disk.old) → IsAll D.seen D.may_leave disk.old bytes.now }
+    requires read { IsTrue (D.tells disk.old) → bytes.now ≡ take 2 (D.seen disk.old) }
+    requires durable { IsTrue (D.tells disk.old) → Only (D.seen disk.old) (D.may_leave disk.old) }
     requires some { 0 < length fresh.items }
     ensures done { result ≡ Did.Done → IsTrue (D.tells disk.old) → (rest : List ℕ) × StandsAt D.tells D.seen D.may_leave disk.new 0 [] (behind_gate fresh.items rest) 1 }
     ensures any_moment { IsTrue (D.tells disk.old) → (role : ℕ) (text : List ℕ) → length (front role text []) < 2 ^ 64 → fresh.items ≡ head role text ++ 0 ∷ []
-        → LeavesOnly D.moment D.left_since disk.old disk.new (λ c. events_of c ≡ []) }
+        → LeavesOnly D.moment D.left_since disk.old disk.new (HasEvents role text []) }
     ensures tells { D.tells disk.new ≡ D.tells disk.old }
     ensures never_falls { D.faults disk.old ≤ D.faults disk.new }
     ensures cause { result ≡ Did.Failed → Rose (D.faults disk.old) (D.faults disk.new) }
@@ -371,7 +378,7 @@ fn put_head<D: Disk>(disk: &mut D, bytes: &[u8], fresh: Vec<u8>) -> Did
     }
 }
 
-/// Starts a journal in a file without a head.
+/// Starts a journal in a file without a head that begins with these two bytes or has fewer.
 fn start<D: Disk>(
     alloc: Global,
     disk: &mut D,
@@ -381,15 +388,12 @@ fn start<D: Disk>(
     limit: u64,
 ) -> Result<Journal, OpenFault>
     requires headless { has_head bytes.now ≡ false }
-    requires read { IsTrue (D.tells disk.old) → IsAll D.seen D.may_leave disk.old bytes.now }
-    ensures keeps { KeepsEvents D.tells D.seen D.moment D.left_since D.faults (events_of bytes.now) disk.old disk.new }
-    ensures opens { OpensFile D.tells D.seen D.may_leave D.faults role text.now limit bytes.now disk.old disk.new result }
+    requires read { IsTrue (D.tells disk.old) → bytes.now ≡ take 2 (D.seen disk.old) }
+    requires durable { IsTrue (D.tells disk.old) → Only (D.seen disk.old) (D.may_leave disk.old) }
+    ensures keeps { KeepsJournal ⟦<D as Disk>⟧ role text.now disk.old disk.new }
+    ensures opens { Reopens ⟦<D as Disk>⟧ role text.now limit disk.old disk.new result }
 {
-    let made = match make_beginning(alloc, role, text, limit) {
-        Ok(made) => made,
-        Err(fault) => return Err(fault),
-    };
-    let Beginning { text: kept, head } = made;
+    let Beginning { text: kept, head } = make_beginning(alloc, role, text, limit)?;
     match put_head(disk, bytes, head) {
         Did::Done => Ok(Journal::made(
             alloc,
@@ -403,87 +407,134 @@ fn start<D: Disk>(
     }
 }
 
-/// Where this head ends, which must stand there.
-fn head_end(alloc: Global, role: u16, text: &[u8], bytes: &[u8]) -> Result<usize, OpenFault>
-    ensures own { OnOk result (HasThisHead role text.now bytes.now) }
-    ensures place { IfOk result (λ end. end ≡ length (1 ∷ head role text.now)) }
-    ensures fault { IfErr result (IsHeadFault role text.now bytes.now) }
+/// Whether this head stands in the file, with a gate behind it.
+fn has_this_head<D: Disk>(
+    alloc: Global,
+    disk: &mut D,
+    reader: &mut Reader,
+    role: u16,
+    text: &[u8],
+) -> Result<bool, OpenFault>
+    requires { HasRoom reader.old }
+    ensures room { HasRoom reader.new }
+    ensures reads { (file : List ℕ) → Reads ⟦<D as Disk>⟧ file disk.old reader.old → OnOk result (Reads ⟦<D as Disk>⟧ file disk.new reader.new) }
+    ensures own { (file : List ℕ) → Reads ⟦<D as Disk>⟧ file disk.old reader.old → IfOk result (λ own. IsTrue own ↔ HasThisHead role text.now file) }
+    ensures only { OnlyReads ⟦<D as Disk>⟧ result disk.old disk.new }
 {
     let head = open_head(alloc, role, text)?;
-    if !goes_on(bytes, &head) {
-        return Err(OpenFault::BadHead);
-    }
-    Ok(head.len())
+    ask(disk, reader, 0, head.len() + 1)?;
+    Ok(goes_on(&reader.asked, &head))
 }
 
-/// The text of a journal, kept, and the events that stand behind its head.
+/// Whether the gate at a place is open.
+fn is_open<D: Disk>(disk: &mut D, reader: &mut Reader, gate: u64) -> Result<bool, OpenFault>
+    requires room { HasRoom reader.old }
+    requires fits { gate + 1 < 2 ^ 64 }
+    ensures reads { (file : List ℕ) → Reads ⟦<D as Disk>⟧ file disk.old reader.old → OnOk result (Reads ⟦<D as Disk>⟧ file disk.new reader.new) }
+    ensures open { (file : List ℕ) → Reads ⟦<D as Disk>⟧ file disk.old reader.old → gate < length file → IfOk result (λ is_open. is_open ≡ (get_or file gate 0 == 1)) }
+    ensures only { OnlyReads ⟦<D as Disk>⟧ result disk.old disk.new }
+{
+    ask(disk, reader, gate, 1)?;
+    Ok(begins_open(&reader.asked))
+}
+
+/// Whether the bytes begin with an open gate.
+fn begins_open(bytes: &[u8]) -> bool
+    ensures { (gate : ℕ) (rest : List ℕ) → bytes.now ≡ gate ∷ rest → result ≡ (gate == 1) }
+{
+    !bytes.is_empty() && bytes[0] == 1
+}
+
+/// The text of a journal, kept; the events that stand behind its head; and whether the gate behind them is open.
 #[derive(Drop)]
 struct Known {
     text: Text,
     found: Scanned,
+    is_open: bool,
 }
 
-/// The events behind this head, which must stand there.
-fn find_events(alloc: Global, role: u16, text: &[u8], bytes: &[u8]) -> Result<Known, OpenFault>
+/// The events behind the head of this text, which stands in the file.
+fn find_events<D: Disk>(
+    alloc: Global,
+    disk: &mut D,
+    reader: &mut Reader,
+    text: &[u8],
+) -> Result<Known, OpenFault>
+    requires { HasRoom reader.old }
     ensures text { IfOk result (λ k. k.text ≡ text.now) }
-    ensures found { IfOk result (λ k. Resumed role text.now bytes.now k.found.gate (events_seen k.found.events.items)) }
-    ensures fault { IfErr result (IsHeadFault role text.now bytes.now) }
+    ensures place { IfOk result (λ k. (role : ℕ) → k.found.gate ≡ length (front role text.now (events_seen k.found.events.items))) }
+    ensures fits { IfOk result (λ k. k.found.gate + 1 < 2 ^ 64) }
+    ensures all { IfOk result (λ k. AllEvents (events_seen k.found.events.items)) }
+    ensures found { (file : List ℕ) → Reads ⟦<D as Disk>⟧ file disk.old reader.old → (role : ℕ) → HasThisHead role text.now file
+        → IfOk result (λ k. Resumed role text.now file k.found.gate (events_seen k.found.events.items)) }
+    ensures open { (file : List ℕ) → Reads ⟦<D as Disk>⟧ file disk.old reader.old → (role : ℕ) → HasThisHead role text.now file
+        → IfOk result (λ k. k.is_open ≡ (get_or file k.found.gate 0 == 1)) }
+    ensures only { OnlyReads ⟦<D as Disk>⟧ result disk.old disk.new }
 {
-    let from = match head_end(alloc, role, text, bytes) {
-        Ok(from) => from,
-        Err(fault) => return Err(fault),
-    };
     let text = Text::from_bytes(alloc, text)?;
-    let found = scan(alloc, bytes, from)?;
-    Ok(Known { text, found })
+    let found = scan(alloc, disk, reader, HEAD_FRONT + text.len() as u64)?;
+    let is_open = is_open(disk, reader, found.gate)?;
+    Ok(Known {
+        text,
+        found,
+        is_open,
+    })
 }
 
 /// Goes on with a journal whose head stands, and repairs its end.
 fn resume<D: Disk>(
     alloc: Global,
     disk: &mut D,
+    reader: &mut Reader,
     role: u16,
     text: &[u8],
-    bytes: &[u8],
     limit: u64,
 ) -> Result<Journal, OpenFault>
-    requires headed { has_head bytes.now ≡ true }
-    requires read { IsTrue (D.tells disk.old) → IsAll D.seen D.may_leave disk.old bytes.now }
-    ensures keeps { KeepsEvents D.tells D.seen D.moment D.left_since D.faults (events_of bytes.now) disk.old disk.new }
-    ensures opens { OpensFile D.tells D.seen D.may_leave D.faults role text.now limit bytes.now disk.old disk.new result }
+    requires room { HasRoom reader.old }
+    requires reads { IsTrue (D.tells disk.old) → Reads ⟦<D as Disk>⟧ (D.seen disk.old) disk.old reader.old }
+    requires headed { IsTrue (D.tells disk.old) → has_head (D.seen disk.old) ≡ true }
+    requires durable { IsTrue (D.tells disk.old) → Only (D.seen disk.old) (D.may_leave disk.old) }
+    ensures keeps { KeepsJournal ⟦<D as Disk>⟧ role text.now disk.old disk.new }
+    ensures opens { Reopens ⟦<D as Disk>⟧ role text.now limit disk.old disk.new result }
 {
-    let known = match find_events(alloc, role, text, bytes) {
-        Ok(known) => known,
-        Err(fault) => return Err(fault),
-    };
-    let Known { text: kept, found } = known;
-    match end_at(disk, found.gate as u64, bytes[found.gate] == 1) {
-        Did::Done => Ok(Journal::made(alloc, role, kept, found.events, found.gate as u64, limit)),
+    if !has_this_head(alloc, disk, reader, role, text)? {
+        return Err(OpenFault::BadHead);
+    }
+    let Known {
+        text: kept,
+        found,
+        is_open,
+    } = find_events(alloc, disk, reader, text)?;
+    match end_at(disk, found.gate, is_open) {
+        Did::Done => Ok(Journal::made(alloc, role, kept, found.events, found.gate, limit)),
         Did::Failed => Err(OpenFault::DiskFault),
     }
 }
 
-/// Opens the journal of this role and text in a file of these bytes.
+/// Opens the journal of this role and text in a file of which a crash leaves nothing else.
 fn open_file<D: Disk>(
     alloc: Global,
     disk: &mut D,
+    reader: &mut Reader,
     role: u16,
     text: &[u8],
-    bytes: &[u8],
     limit: u64,
 ) -> Result<Journal, OpenFault>
-    requires { IsTrue (D.tells disk.old) → IsAll D.seen D.may_leave disk.old bytes.now }
-    ensures keeps { KeepsEvents D.tells D.seen D.moment D.left_since D.faults (events_of bytes.now) disk.old disk.new }
-    ensures opens { OpensFile D.tells D.seen D.may_leave D.faults role text.now limit bytes.now disk.old disk.new result }
+    requires room { HasRoom reader.old }
+    requires reads { IsTrue (D.tells disk.old) → Reads ⟦<D as Disk>⟧ (D.seen disk.old) disk.old reader.old }
+    requires durable { IsTrue (D.tells disk.old) → Only (D.seen disk.old) (D.may_leave disk.old) }
+    ensures keeps { KeepsJournal ⟦<D as Disk>⟧ role text.now disk.old disk.new }
+    ensures opens { Reopens ⟦<D as Disk>⟧ role text.now limit disk.old disk.new result }
 {
-    if stands(bytes) {
-        resume(alloc, disk, role, text, bytes, limit)
+    ask(disk, reader, 0, 2)?;
+    if stands(&reader.asked) {
+        resume(alloc, disk, reader, role, text, limit)
     } else {
-        start(alloc, disk, role, text, bytes, limit)
+        start(alloc, disk, role, text, &reader.asked, limit)
     }
 }
 
-/// Reads the file and opens the journal of this role and text in it.
+/// Syncs, and opens the journal of this role and text.
 fn open_journal<D: Disk>(
     alloc: Global,
     disk: &mut D,
@@ -491,14 +542,29 @@ fn open_journal<D: Disk>(
     text: &[u8],
     limit: u64,
 ) -> Result<Journal, OpenFault>
-    ensures keeps { KeepsFile D.tells D.seen D.may_leave D.moment D.left_since D.faults disk.old disk.new }
-    ensures opens { Reopens D.tells D.seen D.may_leave D.faults role text.now limit disk.old disk.new result }
+    ensures keeps { KeepsFile ⟦<D as Disk>⟧ role text.now disk.old disk.new }
+    ensures opens { Reopens ⟦<D as Disk>⟧ role text.now limit disk.old disk.new result }
 {
-    let bytes = match read_settled(alloc, disk) {
-        Ok(bytes) => bytes,
-        Err(fault) => return Err(fault),
-    };
-    open_file(alloc, disk, role, text, &bytes, limit)
+    match settle(disk) {
+        Did::Done => read_and_open(alloc, disk, role, text, limit),
+        Did::Failed => Err(OpenFault::DiskFault),
+    }
+}
+
+/// Reads a file of which a crash leaves nothing else, and opens the journal of this role and text in it.
+fn read_and_open<D: Disk>(
+    alloc: Global,
+    disk: &mut D,
+    role: u16,
+    text: &[u8],
+    limit: u64,
+) -> Result<Journal, OpenFault>
+    requires { IsTrue (D.tells disk.old) → Only (D.seen disk.old) (D.may_leave disk.old) }
+    ensures keeps { KeepsJournal ⟦<D as Disk>⟧ role text.now disk.old disk.new }
+    ensures opens { Reopens ⟦<D as Disk>⟧ role text.now limit disk.old disk.new result }
+{
+    let mut reader = begin(alloc, disk)?;
+    open_file(alloc, disk, &mut reader, role, text, limit)
 }
 
 /// Whether the bytes begin with these and go on.

@@ -1,16 +1,16 @@
 //! Events of a node as bytes: exactly one choice, or one message.
-ghost use Rattle.std.specs.Prelude.{◌≡◌, ◌++◌, ◌∷◌, [], length, option_map, IfOk, OnOk};
+ghost use Rattle.std.specs.Prelude.{◌≡◌, ◌++◌, ◌∷◌, [], length, option_map, ⊤, IfOk, OnOk, MatchOption};
 ghost use Rattle.aw_journal.specs.Events as spec;
 ghost use Rattle.aw_journal.specs.EventView.{event_of};
 ghost use Rattle.aw_journal.specs.Format.{record_of};
 
 use aw_choice::Choice;
+use aw_codec::add_choice;
+use aw_codec::writing::{add_byte, add_u64};
 use aw_list::Text;
 use aw_msg::Message;
 use aw_msg::frame_reading::{whole_choice, whole_message};
 use aw_msg::writing::add_message;
-use aw_wire::add_choice;
-use aw_wire::writing::{add_byte, add_u64};
 use std::alloc::{AllocError, Global};
 
 /// What a node did: it took a choice, or got a message.
@@ -22,7 +22,7 @@ pub enum NodeEvent {
 
 /// The event that a payload exactly is.
 #[tactic(auto, unfolding(crate::specs::Events::event_in))]
-pub(crate) fn event_in(alloc: Global, payload: &[u8]) -> Result<Option<NodeEvent>, AllocError>
+fn event_in(alloc: Global, payload: &[u8]) -> Result<Option<NodeEvent>, AllocError>
     ensures { IfOk result (λ found. spec.event_in payload.now ≡ option_map event_of found) }
 {
     match payload {
@@ -37,6 +37,14 @@ pub(crate) fn event_in(alloc: Global, payload: &[u8]) -> Result<Option<NodeEvent
         [] => Ok(None),
         [_, ..] => Ok(None),
     }
+}
+
+/// The same, with the event's spelling, sizes and ranges.
+pub(crate) fn read_event(alloc: Global, payload: &[u8]) -> Result<Option<NodeEvent>, AllocError>
+    ensures found { IfOk result (λ found. spec.event_in payload.now ≡ option_map event_of found) }
+    ensures spelled { IfOk result (λ found. MatchOption found ⊤ (λ e. (payload.now ≡ spec.payload_of (event_of e)) × spec.IsEvent (event_of e))) }
+{
+    event_in(alloc, payload)
 }
 
 /// Adds the payload of an event.

@@ -1,14 +1,15 @@
 //! Finds the open records of a file.
-ghost use Rattle.std.specs.Prelude.{◌≡◌, ◌<◌, [], ℕ, None, Some, length, drop, IfOk, MatchOption};
-ghost use Rattle.aw_journal.specs.Format.{events_from, u64_in, u64_bytes, whole};
+ghost use Rattle.std.specs.Prelude.{◌≡◌, ◌<◌, ◌≤◌, ◌+◌, ◌^◌, ◌++◌, ◌∷◌, [], ℕ, List, IsTrue, true, false, None, Some, length, take, drop, ⊤, IfOk, OnOk, MatchOption};
+ghost use Rattle.aw_journal.specs.Format.{events_from, records, u64_in, u64_bytes};
+ghost use Rattle.aw_journal.specs.Events.{AllEvents, IsEvent, payload_of};
 ghost use Rattle.aw_journal.specs.EventView.{event_of, events_seen};
-ghost use Rattle.aw_journal.specs.Scan.{Found, FoundEvent, FoundAll, IsPayload};
+ghost use Rattle.aw_journal.specs.Reading.{HasRoom, OnlyReads, Reads};
+ghost use Rattle.aw_journal.specs.Scan.{Found, FoundEvent, FoundAll};
 
-use crate::payload::{NodeEvent, event_in};
+use crate::payload::{NodeEvent, read_event};
+use crate::reads::{OpenFault, Reader, ask};
+use aw_disk::Disk;
 use std::alloc::{AllocError, Global};
-
-/// How many bytes the length of a payload has.
-const LENGTH: usize = 8;
 
 /// How many bytes stand before the payload of a record: a gate and the length of the payload.
 pub(crate) const RECORD_FRONT: usize = 9;
@@ -17,68 +18,116 @@ pub(crate) const RECORD_FRONT: usize = 9;
 #[derive(Drop)]
 pub(crate) struct Scanned {
     pub(crate) events: Vec<NodeEvent>,
-    pub(crate) gate: usize,
+    pub(crate) gate: u64,
 }
 
 /// The open records from a gate on.
-pub(crate) fn scan(alloc: Global, bytes: &[u8], from: usize) -> Result<Scanned, AllocError>
-    requires { from < length bytes.now }
-    ensures { IfOk result (λ found. FoundAll bytes.now from found.gate (events_seen found.events.items)) }
+pub(crate) fn scan<D: Disk>(
+    alloc: Global,
+    disk: &mut D,
+    reader: &mut Reader,
+    from: u64,
+) -> Result<Scanned, OpenFault>
+    requires room { HasRoom reader.old }
+    requires fits { from + 1 < 2 ^ 64 }
+    ensures room { HasRoom reader.new }
+    ensures reads { (file : List ℕ) → Reads ⟦<D as Disk>⟧ file disk.old reader.old → OnOk result (Reads ⟦<D as Disk>⟧ file disk.new reader.new) }
+    ensures found { (file : List ℕ) → Reads ⟦<D as Disk>⟧ file disk.old reader.old → from < length file → IfOk result (λ found. FoundAll file from found.gate (events_seen found.events.items)) }
+    ensures place { IfOk result (λ found. found.gate ≡ from + length (records (events_seen found.events.items))) }
+    ensures fits { IfOk result (λ found. found.gate + 1 < 2 ^ 64) }
+    ensures all { IfOk result (λ found. AllEvents (events_seen found.events.items)) }
+    ensures only { OnlyReads ⟦<D as Disk>⟧ result disk.old disk.new }
 {
     let mut events = Vec::new(alloc);
     let mut gate = from;
-    while let Some((event, next)) = next_event(alloc, bytes, gate)? {
-        events.push(event)?;
+    while let Some((event, next)) = next_event(alloc, disk, reader, gate)? {
+        add(&mut events, event)?;
         gate = next;
     }
     Ok(Scanned { events, gate })
 }
 
-/// The event of the record behind this gate, and the gate behind it, where it is open and the record whole.
-fn next_event(
-    alloc: Global,
-    bytes: &[u8],
-    gate: usize,
-) -> Result<Option<(NodeEvent, usize)>, AllocError>
-    requires { gate < length bytes.now }
-    ensures { IfOk result (λ found. MatchOption found (events_from 0 (drop gate bytes.now) ≡ []) (λ x. FoundEvent bytes.now gate x.1 (event_of x.0))) }
+fn add(events: &mut Vec<NodeEvent>, event: NodeEvent) -> Result<(), AllocError>
+    ensures { OnOk result (events.new.items ≡ events.old.items ++ event ∷ []) }
 {
-    let next = match record_end(bytes, gate) {
-        Some(next) => next,
+    events.push(event)?;
+    Ok(())
+}
+
+/// The event of the record behind the gate at this place, and the gate behind it, where it is open and the record whole.
+fn next_event<D: Disk>(
+    alloc: Global,
+    disk: &mut D,
+    reader: &mut Reader,
+    gate: u64,
+) -> Result<Option<(NodeEvent, u64)>, OpenFault>
+    requires { HasRoom reader.old }
+    ensures room { HasRoom reader.new }
+    ensures size { reader.new.size ≡ reader.old.size }
+    ensures reads { (file : List ℕ) → Reads ⟦<D as Disk>⟧ file disk.old reader.old → OnOk result (Reads ⟦<D as Disk>⟧ file disk.new reader.new) }
+    ensures found { (file : List ℕ) → Reads ⟦<D as Disk>⟧ file disk.old reader.old → gate < length file
+        → IfOk result (λ found. MatchOption found (events_from 0 (drop gate file) ≡ []) (λ x. FoundEvent file gate x.1 (event_of x.0))) }
+    ensures next { IfOk result (λ found. MatchOption found ⊤ (λ x. (x.1 ≡ gate + length (payload_of (event_of x.0)) + 9) × (x.1 < reader.old.size))) }
+    ensures event { IfOk result (λ found. MatchOption found ⊤ (λ x. IsEvent (event_of x.0))) }
+    ensures only { OnlyReads ⟦<D as Disk>⟧ result disk.old disk.new }
+{
+    let count = match payload_at(disk, reader, gate)? {
+        Some(count) => count,
         None => return Ok(None),
     };
-    match event_in(alloc, &bytes[gate + RECORD_FRONT..next])? {
-        Some(event) => Ok(Some((event, next))),
+    ask(disk, reader, gate + RECORD_FRONT as u64, count)?;
+    if reader.asked.len() < count {
+        return Ok(None);
+    }
+    match read_event(alloc, &reader.asked)? {
+        Some(event) => Ok(Some((event, gate + RECORD_FRONT as u64 + count as u64))),
         None => Ok(None),
     }
 }
 
-/// The gate behind the record behind this gate, where that is open and the record is as long as it says.
-fn record_end(bytes: &[u8], gate: usize) -> Option<usize>
-    requires { gate < length bytes.now }
-    ensures { MatchOption result (events_from 0 (drop gate bytes.now) ≡ []) (Found bytes.now gate) }
+/// How long the payload of the record behind this gate is, where that is open and the record as long as it says.
+fn payload_at<D: Disk>(
+    disk: &mut D,
+    reader: &mut Reader,
+    gate: u64,
+) -> Result<Option<usize>, OpenFault>
+    requires { HasRoom reader.old }
+    ensures room { HasRoom reader.new }
+    ensures size { reader.new.size ≡ reader.old.size }
+    ensures reads { (file : List ℕ) → Reads ⟦<D as Disk>⟧ file disk.old reader.old → OnOk result (Reads ⟦<D as Disk>⟧ file disk.new reader.new) }
+    ensures found { (file : List ℕ) → Reads ⟦<D as Disk>⟧ file disk.old reader.old → gate < length file
+        → IfOk result (λ count. MatchOption count (events_from 0 (drop gate file) ≡ []) (λ n. Found file gate (gate + 9 + n))) }
+    ensures fits { IfOk result (λ count. MatchOption count ⊤ (λ n. gate + 9 + n < reader.old.size)) }
+    ensures only { OnlyReads ⟦<D as Disk>⟧ result disk.old disk.new }
 {
-    if bytes[gate] != 1 {
-        return None;
+    if !has_front(gate, reader.size) {
+        return Ok(None);
     }
-    let (_, rest) = bytes.split_at(gate + 1);
-    match payload_len(rest) {
-        Some(n) => Some(gate + RECORD_FRONT + n),
-        None => None,
-    }
+    ask(disk, reader, gate, RECORD_FRONT)?;
+    Ok(payload_len(&reader.asked, gate, reader.size))
 }
 
-/// How long the payload of a record is, where it stands whole and has a gate behind it.
-fn payload_len(rest: &[u8]) -> Option<usize>
-    ensures none { result ≡ None → whole rest.now ≡ None }
-    ensures some { (n : ℕ) → result ≡ Some n → IsPayload rest.now n }
+/// Whether the gate and the length of a payload have their place in a file of this size.
+fn has_front(gate: u64, size: u64) -> bool
+    ensures yes { result ≡ true → gate + 9 ≤ size }
+    ensures no { result ≡ false → size < gate + 9 }
 {
-    if rest.len() < LENGTH {
+    size >= RECORD_FRONT as u64 && size - RECORD_FRONT as u64 >= gate
+}
+
+/// How long the payload is behind a front that stands at this place in a file of this size, where the gate is open and the payload
+/// has its place with a gate behind it.
+fn payload_len(front: &[u8], gate: u64, size: u64) -> Option<usize>
+    requires place { gate + 9 ≤ size }
+    ensures none { result ≡ None → (file : List ℕ) → length file ≡ size → front.now ≡ take 9 (drop gate file) → events_from 0 (drop gate file) ≡ [] }
+    ensures some { (n : ℕ) → result ≡ Some n → (file : List ℕ) → length file ≡ size → front.now ≡ take 9 (drop gate file) → Found file gate (gate + 9 + n) }
+    ensures fits { (n : ℕ) → result ≡ Some n → gate + 9 + n < size }
+{
+    if front.len() < RECORD_FRONT || front[0] != 1 {
         return None;
     }
-    let (long, behind) = rest.split_at(LENGTH);
-    let n = number_in(long);
-    if n >= behind.len() as u64 {
+    let n = number_in(&front[1..RECORD_FRONT]);
+    if n >= size - gate - RECORD_FRONT as u64 {
         return None;
     }
     Some(n as usize)

@@ -2,8 +2,8 @@
 use Rattle.std.proofs.Common.{◌≡◌, ℕ, ◌++◌, append-nil, ◌+◌, ◌<◌, refl, sym, ◌∙◌, ap, false, cond, ◌==◌, List, [], ◌∷◌, length, arith, Option, Some, None}
 use Rattle.std.proofs.lemmas.Bool.{ne_eqb}
 use Rattle.std.proofs.lemmas.Bool.Decides.{nat_tests}
-use Rattle.aw_text.specs.Spelling.{cut}
-use Rattle.aw_text.proofs.Cuts.{split_after, split_by_cut}
+use Rattle.aw_spelling.specs.Spelling.{cut}
+use Rattle.aw_spelling.proofs.Cuts.{split_after, split_by_cut}
 use Rattle.aw_lex.specs.Lines.{lines_of, without_empty_last}
 
 more_follow : (line text : List ℕ) (o : Option (List ℕ × List ℕ)) → without_empty_last (line ∷ split_after 10 text o) ≡ line ∷ without_empty_last (split_after 10 text o)

@@ -2,9 +2,9 @@
 use Rattle.std.proofs.Common.{◌≡◌, ℕ, zero, suc, ◌+◌, ◌≤◌, refl, sym, ap, ◌∙◌, Bool, true, false, cond, ◌==◌, ◌||◌, List, [], ◌∷◌, take, drop, length, arith, Option, Some, None, is_some}
 use Rattle.std.proofs.lemmas.Bool.{eq-eqb, ne_eqb}
 use Rattle.std.specs.List.{list_all, prefix_len}
-use Rattle.aw_text.specs.Spelling.{is_name_byte, is_name, number_of, node_name}
-use Rattle.aw_text.proofs.ByteRuns.{all_by_prefix}
-use Rattle.aw_text.proofs.NodeNames.{joined_is_no_name, joined_is_no_number}
+use Rattle.aw_spelling.specs.Spelling.{is_name_byte, is_name, number_of, node_name}
+use Rattle.aw_spelling.proofs.ByteRuns.{all_by_prefix}
+use Rattle.aw_spelling.proofs.NodeNames.{joined_is_no_name, joined_is_no_number}
 use Rattle.aw_lex.specs.declared.token.TokenKind.{TokenKind}
 use Rattle.aw_lex.specs.declared.token.TokenKind.TheVariants.{Name, Number, Node}
 use Rattle.aw_lex.specs.Tokens.{is_word_byte, word_len, kind_of_word, front_of_word}

@@ -1,7 +1,7 @@
 -- The lines of a text.
 use Rattle.std.specs.Prelude.{ℕ, Bool, true, ◌==◌, List, [], ◌∷◌, length, Option, Some, None, unwrap_or, if◌then◌else◌}
 use Rattle.std.specs.List.{slice_split}
-use Rattle.aw_text.specs.Spelling.{cut}
+use Rattle.aw_spelling.specs.Spelling.{cut}
 use Rattle.aw_lex.specs.Tokens.{is_blank}
 
 -- An empty rest behind the last line feed is no line.

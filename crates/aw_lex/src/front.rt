@@ -2,10 +2,10 @@
 ghost use Rattle.std.specs.Prelude.{◌≡◌, ◌≤◌, ◌+◌, IsTrue, false, length, option_map, take, drop};
 ghost use Rattle.std.specs.List.{list_all, prefix_len};
 ghost use Rattle.aw_lex.specs.Tokens.{is_blank, is_word_byte, begun_by, word_len, kind_of_word, front_of_word, front_of_text, front_of, Fits};
-ghost use Rattle.aw_text.specs.Spelling.{is_name_byte, text_behind_quote};
+ghost use Rattle.aw_spelling.specs.Spelling.{is_name_byte, text_behind_quote};
 
 use crate::token::TokenKind;
-use aw_text::{is_node_name, is_number, is_plain_name, name_len, text_end};
+use aw_spelling::{is_node_name, is_number, is_plain_name, name_len, text_end};
 
 /// What stands at the front of bytes.
 #[derive(Clone, Copy, Debug)]

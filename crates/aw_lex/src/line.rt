@@ -1,6 +1,6 @@
 //! One line of a text after the other.
 ghost use Rattle.std.specs.Prelude.{◌≡◌, ◌==◌, ◌<◌, length, position, option_map, IfSome};
-ghost use Rattle.aw_text.specs.Spelling.{cut};
+ghost use Rattle.aw_spelling.specs.Spelling.{cut};
 ghost use Rattle.aw_lex.specs.Lines.{first_line, lines_of, lines_from, passed_over};
 
 use crate::front::is_blank;

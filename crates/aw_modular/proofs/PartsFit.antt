@@ -6,7 +6,7 @@ use Rattle.std.proofs.lemmas.Bool.{eqb-true}
 use Rattle.std.proofs.lemmas.List.{map-append}
 use Rattle.aw_list.specs.Members.{Member}
 use Rattle.aw_list.proofs.Members.{never, member_map}
-use Rattle.aw_text.specs.Spelling.{is_name}
+use Rattle.aw_spelling.specs.Spelling.{is_name}
 use Rattle.aw_term.specs.Rules.{role_of}
 use Rattle.aw_term.specs.WellFormed.{Each, Later, Differ, RuleFits}
 use Rattle.aw_term.proofs.Eaches.{each_append, each_map, later_filter}

@@ -36,10 +36,6 @@ RoleRelation g role declared s i j = (h : ℕ) × role_io g role declared h s i 
 abbrev pub IsClosedFor : Grammar → ℕ → (ℕ → ℕ → ℕ → Type 0) → (ℕ → ℕ → ℕ → Type 0) → Type 0
 IsClosedFor g role declared rel = (r : Rule) → Member r g.rules → IsOf g role r.sort → (i j : ℕ) → Plus (Edge r (Mixed g role rel declared)) (inherited 0 i) (given 0 j) → rel r.sort i j
 
--- the relation of a role lies within what was found
-abbrev pub LiesWithinFound : Grammar → ℕ → List Triple → List Triple → Type 0
-LiesWithinFound g role declared found = (s i j : ℕ) → RoleRelation g role (Declares declared) s i j → Declares found s i j
-
 -- each rule is of a sort of the role
 abbrev pub HasOwnRules : ℕ → Grammar → Type 0
 HasOwnRules role g = (r : Rule) → Member r g.rules → IsOf g role r.sort

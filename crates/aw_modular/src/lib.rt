@@ -15,7 +15,7 @@ pub mod worked;
 pub mod yes;
 
 pub use join_parts::join;
-pub use laws::{joining_laws, parting_laws, role_laws};
+pub use laws::{joining_laws, least_role_relation, parting_laws, role_laws};
 pub use part::Part;
 pub use positions::are_positions;
 pub use refused::ModFault;

@@ -3,10 +3,10 @@ use Rattle.std.proofs.Common.{◌≡◌, ℕ, ◌<◌, ◌≤◌, Bool, true, fa
 use Rattle.std.proofs.lemmas.Bool.{ltb-false}
 use Rattle.std.proofs.lemmas.List.{take-append-le, drop-append-le, length-drop}
 use Rattle.std.specs.Int.{w32}
-use Rattle.aw_wire.specs.Reading.{Short, Bad, Reader, byte, number, such_that}
-use Rattle.aw_wire.specs.Names.{is_from_1_to}
-use Rattle.aw_wire.proofs.Laws.{bind_ok, guard_is, rule_ok, ok_is, ok_not_err}
-use Rattle.aw_wire.proofs.Extending.{Extends, still_long, byte_shorter, byte_extends, number_extends, such_that_extends, next, next_extends, via, fault_of, long_bad}
+use Rattle.aw_codec.specs.Reading.{Short, Bad, Reader, byte, number, such_that}
+use Rattle.aw_codec.specs.Names.{is_from_1_to}
+use Rattle.aw_codec.proofs.Laws.{bind_ok, guard_is, rule_ok, ok_is, ok_not_err}
+use Rattle.aw_codec.proofs.Extending.{Extends, still_long, byte_shorter, byte_extends, number_extends, such_that_extends, next, next_extends, via, fault_of, long_bad}
 use Rattle.aw_msg.specs.Frames.{Frame, payload, has_length, known, payload_at, frame}
 use Rattle.aw_msg.specs.Pieces.{Yields, IsBad, HasEnded, Splits}
 use Rattle.aw_msg.proofs.FrameLaws.{known_is}

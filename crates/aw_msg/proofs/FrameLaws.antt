@@ -4,12 +4,12 @@ use Rattle.std.proofs.lemmas.Bool.{ltb-false, le-ltb, le-leb, eqb-true}
 use Rattle.std.proofs.lemmas.List.{take_at, drop_at, take-append-drop, length-append, length-take, append-nil, nil_from_length}
 use Rattle.std.proofs.lemmas.Option.{same_Some, cond_some}
 use Rattle.std.specs.Int.{w32, w64, to_be_bytes}
-use Rattle.aw_wire.specs.Bytes.{AreBytes}
-use Rattle.aw_wire.specs.Reading.{Fault, Short, Reader, ◌>>=◌, byte, number, such_that}
-use Rattle.aw_wire.specs.Names.{is_from_1_to}
-use Rattle.aw_wire.specs.Choices.{spelled_choice, choice}
-use Rattle.aw_wire.proofs.Laws.{Law, Takes, Takes-then, AreBytes-drop, AreBytes-take, bind_ok, ok_is, guard_is, byte_law, number32, number64, such_that_law}
-use Rattle.aw_wire.proofs.ChoiceLaws.{choice_law}
+use Rattle.aw_codec.specs.Bytes.{AreBytes}
+use Rattle.aw_codec.specs.Reading.{Fault, Short, Reader, ◌>>=◌, byte, number, such_that}
+use Rattle.aw_codec.specs.Names.{is_from_1_to}
+use Rattle.aw_codec.specs.Choices.{spelled_choice, choice}
+use Rattle.aw_codec.proofs.Laws.{Law, Takes, Takes-then, AreBytes-drop, AreBytes-take, bind_ok, ok_is, guard_is, byte_law, number32, number64, such_that_law}
+use Rattle.aw_codec.proofs.ChoiceLaws.{choice_law}
 use Rattle.aw_msg.specs.Messages.{spelled_message, message}
 use Rattle.aw_msg.specs.Frames.{Frame, Push, Choose, Pull, Listed, frame_kind, spelled_payload, spelled_frame, FrameSized, FrameInRange, all_of, whole, payload, has_length, known, payload_at, frame}
 use Rattle.aw_msg.proofs.MessageLaws.{message_law}

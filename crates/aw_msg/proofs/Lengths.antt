@@ -5,7 +5,7 @@ use Rattle.std.specs.Int.{w16, to_be_bytes}
 use Rattle.std.proofs.lemmas.List.{length-append}
 use Rattle.std.proofs.lemmas.List.Concat.{flat_map-cons}
 use Rattle.std.proofs.lemmas.Bool.{and_parts, leb-true}
-use Rattle.aw_text.specs.Spelling.{is_content_byte}
+use Rattle.aw_spelling.specs.Spelling.{is_content_byte}
 use Rattle.aw_term.specs.Trees.{Never, Head, Con, Num, Text, Leaf, Made, Trees, Nil, More, count}
 use Rattle.aw_term.specs.Names.{Step, Node, Slot, Result, Part, Ref}
 use Rattle.aw_term.specs.Rules.{Ground}
@@ -13,11 +13,11 @@ use Rattle.aw_term.specs.Choices as Q
 use Rattle.aw_term.specs.WellFormed.{Each, symbols, all_symbols, symbols_of}
 use Rattle.aw_store.specs.Equations.{Body, Same, Is, Equation}
 use Rattle.aw_apply.specs.Messages.{Kind, Calls, Asks, Tells, Message}
-use Rattle.aw_wire.specs.Names.{spelled_step, spelled_node, spelled_slot, spelled_ref, spelled_refs}
-use Rattle.aw_wire.specs.Texts.{spelled_text}
-use Rattle.aw_wire.specs.Grounds.{spelled_head, spelled_ground, spelled_parts, spelled_grounds}
-use Rattle.aw_wire.specs.Choices.{spelled_choice}
-use Rattle.aw_wire.specs.Ranges.{TextInRange, NodeInRange, RefInRange, RefsInRange, HeadInRange, HeadsInRange, PartsInRange, GroundInRange, GroundsInRange, ChoiceInRange}
+use Rattle.aw_codec.specs.Names.{spelled_step, spelled_node, spelled_slot, spelled_ref, spelled_refs}
+use Rattle.aw_codec.specs.Texts.{spelled_text}
+use Rattle.aw_codec.specs.Grounds.{spelled_head, spelled_ground, spelled_parts, spelled_grounds}
+use Rattle.aw_codec.specs.Choices.{spelled_choice}
+use Rattle.aw_codec.specs.Ranges.{TextInRange, NodeInRange, RefInRange, RefsInRange, HeadInRange, HeadsInRange, PartsInRange, GroundInRange, GroundsInRange, ChoiceInRange}
 use Rattle.aw_msg.specs.Spelling.{spelled_body, spelled_equation, spelled_load, spelled_kind, spelled_message}
 use Rattle.aw_msg.specs.MessageRanges.{BodyInRange, EquationInRange, LoadInRange, KindInRange, MessageInRange}
 use Rattle.aw_msg.specs.MessageView.{plain_message}

@@ -3,11 +3,11 @@ use Rattle.std.proofs.Common.{◌≡◌, ℕ, zero, suc, Bool, true, false, ◌=
 use Rattle.std.specs.Int.{w16, w64}
 use Rattle.aw_store.specs.declared.equation.Body.{Body}
 use Rattle.aw_store.specs.declared.equation.Body.TheVariants.{Same, Con, Num, Text}
-use Rattle.aw_wire.specs.Reading.{Reader, byte, number, both, seen}
-use Rattle.aw_wire.specs.Names.{is_from_1_to, node, reference, references}
-use Rattle.aw_wire.specs.Texts.{text}
-use Rattle.aw_wire.proofs.Extending.{Extends, next, next_extends, via, nothing, nothing_extends, by_tag, by_tag_extends, byte_extends, number_extends, such_that_extends, seen_extends, both_extends, counted_extends, given_extends}
-use Rattle.aw_wire.proofs.ReadersExtend.{node_extends, reference_extends, references_extends, text_extends}
+use Rattle.aw_codec.specs.Reading.{Reader, byte, number, both, seen}
+use Rattle.aw_codec.specs.Names.{is_from_1_to, node, reference, references}
+use Rattle.aw_codec.specs.Texts.{text}
+use Rattle.aw_codec.proofs.Extending.{Extends, next, next_extends, via, nothing, nothing_extends, by_tag, by_tag_extends, byte_extends, number_extends, such_that_extends, seen_extends, both_extends, counted_extends, given_extends}
+use Rattle.aw_codec.proofs.ReadersExtend.{node_extends, reference_extends, references_extends, text_extends}
 use Rattle.aw_msg.specs.declared.message.MsgKind.{MsgKind}
 use Rattle.aw_msg.specs.declared.message.MsgKind.TheVariants.{Call, Ask, Tell}
 use Rattle.aw_msg.specs.Messages.{body, equation, equations, load, ask, kind, is_version, message}

@@ -11,13 +11,13 @@ use Rattle.aw_store.specs.declared.equation.Body.{Body}
 use Rattle.aw_store.specs.declared.equation.Body.TheVariants.{Same, Con, Num, Text}
 use Rattle.aw_store.specs.declared.equation.Equation.{Equation}
 use Rattle.aw_store.specs.EquationView.{body_of, equation_of}
-use Rattle.aw_wire.specs.Bytes.{AreBytes}
-use Rattle.aw_wire.specs.Reading.{byte, number, such_that, both, seen}
-use Rattle.aw_wire.specs.Names.{spelled_node, spelled_ref, spelled_refs, is_from_1_to}
-use Rattle.aw_wire.specs.Texts.{spelled_text}
-use Rattle.aw_wire.proofs.Laws.{Law, Takes, Takes-then, Takes-tag, AreBytes-rest, bind_ok, ok_is, byte_law, number16, number64, such_that_law, both_law, seen_law, seen_taken, seen_again, restated, counted_law}
-use Rattle.aw_wire.proofs.NameLaws.{node_law, reference_law, references_law}
-use Rattle.aw_wire.proofs.GroundLaws.{text_law}
+use Rattle.aw_codec.specs.Bytes.{AreBytes}
+use Rattle.aw_codec.specs.Reading.{byte, number, such_that, both, seen}
+use Rattle.aw_codec.specs.Names.{spelled_node, spelled_ref, spelled_refs, is_from_1_to}
+use Rattle.aw_codec.specs.Texts.{spelled_text}
+use Rattle.aw_codec.proofs.Laws.{Law, Takes, Takes-then, Takes-tag, AreBytes-rest, bind_ok, ok_is, byte_law, number16, number64, such_that_law, both_law, seen_law, seen_taken, seen_again, restated, counted_law}
+use Rattle.aw_codec.proofs.NameLaws.{node_law, reference_law, references_law}
+use Rattle.aw_codec.proofs.GroundLaws.{text_law}
 use Rattle.aw_msg.specs.declared.message.MsgKind.{MsgKind}
 use Rattle.aw_msg.specs.declared.message.MsgKind.TheVariants.{Call, Ask, Tell}
 use Rattle.aw_msg.specs.declared.message.Message.{Message}

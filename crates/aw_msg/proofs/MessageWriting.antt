@@ -4,7 +4,7 @@ use Rattle.std.specs.List.{flat_map}
 use Rattle.std.proofs.lemmas.List.{length-map}
 use Rattle.aw_store.specs.declared.equation.Equation.{Equation}
 use Rattle.aw_store.specs.EquationView.{equation_of}
-use Rattle.aw_wire.proofs.Adding.{two}
+use Rattle.aw_codec.proofs.Adding.{two}
 use Rattle.aw_msg.specs.Spelling.{spelled_equation, spelled_equations, spelled_load, has_some}
 
 -- what a test for an empty list tells of a load

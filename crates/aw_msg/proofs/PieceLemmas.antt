@@ -1,8 +1,8 @@
 -- Taking frames from a stream, piece by piece.
 use Rattle.std.proofs.Common.{◌≡◌, ℕ, ◌+◌, ◌<◌, Bool, true, false, List, [], ◌++◌, length, get_or, take, map, Result, Ok, Err, refl, sym, ap, subst, ◌∙◌, if◌then◌else◌}
 use Rattle.std.specs.List.{flat_map}
-use Rattle.aw_wire.specs.Reading.{Fault, Short, Bad}
-use Rattle.aw_wire.proofs.Adding.{one_more}
+use Rattle.aw_codec.specs.Reading.{Fault, Short, Bad}
+use Rattle.aw_codec.proofs.Adding.{one_more}
 use Rattle.aw_msg.specs.Frames.{Frame, frame}
 use Rattle.aw_msg.specs.FrameView.{frame_of}
 use Rattle.aw_msg.specs.declared.frame.Frame as declared

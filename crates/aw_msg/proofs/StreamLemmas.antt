@@ -1,7 +1,7 @@
 -- The bytes behind a frame, and frames in more bytes.
 use Rattle.std.proofs.Common.{◌≡◌, ℕ, ◌-◌, ◌+◌, List, length, drop, Ok, ap, ◌∙◌, arith}
 use Rattle.std.proofs.lemmas.List.{drop_at, length-append}
-use Rattle.aw_wire.specs.Bytes.{AreBytes}
+use Rattle.aw_codec.specs.Bytes.{AreBytes}
 use Rattle.aw_msg.specs.Frames.{Frame, spelled_frame, frame}
 use Rattle.aw_msg.proofs.FrameLaws.{frame_law}
 

@@ -2,10 +2,10 @@
 use Rattle.std.specs.Prelude.{ℕ, zero, suc, ◌<◌, ◌^◌, Bool, nat_lt, nat_le, ◌==◌, List, ◌∷◌, ◌++◌, length, take, drop, Option, None, Some, option_map, Result, Ok, Err, if◌then◌else◌}
 use Rattle.std.specs.Int.{w32, w64, to_be_bytes}
 use Rattle.aw_term.specs.Choices as Q
-use Rattle.aw_wire.specs.Reading.{Fault, Short, Bad, Reader, ◌>>=◌, byte, number, such_that}
-use Rattle.aw_wire.specs.Names.{is_from_1_to}
-use Rattle.aw_wire.specs.Choices.{spelled_choice, choice}
-use Rattle.aw_wire.specs.Ranges.{ChoiceSized, ChoiceInRange}
+use Rattle.aw_codec.specs.Reading.{Fault, Short, Bad, Reader, ◌>>=◌, byte, number, such_that}
+use Rattle.aw_codec.specs.Names.{is_from_1_to}
+use Rattle.aw_codec.specs.Choices.{spelled_choice, choice}
+use Rattle.aw_codec.specs.Ranges.{ChoiceSized, ChoiceInRange}
 use Rattle.aw_msg.specs.declared.message.Message.{Message}
 use Rattle.aw_msg.specs.Messages.{spelled_message, MessageSized, MessageInRange, message}
 

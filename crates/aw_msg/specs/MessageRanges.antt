@@ -3,7 +3,7 @@ use Rattle.std.specs.Prelude.{◌<◌, ◌≤◌, ◌^◌, List, length}
 use Rattle.aw_term.specs.WellFormed.{Each}
 use Rattle.aw_store.specs.Equations.{Body, Same, Is, Equation}
 use Rattle.aw_apply.specs.Messages.{Kind, Calls, Asks, Tells, Message}
-use Rattle.aw_wire.specs.Ranges.{NodeSized, NodeInRange, RefSized, RefInRange, RefsSized, RefsInRange, HeadSized, HeadInRange}
+use Rattle.aw_codec.specs.Ranges.{NodeSized, NodeInRange, RefSized, RefInRange, RefsSized, RefsInRange, HeadSized, HeadInRange}
 
 -- the numbers of a body have the sizes of the program's types
 abbrev pub BodySized : Body → Type 0

@@ -1,9 +1,9 @@
 -- How messages of the program are spelled in bytes, and how they are read.
 use Rattle.std.specs.Prelude.{ℕ, zero, suc, Bool, true, false, ◌||◌, ◌==◌, List, [], ◌∷◌, length, Ok, Err}
 use Rattle.std.specs.Int.{w16, w64}
-use Rattle.aw_wire.specs.Reading.{Short, Bad, Reader, ◌>>=◌, byte, number, such_that, both, seen, counted}
-use Rattle.aw_wire.specs.Names.{is_from_1_to, node, reference, references}
-use Rattle.aw_wire.specs.Texts.{text}
+use Rattle.aw_codec.specs.Reading.{Short, Bad, Reader, ◌>>=◌, byte, number, such_that, both, seen, counted}
+use Rattle.aw_codec.specs.Names.{is_from_1_to, node, reference, references}
+use Rattle.aw_codec.specs.Texts.{text}
 use Rattle.aw_store.specs.declared.equation.Body.{Body}
 use Rattle.aw_store.specs.declared.equation.Body.TheVariants.{Same, Con, Num, Text}
 use Rattle.aw_store.specs.declared.equation.Equation.{Equation}

@@ -1,6 +1,6 @@
 -- The frames of some bytes, however they came.
 use Rattle.std.specs.Prelude.{◌≡◌, ℕ, Bool, true, false, List, [], ◌∷◌, ◌++◌, Result, Ok, Err}
-use Rattle.aw_wire.specs.Reading.{Fault, Short, Bad}
+use Rattle.aw_codec.specs.Reading.{Fault, Short, Bad}
 use Rattle.aw_msg.specs.Frames.{Frame, frame}
 use Rattle.aw_msg.specs.Streams.{Stream}
 

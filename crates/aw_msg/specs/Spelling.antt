@@ -5,8 +5,8 @@ use Rattle.std.specs.Int.{w16, w64, to_be_bytes}
 use Rattle.aw_term.specs.Trees.{Con, Num, Text}
 use Rattle.aw_store.specs.Equations.{Body, Same, Is, Equation}
 use Rattle.aw_apply.specs.Messages.{Kind, Calls, Asks, Tells, Message}
-use Rattle.aw_wire.specs.Names.{spelled_node, spelled_ref, spelled_refs}
-use Rattle.aw_wire.specs.Texts.{spelled_text}
+use Rattle.aw_codec.specs.Names.{spelled_node, spelled_ref, spelled_refs}
+use Rattle.aw_codec.specs.Texts.{spelled_text}
 
 -- 0 and a reference; 1, a constructor in two bytes and its references; 2 and a number in eight bytes; or 3 and a text
 abbrev pub spelled_body : Body → List ℕ

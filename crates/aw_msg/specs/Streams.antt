@@ -1,6 +1,6 @@
 -- A stream of requests as it comes, in any pieces.
 use Rattle.std.specs.Prelude.{ℕ, Bool, true, List, Result, Ok, Err, if◌then◌else◌}
-use Rattle.aw_wire.specs.Reading.{Fault, Short, Bad}
+use Rattle.aw_codec.specs.Reading.{Fault, Short, Bad}
 use Rattle.aw_msg.specs.Frames.{Frame, frame}
 
 -- the bytes that came and do not belong to a frame that was taken; and whether no frame stood in a frame's place

@@ -1,12 +1,12 @@
 //! The message at the front of some bytes.
-ghost use Rattle.aw_wire.specs.Placed.{placed, Decodes, Finds, IsFound};
-ghost use Rattle.aw_wire.specs.OneSpelling.{ReadsSpelled, SpelledIfRead, NoneBeginsAnother, CutIsShort};
+ghost use Rattle.aw_codec.specs.Placed.{placed, Decodes, Finds, IsFound};
+ghost use Rattle.aw_codec.specs.OneSpelling.{ReadsSpelled, SpelledIfRead, NoneBeginsAnother, CutIsShort};
 ghost use Rattle.aw_msg.specs.Messages.{message, spelled_message, MessageSized, MessageInRange};
 
 use crate::message::Message;
 use crate::reading::message_at;
-use aw_wire::MsgFault;
-use aw_wire::fault::fault_at;
+use aw_codec::MsgFault;
+use aw_codec::fault::fault_at;
 use std::alloc::Global;
 
 fn placed_message(alloc: Global, bytes: &[u8]) -> Result<(Message, usize), MsgFault>

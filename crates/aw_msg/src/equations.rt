@@ -1,15 +1,15 @@
 //! Readers of equations and of loads.
-ghost use Rattle.aw_wire.specs.Gives.{Gives};
+ghost use Rattle.aw_codec.specs.Gives.{Gives};
 ghost use Rattle.std.specs.Int.{w16, w64};
-ghost use Rattle.aw_wire.specs.Names.{reference, references};
-ghost use Rattle.aw_wire.specs.Reading.{number, both, seen, times};
-ghost use Rattle.aw_wire.specs.Texts.{text};
+ghost use Rattle.aw_codec.specs.Names.{reference, references};
+ghost use Rattle.aw_codec.specs.Reading.{number, both, seen, times};
+ghost use Rattle.aw_codec.specs.Texts.{text};
 ghost use Rattle.aw_store.specs.declared.equation.Body.TheVariants.{Same, Con, Num, Text};
 ghost use Rattle.aw_msg.specs.Messages as spec;
 
+use aw_codec::items::{position_at, u16_at, u64_at};
+use aw_codec::{Unread, ref_at, refs_at, text_at};
 use aw_store::{Body, Equation, Equations};
-use aw_wire::items::{position_at, u16_at, u64_at};
-use aw_wire::{Unread, ref_at, refs_at, text_at};
 use std::alloc::Global;
 
 /// The most equations of a load.

@@ -1,6 +1,6 @@
 //! Requests from a stream that comes in any pieces.
 ghost use Rattle.std.specs.Prelude.{◌≡◌, ◌≤◌, ◌↔◌, ◌++◌, [], false, length, drop, IsTrue, IfOk, OnOk, OnErr};
-ghost use Rattle.aw_wire.specs.Gives.{Gives};
+ghost use Rattle.aw_codec.specs.Gives.{Gives};
 ghost use Rattle.aw_msg.specs.Frames.{frame, FrameInRange};
 ghost use Rattle.aw_msg.specs.FrameView.{frame_of};
 ghost use Rattle.aw_msg.specs.Streams.{next_of, left_of};
@@ -8,7 +8,7 @@ ghost use Rattle.aw_msg.specs.NextView.{answer_of, NextInRange};
 
 use crate::frame::Frame;
 use crate::frame_reading::frame_at;
-use aw_wire::Unread;
+use aw_codec::Unread;
 use bytes::BytesMut;
 use std::alloc::{AllocError, Global};
 use std::marker::Model;

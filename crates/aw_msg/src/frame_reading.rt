@@ -2,9 +2,9 @@
 ghost use Rattle.std.specs.Prelude.{◌≡◌, option_map, IfOk};
 ghost use Rattle.std.specs.Int.{w32, w64};
 ghost use Rattle.aw_choice.specs.ChoiceView.{choice_of};
-ghost use Rattle.aw_wire.specs.Gives.{Gives};
-ghost use Rattle.aw_wire.specs.Reading.{number, such_that};
-ghost use Rattle.aw_wire.specs.Choices.{choice};
+ghost use Rattle.aw_codec.specs.Gives.{Gives};
+ghost use Rattle.aw_codec.specs.Reading.{number, such_that};
+ghost use Rattle.aw_codec.specs.Choices.{choice};
 ghost use Rattle.aw_msg.specs.Messages.{message};
 ghost use Rattle.aw_msg.specs.Frames as spec;
 ghost use Rattle.aw_msg.specs.FrameView.{frame_of};
@@ -13,8 +13,8 @@ use crate::frame::Frame;
 use crate::message::Message;
 use crate::reading::message_at;
 use aw_choice::Choice;
-use aw_wire::items::{position_at, u32_at, u64_at};
-use aw_wire::{Unread, choice_at};
+use aw_codec::items::{position_at, u32_at, u64_at};
+use aw_codec::{Unread, choice_at};
 use std::alloc::{AllocError, Global};
 
 /// The most bytes of a payload.

@@ -1,5 +1,5 @@
 //! Each request has one spelling.
-ghost use Rattle.aw_wire.specs.OneSpelling.{ReadsSpelled, SpelledIfRead, NoneBeginsAnother, CutIsShort};
+ghost use Rattle.aw_codec.specs.OneSpelling.{ReadsSpelled, SpelledIfRead, NoneBeginsAnother, CutIsShort};
 ghost use Rattle.aw_msg.specs.Frames.{frame, spelled_frame, FrameSized, FrameInRange};
 
 /// Requests are read as they are spelled, and no spelling begins another one.

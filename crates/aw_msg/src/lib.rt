@@ -14,7 +14,7 @@ pub mod reply;
 pub mod reply_writing;
 pub mod writing;
 
-pub use aw_wire::{MsgFault, decode_choice, encode_choice};
+pub use aw_codec::{MsgFault, decode_choice, encode_choice};
 pub use decoding::{decode, messages_have_one_spelling};
 pub use frame::Frame;
 pub use frame_reader::{FrameReader, Next};

@@ -1,13 +1,13 @@
 //! Readers of messages.
 ghost use Rattle.std.specs.Prelude.{◌∷◌};
-ghost use Rattle.aw_wire.specs.Gives.{Gives};
-ghost use Rattle.aw_wire.specs.Reading.{byte, such_that};
+ghost use Rattle.aw_codec.specs.Gives.{Gives};
+ghost use Rattle.aw_codec.specs.Reading.{byte, such_that};
 ghost use Rattle.aw_msg.specs.Messages as spec;
 
 use crate::equations::{equation_at, load_at};
 use crate::message::{Message, MsgKind};
-use aw_wire::items::{byte_at, u16_at};
-use aw_wire::{Unread, node_at, ref_at, refs_at};
+use aw_codec::items::{byte_at, u16_at};
+use aw_codec::{Unread, node_at, ref_at, refs_at};
 use std::alloc::Global;
 
 /// The version of a message without a load.

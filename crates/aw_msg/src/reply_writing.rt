@@ -12,11 +12,11 @@ ghost use Rattle.aw_msg.specs.ResponseView.{response_of};
 use crate::reply::Answered;
 use crate::writing::add_message;
 use aw_base::{NameWriter, push_answer, push_item, push_refs};
+use aw_codec::writing::{add_byte, add_u64};
 use aw_grammar::Grammar;
 use aw_list::Text;
 use aw_name::Ref;
 use aw_store::{Content, push_body};
-use aw_wire::writing::{add_byte, add_u64};
 use std::alloc::{AllocError, Global};
 
 /// The kind of the reply that the message was new.

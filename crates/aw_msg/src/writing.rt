@@ -11,10 +11,10 @@ ghost use Rattle.aw_msg.specs.Messages.{spelled_message, MessageSized, MessageIn
 use crate::equations::{CON_KIND, NUM_KIND, SAME_KIND, TEXT_KIND};
 use crate::message::{Message, MsgKind};
 use crate::reading::{ASK_KIND, BARE, CALL_KIND, LOADED, TELL_KIND};
+use aw_codec::writing::{add_byte, add_u16, add_u64};
+use aw_codec::{add_node, add_ref, add_refs, add_text};
 use aw_list::Text;
 use aw_store::{Body, Equation, Equations};
-use aw_wire::writing::{add_byte, add_u16, add_u64};
-use aw_wire::{add_node, add_ref, add_refs, add_text};
 use std::alloc::{AllocError, Global};
 
 fn add_body(text: &mut Text, body: &Body) -> Result<(), AllocError>

@@ -1,3 +1,2 @@
-pub mod Digests
-pub mod StepEquals
-pub mod StepLoops
+pub mod Fronts
+pub mod Leads

@@ -1,5 +1,5 @@
 -- What the names of nodes and references write where they are hashed.
-use Rattle.std.specs.Prelude.{ℕ, ◌+◌, ◌*◌}
+use Rattle.std.specs.Prelude.{ℕ, ◌+◌, ◌*◌, ◌++◌}
 use Rattle.std.specs.Hash as fed
 use Rattle.aw_name.specs.declared.node.Node.{Node}
 use Rattle.aw_name.specs.declared.node.Slot.{Slot}
@@ -12,10 +12,10 @@ abbrev pub slot_number : Slot → ℕ
 slot_number (Result i) = i * 2
 slot_number (Part k) = k * 2 + 1
 
--- what a node's name writes where it is hashed: the digest of its steps, with its start and then its case
+-- what a node's name writes where it is hashed: its case, and then the digest of its steps with its start
 abbrev pub node_writes : Node → fed.HashWrites
-node_writes n = fed.u64 (digest_and (digest_and (digest_of n.steps) n.start) n.case)
+node_writes n = fed.u64 n.case ++ fed.u64 (digest_and (digest_of n.steps) n.start)
 
--- and what a reference writes: the digest of its steps, with its start and its slot, and then its case
+-- and what a reference writes: its case, and then the digest of its steps with its start and its slot
 abbrev pub ref_writes : Ref → fed.HashWrites
-ref_writes r = fed.u64 (digest_and (digest_and (digest_of r.node.steps) (r.node.start * 131072 + slot_number r.slot)) r.node.case)
+ref_writes r = fed.u64 r.node.case ++ fed.u64 (digest_and (digest_of r.node.steps) (r.node.start * 131072 + slot_number r.slot))

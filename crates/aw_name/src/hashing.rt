@@ -1,5 +1,5 @@
-//! What names write where they are hashed: a node one number made of its steps, its start and its case; a reference the same
-//! with its slot in the number. One write costs less than one for each part.
+//! What names write where they are hashed: a node its case, and then a number made of its steps and its start; a reference the
+//! same with its slot in that number. The case comes first: as the last number it could be chosen for any hash that is wanted.
 ghost use Rattle.std.specs.Prelude.{◌≡◌, ◌<◌};
 ghost use Rattle.std.specs.Hash.{same_Alike};
 ghost use Rattle.aw_name.specs.Writes.{slot_number, node_writes, ref_writes};
@@ -15,11 +15,8 @@ impl Hash for Node {
     ghost respects_eq = { (same_Alike node_writes derived_node_Decides).fed };
 
     fn hash<H: Hasher>(&self, state: &mut H) {
-        digest_and(
-            digest_and(self.steps.digest(), u64::from(self.start)),
-            self.case,
-        )
-        .hash(state);
+        self.case.hash(state);
+        digest_and(self.steps.digest(), u64::from(self.start)).hash(state);
     }
 }
 
@@ -46,6 +43,7 @@ impl Hash for Ref {
 
     fn hash<H: Hasher>(&self, state: &mut H) {
         let number = u64::from(self.node.start) * SLOTS + self.slot.number();
-        digest_and(digest_and(self.node.steps.digest(), number), self.node.case).hash(state);
+        self.node.case.hash(state);
+        digest_and(self.node.steps.digest(), number).hash(state);
     }
 }

@@ -1,4 +1,4 @@
-ghost use Rattle.std.specs.Prelude.{◌≡◌, ◌≤◌, ◌<◌, ◌++◌, ◌∷◌, [], IfOk, OnOk, OnErr, List, length, take, true, ◌+◌};
+ghost use Rattle.std.specs.Prelude.{◌≡◌, ◌≤◌, ◌<◌, ◌++◌, ◌∷◌, [], IfOk, OnOk, OnErr, List, length, true, false};
 ghost use Rattle.std.specs.Hash as fed;
 ghost use Rattle.std.specs.Hash.{same_Alike};
 ghost use Rattle.std.specs.Cmp.{partial_equiv_from_equiv, partial_order_from_agreeing_total};
@@ -6,11 +6,12 @@ ghost use Rattle.std.specs.Cmp.Rules.{comparing};
 ghost use Rattle.std.specs.Cmp.Lexicographic.{pointwise, slice_cmp, lists_equiv, lists_total, lists_ties};
 ghost use Rattle.std.specs.Ordering.{as_partial_cmp};
 ghost use Rattle.std.proofs.Common.{rules, refl};
-ghost use Rattle.aw_name.specs.Digest.{digest_and, digest_with, digest_of};
+ghost use Rattle.aw_name.specs.Digest.{step_number, digest_and, digest_with, digest_of};
+ghost use Rattle.aw_name.specs.Front.{front_of, flat, flat_rest, number_at, IsSmall, IsSmallAt, IsSmallLead};
 ghost use Rattle.aw_name.specs.Steps.{step_cmp, step_total, step_ties};
 ghost use Rattle.aw_name.specs.Same.{step_eq, steps_Decide};
 
-use aw_list::Shared;
+use aw_list::{Counted, Items, Shared};
 use std::alloc::{AllocError, Global};
 use std::cmp::Ordering;
 use std::hash::{Hash, Hasher};
@@ -24,29 +25,93 @@ pub struct Step {
     pub child: u8,
 }
 
-/// The steps from a start node down to a node, at most 250; none for the start node itself. Beside them stands a number that is
-/// made of them, so that a trail is hashed at once, and trails that differ mostly do so there.
-#[derive(Debug, Clone, Drop)]
-pub struct Trail {
-    steps: Shared<Step>,
+/// Steps, and beside them what is made of them: the rules and children of the steps behind the first five, in a row that is
+/// compared many at a time, and a digest, by which a trail is hashed at once.
+#[derive(Debug, Drop)]
+struct Rows {
+    steps: Items<Step>,
+    rest: Items<u16>,
     digest: u64,
 }
 
-impl Model for Trail {
-    ghost use Rattle.std.specs.Prelude.{List, ◌≡◌, ◌≤◌, length};
+impl Model for Rows {
+    ghost use Rattle.std.specs.Prelude.{List, ◌≡◌};
     ghost use Rattle.std.proofs.Common.{sym};
     ghost use Rattle.aw_name.specs.declared.node.Step.{Step};
     ghost use Rattle.aw_name.specs.Digest.{digest_of};
+    ghost use Rattle.aw_name.specs.Front.{flat_rest};
 
     ghost Value = { List Step };
 
-    ghost view = { λ t. t.steps };
+    ghost view = { λ r. r.steps };
 
-    ghost invariant = { λ t. (length t.steps ≤ 250) × (t.digest ≡ digest_of t.steps) };
+    ghost invariant = { λ r. (r.rest ≡ flat_rest r.steps) × (r.digest ≡ digest_of r.steps) };
 
-    ghost inverse = { λ xs. record { steps = xs; digest = digest_of xs } };
+    ghost inverse = { λ xs. record { steps = xs; rest = flat_rest xs; digest = digest_of xs } };
 
-    ghost inverse_ok = { λ a h. λ i. record { steps = a.steps; digest = sym h.1 i } };
+    ghost inverse_ok = { λ a h. λ i. record { steps = a.steps; rest = sym h.0 i; digest = sym h.1 i } };
+}
+
+impl Rows {
+    /// The steps, lent.
+    fn steps(&self) -> &[Step]
+        ensures { result.now ≡ self.now }
+    {
+        self.steps.as_slice()
+    }
+
+    /// The rules and children of the steps behind the first five.
+    fn rest(&self) -> &[u16]
+        ensures { result.now ≡ flat_rest self.now }
+    {
+        self.rest.as_slice()
+    }
+
+    /// The number that is made of the steps.
+    fn digest(&self) -> u64
+        ensures { result ≡ digest_of self.now }
+    {
+        self.digest
+    }
+}
+
+/// The steps from a start node down to a node, at most 250; none for the start node itself. Beside them stand the first five
+/// steps and how many there are, in two words, by which most names are told apart and put in order.
+#[derive(Debug, Drop)]
+pub struct Trail {
+    alloc: Global,
+    rows: Option<Counted<Rows>>,
+    high: u64,
+    low: u64,
+}
+
+impl Model for Trail {
+    ghost use Rattle.std.specs.Prelude.{List};
+    ghost use Rattle.aw_name.specs.declared.node.Step.{Step};
+    ghost use Rattle.aw_name.specs.Front.{steps_in, IsTrail};
+
+    ghost Value = { List Step };
+
+    ghost view = { λ t. steps_in t.rows };
+
+    ghost invariant = { λ t. IsTrail (steps_in t.rows) t.high t.low };
+}
+
+impl Clone for Trail {
+    ghost is_clone = { λ x y. y ≡ x };
+
+    fn clone(&self) -> Result<Trail, AllocError> {
+        let rows = match &self.rows {
+            Some(rows) => Some(rows.clone()?),
+            None => None,
+        };
+        Ok(Trail {
+            alloc: self.alloc,
+            rows,
+            high: self.high,
+            low: self.low,
+        })
+    }
 }
 
 impl PartialEq for Trail {
@@ -55,7 +120,8 @@ impl PartialEq for Trail {
     ghost laws = { partial_equiv_from_equiv (lists_equiv (Prim.search (comparing, rules))) };
 
     fn eq(&self, other: &Trail) -> bool {
-        self.digest == other.digest && are_same_steps(self.steps.as_slice(), other.steps.as_slice())
+        self.front() == other.front()
+            && (self.is_short() || self.digest() == other.digest() && self.rest() == other.rest())
     }
 }
 
@@ -83,7 +149,11 @@ impl Ord for Trail {
     ghost matches_eq = { lists_ties step_cmp step_ties };
 
     fn cmp(&self, other: &Trail) -> Ordering {
-        compare_steps(self.steps.as_slice(), other.steps.as_slice())
+        let (mine, theirs) = (self.front(), other.front());
+        if self.is_short() || other.is_short() || mine / 256 != theirs / 256 {
+            return mine.cmp(&theirs);
+        }
+        self.rest().cmp(other.rest())
     }
 }
 
@@ -93,70 +163,74 @@ impl Hash for Trail {
     ghost respects_eq = { (same_Alike (λ steps. fed.u64 (digest_of steps)) steps_Decide).fed };
 
     fn hash<H: Hasher>(&self, state: &mut H) {
-        self.digest.hash(state);
+        self.digest().hash(state);
     }
 }
 
-/// The order of steps: the first two that differ decide, and else the lengths do. Whole blocks that are the same are passed at
-/// once, since names of one case mostly have many steps in common.
-fn compare_steps(a: &[Step], b: &[Step]) -> Ordering
-    ensures { result ≡ slice_cmp step_cmp a.now b.now }
+/// How many steps stand in the front.
+const FRONT: usize = 5;
+
+/// A step as one number.
+fn number_of(step: Step) -> u128
+    ensures value { result ≡ step_number step }
+    ensures small { IsSmall step }
+    ensures within { result < 16777216 }
 {
-    for i in common_blocks(a, b)..a.len().min(b.len()) {
-        let found = a[i].cmp(&b[i]);
-        if found.is_ne() {
-            return found;
-        }
-    }
-    a.len().cmp(&b.len())
+    u128::from(step.rule) * 256 + u128::from(step.child)
 }
 
-/// How many steps are compared at once.
-const BLOCK: usize = 8;
-
-/// Whether the next block of two slices is the same. All of it is looked at, without a branch for each step.
-fn is_same_block(a: &[Step], b: &[Step], at: usize) -> bool
-    requires first { at + 8 ≤ length a.now }
-    requires second { at + 8 ≤ length b.now }
-    ensures { result ≡ true → take at a.now ≡ take at b.now → take (at + 8) a.now ≡ take (at + 8) b.now }
+/// The number of the step at a place; 0 past the last.
+fn number_at(steps: &[Step], at: usize) -> u128
+    ensures value { result ≡ number_at steps.now at }
+    ensures small { IsSmallAt steps.now at }
+    ensures within { result < 16777216 }
 {
-    let mut rules = true;
-    let mut children = true;
-    for i in at..at + BLOCK {
-        rules &= a[i].rule == b[i].rule;
-        children &= a[i].child == b[i].child;
+    if at < steps.len() {
+        return number_of(steps[at]);
     }
-    rules & children
+    0
 }
 
-/// How many steps two slices have in common in whole blocks at the front.
-fn common_blocks(a: &[Step], b: &[Step]) -> usize
-    ensures first { result ≤ length a.now }
-    ensures second { result ≤ length b.now }
-    ensures same { take result a.now ≡ take result b.now }
+/// The first five steps as one number, the first one highest, and how many there are.
+fn front_of(steps: &[Step]) -> u128
+    requires { length steps.now ≤ 250 }
+    ensures value { result ≡ front_of steps.now }
+    ensures small { IsSmallLead steps.now }
 {
-    let most = a.len().min(b.len());
-    let mut at = 0;
-    while most - at >= BLOCK && is_same_block(a, b, at) {
-        at += BLOCK;
-    }
-    at
+    let lead = number_at(steps, 0) * 79_228_162_514_264_337_593_543_950_336
+        + number_at(steps, 1) * 4_722_366_482_869_645_213_696
+        + number_at(steps, 2) * 281_474_976_710_656
+        + number_at(steps, 3) * 16_777_216
+        + number_at(steps, 4);
+    lead * 256 + steps.len() as u128
 }
 
-/// Whether two slices have the same steps: whole blocks first, and from the first that differs on one step after the other.
-fn are_same_steps(a: &[Step], b: &[Step]) -> bool
-    ensures { result ≡ pointwise step_eq a.now b.now }
+/// The rules and children of steps in turn.
+fn flat(alloc: Global, steps: &[Step]) -> Result<Vec<u16>, AllocError>
+    requires { length steps.now ≤ 250 }
+    ensures { IfOk result (λ row. row.items ≡ flat steps.now) }
 {
-    if a.len() != b.len() {
-        return false;
+    let mut row = Vec::with_capacity(alloc, steps.len() * 2)?;
+    for step in steps {
+        row.push(step.rule)?;
+        row.push(u16::from(step.child))?;
     }
-    for i in common_blocks(a, b)..a.len() {
-        if a[i] != b[i] {
-            return false;
-        }
-    }
-    true
+    Ok(row)
 }
+
+/// Those of the steps behind the front. None take no memory.
+fn rest_of(alloc: Global, steps: &[Step]) -> Result<Items<u16>, AllocError>
+    requires { length steps.now ≤ 250 }
+    ensures { IfOk result (λ rest. rest ≡ flat_rest steps.now) }
+{
+    if steps.len() <= FRONT {
+        return Ok(Items::new(alloc));
+    }
+    Ok(Items::from_vec(flat(alloc, &steps[FRONT..])?))
+}
+
+/// How many numbers a word of 64 bits has.
+const WORD: u128 = 18_446_744_073_709_551_616;
 
 /// What a digest is multiplied by before a step is added.
 const DIGEST_FACTOR: u64 = 11_400_714_819_323_198_485;
@@ -195,8 +269,10 @@ impl Trail {
         ensures { result ≡ [] }
     {
         Trail {
-            steps: Shared::new(alloc),
-            digest: 0,
+            alloc,
+            rows: None,
+            high: 0,
+            low: 0,
         }
     }
 
@@ -205,10 +281,23 @@ impl Trail {
         requires { length steps.items ≤ 250 }
         ensures { IfOk result (λ t. t ≡ steps.items) }
     {
+        let alloc = *steps.allocator();
+        if steps.is_empty() {
+            return Ok(Trail::new(alloc));
+        }
+        let front = front_of(&steps);
         let digest = digest_of(&steps);
-        Ok(Trail {
-            steps: Shared::from_vec(steps)?,
+        let rest = rest_of(alloc, &steps)?;
+        let rows = Rows {
+            steps: Items::from_vec(steps),
+            rest,
             digest,
+        };
+        Ok(Trail {
+            alloc,
+            rows: Some(Counted::new(alloc, rows)?),
+            high: (front / WORD) as u64,
+            low: (front % WORD) as u64,
         })
     }
 
@@ -217,14 +306,30 @@ impl Trail {
         ensures value { result.now ≡ self.now }
         ensures short { length self.now ≤ 250 }
     {
-        self.steps.as_slice()
+        match &self.rows {
+            Some(rows) => rows.get().steps(),
+            None => &[],
+        }
+    }
+
+    /// The rules and children of the steps behind the first five.
+    fn rest(&self) -> &[u16]
+        ensures { result.now ≡ flat_rest self.now }
+    {
+        match &self.rows {
+            Some(rows) => rows.get().rest(),
+            None => &[],
+        }
     }
 
     /// The number that is made of the steps.
     pub(crate) fn digest(&self) -> u64
         ensures { result ≡ digest_of self.now }
     {
-        self.digest
+        match &self.rows {
+            Some(rows) => rows.get().digest(),
+            None => 0,
+        }
     }
 
     /// How many steps there are.
@@ -232,7 +337,24 @@ impl Trail {
         ensures value { result ≡ length self.now }
         ensures short { length self.now ≤ 250 }
     {
-        self.steps.len()
+        (self.low % 256) as usize
+    }
+
+    /// The first five steps as one number, and how many there are.
+    fn front(&self) -> u128
+        ensures value { result ≡ front_of self.now }
+        ensures short { length self.now ≤ 250 }
+        ensures small { IsSmallLead self.now }
+    {
+        u128::from(self.high) * WORD + u128::from(self.low)
+    }
+
+    /// Whether all steps stand in the front.
+    fn is_short(&self) -> bool
+        ensures short { result ≡ true → length self.now ≤ 5 }
+        ensures long { result ≡ false → 5 < length self.now }
+    {
+        self.len() <= FRONT
     }
 
     /// One step further down, where there are fewer than 250. An error changes nothing: there is no memory for it.
@@ -241,8 +363,11 @@ impl Trail {
         ensures ok { OnOk result (self.new ≡ self.old ++ step ∷ []) }
         ensures err { OnErr result (self.new ≡ self.old) }
     {
-        self.steps.push(step)?;
-        self.digest = digest_with(self.digest, step);
+        let old = self.as_slice();
+        let mut steps = Vec::with_capacity(self.alloc, old.len() + 1)?;
+        steps.extend_from_slice(old)?;
+        steps.push(step)?;
+        *self = Trail::from_vec(steps)?;
         Ok(())
     }
 }

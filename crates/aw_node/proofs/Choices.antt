@@ -6,15 +6,15 @@ use Rattle.aw_term.specs.Names.{Ref}
 use Rattle.aw_term.specs.Choices.{Choice, Answer}
 use Rattle.aw_base.specs.ChoiceFits.{choice_ok}
 use Rattle.aw_typed.specs.TypeFaults.{arg_ok}
-use Rattle.aw_react.specs.Choosing.{Chosen, No, Did, answer_to, choose}
-use Rattle.aw_react.specs.Homes.{home}
-use Rattle.aw_react.specs.SiteEvents.{after_choice}
-use Rattle.aw_react.specs.Sites.{Site}
-use Rattle.aw_react.specs.Worlds.{node_of}
-use Rattle.aw_nodes.specs.Nodes as N
+use Rattle.aw_law_sites.specs.Choosing.{Chosen, No, Did, answer_to, choose}
+use Rattle.aw_law_sites.specs.Homes.{home}
+use Rattle.aw_law_sites.specs.SiteEvents.{after_choice}
+use Rattle.aw_law_sites.specs.Sites.{Site}
+use Rattle.aw_law_sites.specs.Worlds.{node_of}
+use Rattle.aw_law_nodes.specs.Nodes as N
 use Rattle.aw_msg.specs.Frames as F
 use Rattle.aw_msg.specs.Responses as R
-use Rattle.aw_nodes.specs.Told.{told}
+use Rattle.aw_law_nodes.specs.Told.{told}
 use Rattle.aw_node.specs.TypedNodes.{Rules, handle}
 
 same-number : (n : ℕ) → nat_eq n n ≡ true

@@ -5,7 +5,7 @@ use Rattle.std.proofs.lemmas.Option.{slice_get-map}
 use Rattle.aw_base.specs.NodeNames.{is_start}
 use Rattle.aw_term.specs.Names.{root}
 use Rattle.aw_term.specs.Rules.{Grammar, Sort}
-use Rattle.aw_react.specs.Homes.{home}
+use Rattle.aw_law_sites.specs.Homes.{home}
 
 -- it is that of its sort
 home-start : (g : Grammar) (s k : ℕ) (x : Sort) → slice_get g.sorts s ≡ Some x → x.start ≡ true → home g (root s k) ≡ x.role

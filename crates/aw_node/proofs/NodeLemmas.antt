@@ -2,7 +2,7 @@
 use Rattle.std.proofs.Common.{◌≡◌, ℕ, List, Option, refl, ap, subst, ◌∙◌}
 use Rattle.aw_out.specs.Wires.{Content}
 use Rattle.aw_msg.specs.Frames.{Frame}
-use Rattle.aw_react.specs.Sites.{Site}
+use Rattle.aw_law_sites.specs.Sites.{Site}
 use Rattle.aw_accept.specs.declared.accepted.Accepted.{Accepted}
 use Rattle.aw_typed.specs.declared.data.Typed.{Typed}
 use Rattle.aw_node.specs.TypedNodes.{Rules, rules_of, handle, answers, AnswersAs}

@@ -1,7 +1,7 @@
 -- The bytes of a reply.
 use Rattle.std.proofs.Common.{◌≡◌, ℕ, List, Result, Ok, Err, ap, ◌∙◌}
 use Rattle.std.specs.Result.{IfOk, OnOk, IfErr}
-use Rattle.aw_react.specs.Sites.{Site}
+use Rattle.aw_law_sites.specs.Sites.{Site}
 use Rattle.aw_msg.specs.Frames as F
 use Rattle.aw_msg.specs.Replies.{spelled_reply}
 use Rattle.aw_msg.specs.Responses as R

@@ -5,10 +5,10 @@ use Rattle.aw_term.specs.Choices.{Answer}
 use Rattle.aw_term.specs.Names.{Ref}
 use Rattle.aw_base.specs.ChoiceFits.{choice_ok}
 use Rattle.aw_typed.specs.TypeFaults.{arg_ok}
-use Rattle.aw_react.specs.Sites.{Site}
-use Rattle.aw_react.specs.Worlds.{empty_world}
-use Rattle.aw_nodes.specs.Nodes as N
-use Rattle.aw_nodes.specs.Nodes.{site_of}
+use Rattle.aw_law_sites.specs.Sites.{Site}
+use Rattle.aw_law_sites.specs.Worlds.{empty_world}
+use Rattle.aw_law_nodes.specs.Nodes as N
+use Rattle.aw_law_nodes.specs.Nodes.{site_of}
 use Rattle.aw_msg.specs.Frames as F
 use Rattle.aw_node.specs.TypedNodes.{Rules, handle, replies, site_after}
 use Rattle.aw_node.specs.TypedRuns.{InTurn, Asked, plain_frame, plain_asked, ask, sites_after, IsHonestFrame, AreHonest, AreOneWorld}

@@ -14,14 +14,14 @@ use Rattle.aw_grammar.specs.GrammarOf.{grammar_of}
 use Rattle.aw_apply.specs.Messages as P
 use Rattle.aw_store.specs.declared.facts.Facts.{Ghosts}
 use Rattle.aw_msg.specs.Responses as R
-use Rattle.aw_nodes.specs.Nodes as N
-use Rattle.aw_react.specs.Homes.{home}
-use Rattle.aw_react.specs.SiteEvents.{after_message}
-use Rattle.aw_react.specs.Sites.{Site, Reaction}
+use Rattle.aw_law_nodes.specs.Nodes as N
+use Rattle.aw_law_sites.specs.Homes.{home}
+use Rattle.aw_law_sites.specs.SiteEvents.{after_message}
+use Rattle.aw_law_sites.specs.Sites.{Site, Reaction}
 use Rattle.aw_space.specs.Spaces.{is_home}
 use Rattle.aw_site.specs.Seen.{role_in, IsShown}
 use Rattle.aw_site.specs.declared.site.Site as program
-use Rattle.aw_nodes.specs.Told.{told}
+use Rattle.aw_law_nodes.specs.Told.{told}
 
 -- ---- messages
 

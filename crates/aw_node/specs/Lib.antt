@@ -1,4 +1,5 @@
 pub mod Listed
 pub mod Serving
+pub mod Staying
 pub mod TypedNodes
 pub mod TypedRuns

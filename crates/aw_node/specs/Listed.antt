@@ -3,8 +3,8 @@ use Rattle.std.specs.Prelude.{◌≡◌, List, Option, None, Some, map, ⊤}
 use Rattle.std.specs.Coded.{Coded, Coded-set, codes, Unit-prop, Π_prop}
 use Rattle.aw_choice.specs.ChoiceView.{item_of}
 use Rattle.aw_choice.specs.declared.choice.Item.{Item}
-use Rattle.aw_react.specs.Sites as S
-use Rattle.aw_react.specs.Worklists.{site_worklist}
+use Rattle.aw_law_sites.specs.Sites as S
+use Rattle.aw_law_sites.specs.Worklists.{site_worklist}
 use Rattle.aw_site.specs.Seen.{grammar_in, IsShown}
 use Rattle.aw_site.specs.declared.site.Site.{Site}
 use Rattle.aw_store.specs.declared.facts.Facts.{Ghosts}

@@ -1,8 +1,8 @@
 -- What a node serves, by the sites that it is.
 use Rattle.std.specs.Prelude.{ℕ, List, Option}
 use Rattle.aw_out.specs.Wires.{Content}
-use Rattle.aw_react.specs.Sites.{Site}
-use Rattle.aw_session.specs.Broken.{Anyhow}
+use Rattle.aw_law_sites.specs.Sites.{Site}
+use Rattle.aw_session.specs.Broken.{Stays}
 use Rattle.aw_session.specs.Sessions.{IsServing, IsUnopened, IsCutOff}
 use Rattle.aw_session.specs.declared.log.SessionLog.{SessionLog}
 use Rattle.aw_node.specs.TypedNodes.{Rules, answers}
@@ -16,4 +16,4 @@ Serves {W} content faults failed_openings r role s u v log = (t : Site) × IsSer
 -- From this site sessions were served, and then none could be opened, or memory ran out.
 abbrev pub Stops : {W : Type 0} → (W → Option Content) → (W → ℕ) → Rules → ℕ → Site → W → W → ServeFault → Type 0
 Stops {W} content failed_openings r role s u v NetFault = (t : Site) × IsUnopened (answers r) content failed_openings role s t u v
-Stops {W} content failed_openings r role s u v NoMemory = (t : Site) × IsCutOff {F = Unit {0}} (answers r) Anyhow content role s t u v tt
+Stops {W} content failed_openings r role s u v NoMemory = (t : Site) × IsCutOff {F = Unit {0}} (answers r) Stays content role s t u v tt

@@ -9,9 +9,9 @@ use Rattle.aw_typed.specs.Types.{Types}
 use Rattle.aw_typed.specs.TypeFaults.{arg_ok}
 use Rattle.aw_typed.specs.Typing.{types_of}
 use Rattle.aw_typed.specs.declared.data.Typed.{Typed}
-use Rattle.aw_react.specs.Sites.{Site}
-use Rattle.aw_nodes.specs.Nodes as N
-use Rattle.aw_nodes.specs.Told.{told}
+use Rattle.aw_law_sites.specs.Sites.{Site}
+use Rattle.aw_law_nodes.specs.Nodes as N
+use Rattle.aw_law_nodes.specs.Told.{told}
 use Rattle.aw_msg.specs.Frames as F
 use Rattle.aw_msg.specs.MessageView.{message_of}
 use Rattle.aw_msg.specs.declared.message.Message.{Message}

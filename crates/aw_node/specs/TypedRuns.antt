@@ -6,11 +6,11 @@ use Rattle.aw_term.specs.Names.{Ref}
 use Rattle.aw_term.specs.Rules.{Grammar}
 use Rattle.aw_term.specs.Trees.{Never}
 use Rattle.aw_term.specs.WellFormed.{Each}
-use Rattle.aw_react.specs.Sites.{Site}
-use Rattle.aw_react.specs.Worlds.{empty_world, Move}
-use Rattle.aw_merge.specs.Laws.{MayCome, world_after}
-use Rattle.aw_nodes.specs.Nodes as N
-use Rattle.aw_nodes.specs.Nodes.{site_of}
+use Rattle.aw_law_sites.specs.Sites.{Site}
+use Rattle.aw_law_sites.specs.Worlds.{empty_world, Move}
+use Rattle.aw_law_worlds.specs.Laws.{MayCome, world_after}
+use Rattle.aw_law_nodes.specs.Nodes as N
+use Rattle.aw_law_nodes.specs.Nodes.{site_of}
 use Rattle.aw_msg.specs.Frames as F
 use Rattle.aw_msg.specs.MessageView.{message_of}
 use Rattle.aw_session.specs.Frames.{AreAnswered}

@@ -11,9 +11,9 @@ ghost use Rattle.aw_msg.specs.ReplyRanges.{ReplyInRange};
 ghost use Rattle.aw_msg.specs.ResponseView.{response_of};
 ghost use Rattle.aw_choice.specs.ChoiceView.{choice_of};
 ghost use Rattle.aw_node.specs.TypedNodes.{rules_of, HandlesAs};
-ghost use Rattle.aw_react.specs.Homes.{home};
-ghost use Rattle.aw_react.specs.Sites.{Site};
-ghost use Rattle.aw_react.specs.Worlds.{node_of};
+ghost use Rattle.aw_law_sites.specs.Homes.{home};
+ghost use Rattle.aw_law_sites.specs.Sites.{Site};
+ghost use Rattle.aw_law_sites.specs.Worlds.{node_of};
 ghost use Rattle.aw_typed.specs.Typing.{IsMadeFor};
 
 use crate::workspace::Workspace;

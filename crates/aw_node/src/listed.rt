@@ -2,8 +2,8 @@
 ghost use Rattle.std.specs.Prelude.{◌≡◌, IfOk, map as list_map};
 ghost use Rattle.aw_choice.specs.ChoiceView.{item_of};
 ghost use Rattle.aw_grammar.specs.GrammarOf.{grammar_of};
-ghost use Rattle.aw_react.specs.Sites as S;
-ghost use Rattle.aw_react.specs.Worklists.{site_worklist};
+ghost use Rattle.aw_law_sites.specs.Sites as S;
+ghost use Rattle.aw_law_sites.specs.Worklists.{site_worklist};
 ghost use Rattle.aw_site.specs.Seen.{IsShown};
 ghost use Rattle.aw_node.specs.Listed.{IsListed, IsListed-prop};
 

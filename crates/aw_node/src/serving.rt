@@ -2,12 +2,14 @@
 ghost use Rattle.std.specs.Prelude.{◌≡◌, ◌⊎◌, ◌<◌, ◌≤◌, true, length, IfOk, IfErr, IsErrOf};
 ghost use Rattle.aw_grammar.specs.GrammarOf.{grammar_of};
 ghost use Rattle.aw_node.specs.Serving.{Serves, Stops};
+ghost use Rattle.aw_node.specs.Staying.{NodeStays};
 ghost use Rattle.aw_node.specs.TypedNodes.{rules_of};
-ghost use Rattle.aw_react.specs.Sites as S;
-ghost use Rattle.aw_react.specs.Sites.{empty_site};
+ghost use Rattle.aw_law_sites.specs.Sites as S;
+ghost use Rattle.aw_law_sites.specs.Sites.{empty_site};
 ghost use Rattle.aw_session.specs.Sessions.{NoneComes};
 ghost use Rattle.aw_typed.specs.Typing.{IsMadeFor};
 
+use crate::law::served_nodes;
 use crate::listed::ListedSite;
 use crate::node::Node;
 use crate::workspace::Workspace;
@@ -49,7 +51,10 @@ pub fn serve_workspace<W: Wire, P: Workspace + Drop>(
     ensures stopped { (s : S.Site) → P.shows site s → IfErr result (Stops W.content W.failed_openings (rules_of g.now.grammar t.now) role s wire.old wire.new) }
     // A session that could not be opened is told; after any other answer each was opened.
     ensures openings_kept { (IsErrOf result ServeFault.NetFault → ⊥) → W.failed_openings wire.new ≡ W.failed_openings wire.old }
+    // Whatever frames came, forged ones too, none takes away or contradicts what the node holds.
+    ensures stays { NodeStays (rules_of g.now.grammar t.now) }
 {
+    served_nodes();
     let mut node = Node::new(alloc, g, t, site);
     match serve_sessions(alloc, &mut node, role, sessions, wire) {
         Ok(log) => Ok(log),
@@ -79,6 +84,8 @@ pub fn serve<W: Wire>(
     ensures stopped { IfErr result (Stops W.content W.failed_openings (rules_of g.now.grammar t.now) role (empty_site true role) wire.old wire.new) }
     // A session that could not be opened is told; after any other answer each was opened.
     ensures openings_kept { (IsErrOf result ServeFault.NetFault → ⊥) → W.failed_openings wire.new ≡ W.failed_openings wire.old }
+    // Whatever frames came, forged ones too, none takes away or contradicts what the node holds.
+    ensures stays { NodeStays (rules_of g.now.grammar t.now) }
 {
     let site = Site::new(alloc, g, role, CellFacts::new(alloc), true);
     serve_workspace(alloc, g, t, ListedSite::new(site), role, sessions, wire)

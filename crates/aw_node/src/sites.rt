@@ -8,9 +8,9 @@ ghost use Rattle.aw_msg.specs.MessageView.{message_of};
 ghost use Rattle.aw_msg.specs.Messages.{MessageInRange};
 ghost use Rattle.aw_msg.specs.ReplyRanges.{ReplyInRange};
 ghost use Rattle.aw_msg.specs.ResponseView.{response_of};
-ghost use Rattle.aw_nodes.specs.Nodes as N;
-ghost use Rattle.aw_nodes.specs.Told.{told};
-ghost use Rattle.aw_react.specs.Sites as S;
+ghost use Rattle.aw_law_nodes.specs.Nodes as N;
+ghost use Rattle.aw_law_nodes.specs.Told.{told};
+ghost use Rattle.aw_law_sites.specs.Sites as S;
 ghost use Rattle.aw_site.specs.Answers.{IsReceived};
 ghost use Rattle.aw_site.specs.Seen.{IsShown};
 

@@ -8,12 +8,12 @@ ghost use Rattle.aw_msg.specs.Messages.{MessageInRange};
 ghost use Rattle.aw_msg.specs.ReplyRanges.{ReplyInRange};
 ghost use Rattle.aw_msg.specs.ResponseView.{response_of};
 ghost use Rattle.aw_node.specs.TypedNodes.{RepliesAs, RepliesToPush};
-ghost use Rattle.aw_nodes.specs.Nodes as N;
-ghost use Rattle.aw_react.specs.Choosing.{answer_to, choose};
-ghost use Rattle.aw_react.specs.Homes.{home};
-ghost use Rattle.aw_react.specs.SiteEvents.{after_choice};
-ghost use Rattle.aw_react.specs.Sites.{Site};
-ghost use Rattle.aw_react.specs.Worlds.{node_of};
+ghost use Rattle.aw_law_nodes.specs.Nodes as N;
+ghost use Rattle.aw_law_sites.specs.Choosing.{answer_to, choose};
+ghost use Rattle.aw_law_sites.specs.Homes.{home};
+ghost use Rattle.aw_law_sites.specs.SiteEvents.{after_choice};
+ghost use Rattle.aw_law_sites.specs.Sites.{Site};
+ghost use Rattle.aw_law_sites.specs.Worlds.{node_of};
 
 use aw_accept::Accepted;
 use aw_choice::{Answer, Choice};

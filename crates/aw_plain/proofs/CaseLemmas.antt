@@ -16,7 +16,7 @@ use Rattle.aw_accept.proofs.Sources.{Source_at, env_enters, entered}
 use Rattle.aw_accept.proofs.ConfigLemmas.{Member-insert_row, Member-insert_rows, child_row, Member-child_rows, Member-rounds, rounds-inherited-list, rounds-results-list, Chain, end, link, In-rounds, In-put, get-filled, done_row-cases}
 use Rattle.aw_accept.proofs.Developing.{Item-at}
 use Rattle.aw_accept.proofs.UndividedRuns.{decode_on}
-use Rattle.aw_rows.specs.Rounds.{row_fed}
+use Rattle.aw_plain_rows.specs.Rounds.{row_fed}
 use Rattle.aw_plain.specs.Changes.{row_after}
 use Rattle.aw_plain.specs.Cases.{IsSameCase, KeepsToCase, AreApart}
 

@@ -7,10 +7,10 @@ use Rattle.aw_term.specs.Rules.{Value, Ground, Rule}
 use Rattle.aw_term.specs.Configs as Q
 use Rattle.aw_term.specs.Configs.{Done, Config, done_row, rounds, env, fill, child_rows, insert_row, insert_rows, row_put, put, develop}
 use Rattle.aw_term.proofs.RowParts.{rounds_node}
-use Rattle.aw_rows.specs.declared.row.Row.{Row}
+use Rattle.aw_plain_rows.specs.declared.row.Row.{Row}
 use Rattle.aw_plain.specs.declared.change.Change.{Change}
-use Rattle.aw_rows.specs.RowView.{plain_row, config_of}
-use Rattle.aw_rows.specs.Rounds.{row_fed}
+use Rattle.aw_plain_rows.specs.RowView.{plain_row, config_of}
+use Rattle.aw_plain_rows.specs.Rounds.{row_fed}
 use Rattle.aw_plain.specs.Changes.{row_after, changed, IsChangedTo}
 
 -- one more change is made last

@@ -11,9 +11,9 @@ use Rattle.aw_term.specs.declared.term.Expr as expr
 use Rattle.aw_term.specs.declared.ground.Ground as grounds
 use Rattle.aw_term.proofs.Joined.{upto_end}
 use Rattle.aw_term.proofs.ViewLemmas.{term_con, ground_con}
-use Rattle.aw_rows.specs.declared.tree.Tree as tree
-use Rattle.aw_rows.specs.TreeView.{value_of, values_of}
-use Rattle.aw_rows.proofs.JobLemmas.{binds_join}
+use Rattle.aw_plain_rows.specs.declared.tree.Tree as tree
+use Rattle.aw_plain_rows.specs.TreeView.{value_of, values_of}
+use Rattle.aw_plain_rows.proofs.JobLemmas.{binds_join}
 
 -- a constructor over filled parts
 pub fill_con : (env : List Value) (e : expr.Expr) (c : ℕ) (parts qs : List expr.Expr) (us : List tree.Tree) → e ≡ expr.Con c parts → qs ≡ parts → values_of us ≡ map (fill env) (map term_of qs) → Made (P.Con c) (join (values_of us)) ≡ fill env (term_of e)

@@ -5,8 +5,8 @@ use Rattle.aw_term.specs.Rules.{Value}
 use Rattle.aw_term.specs.Matching.{Yes, and_then, under, match, match_all}
 use Rattle.aw_term.specs.Views.{pattern_of}
 use Rattle.aw_term.specs.declared.term.Pattern.{Pattern}
-use Rattle.aw_rows.specs.declared.tree.Tree.{Tree}
-use Rattle.aw_rows.specs.TreeView.{value_of, values_of}
+use Rattle.aw_plain_rows.specs.declared.tree.Tree.{Tree}
+use Rattle.aw_plain_rows.specs.TreeView.{value_of, values_of}
 use Rattle.aw_plain.proofs.MatchLemmas.{M}
 
 abbrev pub guard_from : ℕ → ℕ → List Pattern → List Tree → M

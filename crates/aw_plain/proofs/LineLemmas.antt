@@ -9,10 +9,10 @@ use Rattle.aw_term.specs.Artifacts.{Words, listed, with_parts, head_text, trees_
 use Rattle.aw_out.specs.Report.{Bounded, Prints}
 use Rattle.aw_out.specs.declared.error.PrintFault.{PrintFault}
 use Rattle.aw_out.proofs.Printing.{Prints-second, Prints-stopped, Prints-nothing}
-use Rattle.aw_rows.specs.declared.tree.Tree as tree
-use Rattle.aw_rows.specs.declared.row.Row as rows
-use Rattle.aw_rows.specs.TreeView.{values_of}
-use Rattle.aw_rows.specs.RowView.{plain_row, config_of}
+use Rattle.aw_plain_rows.specs.declared.tree.Tree as tree
+use Rattle.aw_plain_rows.specs.declared.row.Row as rows
+use Rattle.aw_plain_rows.specs.TreeView.{values_of}
+use Rattle.aw_plain_rows.specs.RowView.{plain_row, config_of}
 use Rattle.aw_plain.specs.Pieces.{texts_under}
 
 -- an argument has the same text as a value

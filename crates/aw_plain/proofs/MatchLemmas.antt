@@ -17,12 +17,12 @@ use Rattle.aw_term.proofs.Joined.{count_join}
 use Rattle.std.specs.declared.vec.Vec.{Vec}
 use Rattle.std.specs.declared.rc.Rc.{Rc}
 use Rattle.std.specs.declared.alloc.Global.{Global}
-use Rattle.aw_rows.specs.declared.tree.Tree.{Tree}
-use Rattle.aw_rows.specs.declared.tree.Tree as tree
-use Rattle.aw_rows.specs.TreeView.{value_of, value_under, values_of}
+use Rattle.aw_plain_rows.specs.declared.tree.Tree.{Tree}
+use Rattle.aw_plain_rows.specs.declared.tree.Tree as tree
+use Rattle.aw_plain_rows.specs.TreeView.{value_of, value_under, values_of}
 use Rattle.aw_plain.specs.MatchView.{behind}
 use Rattle.aw_plain.specs.Narrow.{is_narrow, are_narrow}
-use Rattle.aw_rows.proofs.ViewLemmas.{value_parts}
+use Rattle.aw_plain_rows.proofs.ViewLemmas.{value_parts}
 
 abbrev pub M : Type 0
 M = Matched Value Ref

@@ -13,12 +13,12 @@ use Rattle.aw_grammar.specs.declared.grammar.Grammar.{Grammar}
 use Rattle.aw_grammar.specs.declared.rule.Rule.{Rule}
 use Rattle.aw_grammar.specs.GrammarView.{rule_of}
 use Rattle.aw_grammar.specs.GrammarOf.{grammar_of}
-use Rattle.aw_rows.specs.declared.tree.Tree.{Tree}
-use Rattle.aw_rows.specs.declared.row.Row.{Row}
-use Rattle.aw_rows.specs.declared.row.State.TheVariants.{Pending}
+use Rattle.aw_plain_rows.specs.declared.tree.Tree.{Tree}
+use Rattle.aw_plain_rows.specs.declared.row.Row.{Row}
+use Rattle.aw_plain_rows.specs.declared.row.State.TheVariants.{Pending}
 use Rattle.aw_plain.specs.declared.outcome.Outcome.{Outcome}
 use Rattle.aw_plain.specs.declared.outcome.Outcome.TheVariants.{Refused, Takes}
-use Rattle.aw_rows.specs.RowView.{plain_row, plain_state}
+use Rattle.aw_plain_rows.specs.RowView.{plain_row, plain_state}
 use Rattle.aw_plain.specs.OutcomeView.{IsTakable}
 
 -- what a look-up gives, through the view

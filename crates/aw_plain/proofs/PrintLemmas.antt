@@ -10,13 +10,13 @@ use Rattle.aw_term.specs.Trees.{Leaf, Made, Nil, More, join}
 use Rattle.aw_term.specs.WellFormed.{symbols}
 use Rattle.aw_term.specs.Rules.{Value, get}
 use Rattle.aw_term.specs.Artifacts.{Words, listed, with_parts, trees_texts, value_text, ref_text}
-use Rattle.aw_rows.specs.declared.tree.Tree.{Tree, Con}
+use Rattle.aw_plain_rows.specs.declared.tree.Tree.{Tree, Con}
 use Rattle.aw_plain.specs.declared.print.Piece.{Piece}
-use Rattle.aw_rows.specs.TreeView.{value_of, value_under}
+use Rattle.aw_plain_rows.specs.TreeView.{value_of, value_under}
 use Rattle.aw_plain.specs.Pieces.{opening, text_of, texts_under, following, piece_text, piece_opening, pending, piece_work, pieces_work, Continues}
-use Rattle.aw_rows.specs.Places.{places}
-use Rattle.aw_rows.proofs.ViewLemmas.{value_parts}
-use Rattle.aw_rows.proofs.Counts.{symbols_under}
+use Rattle.aw_plain_rows.specs.Places.{places}
+use Rattle.aw_plain_rows.proofs.ViewLemmas.{value_parts}
+use Rattle.aw_plain_rows.proofs.Counts.{symbols_under}
 use Rattle.aw_out.specs.Report.{Bounded, Prints}
 use Rattle.aw_out.specs.declared.error.PrintFault.{PrintFault}
 use Rattle.aw_out.proofs.Printing.{Prints-second}

@@ -30,8 +30,8 @@ use Rattle.aw_accept.proofs.GuardAnswers.{waits_for_missing, tells_no_circle}
 use Rattle.aw_accept.proofs.SortsOfRows.{taken-sorts}
 use Rattle.aw_accept.proofs.Fitting.{given_of}
 use Rattle.aw_accept.proofs.UndividedRuns.{undivided-acyclic, decode_on}
-use Rattle.aw_rows.specs.declared.row.Row as rows
-use Rattle.aw_rows.specs.RowView.{config_of}
+use Rattle.aw_plain_rows.specs.declared.row.Row as rows
+use Rattle.aw_plain_rows.specs.RowView.{config_of}
 use Rattle.aw_plain.specs.Filled.{IsFilled, AreFilled}
 use Rattle.aw_plain.specs.Ordered.{IsOrdered}
 use Rattle.aw_plain.specs.Cases.{AreApart}

@@ -12,8 +12,8 @@ use Rattle.aw_term.specs.Rules.{Value}
 use Rattle.aw_term.specs.Configs as Q
 use Rattle.aw_term.specs.Configs.{State, Config}
 use Rattle.aw_term.specs.WellFormed.{Each}
-use Rattle.aw_rows.specs.declared.row.Row.{Row}
-use Rattle.aw_rows.specs.RowView.{plain_row, config_of}
+use Rattle.aw_plain_rows.specs.declared.row.Row.{Row}
+use Rattle.aw_plain_rows.specs.RowView.{plain_row, config_of}
 use Rattle.aw_plain.specs.Ordered.{IsOrdered}
 use Rattle.aw_plain.specs.Cases.{IsSameCase, case_lt, AreApart, AreOutside}
 use Rattle.aw_plain.specs.Changes.{row_after}

@@ -5,12 +5,12 @@ use Rattle.aw_term.specs.Rules.{Value}
 use Rattle.aw_term.specs.Configs as Q
 use Rattle.aw_term.specs.Configs.{Done, done_row}
 use Rattle.aw_term.specs.Views.{ground_of}
-use Rattle.aw_rows.specs.declared.row.Row.{Row}
+use Rattle.aw_plain_rows.specs.declared.row.Row.{Row}
 use Rattle.aw_plain.specs.declared.change.Change.{Change}
 use Rattle.aw_plain.specs.declared.taking.Taking.{Taking}
-use Rattle.aw_rows.specs.Rounds.{row_fed}
-use Rattle.aw_rows.specs.TreeView.{values_of}
-use Rattle.aw_rows.specs.RowView.{config_of}
+use Rattle.aw_plain_rows.specs.Rounds.{row_fed}
+use Rattle.aw_plain_rows.specs.TreeView.{values_of}
+use Rattle.aw_plain_rows.specs.RowView.{config_of}
 
 -- a row that was held, after a rule was taken on n
 abbrev pub row_after : Node → Q.State → List Value → Q.Row → Q.Row

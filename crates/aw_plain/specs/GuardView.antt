@@ -5,7 +5,7 @@ use Rattle.aw_term.specs.Matching as Q
 use Rattle.aw_choice.specs.ChoiceView.{place_of}
 use Rattle.aw_plain.specs.declared.guard.Guard.{Guard}
 use Rattle.aw_plain.specs.declared.guard.Guard.TheVariants.{Yes, Waits, Differs}
-use Rattle.aw_rows.specs.TreeView.{values_of}
+use Rattle.aw_plain_rows.specs.TreeView.{values_of}
 
 -- what a guard gives, with values and references as plain ones
 abbrev pub guard_of : Guard → Q.Matched Value Ref

@@ -6,7 +6,7 @@ use Rattle.aw_term.specs.Matching as Q
 use Rattle.aw_choice.specs.ChoiceView.{path_of}
 use Rattle.aw_plain.specs.declared.matching.Matched.{Matched}
 use Rattle.aw_plain.specs.declared.matching.Matched.TheVariants.{Yes, Waits, Differs}
-use Rattle.aw_rows.specs.TreeView.{values_of}
+use Rattle.aw_plain_rows.specs.TreeView.{values_of}
 
 -- what a match gives, with values and references as plain ones
 abbrev pub matched_of : Matched → Q.Matched Value Ref

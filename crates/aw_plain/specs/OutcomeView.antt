@@ -9,7 +9,7 @@ use Rattle.aw_grammar.specs.GrammarView.{rule_of}
 use Rattle.aw_choice.specs.ChoiceView.{answer_of}
 use Rattle.aw_plain.specs.declared.outcome.Outcome.{Outcome}
 use Rattle.aw_plain.specs.declared.outcome.Outcome.TheVariants.{Refused, Takes}
-use Rattle.aw_rows.specs.TreeView.{values_of}
+use Rattle.aw_plain_rows.specs.TreeView.{values_of}
 
 -- what a choice leads to, with its rule and its values as plain ones, where these are the sorts
 abbrev pub outcome_of : List Sort → Outcome → Q.Outcome Value Ref

@@ -9,11 +9,11 @@ use Rattle.aw_grammar.specs.GrammarOf.{words_of}
 use Rattle.std.specs.declared.result.Result.{Result}
 use Rattle.aw_out.specs.declared.error.PrintFault.{PrintFault}
 use Rattle.aw_out.specs.Report.{Bounded, Prints}
-use Rattle.aw_rows.specs.declared.tree.Tree as tree
+use Rattle.aw_plain_rows.specs.declared.tree.Tree as tree
 use Rattle.aw_plain.specs.declared.print.Piece.{Piece}
 use Rattle.aw_plain.specs.declared.print.Piece.TheVariants.{First, Next, Bytes}
-use Rattle.aw_rows.specs.TreeView.{value_of, value_under}
-use Rattle.aw_rows.specs.Places.{places}
+use Rattle.aw_plain_rows.specs.TreeView.{value_of, value_under}
+use Rattle.aw_plain_rows.specs.Places.{places}
 
 -- the text of a value up to its first part
 abbrev pub opening : Words → Value → List ℕ

@@ -1,12 +1,12 @@
 //! Rows that a taken rule changes: they are made first, and put in their places when nothing can fail any more.
 ghost use Rattle.std.specs.Prelude.{◌≡◌, ◌≤◌, IfOk, OnOk, length, map, slice_set, vec_len, vec_capacity};
-ghost use Rattle.aw_rows.specs.RowView.{config_of};
+ghost use Rattle.aw_plain_rows.specs.RowView.{config_of};
 ghost use Rattle.aw_plain.specs.Cases.{AreOutside};
 ghost use Rattle.aw_plain.specs.Changes.{row_taken, changed, AreRightPast};
 
 use crate::develop::row_after;
 use crate::taking::Taking;
-use aw_rows::Row;
+use aw_plain_rows::Row;
 use std::alloc::{AllocError, Global};
 use std::ops::Range;
 

@@ -4,14 +4,14 @@ ghost use Rattle.aw_term.specs.Names.{below};
 ghost use Rattle.aw_term.specs.Configs.{holes as plain_holes, child_rows as plain_child_rows, env as plain_env};
 ghost use Rattle.aw_term.specs.Views.{ground_of};
 ghost use Rattle.aw_grammar.specs.GrammarView.{child_of, rule_of};
-ghost use Rattle.aw_rows.specs.TreeView.{values_of};
-ghost use Rattle.aw_rows.specs.RowView.{plain_row, config_of};
+ghost use Rattle.aw_plain_rows.specs.TreeView.{values_of};
+ghost use Rattle.aw_plain_rows.specs.RowView.{plain_row, config_of};
 
 use crate::fill::{fill_all, holes, lift_all};
 use crate::matching::append;
 use aw_base::{Child, Grammar, Ground, Rule, child_node};
 use aw_name::Node;
-use aw_rows::{Row, State, Tree, Trees};
+use aw_plain_rows::{Row, State, Tree, Trees};
 use std::alloc::{AllocError, Global};
 
 /// Adds the results of a child, counted from 1.

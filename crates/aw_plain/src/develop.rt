@@ -4,9 +4,9 @@ ghost use Rattle.aw_term.specs.Configs.{develop as plain_develop, done_row as pl
 ghost use Rattle.aw_term.specs.Choices.{or_same};
 ghost use Rattle.aw_term.specs.Views.{ground_of};
 ghost use Rattle.aw_grammar.specs.GrammarView.{rule_of};
-ghost use Rattle.aw_rows.specs.TreeView.{values_of};
-ghost use Rattle.aw_rows.specs.RowView.{plain_row, plain_state, config_of};
-ghost use Rattle.aw_rows.specs.Rounds.{row_fed};
+ghost use Rattle.aw_plain_rows.specs.TreeView.{values_of};
+ghost use Rattle.aw_plain_rows.specs.RowView.{plain_row, plain_state, config_of};
+ghost use Rattle.aw_plain_rows.specs.Rounds.{row_fed};
 ghost use Rattle.aw_plain.specs.Changes.{row_taken};
 ghost use Rattle.aw_plain.specs.Ordered.{IsOrdered};
 ghost use Rattle.aw_plain.specs.Cases.{AreApart};
@@ -19,7 +19,7 @@ use crate::taking::Taking;
 use crate::touch::touched;
 use aw_base::{Grammar, Grounds, Rule};
 use aw_name::{Node, copy_node};
-use aw_rows::{Row, State, Tree, Trees, copy_parts, copy_state, put_rounds};
+use aw_plain_rows::{Row, State, Tree, Trees, copy_parts, copy_state, put_rounds};
 use aw_term::order::is_node;
 use std::alloc::{AllocError, Global};
 

@@ -2,12 +2,12 @@
 ghost use Rattle.std.specs.Prelude.{◌≡◌, IfOk, map};
 ghost use Rattle.aw_term.specs.Configs.{fill as plain_fill, lift as plain_lift, holes as plain_holes};
 ghost use Rattle.aw_term.specs.Views.{ground_of, term_of};
-ghost use Rattle.aw_rows.specs.TreeView.{value_of, values_of};
+ghost use Rattle.aw_plain_rows.specs.TreeView.{value_of, values_of};
 
 use aw_base::{Expr, Ground, Lit};
 use aw_list::Items;
 use aw_name::{Node, copy_node};
-use aw_rows::{Tree, Trees, copy_at, make_con, make_text};
+use aw_plain_rows::{Tree, Trees, copy_at, make_con, make_text};
 use std::alloc::{AllocError, Global};
 
 /// The term, with the values of its variables by number.

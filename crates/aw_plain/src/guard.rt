@@ -4,14 +4,14 @@ ghost use Rattle.aw_term.specs.Trees.{join};
 ghost use Rattle.aw_term.specs.Matching.{Yes, match_all as plain_guard};
 ghost use Rattle.aw_term.specs.WellFormed.{all_nesting};
 ghost use Rattle.aw_term.specs.Views.{pattern_of};
-ghost use Rattle.aw_rows.specs.TreeView.{values_of};
+ghost use Rattle.aw_plain_rows.specs.TreeView.{values_of};
 ghost use Rattle.aw_plain.specs.GuardView.{guard_of};
 ghost use Rattle.aw_plain.specs.Narrow.{are_narrow};
 
 use crate::matching::{Matched, append, match_tree};
 use aw_base::{Pattern, Place, Ref};
 use aw_list::Items;
-use aw_rows::{Tree, Trees};
+use aw_plain_rows::{Tree, Trees};
 use std::alloc::{AllocError, Global};
 
 /// What a guard gives: what the variables of the patterns take; or the missing result that it waits for; or the place

@@ -5,14 +5,14 @@ ghost use Rattle.aw_term.specs.Matching.{Yes, match as plain_match, match_parts 
 ghost use Rattle.aw_term.specs.WellFormed.{nesting, all_nesting};
 ghost use Rattle.aw_term.specs.Views.{pattern_of};
 ghost use Rattle.aw_choice.specs.ChoiceView.{path_of};
-ghost use Rattle.aw_rows.specs.TreeView.{value_of};
+ghost use Rattle.aw_plain_rows.specs.TreeView.{value_of};
 ghost use Rattle.aw_plain.specs.MatchView.{matched_of, behind};
 ghost use Rattle.aw_plain.specs.Narrow.{is_narrow, are_narrow};
 
 use aw_base::{Lit, Path, Pattern, Ref, Slot};
 use aw_list::{Items, Text};
 use aw_name::{Node, copy_node};
-use aw_rows::{Tree, Trees, copy_parts, copy_tree};
+use aw_plain_rows::{Tree, Trees, copy_parts, copy_tree};
 use std::alloc::{AllocError, Global};
 
 /// What a match gives: what the variables take, in the order in which they enter; or the missing result that it waits

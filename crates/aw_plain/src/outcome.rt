@@ -8,8 +8,8 @@ ghost use Rattle.aw_term.specs.Views.{ground_of, pattern_of};
 ghost use Rattle.aw_grammar.specs.declared.rule.Sort.{Sort as SortValue};
 ghost use Rattle.aw_grammar.specs.GrammarView.{rule_of};
 ghost use Rattle.aw_grammar.specs.GrammarOf.{grammar_of};
-ghost use Rattle.aw_rows.specs.TreeView.{values_of};
-ghost use Rattle.aw_rows.specs.RowView.{plain_row, config_of};
+ghost use Rattle.aw_plain_rows.specs.TreeView.{values_of};
+ghost use Rattle.aw_plain_rows.specs.RowView.{plain_row, config_of};
 ghost use Rattle.aw_plain.specs.Filled.{AreFilled};
 ghost use Rattle.aw_plain.specs.Ordered.{IsOrdered};
 ghost use Rattle.aw_plain.specs.Narrow.{are_narrow};
@@ -19,7 +19,7 @@ use crate::guard::{Guard, match_all};
 use crate::row::find_row;
 use aw_base::{Answer, Grammar, Ground, Rule};
 use aw_name::{Node, Trail};
-use aw_rows::{Row, State, Trees};
+use aw_plain_rows::{Row, State, Trees};
 use std::alloc::{AllocError, Global};
 
 /// A refusal, or a rule with the values that its patterns bind.

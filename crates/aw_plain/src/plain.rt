@@ -9,7 +9,7 @@ ghost use Rattle.aw_iograph.specs.Dependence.{IO, HasNoCircle};
 ghost use Rattle.aw_accept.specs.Acyclic.{IsAcyclic, IsTree};
 ghost use Rattle.aw_accept.specs.Missing.{IsMissing};
 ghost use Rattle.aw_accept.specs.Sorts.{HaveTheirSorts};
-ghost use Rattle.aw_rows.specs.RowView.{config_of};
+ghost use Rattle.aw_plain_rows.specs.RowView.{config_of};
 ghost use Rattle.aw_plain.specs.Filled.{AreFilled};
 ghost use Rattle.aw_plain.specs.Ordered.{IsOrdered};
 ghost use Rattle.aw_plain.specs.Cases.{AreApart};
@@ -18,7 +18,7 @@ ghost use Rattle.aw_plain.specs.Reached.{IsReached};
 use crate::take::choose;
 use aw_accept::Accepted;
 use aw_base::{Answer, Choice, Grammar};
-use aw_rows::Row;
+use aw_plain_rows::Row;
 use std::alloc::{AllocError, Global};
 
 /// The rows that all taken choices lead to, one after the other, from none. Its grammar was accepted, so no value in it

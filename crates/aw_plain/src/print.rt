@@ -3,9 +3,9 @@ ghost use Rattle.std.specs.Prelude.{◌≡◌, ◌↔◌, ◌+◌, ◌*◌, ◌<
 ghost use Rattle.aw_term.specs.Artifacts.{Words, listed, node_text, row_text, state_text, artifact_text};
 ghost use Rattle.aw_grammar.specs.GrammarOf.{words_of};
 ghost use Rattle.aw_out.specs.Report.{Prints};
-ghost use Rattle.aw_rows.specs.TreeView.{value_of, values_of};
-ghost use Rattle.aw_rows.specs.RowView.{plain_row, plain_state, config_of};
-ghost use Rattle.aw_rows.specs.Places.{places, places_of_all};
+ghost use Rattle.aw_plain_rows.specs.TreeView.{value_of, values_of};
+ghost use Rattle.aw_plain_rows.specs.RowView.{plain_row, plain_state, config_of};
+ghost use Rattle.aw_plain_rows.specs.Places.{places, places_of_all};
 ghost use Rattle.aw_plain.specs.Pieces.{opening as plain_opening, arguments as plain_arguments, text_of, texts_under, following};
 ghost use Rattle.aw_plain.specs.Pieces.{piece_text, piece_opening, pending, with_piece, piece_work, pieces_work, Continues};
 
@@ -14,8 +14,8 @@ use aw_base::{Grammar, con_name, push_node, rule_name};
 use aw_list::{Items, Text};
 use aw_name::Node;
 use aw_out::{PrintFault, Report};
-use aw_rows::{Row, State, Tree, Trees, copy_part};
-use aw_text::{push_number, push_quoted};
+use aw_plain_rows::{Row, State, Tree, Trees, copy_part};
+use aw_spelling::{push_number, push_quoted};
 use std::alloc::{AllocError, Global};
 
 /// What is still to be printed: the first of some values, one behind another, or bytes.

@@ -2,11 +2,11 @@
 ghost use Rattle.std.specs.Prelude.{◌≡◌, ◌+◌, ◌<◌, ◌≤◌, ◌++◌, ◌∷◌, OnOk, OnErr, length, take, drop, option_map, vec_len, vec_capacity};
 ghost use Rattle.std.specs.Option.{option_copied};
 ghost use Rattle.aw_term.specs.Configs.{insert_row, insert_rows, row_of, Row as PlainRow};
-ghost use Rattle.aw_rows.specs.RowView.{plain_row, config_of};
+ghost use Rattle.aw_plain_rows.specs.RowView.{plain_row, config_of};
 ghost use Rattle.aw_plain.specs.Ordered.{IsOrdered};
 
 use aw_name::Node;
-use aw_rows::Row;
+use aw_plain_rows::Row;
 use aw_term::order::{is_before, is_node};
 use std::alloc::AllocError;
 

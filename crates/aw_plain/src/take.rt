@@ -5,7 +5,7 @@ ghost use Rattle.aw_term.specs.Names.{root as plain_root};
 ghost use Rattle.aw_term.specs.Views.{ground_of};
 ghost use Rattle.aw_choice.specs.ChoiceView.{answer_of, choice_of};
 ghost use Rattle.aw_grammar.specs.GrammarOf.{grammar_of};
-ghost use Rattle.aw_rows.specs.RowView.{plain_row, config_of};
+ghost use Rattle.aw_plain_rows.specs.RowView.{plain_row, config_of};
 ghost use Rattle.aw_plain.specs.Filled.{AreFilled};
 ghost use Rattle.aw_plain.specs.Ordered.{IsOrdered};
 ghost use Rattle.aw_plain.specs.Cases.{AreApart};
@@ -17,7 +17,7 @@ use crate::row::{add_row, find_row};
 use aw_base::{Answer, Choice, Grammar, Grounds};
 use aw_list::Items;
 use aw_name::{Node, Trail};
-use aw_rows::{Row, State};
+use aw_plain_rows::{Row, State};
 use std::alloc::{AllocError, Global};
 
 /// The node that a case begins with.

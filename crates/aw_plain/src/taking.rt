@@ -1,7 +1,7 @@
 //! A rule that is taken on a node.
 use aw_base::Grounds;
 use aw_name::Node;
-use aw_rows::Tree;
+use aw_plain_rows::Tree;
 
 /// A rule that is taken on a node: its number, its arguments, and the results that it gives.
 #[derive(Debug, Drop)]

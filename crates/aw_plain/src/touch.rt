@@ -1,15 +1,15 @@
 //! Which rows a taken rule can change: those of its case, which stand together, and where it gives nothing its own alone.
 ghost use Rattle.std.specs.Prelude.{◌≡◌, ◌≤◌, length};
 ghost use Rattle.aw_term.specs.Configs.{State};
-ghost use Rattle.aw_rows.specs.TreeView.{values_of};
-ghost use Rattle.aw_rows.specs.RowView.{config_of};
+ghost use Rattle.aw_plain_rows.specs.TreeView.{values_of};
+ghost use Rattle.aw_plain_rows.specs.RowView.{config_of};
 ghost use Rattle.aw_plain.specs.Ordered.{IsOrdered};
 ghost use Rattle.aw_plain.specs.Cases.{IsSameCase, AreApart, AreOutside};
 ghost use Rattle.aw_plain.specs.Changes.{row_after};
 
 use crate::order::is_case_before;
 use aw_name::Node;
-use aw_rows::{Row, Tree};
+use aw_plain_rows::{Row, Tree};
 use aw_term::order::is_before;
 use std::ops::Range;
 

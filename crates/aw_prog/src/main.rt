@@ -2,9 +2,9 @@
 #![tactic(auto)]
 
 use aw_disk::FileDisk;
+use aw_net::NetWire;
 use aw_out::{StdSink, StdSource};
 use aw_run::{Status, Word, run};
-use aw_wires::NetWire;
 use std::alloc::AllocError;
 use std::env;
 use std::io::ErrorKind;

@@ -2,9 +2,9 @@
 use Rattle.std.proofs.Common.{◌≡◌, ℕ, zero, suc, ◌≤◌, arith, [], ◌∷◌, take, sym, refl, subst, inl, inr}
 use Rattle.std.specs.Prelude.{Option, Some, None}
 use Rattle.aw_term.specs.Rules.{Grammar}
-use Rattle.aw_react.specs.Bounds.{bound_of}
-use Rattle.aw_react.specs.Outputs.{settle_moves}
-use Rattle.aw_react.specs.Worlds.{World, Move, Delivers, run, settle, deliver, undelivered}
+use Rattle.aw_law_sites.specs.Bounds.{bound_of}
+use Rattle.aw_law_sites.specs.Outputs.{settle_moves}
+use Rattle.aw_law_sites.specs.Worlds.{World, Move, Delivers, run, settle, deliver, undelivered}
 use Rattle.aw_world.specs.declared.workspace.Workspace.{Ghosts}
 use Rattle.aw_world.specs.declared.world.World as made
 use Rattle.aw_world.specs.Shown.{Shows}

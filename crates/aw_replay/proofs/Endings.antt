@@ -11,8 +11,8 @@ use Rattle.aw_term.specs.Runs.{artifacts}
 use Rattle.aw_choice.specs.ChoiceView.{choice_of}
 use Rattle.aw_out.specs.declared.error.PrintFault.{PrintFault}
 use Rattle.aw_out.specs.Report.{Bounded, Prints}
-use Rattle.aw_react.specs.Outputs.{artifacts_on, ending_on}
-use Rattle.aw_react.specs.Worlds as V
+use Rattle.aw_law_sites.specs.Outputs.{artifacts_on, ending_on}
+use Rattle.aw_law_sites.specs.Worlds as V
 use Rattle.aw_world.specs.declared.workspace.Workspace.{Ghosts}
 use Rattle.aw_world.specs.declared.world.World.{World}
 use Rattle.aw_world.specs.Marks.{marks}

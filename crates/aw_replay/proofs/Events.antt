@@ -3,12 +3,12 @@ use Rattle.std.proofs.Common.{◌≡◌, ℕ, zero, suc, ◌+◌, ◌<◌, arith
 use Rattle.aw_term.specs.Rules.{Grammar}
 use Rattle.aw_term.specs.Artifacts.{Words}
 use Rattle.aw_term.specs.WellFormed.{Each}
-use Rattle.aw_react.specs.Worlds.{World, Move, run, step}
+use Rattle.aw_law_sites.specs.Worlds.{World, Move, run, step}
 use Rattle.aw_sched.specs.declared.event.Event.{Event}
 use Rattle.aw_sched.specs.declared.event.Event.TheVariants.{Choose, Deliver, Settle, List as List_}
 use Rattle.aw_sched.specs.Answers.{event_seen, MayCome}
-use Rattle.aw_react.specs.Outputs.{MayStand, after_event, after_events, event_lines, all_lines, moves_of, all_moves}
-use Rattle.aw_merge.proofs.Headlining.{event_runs}
+use Rattle.aw_law_sites.specs.Outputs.{MayStand, after_event, after_events, event_lines, all_lines, moves_of, all_moves}
+use Rattle.aw_law_worlds.proofs.Headlining.{event_runs}
 
 pub each_here : (Q : Event → Type 0) (es : List Event) (i : ℕ) (e : Event) → i < length es → e ≡ get_or es i e → Each Q es → Q e
 each_here Q [] i e l s a = absurd (omega (arith, l))

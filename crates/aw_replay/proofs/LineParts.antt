@@ -8,12 +8,12 @@ use Rattle.aw_term.specs.Choices.{Choice}
 use Rattle.aw_term.specs.Runs.{answer_line}
 use Rattle.aw_grammar.specs.declared.grammar.Grammar as G
 use Rattle.aw_grammar.specs.GrammarOf.{grammar_of, words_of}
-use Rattle.aw_react.specs.Worlds as V
-use Rattle.aw_react.specs.Worlds.{settle, deliver, undelivered}
-use Rattle.aw_react.specs.Transcripts.{deliver_line, sent_lines, answered, move_lines, settle_lines}
+use Rattle.aw_law_sites.specs.Worlds as V
+use Rattle.aw_law_sites.specs.Worlds.{settle, deliver, undelivered}
+use Rattle.aw_law_sites.specs.Transcripts.{deliver_line, sent_lines, answered, move_lines, settle_lines}
 use Rattle.aw_msg.specs.declared.message.Message.{Message}
 use Rattle.aw_msg.specs.MessageView.{message_of}
-use Rattle.aw_merge.proofs.Settling.{settle_more}
+use Rattle.aw_law_worlds.proofs.Settling.{settle_more}
 
 pub told_delivery : (c a d : G.Grammar) → c ≡ a → a ≡ d → (k : ℕ) (r : V.Reply) (v : V.World) (x : V.Stepped) (n : ℕ) (ms : List Message) → r ≡ x.reply → x.world.messages ≡ map (message_of (grammar_of a)) ms → length v.messages ≡ n
     → deliver_line k r ++ sent_lines (words_of c) n (drop n (map (message_of (grammar_of c)) ms)) ≡ move_lines (words_of d) v (V.Delivers k) x

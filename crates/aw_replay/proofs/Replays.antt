@@ -10,14 +10,14 @@ use Rattle.aw_term.specs.WellFormed.{Each}
 use Rattle.aw_accept.specs.declared.accepted.Accepted.{Accepted}
 use Rattle.aw_grammar.specs.GrammarOf.{grammar_of, words_of}
 use Rattle.aw_choice.specs.Events.{Event, Settles}
-use Rattle.aw_react.specs.Laws.{IsAccepted}
-use Rattle.aw_react.specs.Bounds.{settled}
-use Rattle.aw_react.specs.Outputs.{MayStand, after_events, all_moves}
-use Rattle.aw_react.specs.Worlds as V
-use Rattle.aw_react.specs.Worlds.{empty_world}
-use Rattle.aw_merge.specs.Headline.{HeadlineHolds}
-use Rattle.aw_merge.proofs.Headlining.{headline_law, events_run, events_may}
-use Rattle.aw_merge.proofs.WorldLaws.{bound_law}
+use Rattle.aw_law_sites.specs.Laws.{IsAccepted}
+use Rattle.aw_law_sites.specs.Bounds.{settled}
+use Rattle.aw_law_sites.specs.Outputs.{MayStand, after_events, all_moves}
+use Rattle.aw_law_sites.specs.Worlds as V
+use Rattle.aw_law_sites.specs.Worlds.{empty_world}
+use Rattle.aw_law_worlds.specs.Headline.{HeadlineHolds}
+use Rattle.aw_law_worlds.proofs.Headlining.{headline_law, events_run, events_may}
+use Rattle.aw_law_worlds.proofs.WorldLaws.{bound_law}
 use Rattle.aw_replay.specs.Telling.{SettlingEnds}
 
 pub replay_headline : (a : Accepted) (loads : Bool) (es : List Event) → Each (MayStand (grammar_of a.grammar)) es → ∥ HeadlineHolds (words_of a.grammar) (grammar_of a.grammar) loads es ∥₁

@@ -9,7 +9,7 @@ use Rattle.aw_accept.specs.declared.accepted.Accepted.{Accepted}
 use Rattle.aw_choice.specs.ChoiceView.{choice_of}
 use Rattle.aw_grammar.specs.declared.grammar.Grammar.{Grammar}
 use Rattle.aw_grammar.specs.GrammarOf.{grammar_of, words_of}
-use Rattle.aw_react.specs.Laws.{IsAccepted}
+use Rattle.aw_law_sites.specs.Laws.{IsAccepted}
 use Rattle.aw_out.specs.Report.{Bounded}
 use Rattle.aw_replay.specs.Replays.{MayReplay, Replays, is_kept, kept_of, most, whole_output}
 use Rattle.aw_replay.specs.declared.scheduled.Kept.TheVariants.{Choices}

@@ -6,7 +6,7 @@ use Rattle.aw_term.specs.Artifacts.{Words, joined}
 use Rattle.aw_apply.specs.Messages.{Message}
 use Rattle.aw_store.specs.declared.equation.Equation.{Equation}
 use Rattle.aw_store.specs.EquationView.{equation_of}
-use Rattle.aw_react.specs.Transcripts.{equation_text, load_text, sent_line, sent_lines}
+use Rattle.aw_law_sites.specs.Transcripts.{equation_text, load_text, sent_line, sent_lines}
 
 -- the first equation, and each other one behind a separator
 joined_first : (w : Words) (x : Equation) (xs : List Equation) → joined (codes "; ") (map (equation_text w) (map equation_of (x ∷ xs)))

@@ -8,8 +8,8 @@ use Rattle.aw_grammar.specs.GrammarOf.{grammar_of, words_of}
 use Rattle.aw_out.specs.Report.{Bounded, printed}
 use Rattle.aw_out.specs.declared.error.PrintFault.{PrintFault}
 use Rattle.aw_out.specs.declared.error.PrintFault.TheVariants.{NoMemory, TooLarge}
-use Rattle.aw_react.specs.Outputs.{after_event, after_events, all_lines, ending, event_lines}
-use Rattle.aw_react.specs.Worlds.{World, empty_world}
+use Rattle.aw_law_sites.specs.Outputs.{after_event, after_events, all_lines, ending, event_lines}
+use Rattle.aw_law_sites.specs.Worlds.{World, empty_world}
 use Rattle.aw_term.specs.Artifacts.{Words}
 use Rattle.aw_term.specs.Rules.{Grammar}
 use Rattle.aw_world.specs.declared.workspace.Workspace.{Ghosts}

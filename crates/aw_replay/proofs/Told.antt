@@ -8,8 +8,8 @@ use Rattle.aw_term.specs.Runs.{plain_text}
 use Rattle.aw_term.specs.WellFormed.{Each}
 use Rattle.aw_grammar.specs.GrammarOf.{grammar_of, words_of}
 use Rattle.aw_accept.specs.declared.accepted.Accepted.{Accepted}
-use Rattle.aw_react.specs.Laws.{IsAccepted}
-use Rattle.aw_react.specs.Outputs.{output_of}
+use Rattle.aw_law_sites.specs.Laws.{IsAccepted}
+use Rattle.aw_law_sites.specs.Outputs.{output_of}
 use Rattle.aw_sched.specs.declared.event.Event.{Event}
 use Rattle.aw_sched.specs.Answers.{event_seen, MayCome}
 use Rattle.aw_replay.specs.UnitedLaws.{TakesSameChoices}

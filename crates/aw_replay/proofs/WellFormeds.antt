@@ -1,7 +1,7 @@
 -- A grammar stays well formed where all its sorts are at one role.
 use Rattle.std.proofs.Common.{◌≡◌, ℕ, ◌<◌, true, List, [], ◌∷◌, ◌++◌, map, refl, sym, subst, ◌∙◌, arith}
 use Rattle.std.proofs.lemmas.List.{length-map}
-use Rattle.aw_text.specs.Spelling.{is_name}
+use Rattle.aw_spelling.specs.Spelling.{is_name}
 use Rattle.aw_term.specs.Rules.{Child, Rule, Sort, Grammar}
 use Rattle.aw_term.specs.Artifacts.{Words}
 use Rattle.aw_term.specs.WellFormed.{Each, ChildFits, RuleFits, SortFits, IsWellFormed, variables}

@@ -7,7 +7,7 @@ use Rattle.aw_term.specs.Runs.{plain_text}
 use Rattle.aw_term.specs.WellFormed.{Each}
 use Rattle.aw_choice.specs.Events.{Chooses}
 use Rattle.aw_base.specs.ChoiceFits.{choice_ok}
-use Rattle.aw_react.specs.Outputs.{output_of}
+use Rattle.aw_law_sites.specs.Outputs.{output_of}
 use Rattle.aw_replay.specs.United.{united, united_words}
 
 -- where all sorts are at one role, the sites tell of choices what the undivided run tells of them

@@ -1,6 +1,7 @@
 pub mod CallTexts
 pub mod Faults
 pub mod Replays
+pub mod Settling
 pub mod Telling
 pub mod Seated
 pub mod United

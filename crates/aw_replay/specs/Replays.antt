@@ -7,12 +7,12 @@ use Rattle.aw_term.specs.WellFormed.{Each}
 use Rattle.aw_accept.specs.declared.accepted.Accepted.{Accepted}
 use Rattle.aw_choice.specs.Events.{Event}
 use Rattle.aw_grammar.specs.GrammarOf.{grammar_of, words_of}
-use Rattle.aw_merge.specs.Headline.{HeadlineHolds}
+use Rattle.aw_law_worlds.specs.Headline.{HeadlineHolds}
 use Rattle.aw_out.specs.declared.error.PrintFault.{PrintFault}
 use Rattle.aw_out.specs.declared.error.PrintFault.TheVariants as fault
 use Rattle.aw_out.specs.Report.{Bounded}
-use Rattle.aw_react.specs.Outputs.{MayStand, after_events, all_lines, output_of}
-use Rattle.aw_react.specs.Worlds.{empty_world}
+use Rattle.aw_law_sites.specs.Outputs.{MayStand, after_events, all_lines, output_of}
+use Rattle.aw_law_sites.specs.Worlds.{empty_world}
 use Rattle.aw_sched.specs.Answers.{MayCome, event_seen}
 use Rattle.aw_sched.specs.Readers.{AreRead, left}
 use Rattle.aw_sched.specs.Schedules.{Events, FaultAt}

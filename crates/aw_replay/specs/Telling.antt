@@ -16,10 +16,11 @@ use Rattle.aw_msg.specs.declared.message.Message.{Message}
 use Rattle.aw_msg.specs.MessageView.{message_of}
 use Rattle.aw_out.specs.declared.error.PrintFault.{PrintFault}
 use Rattle.aw_out.specs.Report.{Bounded, Prints}
-use Rattle.aw_react.specs.Bounds.{bound_of, settled}
-use Rattle.aw_react.specs.Outputs.{after_event, after_events, event_lines, all_lines, moves_of, all_moves, ending}
-use Rattle.aw_react.specs.Transcripts.{sent_lines, move_lines, settle_lines}
-use Rattle.aw_react.specs.Worlds as V
+use Rattle.aw_law_sites.specs.Bounds.{bound_of, settled}
+use Rattle.aw_law_sites.specs.Outputs.{after_event, after_events, event_lines, all_lines, moves_of, all_moves, ending}
+use Rattle.aw_law_sites.specs.Transcripts.{sent_lines, move_lines, settle_lines}
+use Rattle.aw_law_sites.specs.Worlds as V
+pub use Rattle.aw_replay.specs.Settling.{SettlingEnds}
 use Rattle.aw_world.specs.declared.workspace.Workspace.{Ghosts}
 use Rattle.aw_world.specs.declared.world.World.{World}
 use Rattle.aw_world.specs.Shown.{Shows}
@@ -40,11 +41,6 @@ artifacts_line n = codes "artifacts " ++ (decimal n ++ codes "\n")
 -- `list lab`, and a line for each of these items
 abbrev pub listed : Words → ℕ → List Item → List ℕ
 listed w role items = codes "list " ++ (get [] w.roles role ++ (codes "\n" ++ item_lines w items))
-
--- behind each settling among these events no message is undelivered
-abbrev pub SettlingEnds : Grammar → Bool → List Event → Type 0
-SettlingEnds g loads es =
-    (before later : List Event) → es ≡ before ++ Settles ∷ later → V.IsQuiet (settled g (after_events g (V.empty_world g loads) before))
 
 module _ {W : Type 0} (f : Ghosts W) where
   -- ---- one choice or delivery: whatever plain world is seen before, the one behind it is seen after

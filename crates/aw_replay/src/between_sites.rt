@@ -1,8 +1,8 @@
 //! Events replayed between the sites of the program.
 ghost use Rattle.std.specs.Prelude.{◌≡◌, ◌<◌, length, map, Err, IfOk};
 ghost use Rattle.aw_grammar.specs.GrammarOf.{grammar_of, words_of};
-ghost use Rattle.aw_merge.specs.Headline.{HeadlineHolds};
-ghost use Rattle.aw_react.specs.Outputs.{output_of};
+ghost use Rattle.aw_law_worlds.specs.Headline.{HeadlineHolds};
+ghost use Rattle.aw_law_sites.specs.Outputs.{output_of};
 ghost use Rattle.aw_replay.specs.Telling.{SettlingEnds};
 ghost use Rattle.aw_sched.specs.Answers.{event_seen, MayCome};
 ghost use Rattle.aw_term.specs.WellFormed.{Each};

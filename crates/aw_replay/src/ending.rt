@@ -1,7 +1,7 @@
 //! What is written behind the lines of all events.
 ghost use Rattle.std.specs.Prelude.{◌≡◌, None, IfOk};
 ghost use Rattle.aw_out.specs.Report.{Prints};
-ghost use Rattle.aw_react.specs.Worlds as V;
+ghost use Rattle.aw_law_sites.specs.Worlds as V;
 ghost use Rattle.aw_world.specs.Marks.{marks};
 ghost use Rattle.aw_world.specs.Shown.{first_open};
 ghost use Rattle.aw_replay.specs.Telling.{PrintsEnding, PrintsQuiet, undelivered_line, artifacts_line};
@@ -9,7 +9,7 @@ ghost use Rattle.aw_replay.specs.Telling.{PrintsEnding, PrintsQuiet, undelivered
 use aw_base::push_artifacts_line;
 use aw_list::Text;
 use aw_out::{PrintFault, Report};
-use aw_text::push_number;
+use aw_spelling::push_number;
 use aw_world::{Workspace, World};
 use std::alloc::{AllocError, Global};
 

@@ -2,7 +2,7 @@
 ghost use Rattle.std.specs.Prelude.{◌≡◌, ◌++◌, codes, decimal, OnOk};
 ghost use Rattle.aw_choice.specs.ChoiceView.{choice_of};
 ghost use Rattle.aw_grammar.specs.GrammarOf.{words_of};
-ghost use Rattle.aw_react.specs.Transcripts.{answered, deliver_line};
+ghost use Rattle.aw_law_sites.specs.Transcripts.{answered, deliver_line};
 ghost use Rattle.aw_term.specs.Runs.{answer_line};
 ghost use Rattle.aw_world.specs.MoveView.{reply_of};
 ghost use Rattle.aw_replay.specs.Telling.{sent_after};
@@ -12,7 +12,7 @@ use aw_base::{NameWriter, push_choice_line};
 use aw_choice::{Answer, Choice};
 use aw_list::Text;
 use aw_msg::Message;
-use aw_text::push_number;
+use aw_spelling::push_number;
 use aw_world::Reply;
 use std::alloc::AllocError;
 

@@ -1,8 +1,8 @@
 //! Events replayed in a world.
 ghost use Rattle.std.specs.Prelude.{◌≡◌, ◌<◌, length, map, Err, IfOk, OnOk, OnErr};
-ghost use Rattle.aw_merge.specs.Headline.{HeadlineHolds};
+ghost use Rattle.aw_law_worlds.specs.Headline.{HeadlineHolds};
 ghost use Rattle.aw_out.specs.Report.{Prints};
-ghost use Rattle.aw_react.specs.Outputs.{output_of};
+ghost use Rattle.aw_law_sites.specs.Outputs.{output_of};
 ghost use Rattle.aw_sched.specs.Answers.{event_seen, MayCome};
 ghost use Rattle.aw_term.specs.WellFormed.{Each};
 ghost use Rattle.aw_world.specs.WorldView.{plain_of, named_by};

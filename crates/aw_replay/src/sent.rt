@@ -4,14 +4,14 @@ ghost use Rattle.aw_grammar.specs.GrammarOf.{grammar_of, words_of};
 ghost use Rattle.aw_store.specs.EquationView.{equation_of};
 ghost use Rattle.aw_msg.specs.MessageView.{kind_with, message_of, sort_or_zero};
 ghost use Rattle.aw_replay.specs.CallTexts.{call_text};
-ghost use Rattle.aw_react.specs.Transcripts.{equation_text, load_text, kind_text, sent_line, sent_lines};
+ghost use Rattle.aw_law_sites.specs.Transcripts.{equation_text, load_text, kind_text, sent_line, sent_lines};
 
 use aw_base::{NameWriter, push_ref, push_refs, role_name};
 use aw_list::Text;
 use aw_msg::{Message, MsgKind};
 use aw_name::{Node, Refs};
+use aw_spelling::push_number;
 use aw_store::{Equation, push_body};
-use aw_text::push_number;
 use std::alloc::AllocError;
 
 /// Adds an equation, as `visit#1:p1 = "Ada"`.

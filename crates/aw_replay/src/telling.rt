@@ -4,7 +4,7 @@ ghost use Rattle.aw_base.specs.ChoiceFits.{choice_ok};
 ghost use Rattle.aw_choice.specs.ChoiceView.{choice_of, item_of};
 ghost use Rattle.aw_choice.specs.Events as E;
 ghost use Rattle.aw_grammar.specs.GrammarOf.{words_of};
-ghost use Rattle.aw_react.specs.Worlds as V;
+ghost use Rattle.aw_law_sites.specs.Worlds as V;
 ghost use Rattle.aw_sched.specs.Answers.{event_seen, MayCome};
 ghost use Rattle.aw_world.specs.WorldView.{plain_of};
 ghost use Rattle.aw_replay.specs.Telling.{Steps, AddsStep, StepsOrNot, IsSettled, AddsSettling, SettlesSome, Does, Tells, DoesSome, listed};

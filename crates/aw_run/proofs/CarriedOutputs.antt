@@ -13,7 +13,7 @@ use Rattle.aw_session.specs.Talking.{Counts}
 use Rattle.aw_courier.specs.Asking.{is_net}
 use Rattle.aw_courier.specs.Carrying as courier
 use Rattle.aw_courier.specs.Carrying.{fault_at}
-use Rattle.aw_courier.specs.Honest.{MeansQuiet}
+use Rattle.aw_courier.specs.Honest.{MeansOverHonest}
 use Rattle.aw_courier.specs.declared.broken.Broken.{Broken}
 use Rattle.aw_courier.specs.declared.broken.Broken.TheVariants as broken
 use Rattle.aw_courier.specs.declared.carrying.Carried.{Carried}
@@ -26,7 +26,7 @@ use Rattle.aw_run.specs.declared.reply.Status.TheVariants.{Done, NoMemory}
 use Rattle.aw_run.specs.Devices.{wired}
 use Rattle.aw_run.specs.Output.{Writes, NoReplyOf}
 use Rattle.aw_run.specs.Replies.{Replies, reply, reply_with}
-use Rattle.aw_run.specs.Carrying.{BreaksOffBy, CarriesFor, CarriesOver, QuietMeansQuiet, StopsCourier, WasCarried, carried_line}
+use Rattle.aw_run.specs.Carrying.{BreaksOffBy, CarriesFor, CarriesOver, CarriedMeans, StopsCourier, WasCarried, carried_line}
 
 grammar-same : (s : Spec) (g : Grammar) → s.declared ≡ declarations_of g → grammar_of g ≡ grammar_in s.declared
 grammar-same s g same = declared_grammar g ∙ ap grammar_in (sym same)
@@ -37,27 +37,27 @@ words-same s g same = declared_words g ∙ ap words_in (sym same)
 -- what was carried between the roles of a grammar, was carried between those of its specification
 pub was-carried : {W : Type 0} (w : wires.Ghosts W) (u v : W) (s : Spec) (g : Grammar) (rounds : ℕ) (carried : Carried) (line : List ℕ) → s.declared ≡ declarations_of g →
     courier.Carries (grammar_of g) w.content w.faults w.failed_openings rounds u v carried →
-    ∥ MeansQuiet (words_of g) (grammar_of g) w.content w.faults w.failed_openings rounds u v carried ∥₁ →
+    ∥ MeansOverHonest (words_of g) (grammar_of g) w.content w.faults w.failed_openings rounds u v carried ∥₁ →
     line ≡ carried_line carried → WasCarried s rounds (wired w u v) (Writes line)
 was-carried w u v s g rounds carried line same carries world is =
     let for_spec : CarriesFor s rounds (wired w u v) carried =
     subst (λ (h : R.Grammar). courier.Carries h w.content w.faults w.failed_openings rounds u v carried) (grammar-same s g same) carries in
-    let quiet : QuietMeansQuiet s rounds (wired w u v) carried =
-    subst (λ (h : R.Grammar). ∥ MeansQuiet (words_in s.declared) h w.content w.faults w.failed_openings rounds u v carried ∥₁) (grammar-same s g same)
-    (subst (λ (y : Words). ∥ MeansQuiet y (grammar_of g) w.content w.faults w.failed_openings rounds u v carried ∥₁) (words-same s g same) world) in
-    record { carried = carried; carries = for_spec; world = quiet; writes = ap Writes is }
+    let means : CarriedMeans s rounds (wired w u v) carried =
+    subst (λ (h : R.Grammar). ∥ MeansOverHonest (words_in s.declared) h w.content w.faults w.failed_openings rounds u v carried ∥₁) (grammar-same s g same)
+    (subst (λ (y : Words). ∥ MeansOverHonest y (grammar_of g) w.content w.faults w.failed_openings rounds u v carried ∥₁) (words-same s g same) world) in
+    record { carried = carried; carries = for_spec; world = means; writes = ap Writes is }
 
 -- and is told
 pub carried-told : {W : Type 0} (w : wires.Ghosts W) (u v : W) (s : Spec) (g : Grammar) (rounds : ℕ) (carried : Carried) (line : List ℕ) (said : Reply) → s.declared ≡ declarations_of g →
     courier.Carries (grammar_of g) w.content w.faults w.failed_openings rounds u v carried →
-    ∥ MeansQuiet (words_of g) (grammar_of g) w.content w.faults w.failed_openings rounds u v carried ∥₁ →
+    ∥ MeansOverHonest (words_of g) (grammar_of g) w.content w.faults w.failed_openings rounds u v carried ∥₁ →
     line ≡ carried_line carried → said ≡ reply Done line → Replies (CarriesOver rounds (wired w u v) s) said
 carried-told w u v s g rounds carried line said same carries world is told = (Writes line, inl (was-carried w u v s g rounds carried line same carries world is), told)
 
 -- memory ran out for the line
 pub line-lost : {W : Type 0} (w : wires.Ghosts W) (u v : W) (s : Spec) (g : Grammar) (rounds : ℕ) (carried : Carried) → s.declared ≡ declarations_of g →
     courier.Carries (grammar_of g) w.content w.faults w.failed_openings rounds u v carried →
-    ∥ MeansQuiet (words_of g) (grammar_of g) w.content w.faults w.failed_openings rounds u v carried ∥₁ → StopsCourier s rounds (wired w u v) NoMemory
+    ∥ MeansOverHonest (words_of g) (grammar_of g) w.content w.faults w.failed_openings rounds u v carried ∥₁ → StopsCourier s rounds (wired w u v) NoMemory
 line-lost w u v s g rounds carried same carries world =
     inr (Writes (carried_line carried), inl (was-carried w u v s g rounds carried (carried_line carried) same carries world refl))
 

@@ -11,10 +11,11 @@ use Rattle.aw_run.specs.declared.reply.Status.{Status}
 use Rattle.aw_run.specs.declared.reply.Status.TheVariants.{Done, WriteFault, BadReply}
 use Rattle.aw_run.specs.Words.{command_of, role_word}
 use Rattle.aw_run.specs.Output.{Output, Writes, PastInputLimit, BadSpecification, BadTypes, IsCircular, UnknownRole, BadSchedule, PastOutputLimit, NoReplyOf, IsOutputOf}
-use Rattle.aw_run.specs.Replies.{ForInput, Replies, Devices, Wired, around, wire_of, wired_in, carries, WritesCarrying, EndsWith, IsDoneOrStopped, reply, reply_with, uses_wire, WritesSome, IsGood, Says, SaysAs, WritesServing, WritesKeeping}
+use Rattle.aw_run.specs.Replies.{ForInput, Replies, Devices, Wired, around, wired_in, carries, WritesCarrying, EndsWith, IsDoneOrStopped, reply, reply_with, uses_wire, WritesSome, IsGood, Says, SaysAs, WritesServing, WritesKeeping}
 use Rattle.aw_out.specs.declared.edge.Wire as wires
 use Rattle.aw_disk.specs.declared.edge.Disk as disks
 use Rattle.aw_run.specs.Serving.{IsServingOutputOf}
+use Rattle.aw_run.specs.Unserved.{StopsServing}
 use Rattle.aw_run.specs.Keeping.{IsKeepingOutputOf, StopsKeeping}
 use Rattle.aw_run.specs.Carrying.{IsCarryingOutputOf, StopsCarrying}
 use Rattle.aw_run.specs.Trials.{trial_output, trial_text}
@@ -65,12 +66,12 @@ input-replied (Some input) P said Q says done text_has = replies-done (P input) 
 
 -- for a node
 as-node : (left : Option (List ℕ)) (sessions : ℕ) (command : Option Command) (words : List (List ℕ)) (devices : Devices) (said : Reply) (Q : List ℕ → Type 0) → ForInput left (λ input. SaysAs command words input devices said) →
-    command ≡ Some (Serves sessions) → said.status ≡ Done → Q said.text → ForInput left (λ input. WritesServing (role_word words) sessions (wire_of devices) input Q)
+    command ≡ Some (Serves sessions) → said.status ≡ Done → Q said.text → ForInput left (λ input. WritesServing (role_word words) sessions (wired_in devices) input Q)
 as-node left sessions command words devices said Q says is =
-    input-replied left (IsServingOutputOf (role_word words) sessions (wire_of devices)) said Q (subst (λ (c : Option Command). ForInput left (λ input. SaysAs c words input devices said)) is says)
+    input-replied left (IsServingOutputOf (role_word words) sessions (wired_in devices)) said Q (subst (λ (c : Option Command). ForInput left (λ input. SaysAs c words input devices said)) is says)
 
 pub Says-node : (left : Option (List ℕ)) (sessions : ℕ) (words : List (List ℕ)) (devices : Devices) (said : Reply) (Q : List ℕ → Type 0) → ForInput left (λ input. Says words input devices said) →
-    command_of words ≡ Some (Serves sessions) → said.status ≡ Done → Q said.text → ForInput left (λ input. WritesServing (role_word words) sessions (wire_of devices) input Q)
+    command_of words ≡ Some (Serves sessions) → said.status ≡ Done → Q said.text → ForInput left (λ input. WritesServing (role_word words) sessions (wired_in devices) input Q)
 Says-node left sessions words = as-node left sessions (command_of words) words
 
 -- for a kept one
@@ -132,7 +133,7 @@ good-as : (command : Option Command) (words : List (List ℕ)) (input : List ℕ
 good-as None words input devices said text says good = inl (ap (λ (r : Reply). r.status) (one-as None words input devices said (reply Done text) refl says good))
 good-as (Some (Reads job)) words input devices said text says good = inl (ap (λ (r : Reply). r.status) (one-as (Some (Reads job)) words input devices said (reply Done text) refl says good))
 good-as (Some (Tries number)) words input devices said text says good = inl (ap (λ (r : Reply). r.status) (one-as (Some (Tries number)) words input devices said (reply Done text) refl says good))
-good-as (Some (Serves sessions)) words input devices said text says good = inl (served-done (role_word words) sessions (wire_of devices) input said text says good)
+good-as (Some (Serves sessions)) words input devices said text says good = inl (served-done (role_word words) sessions (wired_in devices) input said text says good)
 good-as (Some (Keeps sessions)) words input devices said text says good = inl (kept-done (role_word words) sessions devices input said text says good)
 good-as (Some (Carries rounds)) words input devices said text says good = unheard rounds said (carried-done rounds (wired_in devices) input said text says good)
 
@@ -164,10 +165,10 @@ replies-read result left words devices job spelled replies =
 
 -- and so is what a node replies
 pub replies-node : {E : Type 0} (result : Result Reply E) (left : Option (List ℕ)) (words : List (List ℕ)) (devices : Devices) (name : List ℕ) (sessions : ℕ) → name ≡ role_word words → command_of words ≡ Some (Serves sessions) →
-    IfOk result (λ said. ForInput left (λ input. Replies (IsServingOutputOf name sessions (wire_of devices) input) said)) → IfOk result (λ said. ForInput left (λ input. Says words input devices said))
+    IfOk result (λ said. ForInput left (λ input. Replies (IsServingOutputOf name sessions (wired_in devices) input) said)) → IfOk result (λ said. ForInput left (λ input. Says words input devices said))
 replies-node result left words devices name sessions named spelled replies =
     subst (λ (c : Option Command). IfOk result (λ said. ForInput left (λ input. SaysAs c words input devices said))) (sym spelled)
-    (subst (λ n. IfOk result (λ said. ForInput left (λ input. Replies (IsServingOutputOf n sessions (wire_of devices) input) said))) named replies)
+    (subst (λ n. IfOk result (λ said. ForInput left (λ input. Replies (IsServingOutputOf n sessions (wired_in devices) input) said))) named replies)
 
 -- and what a kept one does
 pub replies-kept : {E : Type 0} (result : Result Reply E) (left : Option (List ℕ)) (words : List (List ℕ)) (devices : Devices) (name : List ℕ) (sessions : ℕ) → name ≡ role_word words → command_of words ≡ Some (Keeps sessions) →
@@ -190,6 +191,14 @@ stops-carried result status_of left words x m n spelled also stops =
     subst (λ k. IfErr result (λ stop. ForInput left (λ input. StopsCarrying k x input (status_of stop)))) same stops
 
 -- the same sessions are those of the words
+pub stops-served : {E : Type 0} (result : Result Reply E) (status_of : E → Status) (left : Option (List ℕ)) (words : List (List ℕ)) (x : Wired) (name : List ℕ) (m n : ℕ) → name ≡ role_word words → command_of words ≡ Some (Serves m) → command_of words ≡ Some (Serves n) →
+    IfErr result (λ stop. ForInput left (λ input. StopsServing name m x input (status_of stop))) → IfErr result (λ stop. ForInput left (λ input. StopsServing (role_word words) n x input (status_of stop)))
+stops-served result status_of left words x name m n named spelled also stops =
+    let same : m ≡ n = cc (spelled, also) in
+    subst (λ k. IfErr result (λ stop. ForInput left (λ input. StopsServing (role_word words) k x input (status_of stop)))) same
+    (subst (λ y. IfErr result (λ stop. ForInput left (λ input. StopsServing y m x input (status_of stop)))) named stops)
+
+-- and of a kept node
 pub stops-kept : {E : Type 0} (result : Result Reply E) (status_of : E → Status) (left : Option (List ℕ)) (words : List (List ℕ)) (devices : Devices) (name : List ℕ) (m n : ℕ) → name ≡ role_word words → command_of words ≡ Some (Keeps m) → command_of words ≡ Some (Keeps n) →
     IfErr result (λ stop. ForInput left (λ input. StopsKeeping name m devices input (status_of stop))) → IfErr result (λ stop. ForInput left (λ input. StopsKeeping (role_word words) n devices input (status_of stop)))
 stops-kept result status_of left words devices name m n named spelled also stops =

@@ -22,18 +22,19 @@ use Rattle.aw_typed.specs.declared.data.TypeFault as told
 use Rattle.aw_spec.specs.KindNames.{kind_name}
 use Rattle.aw_spec.specs.Reading.{Spec, Good, Faulty, specification}
 use Rattle.aw_spec.specs.declared.fault.SpecKind.{SpecKind}
-use Rattle.aw_write.specs.SpecLines.{written}
+use Rattle.aw_spec_writer.specs.SpecLines.{written}
 use Rattle.aw_run.specs.declared.source.TheConstants.{INPUT_LIMIT}
 use Rattle.aw_run.specs.declared.reply.Reply.{Reply}
 use Rattle.aw_run.specs.declared.reply.Status.{Status}
 use Rattle.aw_run.specs.declared.front.Front.{Front}
 use Rattle.aw_run.specs.declared.front.Front.TheVariants.{Ready, Refused}
 use Rattle.aw_run.specs.declared.front.Opened.{Opened}
-use Rattle.aw_run.specs.Devices.{Contents, Devices, Wired}
+use Rattle.aw_run.specs.Devices.{Devices, Wired}
 use Rattle.aw_run.specs.Refusals.{at_line}
 use Rattle.aw_run.specs.Output.{Output, PastInputLimit, BadSpecification, ByFault, ByTypes, IfAccepted, IfTyped, OfAccepted}
 use Rattle.aw_run.specs.Replies.{Replies, RefusesGrammar, RefusesTypes, reply_with}
 use Rattle.aw_run.specs.Serving.{ServesNamed, IsServingOutputOf}
+use Rattle.aw_run.specs.Unserved.{StopsNodeNamed, StopsServing}
 use Rattle.aw_run.specs.Keeping.{KeepsNamed, IsKeepingOutputOf, StopsKeeping, StopsNamed}
 use Rattle.aw_run.specs.Carrying.{CarriesOver, IsCarryingOutputOf}
 use Rattle.aw_run.specs.Opening.{Opens}
@@ -85,17 +86,17 @@ unfolding OfAccepted
 of-good P input s taken loads output within good holds = by-input-read (λ s taken loads. IfTyped s (IfAccepted s (P s))) input (Good s taken loads) output within good holds
 
 -- ---- for the node of a role
-pub serves-refused : (name : List ℕ) (sessions : ℕ) (wire : Contents) (input : List ℕ) (said : Reply) → Replies (OfAccepted (λ s. Nothing) input) said → Replies (IsServingOutputOf name sessions wire input) said
+pub serves-refused : (name : List ℕ) (sessions : ℕ) (x : Wired) (input : List ℕ) (said : Reply) → Replies (OfAccepted (λ s. Nothing) input) said → Replies (IsServingOutputOf name sessions x input) said
 unfolding IsServingOutputOf
-serves-refused name sessions wire input said refused = refused-of (ServesNamed name sessions wire) input said refused
+serves-refused name sessions x input said refused = refused-of (ServesNamed name sessions x) input said refused
 
-pub serves-opened : (name : List ℕ) (sessions : ℕ) (wire : Contents) (input : List ℕ) (s : Spec) (said : Reply) → Opens input s → Replies (ServesNamed name sessions wire s) said → Replies (IsServingOutputOf name sessions wire input) said
+pub serves-opened : (name : List ℕ) (sessions : ℕ) (x : Wired) (input : List ℕ) (s : Spec) (said : Reply) → Opens input s → Replies (ServesNamed name sessions x s) said → Replies (IsServingOutputOf name sessions x input) said
 unfolding IsServingOutputOf
-serves-opened name sessions wire input s said opens (output, holds, is) = (output, opens-output (ServesNamed name sessions wire) input s output opens holds, is)
+serves-opened name sessions x input s said opens (output, holds, is) = (output, opens-output (ServesNamed name sessions x) input s output opens holds, is)
 
-pub served-past : (name : List ℕ) (sessions : ℕ) (wire : Contents) (input : List ℕ) → INPUT_LIMIT < length input → IsServingOutputOf name sessions wire input PastInputLimit
+pub served-past : (name : List ℕ) (sessions : ℕ) (x : Wired) (input : List ℕ) → INPUT_LIMIT < length input → IsServingOutputOf name sessions x input PastInputLimit
 unfolding IsServingOutputOf
-served-past name sessions wire input past = of-past (ServesNamed name sessions wire) input past
+served-past name sessions x input past = of-past (ServesNamed name sessions x) input past
 
 -- ---- for its kept node
 pub keeps-refused : (name : List ℕ) (sessions : ℕ) (x : Devices) (input : List ℕ) (said : Reply) → Replies (OfAccepted (λ s. Nothing) input) said → Replies (IsKeepingOutputOf name sessions x input) said
@@ -183,3 +184,8 @@ front-good (Refused said) input s taken loads writes within good replies = front
 pub stops-opened : (name : List ℕ) (sessions : ℕ) (x : Devices) (input : List ℕ) (s : Spec) (status : Status) → Opens input s → StopsNamed name sessions x s status → StopsKeeping name sessions x input status
 stops-opened name sessions x input s status opens (inl before) = inl before
 stops-opened name sessions x input s status opens (inr (role, named, stops)) = inr (s, role, record { opens = opens; named = named }, stops)
+
+-- and so did one that is not kept
+pub stops-node : (name : List ℕ) (sessions : ℕ) (x : Wired) (input : List ℕ) (s : Spec) (status : Status) → Opens input s → StopsNodeNamed name sessions x s status → StopsServing name sessions x input status
+stops-node name sessions x input s status opens (inl before) = inl before
+stops-node name sessions x input s status opens (inr (role, named, stops)) = inr (s, role, record { opens = opens; named = named }, stops)

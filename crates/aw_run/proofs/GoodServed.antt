@@ -5,14 +5,14 @@ use Rattle.aw_term.specs.Artifacts.{Words}
 use Rattle.aw_term.specs.Rules.{get}
 use Rattle.aw_grammar.specs.Declarations.{grammar_in, words_in}
 use Rattle.aw_accept.specs.declared.refused.Fault.{Fault}
-use Rattle.aw_told.proofs.OneTold.{one-found}
+use Rattle.aw_check_text.proofs.OneTold.{one-found}
 use Rattle.aw_typed.specs.TypeFaults.{Fault as TypeFault, type_fault}
 use Rattle.aw_typed.specs.Typing.{types_of}
 use Rattle.aw_spec.specs.Reading.{Spec, Reading, Good, Faulty, specification}
 use Rattle.aw_run.specs.declared.source.TheConstants.{INPUT_LIMIT}
 use Rattle.aw_run.specs.declared.reply.Reply.{Reply}
 use Rattle.aw_run.specs.declared.reply.Status.TheVariants.{Done, Usage, BadSpec, Circular, BadSchedule as BadSched, TooLarge, TooLong, BadTypes as BadTyped, BadReply}
-use Rattle.aw_run.specs.Devices.{Contents, Devices, Wired}
+use Rattle.aw_run.specs.Devices.{Devices, Wired}
 use Rattle.aw_run.specs.Output.{Output, Writes, PastInputLimit, BadSpecification, BadTypes, IsCircular, UnknownRole, BadSchedule, PastOutputLimit, NoReplyOf, ByFault, ByTypes, IfAccepted, IfTyped, BySpecification, ByInput, OfAccepted}
 use Rattle.aw_run.specs.Replies.{Replies, reply, reply_with}
 use Rattle.aw_run.specs.Serving.{session_lines, role_in, ByNumber, ServesRole, ServesNamed, IsServingOutputOf}
@@ -74,10 +74,10 @@ alike-of Q f makes alike input =
     alike-input Q f (λ s taken loads. IfTyped s (IfAccepted s (makes s)))
     (λ s taken loads. by-types Q f (words_in s.declared) (IfAccepted s (makes s)) (alike-accepted Q f s (makes s) (alike s)) (type_fault (types_of s.types) (grammar_in s.declared))) input
 
-alike-served : (name : List ℕ) (sessions : ℕ) (wire : Contents) (input : List ℕ) → Alike (IsServingOutputOf name sessions wire input)
+alike-served : (name : List ℕ) (sessions : ℕ) (x : Wired) (input : List ℕ) → Alike (IsServingOutputOf name sessions x input)
 unfolding IsServingOutputOf
-alike-served name sessions wire input =
-    alike-of IsText (λ b written. written) (ServesNamed name sessions wire) (λ s. alike-number (λ role. ServesRole s role sessions wire) (λ role a b x y written. (session_lines 1 y.logs, y.writes)) (role_in s name)) input
+alike-served name sessions x input =
+    alike-of IsText (λ b written. written) (ServesNamed name sessions x) (λ s. alike-number (λ role. ServesRole s role sessions x) (λ role a b k l written. (session_lines 1 l.logs, l.writes)) (role_in s name)) input
 
 alike-kept : (name : List ℕ) (sessions : ℕ) (x : Devices) (input : List ℕ) → Alike (IsKeepingOutputOf name sessions x input)
 unfolding IsKeepingOutputOf
@@ -114,9 +114,9 @@ replied-done P alike said text says good =
     let is : IsText says.0 = alike good.0 says.0 good.1 says.1 (done-text good.0 text good.2) in
     ap (λ (r : Reply). r.status) (says.2 ∙ ap reply_with is.1)
 
-pub served-done : (name : List ℕ) (sessions : ℕ) (wire : Contents) (input : List ℕ) (said : Reply) (text : List ℕ) →
-    Replies (IsServingOutputOf name sessions wire input) said → Replies (IsServingOutputOf name sessions wire input) (reply Done text) → said.status ≡ Done
-served-done name sessions wire input said text = replied-done (IsServingOutputOf name sessions wire input) (alike-served name sessions wire input) said text
+pub served-done : (name : List ℕ) (sessions : ℕ) (x : Wired) (input : List ℕ) (said : Reply) (text : List ℕ) →
+    Replies (IsServingOutputOf name sessions x input) said → Replies (IsServingOutputOf name sessions x input) (reply Done text) → said.status ≡ Done
+served-done name sessions x input said text = replied-done (IsServingOutputOf name sessions x input) (alike-served name sessions x input) said text
 
 pub kept-done : (name : List ℕ) (sessions : ℕ) (x : Devices) (input : List ℕ) (said : Reply) (text : List ℕ) →
     Replies (IsKeepingOutputOf name sessions x input) said → Replies (IsKeepingOutputOf name sessions x input) (reply Done text) → said.status ≡ Done

@@ -3,8 +3,8 @@ use Rattle.std.proofs.Common.{◌≡◌, ℕ, Bool, true, false, List, [], ◌�
 use Rattle.aw_term.specs.Rules.{Grammar}
 use Rattle.aw_term.specs.Artifacts.{Words}
 use Rattle.aw_base.specs.declared.declared.Triple.{Triple}
-use Rattle.aw_told.proofs.OneTold.{one-text}
-use Rattle.aw_told.proofs.OneApart.{one-roles, one-waiting}
+use Rattle.aw_check_text.proofs.OneTold.{one-text}
+use Rattle.aw_check_text.proofs.OneApart.{one-roles, one-waiting}
 use Rattle.aw_run.specs.Checked.{TellsApart, TellsFree, TellsChecked}
 
 one-apart : (ds : List Triple) (offers : List ℕ) (w : Words) (g : Grammar) (a b : List ℕ) → TellsApart ds offers w g a → TellsApart ds offers w g b → a ≡ b

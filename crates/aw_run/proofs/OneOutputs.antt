@@ -4,7 +4,7 @@ use Rattle.aw_lex.specs.Lines.{lines_of}
 use Rattle.aw_term.specs.Artifacts.{Words}
 use Rattle.aw_grammar.specs.Declarations.{grammar_in, words_in}
 use Rattle.aw_accept.specs.declared.refused.Fault.{Fault}
-use Rattle.aw_told.proofs.OneTold.{one-found}
+use Rattle.aw_check_text.proofs.OneTold.{one-found}
 use Rattle.aw_typed.specs.TypeFaults.{Fault as TypeFault, type_fault}
 use Rattle.aw_typed.specs.Typing.{types_of}
 use Rattle.aw_spec.specs.Reading.{Spec, Reading, Good, Faulty, specification}

@@ -5,8 +5,8 @@ use Rattle.aw_term.specs.Choices.{Choice}
 use Rattle.aw_term.specs.Artifacts.{Words}
 use Rattle.aw_term.specs.Runs.{plain_text}
 use Rattle.aw_sched.specs.Events.{Chooses}
-use Rattle.aw_react.specs.Laws.{IsAccepted}
-use Rattle.aw_merge.proofs.OneRoles.{one_role_plain}
+use Rattle.aw_law_sites.specs.Laws.{IsAccepted}
+use Rattle.aw_law_worlds.proofs.OneRoles.{one_role_plain}
 use Rattle.aw_replay.specs.ChoicesIn.{choices_in}
 use Rattle.aw_run.specs.Laws.{TellsUndivided}
 

@@ -10,33 +10,33 @@ use Rattle.aw_grammar.specs.Declarations.{grammar_in, words_in}
 use Rattle.aw_grammar.specs.Named.{number_named}
 use Rattle.aw_grammar.proofs.Entries.{declared_words, declared_grammar}
 use Rattle.aw_out.specs.Causes.{Rose}
-use Rattle.aw_out.specs.Wires.{Content}
 use Rattle.aw_out.specs.declared.edge.Wire as wires
 use Rattle.aw_disk.specs.declared.edge.Disk as disks
-use Rattle.aw_durable.specs.Serving.{IsKeptServing, StopsKept}
-use Rattle.aw_durable.specs.declared.fault.KeptFault.{KeptFault}
-use Rattle.aw_durable.specs.declared.fault.KeptFault.TheVariants as fault
-use Rattle.aw_react.specs.Sites.{Site, empty_site}
-use Rattle.aw_session.specs.Served.{AreServed}
+use Rattle.aw_kept_node.specs.Serving.{IsKeptServing, StopsKept}
+use Rattle.aw_kept_node.specs.declared.fault.KeptFault.{KeptFault}
+use Rattle.aw_kept_node.specs.declared.fault.KeptFault.TheVariants as fault
+use Rattle.aw_law_sites.specs.Sites.{Site, empty_site}
 use Rattle.aw_session.specs.Sessions.{NoneComes}
 use Rattle.aw_session.specs.declared.log.SessionLog.{SessionLog}
-use Rattle.aw_node.specs.TypedNodes.{Rules, rules_of, answers}
-use Rattle.aw_node.specs.Serving.{Serves}
+use Rattle.aw_node.specs.TypedNodes.{Rules, rules_of}
+use Rattle.aw_node.specs.Serving.{Serves, Stops}
+use Rattle.aw_node.specs.declared.serving.ServeFault.{ServeFault}
 use Rattle.aw_typed.specs.Types as T
 use Rattle.aw_typed.specs.Typing.{types_of}
 use Rattle.aw_typed.specs.declared.data.Typed.{Typed}
 use Rattle.aw_spec.specs.Reading.{Spec}
-use Rattle.aw_write.specs.SpecLines.{written}
+use Rattle.aw_spec_writer.specs.SpecLines.{written}
 use Rattle.aw_run.specs.declared.reply.Reply.{Reply}
 use Rattle.aw_run.specs.declared.reply.Status.TheVariants.{Done, Usage, NoMemory}
 use Rattle.aw_run.specs.declared.reply.Stop.{Stop}
 use Rattle.aw_run.specs.declared.reply.Stop.TheVariants as stop
-use Rattle.aw_run.specs.Devices.{Devices, contents}
+use Rattle.aw_run.specs.Devices.{Devices, Wired}
 use Rattle.aw_run.specs.Output.{Output, Writes, UnknownRole}
 use Rattle.aw_run.specs.Replies.{Replies, reply}
 use Rattle.aw_run.specs.Serving.{rules_in, role_in, session_lines, ByNumber, ServesRole}
 use Rattle.aw_run.specs.Keeping.{EndsBy, KeepsRole, StopsRole}
 use Rattle.aw_run.specs.Statuses.{IsRefusal, status_of_stop, stop_of}
+use Rattle.aw_run.specs.Unserved.{IsServedUntil, StopsNode}
 
 abbrev with_parts : Words → T.Types → R.Grammar → Rules
 with_parts w t g = record { words = w; types = t; grammar = g }
@@ -49,13 +49,24 @@ rules-same s g t same typed =
     ∙ ap (λ h. with_parts (words_in s.declared) (types_of s.types) h) (declared_grammar g ∙ ap grammar_in (sym same))
 
 -- sessions that were served are told
-pub serves-role : {W : Type 0} (content : W → Option Content) (faults failed : W → ℕ) (s : Spec) (g : Grammar) (t : Typed) (role sessions : ℕ) (u v : W) (logs : List SessionLog) (text : List ℕ) →
-    s.declared ≡ declarations_of g → s.types ≡ t.types → Serves content faults failed (rules_of g t) role (empty_site true role) u v logs → length logs ≤ sessions →
-    (length logs ≡ sessions) ⊎ NoneComes (content v) → text ≡ session_lines 1 logs → Replies (ServesRole s role sessions (contents (content u) (content v))) (reply Done text)
-serves-role content faults failed s g t role sessions u v logs text same typed (site, is) most all lines =
-    let are : AreServed (answers (rules_in s)) role (empty_site true role) is.sessions logs site =
-    subst (λ r. AreServed (answers r) role (empty_site true role) is.sessions logs site) (rules-same s g t same typed) is.served in
-    (Writes text, (record { served = is.sessions; logs = logs; site = site; are = are; told = is.told; most = most; all = all; writes = ap Writes lines }), refl)
+pub serves-role : (x : Wired) (s : Spec) (g : Grammar) (t : Typed) (role sessions : ℕ) (logs : List SessionLog) (text : List ℕ) →
+    s.declared ≡ declarations_of g → s.types ≡ t.types → Serves x.wire.content x.wire.faults x.wire.failed_openings (rules_of g t) role (empty_site true role) x.before x.after logs → length logs ≤ sessions →
+    (length logs ≡ sessions) ⊎ NoneComes (x.wire.content x.after) → text ≡ session_lines 1 logs → Replies (ServesRole s role sessions x) (reply Done text)
+serves-role x s g t role sessions logs text same typed is most all lines =
+    let served : Serves x.wire.content x.wire.faults x.wire.failed_openings (rules_in s) role (empty_site true role) x.before x.after logs =
+    subst (λ r. Serves x.wire.content x.wire.faults x.wire.failed_openings r role (empty_site true role) x.before x.after logs) (rules-same s g t same typed) is in
+    (Writes text, record { logs = logs; served = served; most = most; all = all; writes = ap Writes lines }, refl)
+
+-- a role is served no further, for this reason
+pub served-until : (x : Wired) (s : Spec) (g : Grammar) (t : Typed) (role : ℕ) (why : ServeFault) → s.declared ≡ declarations_of g → s.types ≡ t.types →
+    Stops x.wire.content x.wire.failed_openings (rules_of g t) role (empty_site true role) x.before x.after why → IsServedUntil s role x why
+served-until x s g t role why same typed is = subst (λ r. Stops x.wire.content x.wire.failed_openings r role (empty_site true role) x.before x.after why) (rules-same s g t same typed) is
+
+-- memory ran out for its lines
+pub node-lines-lost : (x : Wired) (s : Spec) (g : Grammar) (t : Typed) (role sessions : ℕ) (logs : List SessionLog) → s.declared ≡ declarations_of g → s.types ≡ t.types →
+    Serves x.wire.content x.wire.faults x.wire.failed_openings (rules_of g t) role (empty_site true role) x.before x.after logs → length logs ≤ sessions →
+    (length logs ≡ sessions) ⊎ NoneComes (x.wire.content x.after) → StopsNode s role sessions x NoMemory
+node-lines-lost x s g t role sessions logs same typed is most all = let said = serves-role x s g t role sessions logs (session_lines 1 logs) same typed is most all refl in inr (said.0, said.1)
 
 -- sessions of a kept role that were served are told
 pub keeps-role : (x : Devices) (s : Spec) (g : Grammar) (t : Typed) (role sessions : ℕ) (spelled : List ℕ) (logs : List SessionLog) (text : List ℕ) →

@@ -17,13 +17,13 @@ use Rattle.aw_typed.proofs.TypedRuns.{all_well_typed}
 use Rattle.aw_sched.specs.declared.event.Event.{Event}
 use Rattle.aw_sched.specs.declared.event.Event.TheVariants.{Choose, Deliver, Settle, List as Lists}
 use Rattle.aw_sched.specs.Answers.{event_seen, MayCome, HasTypes}
-use Rattle.aw_react.specs.Homes.{home}
-use Rattle.aw_react.specs.Choosing.{Chosen, No, Did, choose}
-use Rattle.aw_react.specs.Worlds.{World, Move, Chooses, Delivers, chosen_at, node_of, site_at, step, deliver, undelivered, empty_world, run}
-use Rattle.aw_react.specs.Bounds.{bound_of}
-use Rattle.aw_react.specs.Outputs.{after_event, settle_moves, moves_of, all_moves, moment}
-use Rattle.aw_merge.proofs.Headlining.{each_take}
-use Rattle.aw_merge.proofs.Settling.{deliver_taken}
+use Rattle.aw_law_sites.specs.Homes.{home}
+use Rattle.aw_law_sites.specs.Choosing.{Chosen, No, Did, choose}
+use Rattle.aw_law_sites.specs.Worlds.{World, Move, Chooses, Delivers, chosen_at, node_of, site_at, step, deliver, undelivered, empty_world, run}
+use Rattle.aw_law_sites.specs.Bounds.{bound_of}
+use Rattle.aw_law_sites.specs.Outputs.{after_event, settle_moves, moves_of, all_moves, moment}
+use Rattle.aw_law_worlds.proofs.Headlining.{each_take}
+use Rattle.aw_law_worlds.proofs.Settling.{deliver_taken}
 use Rattle.aw_replay.specs.ChoicesIn.{choices_in}
 
 -- a choice may be asked, and its arguments fit

@@ -9,9 +9,10 @@ use Rattle.aw_run.specs.declared.source.TheConstants.{INPUT_LIMIT}
 use Rattle.aw_run.specs.declared.words.Job.{Job}
 use Rattle.aw_run.specs.declared.reply.Reply.{Reply}
 use Rattle.aw_run.specs.declared.reply.Stop.{Stop}
-use Rattle.aw_run.specs.Devices.{Contents, Devices, Wired}
+use Rattle.aw_run.specs.Devices.{Devices, Wired}
 use Rattle.aw_run.specs.Output.{Output, PastInputLimit, IsOutputOf}
 use Rattle.aw_run.specs.Serving.{IsServingOutputOf}
+use Rattle.aw_run.specs.Unserved.{StopsServing}
 use Rattle.aw_run.specs.Keeping.{IsKeepingOutputOf, StopsKeeping}
 use Rattle.aw_run.specs.Carrying.{IsCarryingOutputOf, StopsCarrying}
 use Rattle.aw_run.specs.Statuses.{status_of_stop}
@@ -55,9 +56,9 @@ pub unread-reply : (error : ReadError) (result : Result Reply Stop) (old new : O
 unread-reply error result old new job = unread-as (IsOutputOf job) (output-past job) error result old new
 
 -- the same of a node, which no session had yet
-pub unread-served : (error : ReadError) (result : Result Reply Stop) (old new : Option (List ℕ)) (name : List ℕ) (sessions : ℕ) (wire : Contents) → result ≡ unread_gives error →
-    (error ≡ fault.TooLong → GivesSome old new (λ bytes. INPUT_LIMIT < length bytes)) → IfOk result (λ said. ForInput old (λ input. Replies (IsServingOutputOf name sessions wire input) said))
-unread-served error result old new name sessions wire = unread-as (IsServingOutputOf name sessions wire) (served-past name sessions wire) error result old new
+pub unread-served : (error : ReadError) (result : Result Reply Stop) (old new : Option (List ℕ)) (name : List ℕ) (sessions : ℕ) (x : Wired) → result ≡ unread_gives error →
+    (error ≡ fault.TooLong → GivesSome old new (λ bytes. INPUT_LIMIT < length bytes)) → IfOk result (λ said. ForInput old (λ input. Replies (IsServingOutputOf name sessions x input) said))
+unread-served error result old new name sessions x = unread-as (IsServingOutputOf name sessions x) (served-past name sessions x) error result old new
 
 -- and of a kept one
 pub unread-keeping : (error : ReadError) (result : Result Reply Stop) (old new : Option (List ℕ)) (name : List ℕ) (sessions : ℕ) (x : Devices) → result ≡ unread_gives error →
@@ -87,3 +88,10 @@ pub unread-unwired : (error : ReadError) (result : Result Reply Stop) (old : Opt
 unread-unwired fault.TooLong result old rounds x wire is = rw is tt
 unread-unwired fault.ReadFault result old rounds x wire is = rw is (for-each old _ (λ input. inl (record { why = inl refl; same_wire = wire })))
 unread-unwired fault.NoMemory result old rounds x wire is = rw is (for-each old _ (λ input. inl (record { why = inr refl; same_wire = wire })))
+
+-- and a node
+pub unread-unserved : (error : ReadError) (result : Result Reply Stop) (old : Option (List ℕ)) (name : List ℕ) (sessions : ℕ) (x : Wired) → x.after ≡ x.before → result ≡ unread_gives error →
+    IfErr result (λ stop. ForInput old (λ input. StopsServing name sessions x input (status_of_stop stop)))
+unread-unserved fault.TooLong result old name sessions x wire is = rw is tt
+unread-unserved fault.ReadFault result old name sessions x wire is = rw is (for-each old _ (λ input. inl (record { why = inl refl; same_wire = wire })))
+unread-unserved fault.NoMemory result old name sessions x wire is = rw is (for-each old _ (λ input. inl (record { why = inr refl; same_wire = wire })))

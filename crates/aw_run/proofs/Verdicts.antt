@@ -14,7 +14,7 @@ use Rattle.aw_accept.specs.declared.refused.Refused.{Refused}
 use Rattle.aw_accept.specs.declared.refused.Refused.TheVariants.{Circular, NoMemory}
 use Rattle.aw_accept.specs.Circular.{LeastFault}
 use Rattle.aw_accept.specs.Refusals.{Tells}
-use Rattle.aw_told.specs.Told.{circle_text}
+use Rattle.aw_check_text.specs.Told.{circle_text}
 use Rattle.aw_spec.specs.KindNames.{kind_name}
 use Rattle.aw_spec.specs.Reading.{Spec}
 use Rattle.aw_spec.specs.declared.fault.SpecKind.{SpecKind}

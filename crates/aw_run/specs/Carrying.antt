@@ -3,7 +3,7 @@ use Rattle.std.specs.Prelude.{◌≡◌, ◌⊎◌, ℕ, List, [], codes}
 use Rattle.aw_term.specs.Rules.{get}
 use Rattle.aw_grammar.specs.Declarations.{grammar_in, words_in}
 use Rattle.aw_courier.specs.Carrying as courier
-use Rattle.aw_courier.specs.Honest.{MeansQuiet}
+use Rattle.aw_courier.specs.Honest.{MeansOverHonest}
 use Rattle.aw_courier.specs.declared.carrying.Carried.{Carried}
 use Rattle.aw_courier.specs.declared.carrying.Carried.TheVariants.{Quiet, RoundsSpent}
 use Rattle.aw_courier.specs.declared.carrying.CarryFault.{CarryFault}
@@ -24,9 +24,10 @@ carried_line RoundsSpent = codes "rounds spent\n"
 abbrev pub CarriesFor : Spec → (rounds : ℕ) → Wired → Carried → Type 0
 CarriesFor s rounds x carried = courier.Carries (grammar_in s.declared) x.wire.content x.wire.faults x.wire.failed_openings rounds x.before x.after carried
 
--- over a wire that was honest for a world and some choices, `quiet` means that the world is quiet
-abbrev pub QuietMeansQuiet : Spec → (rounds : ℕ) → Wired → Carried → Type 0
-QuietMeansQuiet s rounds x carried = ∥ MeansQuiet (words_in s.declared) (grammar_in s.declared) x.wire.content x.wire.faults x.wire.failed_openings rounds x.before x.after carried ∥₁
+-- over a wire that was honest for a world and some choices, `quiet` means that the world is quiet; and where no choice came meanwhile, `rounds spent` that
+-- the rounds are at most twice as many as the bound on its messages
+abbrev pub CarriedMeans : Spec → (rounds : ℕ) → Wired → Carried → Type 0
+CarriedMeans s rounds x carried = ∥ MeansOverHonest (words_in s.declared) (grammar_in s.declared) x.wire.content x.wire.faults x.wire.failed_openings rounds x.before x.after carried ∥₁
 
 -- the courier broke off by this fault
 abbrev pub BreaksOffBy : Spec → (rounds : ℕ) → Wired → CarryFault → Type 0
@@ -36,7 +37,7 @@ BreaksOffBy s rounds x why = courier.IsBrokenOff (grammar_in s.declared) x.wire.
 pub record WasCarried (s : Spec) (rounds : ℕ) (x : Wired) (output : Output) : Type 0 where
   pub carried : Carried
   pub carries : CarriesFor s rounds x carried
-  pub world : QuietMeansQuiet s rounds x carried
+  pub world : CarriedMeans s rounds x carried
   pub writes : output ≡ Writes (carried_line carried)
 
 -- What a role sent in a reply's place is none, and the role is named.

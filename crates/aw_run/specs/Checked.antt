@@ -3,8 +3,8 @@ use Rattle.std.specs.Prelude.{◌≡◌, ℕ, Bool, true, false, List, [], ◌�
 use Rattle.aw_term.specs.Rules.{Grammar}
 use Rattle.aw_term.specs.Artifacts.{Words}
 use Rattle.aw_base.specs.declared.declared.Triple.{Triple}
-use Rattle.aw_told.specs.Told.{TellsAccepted}
-use Rattle.aw_told.specs.ApartTold.{TellsRoles, TellsWaiting}
+use Rattle.aw_check_text.specs.Told.{TellsAccepted}
+use Rattle.aw_check_text.specs.ApartTold.{TellsRoles, TellsWaiting}
 
 -- the roles checked apart, where a dependence is declared, and else nothing
 abbrev pub TellsApart : (depends : List Triple) → (offers : List ℕ) → Words → Grammar → List ℕ → Type 0

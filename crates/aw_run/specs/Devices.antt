@@ -1,17 +1,6 @@
 -- What stands beside the source and the sink: a wire and a disk.
-use Rattle.std.specs.Prelude.{Option}
-use Rattle.aw_out.specs.Wires.{Content}
 use Rattle.aw_out.specs.declared.edge.Wire as wires
 use Rattle.aw_disk.specs.declared.edge.Disk as disks
-
--- What the wire tells before a run and after it.
-pub record Contents : Type 0 where
-  pub before : Option Content
-  pub after : Option Content
-
--- what a wire told before and after
-abbrev pub contents : Option Content → Option Content → Contents
-contents before after = record { before = before; after = after }
 
 -- The wire and the disk before a run and after it, and what is seen of them.
 pub record Devices : Type 1 where
@@ -27,10 +16,6 @@ pub record Devices : Type 1 where
 -- what is seen of a wire and a disk, with both before a run and after it
 abbrev pub around : {W D : Type 0} → wires.Ghosts W → disks.Ghosts D → W → W → D → D → Devices
 around {W} {D} w d u v old new = record { W = W; D = D; wire = w; disk = d; wire_before = u; wire_after = v; disk_before = old; disk_after = new }
-
--- what the wire of a run tells
-abbrev pub wire_of : Devices → Contents
-wire_of x = contents (x.wire.content x.wire_before) (x.wire.content x.wire_after)
 
 -- A wire before a run and after it, and what is seen of it.
 pub record Wired : Type 1 where

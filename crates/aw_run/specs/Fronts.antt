@@ -10,7 +10,7 @@ use Rattle.aw_accept.specs.Circular.{LeastFault}
 use Rattle.aw_iograph.specs.Dependence.{IO, HasNoCircle}
 use Rattle.aw_typed.specs.Typing.{IsMadeFor}
 use Rattle.aw_spec.specs.Reading.{Spec}
-use Rattle.aw_write.specs.SpecLines.{written}
+use Rattle.aw_spec_writer.specs.SpecLines.{written}
 use Rattle.aw_run.specs.declared.front.Front.{Front}
 use Rattle.aw_run.specs.declared.front.Front.TheVariants.{Ready, Refused}
 use Rattle.aw_run.specs.declared.front.Opened.{Opened}

@@ -1,13 +1,13 @@
 -- What the node of a role leads to that survives crashes.
 use Rattle.std.specs.Prelude.{◌≡◌, ◌⊎◌, ◌≤◌, ℕ, List, true, length, Some}
-use Rattle.aw_react.specs.Sites.{empty_site}
+use Rattle.aw_law_sites.specs.Sites.{empty_site}
 use Rattle.aw_session.specs.Sessions.{NoneComes}
 use Rattle.aw_session.specs.declared.log.SessionLog.{SessionLog}
-use Rattle.aw_durable.specs.Serving.{IsKeptServing, StopsKept}
-use Rattle.aw_durable.specs.declared.fault.KeptFault.{KeptFault}
-use Rattle.aw_durable.specs.declared.fault.KeptFault.TheVariants as fault
+use Rattle.aw_kept_node.specs.Serving.{IsKeptServing, StopsKept}
+use Rattle.aw_kept_node.specs.declared.fault.KeptFault.{KeptFault}
+use Rattle.aw_kept_node.specs.declared.fault.KeptFault.TheVariants as fault
 use Rattle.aw_spec.specs.Reading.{Spec}
-use Rattle.aw_write.specs.SpecLines.{written}
+use Rattle.aw_spec_writer.specs.SpecLines.{written}
 use Rattle.aw_run.specs.declared.reply.Status.{Status}
 use Rattle.aw_run.specs.declared.reply.Status.TheVariants.{NetFault, NoMemory, DiskFault, BadJournal, JournalFull, ReadFault}
 use Rattle.aw_run.specs.Devices.{Devices}
@@ -15,8 +15,8 @@ use Rattle.aw_run.specs.Opening.{OpensRole}
 use Rattle.aw_run.specs.Output.{Output, Writes, OfAccepted}
 use Rattle.aw_run.specs.Serving.{rules_in, role_in, session_lines, ByNumber}
 
--- So many sessions were served, or as many as came, from the site that the events of the journal make; each event was on the disk before its reply was
--- written, what a crash leaves at any moment is told, and the sessions are written.
+-- So many sessions were served, or as many as came, from the site that the events of the journal make; each frame was answered at a moment of the disk
+-- since which no crash loses its event, what a crash leaves at any moment is told, and the sessions are written.
 pub record KeepsRole (s : Spec) (role sessions : ℕ) (x : Devices) (output : Output) : Type 0 where
   pub logs : List SessionLog
   pub kept : IsKeptServing x.wire x.disk (rules_in s) role (written s) (empty_site true role) x.wire_before x.wire_after x.disk_before x.disk_after logs

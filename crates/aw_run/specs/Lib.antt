@@ -9,9 +9,11 @@ pub mod Opening
 pub mod Keeping
 pub mod Carrying
 pub mod Trials
+pub mod OfInputs
 pub mod Replies
 pub mod Fronts
 pub mod Unread
+pub mod Unserved
 pub mod Promises
 pub mod Scheduled
 pub mod Laws

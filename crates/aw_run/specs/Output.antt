@@ -4,12 +4,12 @@ use Rattle.aw_lex.specs.Lines.{lines_of}
 use Rattle.aw_term.specs.Rules.{Grammar}
 use Rattle.aw_term.specs.Artifacts.{Words}
 use Rattle.aw_term.specs.Runs.{plain_text}
-use Rattle.aw_react.specs.Outputs.{output_of}
+use Rattle.aw_law_sites.specs.Outputs.{output_of}
 use Rattle.aw_grammar.specs.Declarations.{grammar_in, words_in}
 use Rattle.aw_accept.specs.declared.refused.Fault.{Fault}
 use Rattle.aw_accept.specs.Circular.{LeastFault}
 use Rattle.aw_base.specs.declared.declared.Triple.{Triple}
-use Rattle.aw_told.specs.Told.{circle_text}
+use Rattle.aw_check_text.specs.Told.{circle_text}
 use Rattle.aw_spec.specs.KindNames.{kind_name}
 use Rattle.aw_spec.specs.Reading.{Spec, Reading, Good, Faulty, specification}
 use Rattle.aw_sched.specs.Events.{Event}

@@ -1,12 +1,13 @@
 -- What is promised of the events that an input spells behind a good specification, apart from what is written of them.
-use Rattle.std.specs.Prelude.{◌≡◌, ℕ, suc, Bool, true, List, [], ◌++◌, take, drop, Option, Some, ◌⊎◌}
+use Rattle.std.specs.Prelude.{◌≡◌, ℕ, suc, ◌+◌, ◌≤◌, Bool, true, List, [], ◌∷◌, ◌++◌, length, take, drop, Option, Some, ◌⊎◌}
 use Rattle.aw_list.specs.Members.{Member}
+use Rattle.aw_out.specs.Edge.{Gets}
 use Rattle.aw_lex.specs.Lines.{lines_of}
 use Rattle.aw_term.specs.Trees.{Never}
 use Rattle.aw_term.specs.Names.{Node, Ref, root}
 use Rattle.aw_term.specs.Rules.{Ground, Rule, Grammar}
 use Rattle.aw_term.specs.Configs.{Config}
-use Rattle.aw_term.specs.Choices.{Choice, Start, Develop, Developed, Refused, Starts, Takes, undivided}
+use Rattle.aw_term.specs.Choices.{Choice, Start, Develop, Developed, Refused, Starts, Takes, undivided, answer}
 use Rattle.aw_term.specs.Artifacts.{Words}
 use Rattle.aw_term.specs.Runs.{after_all, artifacts}
 use Rattle.aw_grammar.specs.Declarations.{grammar_in, words_in}
@@ -16,17 +17,21 @@ use Rattle.aw_typed.specs.Types.{Types}
 use Rattle.aw_typed.specs.Typing.{types_of}
 use Rattle.aw_typed.specs.WellTyped.{IsWellTyped}
 use Rattle.aw_spec.specs.Reading.{Spec, Reading, Good, Faulty, specification}
-use Rattle.aw_sched.specs.Events.{Event}
+use Rattle.aw_sched.specs.Events.{Event, Chooses as Chose}
 use Rattle.aw_sched.specs.Schedules.{Read, Events, FaultAt, read_lines}
-use Rattle.aw_react.specs.Laws.{SameChoices}
-use Rattle.aw_react.specs.Homes.{home}
-use Rattle.aw_react.specs.Choosing.{outcome}
-use Rattle.aw_react.specs.Worlds.{Chooses, site_at, empty_world, IsQuiet}
-use Rattle.aw_react.specs.Outputs.{after_events, all_lines, all_moves, moment, output_of}
-use Rattle.aw_replay.specs.Telling.{SettlingEnds}
+use Rattle.aw_law_sites.specs.Laws.{SameChoices}
+use Rattle.aw_law_sites.specs.Homes.{home}
+use Rattle.aw_law_sites.specs.Choosing.{outcome, answer_to, choose}
+use Rattle.aw_law_sites.specs.Bounds.{bound_of}
+use Rattle.aw_law_sites.specs.Worlds.{Chooses, site_at, node_of, empty_world, IsQuiet}
+use Rattle.aw_law_sites.specs.Outputs.{after_events, all_lines, all_moves, moment, output_of}
+use Rattle.aw_law_worlds.specs.Arriving.{AnswersByArrivals}
+use Rattle.aw_law_worlds.specs.Holding.{EquationsStay, NodesStay, HoldsConfig, MeetsNoCircle}
+use Rattle.aw_replay.specs.Settling.{SettlingEnds}
 use Rattle.aw_replay.specs.ChoicesIn.{choices_in}
+use Rattle.aw_run.specs.Words.{command_of}
 use Rattle.aw_run.specs.Output.{IsOutputOf}
-use Rattle.aw_run.specs.Replies.{ForInput, Replies, WritesSome}
+use Rattle.aw_run.specs.OfInputs.{ForInput, Replies, WritesSome}
 use Rattle.aw_run.specs.declared.reply.Reply.{Reply}
 use Rattle.aw_run.specs.declared.reply.Status.{Status}
 use Rattle.aw_run.specs.declared.reply.Status.TheVariants.{Done}
@@ -34,6 +39,7 @@ use Rattle.aw_run.specs.declared.words.Command.{Command}
 use Rattle.aw_run.specs.declared.words.Command.TheVariants.{Reads}
 use Rattle.aw_run.specs.declared.words.Job.{Job}
 use Rattle.aw_run.specs.declared.words.Job.TheVariants.{Check, Tells}
+use Rattle.aw_run.specs.declared.words.Telling.TheVariants as Telling
 
 -- Of a specification with these types, words and grammar, with loads or without, and of the events behind it:
 
@@ -64,6 +70,36 @@ WritesAnyOrder t w g loads es =
     (ds : List Choice) → SameChoices (after_events g (empty_world g loads) es).taken ds → (d : Config) → undivided g [] ds ≡ Some d →
     output_of w g loads es ≡ all_lines w g (empty_world g loads) es ++ artifacts w d) ∥₁
 
+-- Wherever every message was delivered the sites hold just the undivided configuration of the same choices, in any order that is allowed.
+abbrev pub SitesMerge : Types → Words → Grammar → (loads : Bool) → List Event → Type 0
+SitesMerge t w g loads es =
+    ∥ ((n : ℕ) → IsQuiet (moment g loads es n) →
+    (ds : List Choice) → SameChoices (moment g loads es n).taken ds → (d : Config) → undivided g [] ds ≡ Some d → HoldsConfig g (moment g loads es n) d) ∥₁
+
+-- And each site answers each choice as that configuration does.
+abbrev pub SitesAnswerAsOne : Types → Words → Grammar → (loads : Bool) → List Event → Type 0
+SitesAnswerAsOne t w g loads es =
+    ∥ ((n : ℕ) → IsQuiet (moment g loads es n) → (d : Config) → undivided g [] (moment g loads es n).taken ≡ Some d → (x : Choice) →
+    answer_to (choose g (site_at (moment g loads es n) (home g (node_of x))) x) ≡ answer g d x) ∥₁
+
+-- A choice is answered by its role's own choices and the messages delivered to it, and taken exactly where it is enabled by these.
+abbrev pub ArrivalsAnswer : Types → Words → Grammar → (loads : Bool) → List Event → Type 0
+ArrivalsAnswer t w g loads es = ∥ ((before behind : List Event) (c : Choice) → es ≡ before ++ Chose c ∷ behind → AnswersByArrivals w g loads before c) ∥₁
+
+-- What a site knows stays from each moment on: its equations, each guard that is decided, with the same bound references, and its nodes.
+abbrev pub KnowledgeStays : Types → Words → Grammar → (loads : Bool) → List Event → Type 0
+KnowledgeStays t w g loads es =
+    ∥ ((n k a : ℕ) → EquationsStay (site_at (moment g loads es n) a).equations (site_at (moment g loads es (n + k)) a).equations
+    × NodesStay (site_at (moment g loads es n) a).held (site_at (moment g loads es (n + k)) a).held) ∥₁
+
+-- At no moment does anything wait for itself.
+abbrev pub NothingCircles : Types → Words → Grammar → (loads : Bool) → List Event → Type 0
+NothingCircles t w g loads es = ∥ ((n : ℕ) → MeetsNoCircle g (moment g loads es n)) ∥₁
+
+-- At each moment there are at most as many messages as the choices taken allow.
+abbrev pub MessagesStayFew : Types → Words → Grammar → (loads : Bool) → List Event → Type 0
+MessagesStayFew t w g loads es = ∥ ((n : ℕ) → length (moment g loads es n).messages ≤ bound_of g (moment g loads es n).taken) ∥₁
+
 -- Behind each settling no message is undelivered.
 abbrev pub Settled : Types → Words → Grammar → (loads : Bool) → List Event → Type 0
 Settled t w g loads es = SettlingEnds g loads es
@@ -82,6 +118,12 @@ pub record Promises (t : Types) (w : Words) (g : Grammar) (loads : Bool) (es : L
   pub enabled : RulesStayEnabled t w g loads es
   pub started : StartsStayEnabled t w g loads es
   pub any_order : WritesAnyOrder t w g loads es
+  pub merged : SitesMerge t w g loads es
+  pub answers : SitesAnswerAsOne t w g loads es
+  pub arrived : ArrivalsAnswer t w g loads es
+  pub stays : KnowledgeStays t w g loads es
+  pub no_circle : NothingCircles t w g loads es
+  pub bounded : MessagesStayFew t w g loads es
   pub settles : Settled t w g loads es
   pub typed_plain : PlainIsTyped t w g loads es
   pub typed_replay : ReplayIsTyped t w g loads es
@@ -124,3 +166,27 @@ DoneBy job said result left P = said ≡ Some (Reads job) → result ≡ Done �
 -- and of the events that the input spells F holds
 abbrev pub DoneWith : (Types → Words → Grammar → Bool → List Event → Type 0) → Job → Option Command → Status → Option (List ℕ) → (List ℕ → Type 0) → Type 0
 DoneWith F job said result left P = said ≡ Some (Reads job) → result ≡ Done → ForInput left (λ input. WritesWith F job input P)
+
+-- one run: the command that its words are, what was left to read, how it ended, and what the sink had been written before it and after it
+pub record Run : Type 0 where
+  pub command : Option Command
+  pub left : Option (List ℕ)
+  pub status : Status
+  pub before : Option (List ℕ)
+  pub after : Option (List ℕ)
+
+-- the run of these words on what was left to read, with this end
+abbrev pub ran : List (List ℕ) → Option (List ℕ) → Status → Option (List ℕ) → Option (List ℕ) → Run
+ran words left status before after = record { command = command_of words; left = left; status = status; before = before; after = after }
+
+-- a run by these words that does the job and is done has written the text that the job makes of the input
+abbrev pub Wrote : Job → Run → Type 0
+Wrote job r = DoneBy job r.command r.status r.left (Gets r.before r.after)
+
+-- and of the events that the input spells F holds
+abbrev pub WroteWith : Job → (Types → Words → Grammar → Bool → List Event → Type 0) → Run → Type 0
+WroteWith job F r = DoneWith F job r.command r.status r.left (Gets r.before r.after)
+
+-- of the events of a replay that is done F holds
+abbrev pub Replayed : (Types → Words → Grammar → Bool → List Event → Type 0) → Run → Type 0
+Replayed F r = WroteWith (Tells Telling.Replayed) F r

@@ -3,7 +3,7 @@ use Rattle.std.specs.Prelude.{ℕ, List, [], ◌++◌, codes}
 use Rattle.std.specs.Fmt.{decimal}
 use Rattle.aw_term.specs.Rules.{get}
 use Rattle.aw_term.specs.Artifacts.{Words}
-use Rattle.aw_told.specs.Told.{circle_text}
+use Rattle.aw_check_text.specs.Told.{circle_text}
 use Rattle.aw_typed.specs.TypeFaults.{Fault, NoShape, NoCarry, InRule}
 
 -- `line 3 form`

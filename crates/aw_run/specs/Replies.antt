@@ -1,8 +1,9 @@
 -- What a run says to an input.
-use Rattle.std.specs.Prelude.{◌≡◌, ◌⊎◌, ℕ, List, [], ◌++◌, Option, Some, None, codes, Bool, true, false}
+use Rattle.std.specs.Prelude.{◌≡◌, ◌⊎◌, ℕ, List, Option, Some, None, codes, Bool, true, false}
 use Rattle.aw_out.specs.Edge.{Gets}
 use Rattle.aw_out.specs.Causes.{Rose}
-pub use Rattle.aw_run.specs.Devices.{Contents, Devices, Wired, around, contents, wire_of, wired, wired_in}
+pub use Rattle.aw_run.specs.OfInputs.{ForInput, Replies, WritesSome, reply, reply_with}
+pub use Rattle.aw_run.specs.Devices.{Devices, Wired, around, wired, wired_in}
 use Rattle.aw_grammar.specs.GrammarOf.{words_of}
 use Rattle.aw_accept.specs.declared.refused.Refused.{Refused}
 use Rattle.aw_accept.specs.declared.refused.Refused.TheVariants as refused
@@ -11,36 +12,19 @@ use Rattle.aw_typed.specs.TypeFaults.{NoShape, NoCarry, InRule}
 use Rattle.aw_typed.specs.declared.data.TypeFault.{TypeFault}
 use Rattle.aw_typed.specs.declared.data.TypeFault.TheVariants as types
 use Rattle.aw_run.specs.Refusals.{types_text}
-use Rattle.aw_told.specs.Told.{circle_text}
+use Rattle.aw_check_text.specs.Told.{circle_text}
 use Rattle.aw_run.specs.declared.words.Command.{Command}
 use Rattle.aw_run.specs.declared.words.Command.TheVariants.{Reads, Tries, Serves, Keeps, Carries}
-use Rattle.aw_run.specs.declared.words.Job.{Job}
 use Rattle.aw_run.specs.declared.reply.Reply.{Reply}
 use Rattle.aw_run.specs.declared.reply.Status.{Status}
-use Rattle.aw_run.specs.declared.reply.Status.TheVariants.{Done, Usage, BadSpec, Circular, BadSchedule as BadSched, TooLarge, TooLong, BadTypes as BadTyped, NetFault, NoMemory, ReadFault, WriteFault, BadReply}
+use Rattle.aw_run.specs.declared.reply.Status.TheVariants.{Done, Usage, NetFault, NoMemory, ReadFault, WriteFault, BadReply}
 use Rattle.aw_run.specs.Words.{command_of, role_word}
-use Rattle.aw_run.specs.Output.{Output, Writes, PastInputLimit, BadSpecification, BadTypes, IsCircular, UnknownRole, BadSchedule, PastOutputLimit, NoReplyOf, IsOutputOf}
+use Rattle.aw_run.specs.Output.{Writes, BadTypes, IsCircular, IsOutputOf}
 use Rattle.aw_run.specs.Serving.{IsServingOutputOf}
 use Rattle.aw_run.specs.Keeping.{IsKeepingOutputOf}
 use Rattle.aw_run.specs.Carrying.{IsCarryingOutputOf}
 use Rattle.aw_run.specs.Statuses.{IsJournalStop}
 use Rattle.aw_run.specs.Trials.{trial_output}
-
--- a status, and what is written with it
-abbrev pub reply : Status → List ℕ → Reply
-reply status text = record { status = status; text = text }
-
--- the reply of a command that has this output
-abbrev pub reply_with : Output → Reply
-reply_with (Writes text) = reply Done text
-reply_with PastInputLimit = reply TooLong []
-reply_with (BadSpecification why) = reply BadSpec (codes "bad specification " ++ (why ++ codes "\n"))
-reply_with (BadTypes why) = reply BadTyped (codes "bad types " ++ (why ++ codes "\n"))
-reply_with (IsCircular why) = reply Circular (codes "circular " ++ (why ++ codes "\n"))
-reply_with UnknownRole = reply Usage (codes "usage\n")
-reply_with (BadSchedule why) = reply BadSched (codes "bad schedule " ++ (why ++ codes "\n"))
-reply_with PastOutputLimit = reply TooLarge []
-reply_with (NoReplyOf role) = reply BadReply (codes "bad reply " ++ (role ++ codes "\n"))
 
 -- the reply to a grammar that was not accepted; want of memory has none
 abbrev pub RefusesGrammar : Refused → Reply → Type 0
@@ -54,16 +38,12 @@ RefusesTypes w (types.NoCarry sort) said = said ≡ reply_with (BadTypes (types_
 RefusesTypes w (types.Rule rule place) said = said ≡ reply_with (BadTypes (types_text w (InRule rule place)))
 RefusesTypes w types.NoMemory said = ⊥
 
--- the reply is that of an output with P
-abbrev pub Replies : (Output → Type 0) → Reply → Type 0
-Replies P said = (output : Output) × P output × (said ≡ reply_with output)
-
 -- What a run of these words, which spell this command or none, may say to this input.
 abbrev pub SaysAs : Option Command → List (List ℕ) → List ℕ → Devices → Reply → Type 0
 SaysAs None words input x said = said ≡ reply Usage (codes "usage\n")
 SaysAs (Some (Reads job)) words input x said = Replies (IsOutputOf job input) said
 SaysAs (Some (Tries number)) words input x said = said ≡ reply_with (trial_output number)
-SaysAs (Some (Serves sessions)) words input x said = Replies (IsServingOutputOf (role_word words) sessions (wire_of x) input) said
+SaysAs (Some (Serves sessions)) words input x said = Replies (IsServingOutputOf (role_word words) sessions (wired_in x) input) said
 SaysAs (Some (Keeps sessions)) words input x said = Replies (IsKeepingOutputOf (role_word words) sessions x input) said
 SaysAs (Some (Carries rounds)) words input x said = Replies (IsCarryingOutputOf rounds (wired_in x) input) said
 
@@ -161,23 +141,14 @@ IsDoneOrStopped command status =
     (status ≡ Done) ⊎ (status ≡ NoMemory) ⊎ (status ≡ ReadFault) ⊎ (status ≡ WriteFault)
     ⊎ ((status ≡ NetFault) × (uses_wire command ≡ true)) ⊎ (IsJournalStop status × (uses_disk command ≡ true)) ⊎ ((status ≡ BadReply) × (carries command ≡ true))
 
--- where the source tells what is left, that input has P, and otherwise some input has
-abbrev pub ForInput : Option (List ℕ) → (List ℕ → Type 0) → Type 0
-ForInput None P = (input : List ℕ) × P input
-ForInput (Some input) P = P input
-
 -- the run told the status of this reply, and wrote its text whole
 pub record Replied (said : Reply) (status : Status) (old new : Option (List ℕ)) : Type 0 where
   pub told : status ≡ said.status
   pub written : Gets old new said.text
 
--- the job makes a text of the input, and that text has P
-abbrev pub WritesSome : Job → List ℕ → (List ℕ → Type 0) → Type 0
-WritesSome j input P = (text : List ℕ) × IsOutputOf j input (Writes text) × P text
-
--- the node of this role makes a text of the input and of what the wire tells, and that text has P
-abbrev pub WritesServing : (name : List ℕ) → (sessions : ℕ) → Contents → List ℕ → (List ℕ → Type 0) → Type 0
-WritesServing name sessions wire input P = (text : List ℕ) × IsServingOutputOf name sessions wire input (Writes text) × P text
+-- the node of this role makes a text of the input and of the wire, and that text has P
+abbrev pub WritesServing : (name : List ℕ) → (sessions : ℕ) → Wired → List ℕ → (List ℕ → Type 0) → Type 0
+WritesServing name sessions x input P = (text : List ℕ) × IsServingOutputOf name sessions x input (Writes text) × P text
 
 -- and so does its kept node, of the wire and the disk
 abbrev pub WritesKeeping : (name : List ℕ) → (sessions : ℕ) → Devices → List ℕ → (List ℕ → Type 0) → Type 0

@@ -1,7 +1,7 @@
 -- How a run can end, and what each end says of it.
 use Rattle.std.specs.Prelude.{ℕ}
-use Rattle.aw_durable.specs.declared.fault.KeptFault.{KeptFault}
-use Rattle.aw_durable.specs.declared.fault.KeptFault.TheVariants as fault
+use Rattle.aw_kept_node.specs.declared.fault.KeptFault.{KeptFault}
+use Rattle.aw_kept_node.specs.declared.fault.KeptFault.TheVariants as fault
 use Rattle.aw_run.specs.declared.reply.Status.{Status}
 use Rattle.aw_run.specs.declared.reply.Status.TheVariants.{Done, Usage, BadSpec, Circular, BadSchedule, TooLarge, ReadFault, WriteFault, NetFault, NoMemory, TooLong, BadTypes, DiskFault, BadJournal, JournalFull, BadReply}
 use Rattle.aw_run.specs.declared.reply.Stop.{Stop}

@@ -2,7 +2,7 @@
 use Rattle.std.specs.Prelude.{ℕ, ◌&&◌, List, [], ◌∷◌, Option, Some, None, codes, nat_le, if◌then◌else◌, option_and_then, option_map}
 use Rattle.std.specs.Str.{bytes_eq}
 use Rattle.aw_run.specs.declared.words.Command.{Command}
-use Rattle.aw_text.specs.Spelling.{number_of}
+use Rattle.aw_spelling.specs.Spelling.{number_of}
 use Rattle.aw_run.specs.declared.words.Command.TheVariants.{Reads, Tries, Serves, Keeps, Carries}
 use Rattle.aw_run.specs.declared.words.Job.TheVariants.{Check, Tells}
 use Rattle.aw_run.specs.declared.words.Telling.TheVariants.{Undivided, Replayed}

@@ -15,11 +15,11 @@ use crate::refusals::not_accepted;
 use crate::reply::{Reply, Status};
 use aw_accept::{Accepted, accept};
 use aw_base::Declared;
+use aw_check_text::{accepted_text, roles_text, wait_text};
 use aw_face::Faces;
 use aw_grammar::Grammar;
 use aw_list::Text;
 use aw_spec::SpecText;
-use aw_told::{accepted_text, roles_text, wait_text};
 use std::alloc::{AllocError, Global};
 
 /// What is told of the roles checked apart: nothing, where no dependence is declared.

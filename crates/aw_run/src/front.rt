@@ -4,7 +4,7 @@ ghost use Rattle.aw_grammar.specs.GrammarOf.{grammar_of};
 ghost use Rattle.aw_typed.specs.Types.{AreFor};
 ghost use Rattle.aw_typed.specs.Typing.{types_of, IsMadeFor, NumbersInRange};
 ghost use Rattle.aw_spec.specs.Views.{spec_seen};
-ghost use Rattle.aw_write.specs.SpecLines.{written};
+ghost use Rattle.aw_spec_writer.specs.SpecLines.{written};
 ghost use Rattle.aw_run.specs.Fronts.{IsFrontOf, IsJudged, Nothing, ReadyOr};
 ghost use Rattle.aw_run.specs.Output.{IfAccepted, IfTyped};
 
@@ -15,8 +15,8 @@ use aw_accept::{Accepted, accept};
 use aw_base::Grammar;
 use aw_list::Text;
 use aw_spec::{SpecFault, SpecText, read_spec};
+use aw_spec_writer::write_spec;
 use aw_typed::{Typed, type_check};
-use aw_write::write_spec;
 use std::alloc::{AllocError, Global};
 
 /// An accepted specification with its types, and its text where that was asked for.

@@ -3,7 +3,7 @@ ghost use Rattle.std.specs.Prelude.{◌≡◌, ◌≢◌, ◌≤◌, ◌<◌, []
 ghost use Rattle.aw_grammar.specs.GrammarOf.{grammar_of, declarations_of};
 ghost use Rattle.aw_typed.specs.Typing.{IsMadeFor};
 ghost use Rattle.aw_spec.specs.Reading.{Spec};
-ghost use Rattle.aw_write.specs.SpecLines.{written};
+ghost use Rattle.aw_spec_writer.specs.SpecLines.{written};
 ghost use Rattle.aw_out.specs.Causes.{Rose};
 ghost use Rattle.aw_out.specs.Edge.{IsUsedUp, GivesSome};
 ghost use Rattle.aw_run.specs.Devices.{around};
@@ -17,7 +17,7 @@ use crate::sessions::session_lines;
 use crate::source::{INPUT_LIMIT, unread};
 use aw_accept::Accepted;
 use aw_disk::Disk;
-use aw_durable::serve_kept;
+use aw_kept_node::serve_kept;
 use aw_out::{Source, Wire, read_all};
 use aw_typed::Typed;
 use std::alloc::Global;

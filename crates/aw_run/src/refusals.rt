@@ -3,7 +3,7 @@ ghost use Rattle.std.specs.Prelude.{◌≡◌, ◌++◌, [], codes, OnOk, IfOk};
 ghost use Rattle.aw_spec.specs.KindNames.{kind_name};
 ghost use Rattle.aw_grammar.specs.GrammarOf.{words_of};
 ghost use Rattle.aw_term.specs.Rules.{get};
-ghost use Rattle.aw_told.specs.Told.{circle_text};
+ghost use Rattle.aw_check_text.specs.Told.{circle_text};
 ghost use Rattle.aw_run.specs.Output.{BadSpecification, BadTypes, IsCircular, BadSchedule, NoReplyOf};
 ghost use Rattle.aw_sched.specs.KindNames.{kind_name as schedule_kind};
 ghost use Rattle.aw_run.specs.Refusals.{at_line};
@@ -12,11 +12,11 @@ ghost use Rattle.aw_run.specs.Replies.{reply_with, RefusesGrammar, RefusesTypes}
 use crate::reply::{Reply, Status};
 use aw_accept::{Fault, Refused};
 use aw_base::{Grammar, con_name, role_name, sort_name};
+use aw_check_text::push_circle;
 use aw_list::Text;
 use aw_sched::SchedKind;
 use aw_spec::SpecKind;
-use aw_text::push_number;
-use aw_told::push_circle;
+use aw_spelling::push_number;
 use aw_typed::TypeFault;
 use std::alloc::{AllocError, Global};
 

@@ -2,7 +2,7 @@
 ghost use Rattle.std.specs.Prelude.{◌≡◌, [], IfOk};
 ghost use Rattle.aw_run.specs.Statuses.{code_of, status_of_stop, stop_of};
 
-use aw_durable::KeptFault;
+use aw_kept_node::KeptFault;
 use aw_list::Text;
 use std::alloc::{AllocError, Global};
 

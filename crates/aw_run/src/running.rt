@@ -7,9 +7,11 @@ ghost use Rattle.aw_run.specs.Words.{command_of, role_word};
 ghost use Rattle.aw_run.specs.Carrying.{StopsCarrying};
 ghost use Rattle.aw_run.specs.Keeping.{StopsKeeping};
 ghost use Rattle.aw_run.specs.Statuses.{IsReply, IsPastReading, IsSilent, IsStop, IsJournalStop, IsRefusal, status_of_stop};
-ghost use Rattle.aw_run.specs.Promises.{DoneBy, DoneWith, PlainIsTyped, ReplayIsTyped, RepliesKeeping, RulesStayEnabled, Settled, StartsStayEnabled, StaysAcyclic, WritesAnyOrder};
+ghost use Rattle.aw_run.specs.Promises.{PlainIsTyped, RepliesKeeping, ReplayIsTyped, Replayed, Wrote, WroteWith, ran};
+ghost use Rattle.aw_run.specs.Promises.{ArrivalsAnswer, KnowledgeStays, MessagesStayFew, NothingCircles, RulesStayEnabled, Settled, SitesAnswerAsOne, SitesMerge, StartsStayEnabled, StaysAcyclic, WritesAnyOrder};
 ghost use Rattle.aw_run.specs.Replies.{EndsWith, ForInput, IsDoneOrStopped, IsGood, NetFailed, NetKept, Replied, Says, SomeReply, WritesCarrying, WritesKeeping, WritesServing};
-ghost use Rattle.aw_run.specs.Replies.{around, contents, reads, uses_disk, uses_wire, wired};
+ghost use Rattle.aw_run.specs.Replies.{around, reads, uses_disk, uses_wire, wired};
+ghost use Rattle.aw_run.specs.Unserved.{StopsServing};
 
 use crate::carrying::carry_source;
 use crate::keeping::keep_source;
@@ -52,6 +54,8 @@ fn prepare<S: Source, W: Wire, D: Disk>(
     ensures disk_command { IfErr result (λ stop. IsJournalStop (status_of_stop stop) → uses_disk (command_of words.now) ≡ true) }
     ensures refused { IfOk result (λ reply. IsRefusal reply.status → (wire.new ≡ wire.old) × (disk.new ≡ disk.old)) }
     ensures unread { result ≡ Err Stop.ReadFault → (wire.new ≡ wire.old) × (disk.new ≡ disk.old) }
+    ensures unserved { (n : ℕ) → command_of words.now ≡ Some (Command.Serves n) → IfErr result (λ stop. ForInput (S.left src.old) (λ input.
+        StopsServing (role_word words.now) n (wired ⟦<W as Wire>⟧ wire.old wire.new) input (status_of_stop stop))) }
     ensures stopped { (n : ℕ) → command_of words.now ≡ Some (Command.Keeps n) → IfErr result (λ stop. ForInput (S.left src.old) (λ input.
         StopsKeeping (role_word words.now) n (around ⟦<W as Wire>⟧ ⟦<D as Disk>⟧ wire.old wire.new disk.old disk.new) input (status_of_stop stop))) }
     ensures broken { (n : ℕ) → command_of words.now ≡ Some (Command.Carries n) → IfErr result (λ stop. ForInput (S.left src.old) (λ input.
@@ -111,26 +115,38 @@ pub fn run<S: Source, K: Sink, W: Wire, D: Disk>(
     ensures cause { IsReply result → ForInput (S.left src.old) (λ input. EndsWith words.now input (around ⟦<W as Wire>⟧ ⟦<D as Disk>⟧ wire.old wire.new disk.old disk.new) result) }
 
     // A command that is done has written the whole text that it makes of its input.
-    ensures check { DoneBy Job.Check (command_of words.now) result (S.left src.old) (Gets (K.written out.old) (K.written out.new)) }
-    ensures plain { DoneBy (Job.Tells Telling.Undivided) (command_of words.now) result (S.left src.old) (Gets (K.written out.old) (K.written out.new)) }
-    ensures replay { DoneBy (Job.Tells Telling.Replayed) (command_of words.now) result (S.left src.old) (Gets (K.written out.old) (K.written out.new)) }
+    ensures check { Wrote Job.Check (ran words.now (S.left src.old) result (K.written out.old) (K.written out.new)) }
+    ensures plain { Wrote (Job.Tells Telling.Undivided) (ran words.now (S.left src.old) result (K.written out.old) (K.written out.new)) }
+    ensures replay { Wrote (Job.Tells Telling.Replayed) (ran words.now (S.left src.old) result (K.written out.old) (K.written out.new)) }
 
     // The events of a replay may be any choices and deliveries, late, repeated and out of order. At each moment the choices taken have an
     // acyclic undivided configuration, and what is enabled stays so. Settling leaves no message, and where all were delivered the
     // artifacts written are those of one undivided configuration of the same choices, in any order that it allows.
-    ensures acyclic { DoneWith StaysAcyclic (Job.Tells Telling.Replayed) (command_of words.now) result (S.left src.old) (Gets (K.written out.old) (K.written out.new)) }
-    ensures enabled { DoneWith RulesStayEnabled (Job.Tells Telling.Replayed) (command_of words.now) result (S.left src.old) (Gets (K.written out.old) (K.written out.new)) }
-    ensures started { DoneWith StartsStayEnabled (Job.Tells Telling.Replayed) (command_of words.now) result (S.left src.old) (Gets (K.written out.old) (K.written out.new)) }
-    ensures any_order { DoneWith WritesAnyOrder (Job.Tells Telling.Replayed) (command_of words.now) result (S.left src.old) (Gets (K.written out.old) (K.written out.new)) }
-    ensures settles { DoneWith Settled (Job.Tells Telling.Replayed) (command_of words.now) result (S.left src.old) (Gets (K.written out.old) (K.written out.new)) }
+    ensures acyclic { Replayed StaysAcyclic (ran words.now (S.left src.old) result (K.written out.old) (K.written out.new)) }
+    ensures enabled { Replayed RulesStayEnabled (ran words.now (S.left src.old) result (K.written out.old) (K.written out.new)) }
+    ensures started { Replayed StartsStayEnabled (ran words.now (S.left src.old) result (K.written out.old) (K.written out.new)) }
+    ensures any_order { Replayed WritesAnyOrder (ran words.now (S.left src.old) result (K.written out.old) (K.written out.new)) }
+
+    // At each moment a choice is answered by what has arrived at its role, and what a site knows stays. Wherever every message was delivered the
+    // sites hold just that undivided configuration, and answer each choice as it does. Messages are bounded, and nothing waits for itself.
+    ensures arrived { Replayed ArrivalsAnswer (ran words.now (S.left src.old) result (K.written out.old) (K.written out.new)) }
+    ensures stays { Replayed KnowledgeStays (ran words.now (S.left src.old) result (K.written out.old) (K.written out.new)) }
+    ensures merged { Replayed SitesMerge (ran words.now (S.left src.old) result (K.written out.old) (K.written out.new)) }
+    ensures answers { Replayed SitesAnswerAsOne (ran words.now (S.left src.old) result (K.written out.old) (K.written out.new)) }
+    ensures bounded { Replayed MessagesStayFew (ran words.now (S.left src.old) result (K.written out.old) (K.written out.new)) }
+    ensures no_circle { Replayed NothingCircles (ran words.now (S.left src.old) result (K.written out.old) (K.written out.new)) }
+    ensures settles { Replayed Settled (ran words.now (S.left src.old) result (K.written out.old) (K.written out.new)) }
 
     // Where there are types, each configuration that the choices taken lead to is well typed, a hole having the type of its result.
-    ensures typed_plain { DoneWith PlainIsTyped (Job.Tells Telling.Undivided) (command_of words.now) result (S.left src.old) (Gets (K.written out.old) (K.written out.new)) }
-    ensures typed_replay { DoneWith ReplayIsTyped (Job.Tells Telling.Replayed) (command_of words.now) result (S.left src.old) (Gets (K.written out.old) (K.written out.new)) }
+    ensures typed_plain { WroteWith (Job.Tells Telling.Undivided) PlainIsTyped (ran words.now (S.left src.old) result (K.written out.old) (K.written out.new)) }
+    ensures typed_replay { Replayed ReplayIsTyped (ran words.now (S.left src.old) result (K.written out.old) (K.written out.new)) }
 
     ensures trial { (n : ℕ) → command_of words.now ≡ Some (Command.Tries n) → result ≡ Status.Done → Gets (K.written out.old) (K.written out.new) (trial_text n) }
+    // What a node tells of its sessions, and why it stops.
     ensures node { (n : ℕ) → command_of words.now ≡ Some (Command.Serves n) → result ≡ Status.Done → ForInput (S.left src.old) (λ input.
-        WritesServing (role_word words.now) n (contents (W.content wire.old) (W.content wire.new)) input (Gets (K.written out.old) (K.written out.new))) }
+        WritesServing (role_word words.now) n (wired ⟦<W as Wire>⟧ wire.old wire.new) input (Gets (K.written out.old) (K.written out.new))) }
+    ensures unserved { (n : ℕ) → command_of words.now ≡ Some (Command.Serves n) → IsStop result → ForInput (S.left src.old) (λ input.
+        StopsServing (role_word words.now) n (wired ⟦<W as Wire>⟧ wire.old wire.new) input result) }
 
     // What a kept node tells of its sessions, and why it stops; both say what a crash leaves of its journal, at any moment of the run.
     ensures kept { (n : ℕ) → command_of words.now ≡ Some (Command.Keeps n) → result ≡ Status.Done → ForInput (S.left src.old) (λ input.

@@ -5,10 +5,11 @@ ghost use Rattle.aw_typed.specs.Typing.{IsMadeFor};
 ghost use Rattle.aw_spec.specs.Reading.{Spec};
 ghost use Rattle.aw_out.specs.Causes.{Rose};
 ghost use Rattle.aw_out.specs.Edge.{IsUsedUp, GivesSome};
-ghost use Rattle.aw_run.specs.Devices.{contents};
+ghost use Rattle.aw_run.specs.Devices.{wired};
 ghost use Rattle.aw_run.specs.Replies.{ForInput, Replies};
 ghost use Rattle.aw_run.specs.Serving.{IsServingOutputOf, ServesNamed, ServesRole};
 ghost use Rattle.aw_run.specs.Statuses.{IsReply, IsSilent, IsPastReading, IsRefusal, IsJournalStop, status_of_stop};
+ghost use Rattle.aw_run.specs.Unserved.{StopsNode, StopsNodeNamed, StopsServing};
 
 use crate::front::{Front, front_of_input};
 use crate::reply::{Reply, Status, Stop};
@@ -32,7 +33,9 @@ fn serve_role<W: Wire>(
     requires role { role < (grammar_of accepted.now.grammar).roles }
     requires made { IsMadeFor (grammar_of accepted.now.grammar) typed.now }
     ensures reply { IfOk result (λ reply. (s : Spec) → s.declared ≡ declarations_of accepted.now.grammar → s.types ≡ typed.now.types →
-        Replies (ServesRole s role sessions (contents (W.content wire.old) (W.content wire.new))) reply) }
+        Replies (ServesRole s role sessions (wired ⟦<W as Wire>⟧ wire.old wire.new)) reply) }
+    ensures stopped { IfErr result (λ stop. (s : Spec) → s.declared ≡ declarations_of accepted.now.grammar → s.types ≡ typed.now.types →
+        StopsNode s role sessions (wired ⟦<W as Wire>⟧ wire.old wire.new) (status_of_stop stop)) }
     ensures net_cause { result ≡ Err Stop.NetFault → Rose (W.failed_openings wire.old) (W.failed_openings wire.new) }
     ensures net_kept { result ≢ Err Stop.NetFault → W.failed_openings wire.new ≡ W.failed_openings wire.old }
     ensures done { IfOk result (λ reply. reply.status ≡ Status.Done) }
@@ -60,7 +63,9 @@ fn serve_named<W: Wire>(
 ) -> Result<Reply, Stop>
     requires made { IsMadeFor (grammar_of accepted.now.grammar) typed.now }
     ensures reply { IfOk result (λ reply. (s : Spec) → s.declared ≡ declarations_of accepted.now.grammar → s.types ≡ typed.now.types →
-        Replies (ServesNamed name.now sessions (contents (W.content wire.old) (W.content wire.new)) s) reply) }
+        Replies (ServesNamed name.now sessions (wired ⟦<W as Wire>⟧ wire.old wire.new) s) reply) }
+    ensures stopped { IfErr result (λ stop. (s : Spec) → s.declared ≡ declarations_of accepted.now.grammar → s.types ≡ typed.now.types →
+        StopsNodeNamed name.now sessions (wired ⟦<W as Wire>⟧ wire.old wire.new) s (status_of_stop stop)) }
     ensures net_cause { result ≡ Err Stop.NetFault → Rose (W.failed_openings wire.old) (W.failed_openings wire.new) }
     ensures net_kept { result ≢ Err Stop.NetFault → W.failed_openings wire.new ≡ W.failed_openings wire.old }
     ensures refused { IfOk result (λ reply. IsRefusal reply.status → wire.new ≡ wire.old) }
@@ -83,7 +88,8 @@ fn serve_input<W: Wire>(
 ) -> Result<Reply, Stop>
     requires within { length input.now ≤ INPUT_LIMIT }
     ensures reply { IfOk result (λ reply.
-        Replies (IsServingOutputOf name.now sessions (contents (W.content wire.old) (W.content wire.new)) input.now) reply) }
+        Replies (IsServingOutputOf name.now sessions (wired ⟦<W as Wire>⟧ wire.old wire.new) input.now) reply) }
+    ensures stopped { IfErr result (λ stop. StopsServing name.now sessions (wired ⟦<W as Wire>⟧ wire.old wire.new) input.now (status_of_stop stop)) }
     ensures refused { IfOk result (λ reply. IsRefusal reply.status → wire.new ≡ wire.old) }
     ensures net_cause { result ≡ Err Stop.NetFault → Rose (W.failed_openings wire.old) (W.failed_openings wire.new) }
     ensures net_kept { result ≢ Err Stop.NetFault → W.failed_openings wire.new ≡ W.failed_openings wire.old }
@@ -110,7 +116,9 @@ pub fn serve_source<S: Source, W: Wire>(
     wire: &mut W,
 ) -> Result<Reply, Stop>
     ensures reply { IfOk result (λ reply. ForInput (S.left src.old) (λ input.
-        Replies (IsServingOutputOf name.now sessions (contents (W.content wire.old) (W.content wire.new)) input) reply)) }
+        Replies (IsServingOutputOf name.now sessions (wired ⟦<W as Wire>⟧ wire.old wire.new) input) reply)) }
+    ensures stopped { IfErr result (λ stop. ForInput (S.left src.old) (λ input.
+        StopsServing name.now sessions (wired ⟦<W as Wire>⟧ wire.old wire.new) input (status_of_stop stop))) }
     ensures is_reply { IfOk result (λ reply. IsReply reply.status) }
     ensures silent { IfOk result (λ reply. IsSilent reply.status → reply.text ≡ []) }
     ensures end { IfOk result (λ reply. IsPastReading reply.status → IsUsedUp (S.left src.new)) }

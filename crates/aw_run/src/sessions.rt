@@ -4,7 +4,7 @@ ghost use Rattle.aw_run.specs.Serving.{how_name, session_line, session_lines};
 
 use aw_list::Text;
 use aw_session::{How, SessionLog};
-use aw_text::push_number;
+use aw_spelling::push_number;
 use std::alloc::{AllocError, Global};
 
 /// How a session ended, in a word.

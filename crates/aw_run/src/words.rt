@@ -2,7 +2,7 @@
 ghost use Rattle.std.specs.Prelude.{◌≡◌, IfOk};
 ghost use Rattle.aw_run.specs.Words.{command_of, command_named, kept_named, node_named, numbered, role_word, session_count};
 
-use aw_text::number_value;
+use aw_spelling::number_value;
 use std::alloc::{AllocError, Global};
 use std::marker::Model;
 

@@ -4,7 +4,7 @@ use Rattle.std.proofs.Math.Bool.{and-true}
 use Rattle.std.proofs.lemmas.Bool.{and_parts, le-leb}
 use Rattle.std.proofs.lemmas.Bool.Decides.{nat_tests}
 use Rattle.std.proofs.lemmas.List.{length-map}
-use Rattle.aw_text.specs.Spelling.{is_content}
+use Rattle.aw_spelling.specs.Spelling.{is_content}
 use Rattle.aw_term.specs.Trees.{Never, Head, Con, Num, Text, Made, Trees, Nil, More, count}
 use Rattle.aw_term.specs.Rules.{Ground}
 use Rattle.aw_term.specs.Rules as P

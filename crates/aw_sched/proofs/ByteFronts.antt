@@ -3,8 +3,8 @@ use Rattle.std.proofs.Common.{◌≡◌, ℕ, ◌+◌, ◌-◌, ◌<◌, ◌≤�
 use Rattle.std.specs.Prelude.{unwrap_or}
 use Rattle.std.proofs.lemmas.List.{take_all}
 use Rattle.std.specs.List.{list_all, prefix_len}
-use Rattle.aw_text.specs.Spelling.{is_name, is_name_byte, number_of, unquoted, text_behind_quote}
-use Rattle.aw_text.proofs.TextEnds.{text_word}
+use Rattle.aw_spelling.specs.Spelling.{is_name, is_name_byte, number_of, unquoted, text_behind_quote}
+use Rattle.aw_spelling.proofs.TextEnds.{text_word}
 use Rattle.aw_lex.specs.declared.token.Token.{Token}
 use Rattle.aw_lex.specs.declared.token.TokenKind.{TokenKind}
 use Rattle.aw_lex.specs.declared.token.TokenKind.TheVariants as kinds
@@ -12,10 +12,10 @@ use Rattle.aw_lex.specs.declared.front.Front.TheVariants as front
 use Rattle.aw_lex.specs.Tokens.{is_blank, is_mark, is_word_byte, word_len, kind_of_word, front_of, front_of_text, front_of_word, tokens_from, with_token}
 use Rattle.aw_lex.proofs.TokenSteps.{blank_step, token_step}
 use Rattle.aw_lex.proofs.Words.{all_plain, kept_prefix}
-use Rattle.aw_form.specs.Lexemes.{Lexeme, Name, Number, Quoted, Mark, said, lexemes}
-use Rattle.aw_form.proofs.Lexing.{Ends, mark_front}
-use Rattle.aw_form.proofs.SaysTokens.{Lexes, lexes_name, lexes_number}
-use Rattle.aw_form.proofs.TokensBehind.{lexes_tokens}
+use Rattle.aw_term_reader.specs.Lexemes.{Lexeme, Name, Number, Quoted, Mark, said, lexemes}
+use Rattle.aw_term_reader.proofs.Lexing.{Ends, mark_front}
+use Rattle.aw_term_reader.proofs.SaysTokens.{Lexes, lexes_name, lexes_number}
+use Rattle.aw_term_reader.proofs.TokensBehind.{lexes_tokens}
 use Rattle.aw_sched.specs.ByteArguments.{EndsWord, IsMarkByte, Says, SaysBefore}
 
 -- what bytes say they say wherever in a line they stand

@@ -1,10 +1,10 @@
 -- A line that is `choose `, the name of a node, and what stands behind it.
 use Rattle.std.proofs.Common.{◌≡◌, ℕ, refl, sym, ap, ◌∙◌, subst, Bool, true, false, ◌||◌, not, List, [], ◌∷◌, ◌++◌, Option, Some, None, codes}
 use Rattle.std.specs.Prelude.{Ok, IfSome, is_some, is_none}
-use Rattle.aw_text.specs.Spelling.{node_name, parts_of_name}
+use Rattle.aw_spelling.specs.Spelling.{node_name, parts_of_name}
 use Rattle.aw_lex.specs.declared.token.Token.{Token}
 use Rattle.aw_lex.specs.Tokens.{is_word_byte, tokens_of}
-use Rattle.aw_index.specs.Places.{stands, first_told}
+use Rattle.aw_name_index.specs.Places.{stands, first_told}
 use Rattle.aw_term.specs.Rules.{Grammar}
 use Rattle.aw_term.specs.Artifacts.{Words}
 use Rattle.aw_typed.specs.Types.{Types}
@@ -12,12 +12,12 @@ use Rattle.aw_grammar.specs.Written.{Written}
 use Rattle.aw_grammar.specs.Kinds.{all_have_arities}
 use Rattle.aw_grammar.specs.Declarations.{Declarations, grammar_in, rule_names, words_in}
 use Rattle.aw_base.specs.NodeNames.{node_in, node_named, with_parts}
-use Rattle.aw_form.specs.Forms.{name, terms_in_braces}
-use Rattle.aw_form.specs.Lexemes.{Lexeme, Name, Node, lexemes}
-use Rattle.aw_form.proofs.Lexing.{Ends}
-use Rattle.aw_form.proofs.SaysTokens.{Lexes, lexes_blank, lexes_name, lexes_node}
-use Rattle.aw_form.proofs.Steps.{bound}
-use Rattle.aw_form.proofs.TokensBehind.{lexes_tokens}
+use Rattle.aw_term_reader.specs.Forms.{name, terms_in_braces}
+use Rattle.aw_term_reader.specs.Lexemes.{Lexeme, Name, Node, lexemes}
+use Rattle.aw_term_reader.proofs.Lexing.{Ends}
+use Rattle.aw_term_reader.proofs.SaysTokens.{Lexes, lexes_blank, lexes_name, lexes_node}
+use Rattle.aw_term_reader.proofs.Steps.{bound}
+use Rattle.aw_term_reader.proofs.TokensBehind.{lexes_tokens}
 use Rattle.aw_sched.specs.Answers.{event_seen}
 use Rattle.aw_sched.specs.ChoiceFronts.{EndsAtSpace, IsCutChoice}
 use Rattle.aw_sched.specs.Events.{Event, args_are_past, args_unknown, is_long, line_kind}

@@ -14,10 +14,10 @@ use Rattle.aw_grammar.specs.Named.{number_named}
 use Rattle.aw_grammar.proofs.Entries.{declared_grammar}
 use Rattle.aw_base.specs.NodeNames.{node_named}
 use Rattle.aw_typed.specs.Types.{Types}
-use Rattle.aw_form.specs.Lexemes as lex
-use Rattle.aw_form.specs.Lexemes.{Lexeme}
-use Rattle.aw_form.specs.Sound.{IsSound}
-use Rattle.aw_form.proofs.SoundTerms.{tokens_are_sound}
+use Rattle.aw_term_reader.specs.Lexemes as lex
+use Rattle.aw_term_reader.specs.Lexemes.{Lexeme}
+use Rattle.aw_term_reader.specs.Sound.{IsSound}
+use Rattle.aw_term_reader.proofs.SoundTerms.{tokens_are_sound}
 use Rattle.aw_lex.proofs.Slices.{tokens_are_slices}
 use Rattle.aw_sched.specs.Answers.{MayCome, event_seen}
 use Rattle.aw_sched.specs.Arguments.{ReadsAll}

@@ -2,8 +2,8 @@
 use Rattle.std.proofs.Common.{◌≡◌, ℕ, suc, refl, sym, ap, ◌∙◌, Bool, true, false, ◌&&◌, ◌||◌, not, cond, List, [], ◌∷◌, ◌++◌, map, length, Option, Some, None, is_some, option_map, option_and_then, arith, nat_lt}
 use Rattle.std.proofs.lemmas.Bool.{lt-ltb, le-ltb}
 use Rattle.std.proofs.lemmas.Option.{cond_some}
-use Rattle.aw_index.specs.Places.{place_of, number_of, or_else}
-use Rattle.aw_index.proofs.Lookups.{stands_is_placed}
+use Rattle.aw_name_index.specs.Places.{place_of, number_of, or_else}
+use Rattle.aw_name_index.proofs.Lookups.{stands_is_placed}
 use Rattle.aw_term.specs.Trees.{Never, Con, Num, Made, Trees, Nil, More, bind, binds}
 use Rattle.aw_term.specs.Rules.{Ground}
 use Rattle.aw_term.specs.WellFormed.{leaves, all_leaves, leaves_of}

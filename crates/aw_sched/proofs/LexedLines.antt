@@ -2,8 +2,8 @@
 use Rattle.std.proofs.Common.{◌≡◌, ℕ, ap, ◌∙◌, false, cond, List, []}
 use Rattle.aw_lex.specs.Lines.{passed_over}
 use Rattle.aw_lex.specs.Tokens.{tokens_of}
-use Rattle.aw_form.specs.Lexemes.{Lexeme}
-use Rattle.aw_form.proofs.SaysTokens.{Lexes}
+use Rattle.aw_term_reader.specs.Lexemes.{Lexeme}
+use Rattle.aw_term_reader.proofs.SaysTokens.{Lexes}
 use Rattle.aw_typed.specs.Types.{Types}
 use Rattle.aw_grammar.specs.Declarations.{Declarations}
 use Rattle.aw_sched.specs.Lines.{line_of}

@@ -3,7 +3,7 @@ use Rattle.std.proofs.Common.{◌≡◌, ℕ, ◌<◌, refl, sym, ap, ◌∙◌,
 use Rattle.std.specs.Prelude.{Err, is_none}
 use Rattle.std.proofs.lemmas.List.{length-map}
 use Rattle.std.proofs.lemmas.Bool.{or_right}
-use Rattle.aw_index.specs.Places.{number_of, stands, first_told}
+use Rattle.aw_name_index.specs.Places.{number_of, stands, first_told}
 use Rattle.aw_term.specs.Names.{Node}
 use Rattle.aw_term.specs.Choices.{Start, Develop}
 use Rattle.aw_term.specs.Views.{ground_of}

@@ -1,7 +1,7 @@
 -- What looking a name up says.
 use Rattle.std.proofs.Common.{◌≡◌, ℕ, zero, suc, ◌<◌, arith, refl, sym, ap, ◌∙◌, true, false, List, [], ◌∷◌, length, Some, None, is_some, slice_get}
-use Rattle.aw_index.specs.Places.{number_of, stands, or_else}
-use Rattle.aw_index.proofs.Lookups.{stands_is_placed, place_within}
+use Rattle.aw_name_index.specs.Places.{number_of, stands, or_else}
+use Rattle.aw_name_index.proofs.Lookups.{stands_is_placed, place_within}
 use Rattle.aw_grammar.specs.Named.{number_named}
 use Rattle.aw_grammar.proofs.Numbers.{number_is_place}
 

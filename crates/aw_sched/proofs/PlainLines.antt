@@ -3,9 +3,9 @@ use Rattle.std.proofs.Common.{◌≡◌, ℕ, ◌+◌, ◌-◌, ◌≤◌, suc, 
 use Rattle.std.proofs.Math.Seq.{drop-cons}
 use Rattle.std.proofs.lemmas.List.{length-drop, take_all}
 use Rattle.std.proofs.lemmas.Slice.Eq.{HasBytesAt, text_from_reads}
-use Rattle.aw_text.specs.Spelling.{number_of}
-use Rattle.aw_form.specs.Lexemes.{Name, Number}
-use Rattle.aw_form.proofs.SaysTokens.{Lexes, lexes_blank, lexes_name, lexes_nothing, lexes_number}
+use Rattle.aw_spelling.specs.Spelling.{number_of}
+use Rattle.aw_term_reader.specs.Lexemes.{Name, Number}
+use Rattle.aw_term_reader.proofs.SaysTokens.{Lexes, lexes_blank, lexes_name, lexes_nothing, lexes_number}
 use Rattle.aw_typed.specs.Types.{Types}
 use Rattle.aw_grammar.specs.Declarations.{Declarations}
 use Rattle.aw_sched.specs.Events.{Delivers, Settles}

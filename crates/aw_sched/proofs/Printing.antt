@@ -5,7 +5,7 @@ use Rattle.std.proofs.lemmas.Bool.Decides.{nat_tests}
 use Rattle.std.proofs.lemmas.Fmt.{decimal_digit}
 use Rattle.std.specs.List.{list_all}
 use Rattle.std.specs.Fmt.{decimal}
-use Rattle.aw_text.specs.Spelling.{is_name, is_step, has_spelling, spelled_steps, spelled_name}
+use Rattle.aw_spelling.specs.Spelling.{is_name, is_step, has_spelling, spelled_steps, spelled_name}
 use Rattle.aw_term.specs.Names.{Step, Node}
 use Rattle.aw_term.specs.Rules.{get}
 use Rattle.aw_term.specs.Artifacts.{Words, steps_text, node_text}

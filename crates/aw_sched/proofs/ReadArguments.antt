@@ -13,9 +13,9 @@ use Rattle.aw_grammar.specs.Written.{Written, Word, Apply, Literal, side_by_side
 use Rattle.aw_grammar.specs.Terms.{symbols_in, symbols_in_all, depth_of, depth_of_parts, depth_of_all}
 use Rattle.aw_grammar.specs.Kinds.{has_arity, con_called, has_arities, parts_have_arities, all_have_arities}
 use Rattle.aw_grammar.proofs.TermLemmas.{count_side}
-use Rattle.aw_form.specs.Lexemes.{Lexeme, Name, Number, Quoted, Mark}
-use Rattle.aw_form.specs.Laws.{AreWritten}
-use Rattle.aw_form.specs.Terms.{spelling, spellings, spellings_behind}
+use Rattle.aw_term_reader.specs.Lexemes.{Lexeme, Name, Number, Quoted, Mark}
+use Rattle.aw_term_reader.specs.Laws.{AreWritten}
+use Rattle.aw_term_reader.specs.Terms.{spelling, spellings, spellings_behind}
 use Rattle.aw_sched.specs.Arguments.{names_of, IsCon, Means}
 use Rattle.aw_sched.specs.ArgumentFronts.{AreInBraces, IsFront, OpensParts}
 use Rattle.aw_sched.specs.ByteArguments.{Says, SaysBefore, TakesArgument, TakesArguments, TakesAll}

@@ -2,11 +2,11 @@
 use Rattle.std.proofs.Common.{◌≡◌, ℕ, List, [], ◌∷◌, ◌++◌, Some, refl, ap, ◌∙◌, arith}
 use Rattle.aw_term.specs.Trees as P
 use Rattle.aw_grammar.specs.Written.{Written, Word, Apply, Literal, Writtens, Then, side_by_side}
-use Rattle.aw_form.specs.Lexemes.{Lexeme, Mark}
-use Rattle.aw_form.specs.Laws.{IsWritten, AreWritten}
-use Rattle.aw_form.specs.Terms.{spellings, terms_up_to, some_terms_up_to}
-use Rattle.aw_form.specs.Forms.{only, terms_in_braces, ◌>>=◌}
-use Rattle.aw_form.proofs.ReadsSpelled.{reads_spelled}
+use Rattle.aw_term_reader.specs.Lexemes.{Lexeme, Mark}
+use Rattle.aw_term_reader.specs.Laws.{IsWritten, AreWritten}
+use Rattle.aw_term_reader.specs.Terms.{spellings, terms_up_to, some_terms_up_to}
+use Rattle.aw_term_reader.specs.Forms.{only, terms_in_braces, ◌>>=◌}
+use Rattle.aw_term_reader.proofs.ReadsSpelled.{reads_spelled}
 use Rattle.aw_sched.specs.Laws.{IsWrittenLine}
 use Rattle.aw_sched.specs.LineSpelling.{args_spelling, line_spelling}
 use Rattle.aw_sched.specs.Lines.{Line, StartLine, ChooseLine, DeliverLine, SettleLine, ListLine, line_of}

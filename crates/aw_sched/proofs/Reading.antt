@@ -3,8 +3,8 @@ use Rattle.std.proofs.Common.{◌≡◌, ℕ, zero, suc, ◌+◌, ◌≤◌, ◌
 use Rattle.std.proofs.lemmas.Bool.{le-ltb}
 use Rattle.std.proofs.lemmas.List.{length-map}
 use Rattle.std.proofs.lemmas.Option.{slice_get_within}
-use Rattle.aw_text.specs.Spelling.{is_name}
-use Rattle.aw_text.proofs.NodeNames.{name_again}
+use Rattle.aw_spelling.specs.Spelling.{is_name}
+use Rattle.aw_spelling.proofs.NodeNames.{name_again}
 use Rattle.aw_term.specs.Names.{Step, Node}
 use Rattle.aw_term.specs.Rules.{Child, Rule, Sort, Grammar, get, child_at, sort_of_step, sort_after, sort_of}
 use Rattle.aw_term.specs.Artifacts.{Words}

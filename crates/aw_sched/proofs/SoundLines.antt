@@ -3,11 +3,11 @@ use Rattle.std.proofs.Common.{◌≡◌, ℕ, subst, List, [], ◌∷◌, Some, 
 use Rattle.std.proofs.lemmas.Option.{same_Some}
 use Rattle.aw_term.specs.Trees.{nats_eq}
 use Rattle.aw_term.specs.WellFormed.{Each}
-use Rattle.aw_form.specs.Lexemes.{Lexeme, Name, Number, Node, Quoted, Mark}
-use Rattle.aw_form.specs.Forms.{name, number, node, only, terms_in_braces}
-use Rattle.aw_form.specs.Sound.{IsSound}
-use Rattle.aw_form.proofs.SoundForms.{name_sound, braces_sound}
-use Rattle.aw_form.proofs.Steps.{bound, chosen}
+use Rattle.aw_term_reader.specs.Lexemes.{Lexeme, Name, Number, Node, Quoted, Mark}
+use Rattle.aw_term_reader.specs.Forms.{name, number, node, only, terms_in_braces}
+use Rattle.aw_term_reader.specs.Sound.{IsSound}
+use Rattle.aw_term_reader.proofs.SoundForms.{name_sound, braces_sound}
+use Rattle.aw_term_reader.proofs.Steps.{bound, chosen}
 use Rattle.aw_sched.specs.Lines.{Line, StartLine, ChooseLine, DeliverLine, SettleLine, ListLine, start_line, choice_at, choose_line, deliver_line, list_line, by_word, line_of}
 use Rattle.aw_sched.specs.LineSeen.{HasContents}
 

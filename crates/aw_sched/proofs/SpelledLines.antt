@@ -4,13 +4,13 @@ use Rattle.std.proofs.lemmas.Bool.{eqb-true, and_parts}
 use Rattle.std.proofs.lemmas.Option.{same_Some}
 use Rattle.aw_term.specs.Trees.{nats_eq}
 use Rattle.aw_grammar.specs.Written.{Written, side_by_side}
-use Rattle.aw_form.specs.Lexemes.{Lexeme, Name, Number, Node, Quoted, Mark}
-use Rattle.aw_form.specs.Terms.{spellings, some_terms_up_to}
-use Rattle.aw_form.specs.Forms.{name, number, node, end, only, terms_in_braces}
-use Rattle.aw_form.proofs.ReadForms.{name_is, node_is, number_is, end_is}
-use Rattle.aw_form.proofs.SpelledIfRead.{some_spelled_if_read}
-use Rattle.aw_form.proofs.SomeTerms.{some_terms}
-use Rattle.aw_form.proofs.Steps.{bound}
+use Rattle.aw_term_reader.specs.Lexemes.{Lexeme, Name, Number, Node, Quoted, Mark}
+use Rattle.aw_term_reader.specs.Terms.{spellings, some_terms_up_to}
+use Rattle.aw_term_reader.specs.Forms.{name, number, node, end, only, terms_in_braces}
+use Rattle.aw_term_reader.proofs.ReadForms.{name_is, node_is, number_is, end_is}
+use Rattle.aw_term_reader.proofs.SpelledIfRead.{some_spelled_if_read}
+use Rattle.aw_term_reader.proofs.SomeTerms.{some_terms}
+use Rattle.aw_term_reader.proofs.Steps.{bound}
 use Rattle.aw_sched.specs.LineSpelling.{args_spelling, line_spelling}
 use Rattle.aw_sched.specs.Lines.{Line, StartLine, ChooseLine, DeliverLine, SettleLine, ListLine, start_line, choose_line, deliver_line, list_line, by_word, line_of}
 

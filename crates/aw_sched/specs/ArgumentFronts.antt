@@ -2,7 +2,7 @@
 use Rattle.std.specs.Prelude.{◌≡◌, ◌≤◌, ◌<◌, ◌+◌, ℕ, List, [], ◌∷◌, length}
 use Rattle.aw_term.specs.declared.ground.Ground.{Ground}
 use Rattle.aw_grammar.specs.declared.rule.Con.{Con}
-use Rattle.aw_form.specs.Lexemes.{Name, Mark}
+use Rattle.aw_term_reader.specs.Lexemes.{Name, Mark}
 use Rattle.aw_sched.specs.Arguments.{IsCon}
 use Rattle.aw_sched.specs.ByteArguments.{SaysBefore, TakesArgument, TakesArguments}
 use Rattle.aw_sched.specs.declared.known.ArgumentFront.{ArgumentFront}

@@ -7,8 +7,8 @@ use Rattle.aw_grammar.specs.Written.{Written, side_by_side}
 use Rattle.aw_grammar.specs.Terms.{depth_of}
 use Rattle.aw_grammar.specs.Kinds.{has_arity, con_called, has_arities, all_have_arities}
 use Rattle.aw_grammar.specs.Named.{number_named}
-use Rattle.aw_form.specs.Lexemes.{Lexeme}
-use Rattle.aw_form.specs.Laws.{IsWritten, AreWritten}
+use Rattle.aw_term_reader.specs.Lexemes.{Lexeme}
+use Rattle.aw_term_reader.specs.Laws.{IsWritten, AreWritten}
 use Rattle.aw_sched.specs.Events.{args_are_past}
 use Rattle.aw_sched.specs.Grounds.{known_ground, known_grounds}
 use Rattle.aw_sched.specs.LineSpelling.{args_spelling}

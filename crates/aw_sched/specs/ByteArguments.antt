@@ -7,8 +7,8 @@ use Rattle.aw_grammar.specs.Written.{Written, side_by_side}
 use Rattle.aw_grammar.specs.Terms.{symbols_in, symbols_in_all}
 use Rattle.aw_lex.specs.declared.token.Token.{Token}
 use Rattle.aw_lex.specs.Tokens.{is_blank, is_mark, is_word_byte, tokens_of}
-use Rattle.aw_form.specs.Lexemes.{Lexeme, Mark, lexemes}
-use Rattle.aw_form.specs.Terms.{spelling, spellings}
+use Rattle.aw_term_reader.specs.Lexemes.{Lexeme, Mark, lexemes}
+use Rattle.aw_term_reader.specs.Terms.{spelling, spellings}
 use Rattle.aw_sched.specs.Arguments.{Means, ReadsAll}
 
 -- the bytes are tokens, and these say the lexemes

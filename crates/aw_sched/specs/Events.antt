@@ -1,7 +1,7 @@
 -- What a line of a schedule asks for, and what is wrong with it.
 use Rattle.std.specs.Prelude.{ℕ, Bool, false, ◌||◌, not, List, [], ◌∷◌, length, map, Option, None, Some, slice_get, nat_lt, is_none, unwrap_or}
-use Rattle.aw_index.specs.Places.{number_of, stands, first_told}
-use Rattle.aw_text.specs.Spelling.{parts_of_name}
+use Rattle.aw_name_index.specs.Places.{number_of, stands, first_told}
+use Rattle.aw_spelling.specs.Spelling.{parts_of_name}
 use Rattle.aw_term.specs.Trees.{Num, Made, Nil, bind}
 use Rattle.aw_term.specs.Names.{Node, root}
 use Rattle.aw_term.specs.Rules.{Ground}

@@ -5,7 +5,7 @@ use Rattle.aw_grammar.specs.declared.grammar.Grammar.{Grammar}
 use Rattle.aw_grammar.specs.GrammarOf.{declarations_of, grammar_of, words_of}
 use Rattle.aw_base.specs.NodeNames.{node_named}
 use Rattle.aw_term.specs.Names.{Node}
-use Rattle.aw_form.specs.Lexemes.{Lexeme}
+use Rattle.aw_term_reader.specs.Lexemes.{Lexeme}
 use Rattle.aw_sched.specs.Answers.{MayCome, event_seen}
 use Rattle.aw_sched.specs.ByteArguments.{Says}
 use Rattle.aw_sched.specs.ChoiceFronts.{EndsAtSpace, IsCutChoice}

@@ -1,8 +1,8 @@
 -- A line of a schedule is read just as it is spelled.
 use Rattle.std.specs.Prelude.{◌≡◌, List, Some}
 use Rattle.aw_grammar.specs.Written.{side_by_side}
-use Rattle.aw_form.specs.Lexemes.{Lexeme}
-use Rattle.aw_form.specs.Laws.{AreWritten}
+use Rattle.aw_term_reader.specs.Lexemes.{Lexeme}
+use Rattle.aw_term_reader.specs.Laws.{AreWritten}
 use Rattle.aw_sched.specs.Lines.{Line, StartLine, ChooseLine, DeliverLine, SettleLine, ListLine, line_of}
 use Rattle.aw_sched.specs.LineSpelling.{line_spelling}
 

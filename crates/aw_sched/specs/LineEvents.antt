@@ -1,6 +1,6 @@
 -- What a line gives, part by part.
 use Rattle.std.specs.Prelude.{◌≡◌, ℕ, Bool, true, false, ◌||◌, not, List, [], ◌∷◌, map, Option, None, Some, Result, Ok, Err, is_some, slice_get}
-use Rattle.aw_index.specs.Places.{number_of, stands, first_told}
+use Rattle.aw_name_index.specs.Places.{number_of, stands, first_told}
 use Rattle.aw_term.specs.Names.{Node}
 use Rattle.aw_term.specs.Rules.{Grammar, sort_of}
 use Rattle.aw_term.specs.Views.{ground_of}

@@ -1,8 +1,8 @@
 -- How each line of a schedule is spelled in lexemes.
 use Rattle.std.specs.Prelude.{List, [], ◌∷◌, ◌++◌, codes}
 use Rattle.aw_grammar.specs.Written.{Written, side_by_side}
-use Rattle.aw_form.specs.Lexemes.{Lexeme, Name, Number, Node, Mark}
-use Rattle.aw_form.specs.Terms.{spellings}
+use Rattle.aw_term_reader.specs.Lexemes.{Lexeme, Name, Number, Node, Mark}
+use Rattle.aw_term_reader.specs.Terms.{spellings}
 use Rattle.aw_sched.specs.Lines.{Line, StartLine, ChooseLine, DeliverLine, SettleLine, ListLine}
 
 -- the arguments of a choice: nothing, or `{..}` with a comma between each two

@@ -2,8 +2,8 @@
 use Rattle.std.specs.Prelude.{ℕ, List, ◌∷◌, Option, None, codes, if◌then◌else◌}
 use Rattle.aw_term.specs.Trees.{nats_eq}
 use Rattle.aw_grammar.specs.Written.{Written}
-use Rattle.aw_form.specs.Lexemes.{Lexeme, Name}
-use Rattle.aw_form.specs.Forms.{◌>>=◌, name, number, node, only, terms_in_braces}
+use Rattle.aw_term_reader.specs.Lexemes.{Lexeme, Name}
+use Rattle.aw_term_reader.specs.Forms.{◌>>=◌, name, number, node, only, terms_in_braces}
 
 -- a start, a choice, a delivery, the delivery of all messages, or a look at a worklist
 pub data Line : Type 0 where

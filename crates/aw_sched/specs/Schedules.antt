@@ -3,7 +3,7 @@ use Rattle.std.specs.Prelude.{ℕ, suc, Bool, true, List, [], ◌∷◌, Option,
 use Rattle.aw_lex.specs.Lines.{lines_of, passed_over}
 use Rattle.aw_lex.specs.Tokens.{tokens_of}
 use Rattle.aw_lex.specs.declared.token.Token.{Token}
-use Rattle.aw_form.specs.Lexemes.{lexemes}
+use Rattle.aw_term_reader.specs.Lexemes.{lexemes}
 use Rattle.aw_term.specs.Rules.{Grammar}
 use Rattle.aw_grammar.specs.Declarations.{Declarations, grammar_in}
 use Rattle.aw_typed.specs.Types.{Types}

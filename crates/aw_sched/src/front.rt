@@ -1,13 +1,13 @@
 //! What stands at the front of what is left of a line: names, numbers, texts and marks, and the blanks before them.
 ghost use Rattle.std.specs.Prelude.{◌≡◌, ◌∷◌, [], true, false, IfOk, IfSome};
 ghost use Rattle.aw_lex.specs.Tokens.{is_word_byte};
-ghost use Rattle.aw_form.specs.Lexemes.{Name, Number, Quoted};
+ghost use Rattle.aw_term_reader.specs.Lexemes.{Name, Number, Quoted};
 ghost use Rattle.aw_sched.specs.ByteArguments.{EndsWord, SaysBefore};
 
 use aw_base::Text;
-use aw_form::Unread;
 use aw_lex::front::is_blank;
-use aw_text::{is_plain_name, name_len, number_value, text_value};
+use aw_spelling::{is_plain_name, name_len, number_value, text_value};
+use aw_term_reader::Unread;
 use std::alloc::Global;
 
 /// What is left behind the blanks at the front. Most bytes are past the space, and are no blanks.

@@ -3,7 +3,7 @@ ghost use Rattle.std.specs.Prelude.{◌≡◌, ◌<◌, ◌+◌, ◌∷◌, [], 
 ghost use Rattle.aw_grammar.specs.GrammarOf.{words_of};
 ghost use Rattle.aw_grammar.specs.Named.{number_named};
 ghost use Rattle.aw_grammar.specs.declared.rule.Con.{Con};
-ghost use Rattle.aw_form.specs.Lexemes.{Mark};
+ghost use Rattle.aw_term_reader.specs.Lexemes.{Mark};
 ghost use Rattle.aw_sched.specs.Arguments.{IsCon};
 ghost use Rattle.aw_sched.specs.ArgumentFronts.{AreInBraces, IsFront};
 ghost use Rattle.aw_sched.specs.ByteArguments.{IsMarkByte, SaysBefore, TakesAll, TakesArgument, TakesArguments};
@@ -12,7 +12,7 @@ ghost use Rattle.aw_sched.specs.KnownChoices.{IsKnownChoice};
 use crate::event::Event;
 use crate::front::{behind_blanks, name_front, number_front, text_front};
 use aw_base::{Choice, Grammar, Ground, Grounds, MOST_ARGUMENTS, MOST_NESTING, MOST_SYMBOLS, Node};
-use aw_form::Unread;
+use aw_term_reader::Unread;
 use std::alloc::Global;
 
 /// The constructor of a name, and how many parts it has.

@@ -1,15 +1,15 @@
 //! Reading one line of a schedule from its tokens.
 ghost use Rattle.std.specs.Prelude.{◌≡◌};
 ghost use Rattle.aw_term.specs.Trees.{nats_eq};
-ghost use Rattle.aw_form.specs.Lexemes.{lexemes};
-ghost use Rattle.aw_form.specs.Gives.{Gives};
-ghost use Rattle.aw_form.specs.Forms as form;
+ghost use Rattle.aw_term_reader.specs.Lexemes.{lexemes};
+ghost use Rattle.aw_term_reader.specs.Gives.{Gives};
+ghost use Rattle.aw_term_reader.specs.Forms as form;
 ghost use Rattle.aw_sched.specs.Lines as lines;
 ghost use Rattle.aw_sched.specs.LineSeen.{line_seen};
 
 use crate::line::SchedLine;
-use aw_form::{Unread, end, name, node, number, terms_in_braces};
 use aw_lex::Token;
+use aw_term_reader::{Unread, end, name, node, number, terms_in_braces};
 use std::alloc::Global;
 
 fn start_line<'a>(line: &'a [u8], tokens: &'a [Token]) -> Result<SchedLine<'a>, Unread>

@@ -1,8 +1,8 @@
 -- One piece more in the course of a session.
 use Rattle.std.proofs.Common.{◌≡◌, ◌≢◌, ℕ, zero, suc, ◌+◌, ◌-◌, ◌≤◌, List, [], ◌∷◌, ◌++◌, length, take, min, Bool, true, false, Option, Err, refl, ap, sym, subst, ◌∙◌, arith, append_assoc, append-nil, length-append}
 use Rattle.std.proofs.Math.Seq.{take-append-add, take-length}
-use Rattle.aw_out.specs.Wires.{Content}
-use Rattle.aw_wire.specs.Reading.{Short}
+use Rattle.aw_out.specs.Wires.{Content, unread}
+use Rattle.aw_codec.specs.Reading.{Short}
 use Rattle.aw_msg.specs.Frames.{Frame, frame}
 use Rattle.aw_msg.specs.Pieces.{Yields, IsBad}
 use Rattle.aw_msg.specs.Streams.{Stream}
@@ -10,7 +10,7 @@ use Rattle.aw_msg.proofs.Extensions.{yields_more}
 use Rattle.aw_session.specs.Broken.{StopsAt}
 use Rattle.aw_session.specs.Course.{IsGoing, IsDone, IsHalted, EndsWith}
 use Rattle.aw_session.specs.Frames.{joined, AreAnswered, IsCutShort}
-use Rattle.aw_session.specs.Served.{limit, closing, EndsSo, Replying, Ending, Ends, IsServed}
+use Rattle.aw_session.specs.Served.{limit, closing, EndsSo, Replying, Ending, Ends, IsServed, LeavesNone}
 use Rattle.aw_session.specs.declared.log.How.{How}
 use Rattle.aw_session.specs.declared.log.How.TheVariants.{End, Cut, Bad, Long, Fault}
 use Rattle.aw_session.proofs.Stretches.{answered-then, joined-append, joined-one, yields-then}
@@ -133,8 +133,8 @@ module _
         answered = fed-answered;
         counted = fed-counted;
         ends = (refl, Replying kept' fed-yields (cut-behind replies replies' w cut));
+        none_left = tt;
       };
-      left = tt;
     }
 
     -- no frame can stand there
@@ -152,9 +152,9 @@ module _
         subst (λ (w : List ℕ). talks u v'' (read ++ piece) w false) (sym (ap (λ (xs : List (List ℕ)). joined ((replies ++ replies') ++ xs)) e ∙ joined-one (replies ++ replies') reply))
         (subst (λ (r : List ℕ). talks u v'' r (joined (replies ++ replies') ++ reply) false) (append-nil (read ++ piece)) (adds u v' v'' (read ++ piece) (joined (replies ++ replies')) [] reply false (fed-written h) k))
 
-    served-so : (how : How) (w : List ℕ) (failed : Bool) → Ends how (read ++ piece) w failed (frames ++ frames') (replies ++ replies') →
-        IsServed answers s t' (read ++ piece) w failed (record { frames = count'; how = how })
-    served-so how w failed ends = record { frames = frames ++ frames'; replies = replies ++ replies'; answered = fed-answered; counted = fed-counted; ends = ends }
+    served-so : (how : How) (w : List ℕ) (failed : Bool) (left : List ℕ) → Ends how (read ++ piece) w failed (frames ++ frames') (replies ++ replies') → LeavesNone how left →
+        IsServed answers s t' (read ++ piece) w failed left (record { frames = count'; how = how })
+    served-so how w failed left ends none = record { frames = frames ++ frames'; replies = replies ++ replies'; answered = fed-answered; counted = fed-counted; ends = ends; none_left = none }
 
     -- the closing reply was written, whole or in part
     pub fed-ends : (result how : How) (reply : List ℕ) → closing how ≡ reply ∷ [] → EndsSo how (read ++ piece) (frames ++ frames') → talks v v' [] (joined replies') false →
@@ -167,8 +167,8 @@ module _
           written = all ++ part;
           failed = true;
           talked = subst (λ (r : List ℕ). talks u v'' r (all ++ part) true) (append-nil (read ++ piece)) (adds u v' v'' (read ++ piece) all [] part true (fed-written h) k.2);
-          served = served-so Fault (all ++ part) true (refl, Ending how (λ none. absurd (cc (e, none))) so (record { whole = replies ++ replies'; last = reply; count = k.0; are = ap (λ (xs : List (List ℕ)). (replies ++ replies') ++ xs) e; part = k.1; written_is = refl }));
-          left = tt;
+          served = served-so Fault (all ++ part) true (unread (content v''))
+              (refl, Ending how (λ none. absurd (cc (e, none))) so (record { whole = replies ++ replies'; last = reply; count = k.0; are = ap (λ (xs : List (List ℕ)). (replies ++ replies') ++ xs) e; part = k.1; written_is = refl })) tt;
         }
     fed-ends Bad how reply e so h k =
         let same : Bad ≡ how = k.0 in
@@ -178,8 +178,7 @@ module _
           written = w;
           failed = false;
           talked = closed-whole Bad reply (ap closing same ∙ e) h k.1;
-          served = served-so Bad w false (refl, subst (λ (x : How). EndsSo x (read ++ piece) (frames ++ frames')) (sym same) so, refl);
-          left = tt;
+          served = served-so Bad w false (unread (content v'')) (refl, subst (λ (x : How). EndsSo x (read ++ piece) (frames ++ frames')) (sym same) so, refl) tt;
         }
     fed-ends Long how reply e so h k =
         let same : Long ≡ how = k.0 in
@@ -189,8 +188,7 @@ module _
           written = w;
           failed = false;
           talked = closed-whole Long reply (ap closing same ∙ e) h k.1;
-          served = served-so Long w false (refl, subst (λ (x : How). EndsSo x (read ++ piece) (frames ++ frames')) (sym same) so, refl);
-          left = tt;
+          served = served-so Long w false (unread (content v'')) (refl, subst (λ (x : How). EndsSo x (read ++ piece) (frames ++ frames')) (sym same) so, refl) tt;
         }
     fed-ends End how reply e so h k = absurd (cc (ap closing k.0 ∙ e))
     fed-ends Cut how reply e so h k = absurd (cc (ap closing k.0 ∙ e))

@@ -9,8 +9,3 @@ pub mod Simulations
 pub mod StopLemmas
 pub mod Stretches
 pub mod TalkLemmas
-pub mod AlikeLemmas
-pub mod AskLemmas
-pub mod CallLemmas
-pub mod ContentLemmas
-pub mod HonestLemmas

@@ -1,6 +1,6 @@
 -- What a reader of requests tells of the bytes that are there.
 use Rattle.std.proofs.Common.{◌≡◌, ℕ, Bool, true, false, List, Result, Ok, Err, refl, ap, subst, if◌then◌else◌}
-use Rattle.aw_wire.specs.Reading.{Fault, Short, Bad}
+use Rattle.aw_codec.specs.Reading.{Fault, Short, Bad}
 use Rattle.aw_msg.specs.Frames.{Frame, frame}
 use Rattle.aw_msg.specs.Pieces.{IsBad}
 use Rattle.aw_msg.specs.Streams.{Stream, Need, Wrong, next_in, next_of, left_in, left_of}

@@ -1,6 +1,6 @@
 -- Frames that are answered one after the other, and their replies one behind the other.
 use Rattle.std.proofs.Common.{◌≡◌, ℕ, ◌+◌, ◌≤◌, List, [], ◌∷◌, ◌++◌, length, take, Bool, true, false, Err, refl, ap, sym, subst, ◌∙◌, arith, append_assoc, append-nil, length-append}
-use Rattle.aw_wire.specs.Reading.{Short}
+use Rattle.aw_codec.specs.Reading.{Short}
 use Rattle.aw_msg.specs.Frames.{Frame, frame}
 use Rattle.aw_msg.specs.Pieces.{Yields, IsBad}
 use Rattle.aw_msg.specs.Streams.{Stream}

@@ -1,7 +1,7 @@
 -- What goes over a wire in one session, bit by bit.
 use Rattle.std.proofs.Common.{◌≡◌, ℕ, ◌≤◌, List, [], ◌∷◌, ◌++◌, take, Bool, true, false, ◌||◌, Option, None, Some, refl, ap, sym, ◌∙◌, append_assoc, append-nil}
 use Rattle.aw_out.specs.Causes.{Rose}
-use Rattle.aw_out.specs.Wires.{Session, Content, Both, with_last, after_read, after_write, after_fault, ReadsInSession, WritesInSession}
+use Rattle.aw_out.specs.Wires.{Session, Content, Both, with_last, last_left, after_read, after_write, after_fault, ReadsInSession, WritesInSession}
 use Rattle.aw_out.specs.declared.edge.Got.TheVariants.{Read, End, Failed}
 use Rattle.aw_out.specs.declared.edge.Put.TheVariants.{Took, Failed as NotTaken}
 use Rattle.aw_session.specs.Talking.{grown, Grows, Counts, Talks}
@@ -34,35 +34,46 @@ or-assoc true b c = refl
 or-assoc false b c = refl
 
 -- nothing was read or written
-grown-none : (s : Session) → grown [] [] false s ≡ s
+grown-none : (s : Session) → grown [] [] false s.left s ≡ s
 grown-none s =
     ap (λ (r : List ℕ). record s { read = r; written = s.written ++ []; failed = s.failed || false }) (append-nil s.read)
     ∙ ap (λ (w : List ℕ). record s { written = w; failed = s.failed || false }) (append-nil s.written) ∙ ap (λ (f : Bool). record s { failed = f }) (or-false s.failed)
 
 -- some was written
-grown-write : (bytes : List ℕ) (s : Session) → after_write bytes s ≡ grown [] bytes false s
-grown-write bytes s = let r = append-nil s.read in let f = or-false s.failed in cc
+grown-write : (bytes more : List ℕ) (s : Session) → after_write bytes more s ≡ grown [] bytes false (s.left ++ more) s
+grown-write bytes more s = let r = append-nil s.read in let f = or-false s.failed in cc
 
 -- some was read
-grown-read : (bytes : List ℕ) (s : Session) → after_read bytes s ≡ grown bytes [] false s
-grown-read bytes s = let w = append-nil s.written in let f = or-false s.failed in cc
+grown-read : (bytes left : List ℕ) (s : Session) → after_read bytes left s ≡ grown bytes [] false left s
+grown-read bytes left s = let w = append-nil s.written in let f = or-false s.failed in cc
 
 or-true : (b : Bool) → (b || true) ≡ true
 or-true true = refl
 or-true false = refl
 
 -- a call failed
-grown-fault : (s : Session) → after_fault s ≡ grown [] [] true s
+grown-fault : (s : Session) → after_fault s ≡ grown [] [] true s.left s
 grown-fault s = let r = append-nil s.read in let w = append-nil s.written in let f = or-true s.failed in cc
 
 -- one growth and then another
-grown-twice : (r w r' w' : List ℕ) (b b' : Bool) (s : Session) → grown r' w' b' (grown r w b s) ≡ grown (r ++ r') (w ++ w') (b || b') s
-grown-twice r w r' w' b b' s = let x = append_assoc s.read r r' in let y = append_assoc s.written w w' in let z = or-assoc s.failed b b' in cc
+grown-twice : (r w r' w' left left' : List ℕ) (b b' : Bool) (s : Session) → grown r' w' b' left' (grown r w b left s) ≡ grown (r ++ r') (w ++ w') (b || b') left' s
+grown-twice r w r' w' left left' b b' s = let x = append_assoc s.read r r' in let y = append_assoc s.written w w' in let z = or-assoc s.failed b b' in cc
+
+-- a change of a session that is a growth is one of the last of them
+grown-last : (f : Session → Session) (r w : List ℕ) (b : Bool) → ((s : Session) → f s ≡ grown r w b (f s).left s) → (xs : List Session) → with_last f xs ≡ with_last (grown r w b (last_left (with_last f xs))) xs
+grown-last f r w b is [] = refl
+grown-last f r w b is (s ∷ []) = ap (λ (t : Session). t ∷ []) (is s)
+grown-last f r w b is (s ∷ t ∷ []) = ap (λ (u : Session). s ∷ u ∷ []) (is t)
+grown-last f r w b is (s ∷ t ∷ u ∷ us) = ap (λ (vs : List Session). s ∷ vs) (grown-last f r w b is (t ∷ u ∷ us))
+
+-- and so it is told
+grows-by : (f : Session → Session) (r w : List ℕ) (b : Bool) → ((s : Session) → f s ≡ grown r w b (f s).left s) → (x y : Content) → y.passed ≡ with_last f x.passed → y.coming ≡ x.coming → Grows r w b x y
+grows-by f r w b is x y e k = (last_left (with_last f x.passed), e ∙ grown-last f r w b is x.passed, k)
 
 -- nothing happened
 grows-none : (c : Option Content) → Both (Grows [] [] false) c c
 grows-none None = tt
-grows-none (Some c) = (sym (with_last-same (grown [] [] false) (λ s. s) c.passed grown-none ∙ with_last-none c.passed), refl)
+grows-none (Some c) = grows-by (λ s. s) [] [] false (λ s. sym (grown-none s)) c c (sym (with_last-none c.passed)) refl
 
 -- something happened and then more
 grows-then : (r w r' w' : List ℕ) (b b' : Bool) (x y z : Option Content) → Both (Grows r w b) x y → Both (Grows r' w' b') y z → Both (Grows (r ++ r') (w ++ w') (b || b')) x z
@@ -72,9 +83,10 @@ grows-then r w r' w' b b' None (Some y) z g h = absurd g
 grows-then r w r' w' b b' (Some x) None z g h = absurd g
 grows-then r w r' w' b b' (Some x) (Some y) None g h = absurd h
 grows-then r w r' w' b b' (Some x) (Some y) (Some z) g h = (
-  h.0 ∙ ap (with_last (grown r' w' b')) g.0 ∙ with_last-twice (grown r w b) (grown r' w' b') x.passed
-      ∙ with_last-same (λ s. grown r' w' b' (grown r w b s)) (grown (r ++ r') (w ++ w') (b || b')) x.passed (grown-twice r w r' w' b b'),
-  h.1 ∙ g.1,
+  h.0,
+  h.1 ∙ ap (with_last (grown r' w' b' h.0)) g.1 ∙ with_last-twice (grown r w b g.0) (grown r' w' b' h.0) x.passed
+      ∙ with_last-same (λ s. grown r' w' b' h.0 (grown r w b g.0 s)) (grown (r ++ r') (w ++ w') (b || b') h.0) x.passed (grown-twice r w r' w' g.0 h.0 b b'),
+  h.2 ∙ g.2,
 )
 
 -- a write
@@ -82,37 +94,35 @@ grows-took : (n : ℕ) (bytes : List ℕ) (x y : Option Content) → Both (Write
 grows-took n bytes None None h = tt
 grows-took n bytes None (Some y) h = absurd h
 grows-took n bytes (Some x) None h = absurd h
-grows-took n bytes (Some x) (Some y) h = (h.0 ∙ with_last-same (after_write (take n bytes)) (grown [] (take n bytes) false) x.passed (grown-write (take n bytes)), h.2)
+grows-took n bytes (Some x) (Some y) h = grows-by (after_write (take n bytes) h.0) [] (take n bytes) false (grown-write (take n bytes) h.0) x y h.1 h.2
 
 -- a write that failed
 grows-not_taken : (bytes : List ℕ) (x y : Option Content) → Both (WritesInSession NotTaken bytes) x y → Both (Grows [] [] true) x y
 grows-not_taken bytes None None h = tt
 grows-not_taken bytes None (Some y) h = absurd h
 grows-not_taken bytes (Some x) None h = absurd h
-grows-not_taken bytes (Some x) (Some y) h =
-    (ap (λ (c : Content). c.passed) h ∙ with_last-same after_fault (grown [] [] true) x.passed grown-fault, ap (λ (c : Content). c.coming) h)
+grows-not_taken bytes (Some x) (Some y) h = grows-by after_fault [] [] true grown-fault x y (ap (λ (c : Content). c.passed) h) (ap (λ (c : Content). c.coming) h)
 
 -- a read
 grows-read : (n : ℕ) (buf : List ℕ) (x y : Option Content) → Both (ReadsInSession (Read n) buf) x y → Both (Grows (take n buf) [] false) x y
 grows-read n buf None None h = tt
 grows-read n buf None (Some y) h = absurd h
 grows-read n buf (Some x) None h = absurd h
-grows-read n buf (Some x) (Some y) h = (h.0 ∙ with_last-same (after_read (take n buf)) (grown (take n buf) [] false) x.passed (grown-read (take n buf)), h.2)
+grows-read n buf (Some x) (Some y) h = grows-by (after_read (take n buf) h.0) (take n buf) [] false (grown-read (take n buf) h.0) x y h.2 h.3
 
 -- a read that failed
 grows-not_read : (buf : List ℕ) (x y : Option Content) → Both (ReadsInSession Failed buf) x y → Both (Grows [] [] true) x y
 grows-not_read buf None None h = tt
 grows-not_read buf None (Some y) h = absurd h
 grows-not_read buf (Some x) None h = absurd h
-grows-not_read buf (Some x) (Some y) h =
-    (ap (λ (c : Content). c.passed) h ∙ with_last-same after_fault (grown [] [] true) x.passed grown-fault, ap (λ (c : Content). c.coming) h)
+grows-not_read buf (Some x) (Some y) h = grows-by after_fault [] [] true grown-fault x y (ap (λ (c : Content). c.passed) h) (ap (λ (c : Content). c.coming) h)
 
 -- the end
 grows-end : (buf : List ℕ) (x y : Option Content) → Both (ReadsInSession End buf) x y → Both (Grows [] [] false) x y
 grows-end buf None None h = tt
 grows-end buf None (Some y) h = absurd h
 grows-end buf (Some x) None h = absurd h
-grows-end buf (Some x) (Some y) h = let none = grows-none (Some x) in (ap (λ (c : Content). c.passed) h.1 ∙ none.0, ap (λ (c : Content). c.coming) h.1)
+grows-end buf (Some x) (Some y) h = let none = grows-none (Some x) in (none.0, ap (λ (c : Content). c.passed) h.1 ∙ none.1, ap (λ (c : Content). c.coming) h.1)
 
 -- ---- the whole wire
 

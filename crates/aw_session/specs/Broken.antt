@@ -21,6 +21,6 @@ pub record IsStopped {S F : Type 0} (answers : S → Frame → List ℕ → S �
   pub written_is : written ≡ joined replies
   pub stops : StopsAt breaks rest between fault t
 
--- nothing is said of a frame that gets no reply
-abbrev pub Anyhow : {P F : Type 0} → P → Frame → F → P → Type 0
-Anyhow {P} {F} s f fault t = Unit {0}
+-- a frame that gets no reply leaves the workspace as it is
+abbrev pub Stays : {P F : Type 0} → P → Frame → F → P → Type 0
+Stays {P} {F} s f fault t = t ≡ s

@@ -1,13 +1,13 @@
 -- The course of one session. `answers` tells what a reply does, and `talks` what went over the wire from one moment to another.
 use Rattle.std.specs.Prelude.{◌≡◌, ℕ, ◌<◌, ◌≤◌, List, Bool, true, false, length, take, Option, None, Some, Err}
-use Rattle.aw_out.specs.Wires.{Content}
-use Rattle.aw_wire.specs.Reading.{Short}
+use Rattle.aw_out.specs.Wires.{Content, unread}
+use Rattle.aw_codec.specs.Reading.{Short}
 use Rattle.aw_msg.specs.Frames.{Frame, frame}
 use Rattle.aw_msg.specs.Pieces.{Yields}
 use Rattle.aw_msg.specs.Streams.{Stream}
 use Rattle.aw_session.specs.Broken.{IsStopped}
 use Rattle.aw_session.specs.Frames.{joined, AreAnswered}
-use Rattle.aw_session.specs.Served.{limit, IsServed, LeavesNone}
+use Rattle.aw_session.specs.Served.{limit, IsServed}
 use Rattle.aw_session.specs.declared.log.How.{How}
 use Rattle.aw_session.specs.declared.log.How.TheVariants.{Fault}
 use Rattle.aw_session.specs.declared.log.SessionLog.{SessionLog}
@@ -33,8 +33,7 @@ pub record IsDone {S W : Type 0} (answers : S → Frame → List ℕ → S → T
   pub written : List ℕ
   pub failed : Bool
   pub talked : talks u v read written failed
-  pub served : IsServed answers s t read written failed log
-  pub left : LeavesNone log.how (content v)
+  pub served : IsServed answers s t read written failed (unread (content v)) log
 
 -- the session has stopped, since a frame got no reply
 pub record IsHalted {S W F : Type 0} (answers : S → Frame → List ℕ → S → Type 0) (breaks : S → Frame → F → S → Type 0) (talks : W → W → List ℕ → List ℕ → Bool → Type 0)

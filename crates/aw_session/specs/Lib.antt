@@ -5,7 +5,3 @@ pub mod Served
 pub mod Sessions
 pub mod Steps
 pub mod Talking
-pub mod Alike
-pub mod Asking
-pub mod Calls
-pub mod Honest

@@ -1,7 +1,7 @@
 -- What a session is: the bytes read and written in it, the frames that were answered, and how it ended.
-use Rattle.std.specs.Prelude.{◌≡◌, ◌≢◌, ℕ, ◌<◌, ◌≤◌, List, [], ◌∷◌, ◌++◌, Bool, true, false, length, take, Option, Some, Err}
-use Rattle.aw_out.specs.Wires.{Session, Content}
-use Rattle.aw_wire.specs.Reading.{Short}
+use Rattle.std.specs.Prelude.{◌≡◌, ◌≢◌, ℕ, ◌<◌, ◌≤◌, List, [], ◌∷◌, ◌++◌, Bool, true, false, length, take, Err}
+use Rattle.aw_out.specs.Wires.{Session}
+use Rattle.aw_codec.specs.Reading.{Short}
 use Rattle.aw_msg.specs.Frames.{Frame, frame}
 use Rattle.aw_msg.specs.Pieces.{Yields, IsBad}
 use Rattle.aw_session.specs.Frames.{joined, AreAnswered, IsCutShort}
@@ -49,19 +49,23 @@ abbrev pub Ends : How → List ℕ → List ℕ → Bool → List Frame → List
 Ends Fault read written failed frames replies = (failed ≡ true) × BreaksOff read written frames replies
 Ends how read written failed frames replies = (failed ≡ false) × EndsSo how read frames × (written ≡ joined (replies ++ closing how))
 
--- A session that was served. From the one workspace the frames that the log counts were answered, and it is the other then.
-pub record IsServed {S : Type 0} (answers : S → Frame → List ℕ → S → Type 0) (s t : S) (read written : List ℕ) (failed : Bool) (log : SessionLog) : Type 0 where
+-- a session that is told as `end` or as `cut` ended where its input does: it left nothing unread
+abbrev pub LeavesNone : How → List ℕ → Type 0
+LeavesNone End left = left ≡ []
+LeavesNone Cut left = left ≡ []
+LeavesNone Bad left = Unit {0}
+LeavesNone Long left = Unit {0}
+LeavesNone Fault left = Unit {0}
+
+-- A session that was served, by the bytes that were read and written in it, whether a call failed, and what it left unread. From the one workspace the
+-- frames that the log counts were answered, and it is the other then.
+pub record IsServed {S : Type 0} (answers : S → Frame → List ℕ → S → Type 0) (s t : S) (read written : List ℕ) (failed : Bool) (left : List ℕ) (log : SessionLog) : Type 0 where
   pub frames : List Frame
   pub replies : List (List ℕ)
   pub answered : AreAnswered answers s frames replies t
   pub counted : log.frames ≡ length frames
   pub ends : Ends log.how read written failed frames replies
-
--- where the input ended, nothing is left where that is told
-abbrev pub LeavesNone : How → Option Content → Type 0
-LeavesNone End (Some c) = c.left ≡ []
-LeavesNone Cut (Some c) = c.left ≡ []
-LeavesNone how o = Unit {0}
+  pub none_left : LeavesNone log.how left
 
 -- one session after the other, each with this role and none dialed
 abbrev pub AreServed : {S : Type 0} → (S → Frame → List ℕ → S → Type 0) → ℕ → S → List Session → List SessionLog → S → Type 0
@@ -69,4 +73,4 @@ AreServed {S} answers role s [] [] t = t ≡ s
 AreServed {S} answers role s [] (l ∷ ls) t = ⊥
 AreServed {S} answers role s (x ∷ xs) [] t = ⊥
 AreServed {S} answers role s (x ∷ xs) (l ∷ ls) t =
-    (m : S) × (x.role ≡ role) × (x.dialed ≡ false) × IsServed answers s m x.read x.written x.failed l × AreServed answers role m xs ls t
+    (m : S) × (x.role ≡ role) × (x.dialed ≡ false) × IsServed answers s m x.read x.written x.failed x.left l × AreServed answers role m xs ls t

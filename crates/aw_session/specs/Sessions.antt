@@ -78,7 +78,7 @@ pub record IsNext {S W : Type 0} (answers : S → Frame → List ℕ → S → T
   pub session : Session
   pub role_is : session.role ≡ role
   pub came : session.dialed ≡ false
-  pub served : IsServed answers s t session.read session.written session.failed entry
+  pub served : IsServed answers s t session.read session.written session.failed session.left entry
   pub told : Both (Follow (session ∷ [])) (content u) (content v)
   pub counts : Counts (is_fault entry.how) (faults u) (faults v)
   pub openings : failed_openings v ≡ failed_openings u

@@ -1,6 +1,6 @@
 -- What is answered of the bytes that are there.
 use Rattle.std.specs.Prelude.{◌≡◌, ℕ, ◌<◌, List, [], Bool, true, false, length, take, Ok, Err}
-use Rattle.aw_wire.specs.Reading.{Short}
+use Rattle.aw_codec.specs.Reading.{Short}
 use Rattle.aw_msg.specs.Frames.{Frame, frame}
 use Rattle.aw_msg.specs.Pieces.{Yields, IsBad}
 use Rattle.aw_msg.specs.Streams.{Stream}

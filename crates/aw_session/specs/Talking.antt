@@ -4,13 +4,13 @@ use Rattle.aw_out.specs.Causes.{Rose}
 use Rattle.aw_out.specs.Wires.{Session, Content, Both, with_last}
 use Rattle.aw_out.specs.declared.edge.Wire as wires
 
--- the session after these bytes were read and written in it, and perhaps a call failed
-abbrev pub grown : List ℕ → List ℕ → Bool → Session → Session
-grown read written failed s = record s { read = s.read ++ read; written = s.written ++ written; failed = s.failed || failed }
+-- the session after these bytes were read and written in it, perhaps a call failed, and these bytes are left to read
+abbrev pub grown : List ℕ → List ℕ → Bool → List ℕ → Session → Session
+grown read written failed left s = record s { read = s.read ++ read; left = left; written = s.written ++ written; failed = s.failed || failed }
 
 -- the last session has grown so, and no other came or will not come
 abbrev pub Grows : List ℕ → List ℕ → Bool → Content → Content → Type 0
-Grows read written failed old new = (new.passed ≡ with_last (grown read written failed) old.passed) × (new.coming ≡ old.coming)
+Grows read written failed old new = (left : List ℕ) × (new.passed ≡ with_last (grown read written failed left) old.passed) × (new.coming ≡ old.coming)
 
 -- the count of faults rose exactly where a call failed
 abbrev pub Counts : Bool → ℕ → ℕ → Type 0

@@ -10,7 +10,7 @@ use Rattle.aw_subs.specs.declared.subs.Subs.{Subs}
 use Rattle.aw_subs.specs.Entries.{has_bit, is_asked, watchers}
 use Rattle.aw_msg.specs.declared.message.Message.{Message}
 use Rattle.aw_msg.specs.MessageView.{message_of}
-use Rattle.aw_react.specs.Sites.{Site, empty_site}
+use Rattle.aw_law_sites.specs.Sites.{Site, empty_site}
 use Rattle.aw_space.specs.declared.space.Space.{Space}
 use Rattle.aw_space.specs.SpaceView.{space_of}
 use Rattle.aw_site.specs.Shown.{Shows}

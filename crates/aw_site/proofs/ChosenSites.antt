@@ -22,14 +22,14 @@ use Rattle.aw_apply.specs.Made.{Call}
 use Rattle.aw_apply.specs.MadeView.{as_child}
 use Rattle.aw_apply.proofs.MadeCalls.{made-sorts}
 use Rattle.aw_base.specs.ChoiceFits.{choice_ok}
-use Rattle.aw_held.specs.declared.held.Held as program
-use Rattle.aw_held.specs.HeldView as view
-use Rattle.aw_held.specs.HeldView.{all_of, sort_or}
-use Rattle.aw_react.specs.Joint.{by_rule, by_state, by_held, by_root, outcome_in}
+use Rattle.aw_node_list.specs.declared.held.Held as program
+use Rattle.aw_node_list.specs.HeldView as view
+use Rattle.aw_node_list.specs.HeldView.{all_of, sort_or}
+use Rattle.aw_law_sites.specs.Joint.{by_rule, by_state, by_held, by_root, outcome_in}
 use Rattle.aw_msg.specs.MessageView.{sort_or_zero}
-use Rattle.aw_react.specs.Choosing.{Chosen, No, Did, answer_to, outcome, choose_on, choose}
-use Rattle.aw_react.specs.SiteEvents.{after_choice}
-use Rattle.aw_react.specs.Sites.{Site}
+use Rattle.aw_law_sites.specs.Choosing.{Chosen, No, Did, answer_to, outcome, choose_on, choose}
+use Rattle.aw_law_sites.specs.SiteEvents.{after_choice}
+use Rattle.aw_law_sites.specs.Sites.{Site}
 use Rattle.aw_space.specs.Spaces as S
 use Rattle.aw_space.specs.Spaces.{making, space_on}
 use Rattle.aw_apply.specs.Messages.{Message}

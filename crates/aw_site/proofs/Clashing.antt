@@ -15,7 +15,7 @@ use Rattle.aw_store.specs.declared.equation.Body.{Body}
 use Rattle.aw_store.specs.declared.equation.Body.TheVariants.{Same, Con, Num, Text}
 use Rattle.aw_store.proofs.MoreEquations.{find-left_more, find-right_more}
 use Rattle.aw_apply.specs.Messages.{Clash, OfReference}
-use Rattle.aw_react.specs.Receiving.{refs_eq, body_eq, add_on, add_all, clash_on, first_clash}
+use Rattle.aw_law_sites.specs.Receiving.{refs_eq, body_eq, add_on, add_all, clash_on, first_clash}
 
 -- ---- added equations
 

@@ -19,17 +19,17 @@ use Rattle.aw_msg.specs.declared.message.Message.{Message}
 use Rattle.aw_msg.specs.declared.message.MsgKind.{MsgKind}
 use Rattle.aw_msg.specs.declared.message.MsgKind.TheVariants as msg
 use Rattle.aw_msg.specs.MessageView.{message_of, content_of}
-use Rattle.aw_react.specs.Asking.{all_mentions}
-use Rattle.aw_react.specs.Receiving.{is_mine, clash}
-use Rattle.aw_react.specs.Reacting.{react, receive}
-use Rattle.aw_react.specs.SiteEvents.{after_message}
-use Rattle.aw_react.specs.Sites.{Site, Reaction}
-use Rattle.aw_react.specs.Telling.{tell_back}
-use Rattle.aw_react.specs.ValidNames.{message_ok}
+use Rattle.aw_law_sites.specs.Asking.{all_mentions}
+use Rattle.aw_law_sites.specs.Receiving.{is_mine, clash}
+use Rattle.aw_law_sites.specs.Reacting.{react, receive}
+use Rattle.aw_law_sites.specs.SiteEvents.{after_message}
+use Rattle.aw_law_sites.specs.Sites.{Site, Reaction}
+use Rattle.aw_law_sites.specs.Telling.{tell_back}
+use Rattle.aw_law_sites.specs.ValidNames.{message_ok}
 use Rattle.aw_space.specs.Spaces as S
 use Rattle.aw_space.specs.Spaces.{clash_with}
 use Rattle.aw_space.specs.Placings.{MayBeCalled, MayBeLearnt}
-use Rattle.aw_repeat.specs.Views.{kind_of}
+use Rattle.aw_site_repeat.specs.Views.{kind_of}
 use Rattle.aw_site.specs.declared.plan.Plan.{Plan}
 use Rattle.aw_site.specs.declared.sender.Sender.{Sender}
 use Rattle.aw_site.specs.Answers.{IsReceived, sent_for}

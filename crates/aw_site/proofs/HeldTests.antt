@@ -5,11 +5,11 @@ use Rattle.aw_term.specs.Names.{Node, Ref}
 use Rattle.aw_term.specs.Rules.{Grammar}
 use Rattle.aw_term.specs.Held as P
 use Rattle.aw_apply.specs.Messages.{OfNode}
-use Rattle.aw_held.specs.declared.held.Held.{Held}
-use Rattle.aw_held.specs.HeldView.{held_of, all_of}
-use Rattle.aw_held.specs.InOrder.{place_in}
-use Rattle.aw_held.proofs.HeldViews.{held_nowhere, held_here}
-use Rattle.aw_react.specs.Receiving.{refs_eq, call_clash}
+use Rattle.aw_node_list.specs.declared.held.Held.{Held}
+use Rattle.aw_node_list.specs.HeldView.{held_of, all_of}
+use Rattle.aw_node_list.specs.InOrder.{place_in}
+use Rattle.aw_node_list.proofs.HeldViews.{held_nowhere, held_here}
+use Rattle.aw_law_sites.specs.Receiving.{refs_eq, call_clash}
 use Rattle.aw_space.specs.Spaces.{call_of}
 
 pub nowhere_free : (g : Grammar) (n : Node) (rs : List Ref) (hs : List Held) → place_in n hs ≡ None → None ≡ call_clash (P.held_of n (all_of g hs)) (call_of g n rs) None

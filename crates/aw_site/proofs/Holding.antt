@@ -3,26 +3,26 @@ use Rattle.std.proofs.Common.{◌≡◌, ℕ, Bool, true, List, [], ◌++◌, ma
 use Rattle.std.proofs.lemmas.Bool.{and_parts}
 use Rattle.std.proofs.lemmas.List.{length-map, map-append}
 use Rattle.aw_term.specs.Rules.{Grammar}
-use Rattle.aw_held.specs.declared.held.Held.{Held as Node}
+use Rattle.aw_node_list.specs.declared.held.Held.{Held as Node}
 use Rattle.aw_grammar.specs.declared.grammar.Grammar as program
 use Rattle.aw_grammar.specs.GrammarOf.{grammar_of}
-use Rattle.aw_held.specs.HeldView.{all_of}
+use Rattle.aw_node_list.specs.HeldView.{all_of}
 use Rattle.aw_store.specs.declared.facts.Facts.{Ghosts}
 use Rattle.aw_subs.specs.declared.subs.Subs.{Subs}
 use Rattle.aw_msg.specs.declared.message.Message.{Message}
 use Rattle.aw_msg.specs.declared.message.MsgKind.{MsgKind}
 use Rattle.aw_msg.specs.MessageView.{message_of, plain_kind}
-use Rattle.aw_react.specs.Receiving.{is_mine, clash, is_repeat}
-use Rattle.aw_react.specs.Sites.{Watch, Site, Reaction}
-use Rattle.aw_react.specs.ValidNames.{message_ok}
+use Rattle.aw_law_sites.specs.Receiving.{is_mine, clash, is_repeat}
+use Rattle.aw_law_sites.specs.Sites.{Watch, Site, Reaction}
+use Rattle.aw_law_sites.specs.ValidNames.{message_ok}
 use Rattle.aw_space.specs.declared.space.Space.{Space}
 use Rattle.aw_space.specs.Spaces as S
 use Rattle.aw_space.specs.SpaceView.{space_of}
 use Rattle.aw_space.specs.Seen.{space_seen}
 use Rattle.aw_site.specs.declared.plan.Plan.{Plan}
 use Rattle.aw_site.specs.Doing.{doing_planned, IsPlanned}
-use Rattle.aw_repeat.specs.Holders.{holder, IsOfRole, ShowsAsked, ShowsWatchers}
-use Rattle.aw_repeat.specs.Views.{kind_of}
+use Rattle.aw_site_repeat.specs.Holders.{holder, IsOfRole, ShowsAsked, ShowsWatchers}
+use Rattle.aw_site_repeat.specs.Views.{kind_of}
 use Rattle.aw_site.specs.Shown.{space_in, HoldsAs, Shows}
 use Rattle.aw_site.specs.Views.{clash_of}
 use Rattle.aw_site.specs.declared.clashes.Clash.{Clash}

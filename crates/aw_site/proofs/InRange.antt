@@ -16,7 +16,7 @@ use Rattle.aw_msg.specs.declared.message.MsgKind.TheVariants as msg
 use Rattle.aw_msg.specs.MessageView.{kind_with, sort_or_zero, message_of, plain_kind, plain_message}
 use Rattle.aw_msg.specs.Messages.{MessageInRange}
 use Rattle.aw_msg.proofs.ValidMessages.{IsValidRef, IsValidBody, IsValidEquation, IsValidLoad, IsValidCall, IsValidKind}
-use Rattle.aw_react.specs.ValidNames.{refs_ok, body_ok, equation_ok, equations_ok, takes_as, call_ok}
+use Rattle.aw_law_sites.specs.ValidNames.{refs_ok, body_ok, equation_ok, equations_ok, takes_as, call_ok}
 use Rattle.aw_site.specs.Sendable.{load_ok, may_send, is_short, short_refs, short_body, short_equation, short_equations, short_kind, all_short, all_sendable}
 use Rattle.aw_site.proofs.ValidInRange.{message_is_in_range}
 use Rattle.aw_grammar.specs.GrammarOf.{grammar_of}

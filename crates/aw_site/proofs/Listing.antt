@@ -5,8 +5,8 @@ use Rattle.aw_term.specs.Rules.{Grammar}
 use Rattle.aw_choice.specs.ChoiceView.{item_of}
 use Rattle.aw_choice.specs.declared.choice.Item.{Item}
 use Rattle.aw_store.specs.declared.facts.Facts.{Ghosts}
-use Rattle.aw_react.specs.Sites.{Site}
-use Rattle.aw_react.specs.Worklists.{site_worklist}
+use Rattle.aw_law_sites.specs.Sites.{Site}
+use Rattle.aw_law_sites.specs.Worklists.{site_worklist}
 use Rattle.aw_space.specs.Seen.{space_seen}
 use Rattle.aw_space.specs.Spaces.{worklist}
 use Rattle.aw_site.specs.Seen.{IsShown}

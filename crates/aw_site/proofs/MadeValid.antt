@@ -16,13 +16,13 @@ use Rattle.aw_base.specs.ChoiceFits.{choice_ok, args_ok, ref_ok}
 use Rattle.aw_iograph.specs.Occurrences.{pattern_entries}
 use Rattle.aw_store.specs.Equations.{Is, Map, find}
 use Rattle.aw_apply.specs.Made.{Call, Making, made}
-use Rattle.aw_held.specs.declared.held.Held.{Held}
-use Rattle.aw_held.specs.HeldView.{sort_or, all_of}
-use Rattle.aw_react.specs.Joint.{outcome_in}
-use Rattle.aw_merge.proofs.GuardBinds.{all_bound, all_many}
-use Rattle.aw_merge.proofs.Sorts.{some_sort}
-use Rattle.aw_react.specs.ValidNames.{refs_ok, equations_ok, call_ok}
-use Rattle.aw_react.specs.Worlds.{node_of}
+use Rattle.aw_node_list.specs.declared.held.Held.{Held}
+use Rattle.aw_node_list.specs.HeldView.{sort_or, all_of}
+use Rattle.aw_law_sites.specs.Joint.{outcome_in}
+use Rattle.aw_law_worlds.proofs.GuardBinds.{all_bound, all_many}
+use Rattle.aw_law_worlds.proofs.Sorts.{some_sort}
+use Rattle.aw_law_sites.specs.ValidNames.{refs_ok, equations_ok, call_ok}
+use Rattle.aw_law_sites.specs.Worlds.{node_of}
 use Rattle.aw_space.specs.Sound.{IsSound}
 use Rattle.aw_space.specs.Spaces.{is_home, making}
 use Rattle.aw_space.specs.Valid.{IsValid}

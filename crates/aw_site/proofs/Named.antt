@@ -11,7 +11,7 @@ use Rattle.aw_store.specs.Equations.{find, mentions}
 use Rattle.aw_store.specs.EquationView.{body_of, equation_of}
 use Rattle.aw_store.specs.declared.equation.Body.{Body}
 use Rattle.aw_store.specs.declared.equation.Equation.{Equation}
-use Rattle.aw_react.specs.ValidNames.{refs_ok, body_ok, equation_ok, equations_ok}
+use Rattle.aw_law_sites.specs.ValidNames.{refs_ok, body_ok, equation_ok, equations_ok}
 use Rattle.aw_site.proofs.SentNames.{refs_append, body_mentions, found_ok}
 use Rattle.aw_site.proofs.Walking.{reverse-push}
 

@@ -7,7 +7,7 @@ use Rattle.aw_base.specs.ChoiceFits.{slot_ok, ref_ok}
 use Rattle.aw_store.specs.declared.equation.Equation.{Equation}
 use Rattle.aw_store.specs.EquationView.{equation_of}
 use Rattle.aw_store.specs.Equations as P
-use Rattle.aw_react.specs.ValidNames.{body_ok, equation_ok, equations_ok}
+use Rattle.aw_law_sites.specs.ValidNames.{body_ok, equation_ok, equations_ok}
 
 -- a part or a result is one of a sort
 sort_where_slot : (g : Grammar) (o : Option ℕ) (slot : Slot) → slot_ok g o slot ≡ true → is_some o ≡ true

@@ -5,12 +5,12 @@ use Rattle.std.proofs.lemmas.Bool.{eqb-true}
 use Rattle.aw_site.proofs.Steps.{take_here}
 use Rattle.aw_term.specs.Names.{Ref, ref_eq}
 use Rattle.aw_term.proofs.RefTests.{ref_eq-true, ref_eq-self}
-use Rattle.aw_react.specs.InOrder.{has_ref}
-use Rattle.aw_react.specs.Sites.{Watch}
-use Rattle.aw_react.specs.Telling.{has_watch}
+use Rattle.aw_law_sites.specs.InOrder.{has_ref}
+use Rattle.aw_law_sites.specs.Sites.{Watch}
+use Rattle.aw_law_sites.specs.Telling.{has_watch}
 use Rattle.aw_subs.specs.declared.subs.Subs.{Subs}
 use Rattle.aw_subs.specs.Entries.{is_asked, watches}
-use Rattle.aw_repeat.specs.Holders.{ShowsAsked, ShowsWatchers}
+use Rattle.aw_site_repeat.specs.Holders.{ShowsAsked, ShowsWatchers}
 
 both_tests : (b c : Bool) → (b ≡ true → c ≡ true) → (c ≡ true → b ≡ true) → b ≡ c
 both_tests true c f g = sym (f refl)

@@ -7,7 +7,7 @@ use Rattle.aw_term.specs.Names.{Ref, ref_eq, ref_lt}
 use Rattle.aw_term.specs.WellFormed.{Each}
 use Rattle.aw_term.proofs.RefOrder.{ref-no, ref-trans, ref_tied}
 use Rattle.aw_term.proofs.RefTests.{ref_eq-true, ref_eq-self}
-use Rattle.aw_react.specs.InOrder.{insert_ref, in_order}
+use Rattle.aw_law_sites.specs.InOrder.{insert_ref, in_order}
 use Rattle.aw_site.specs.Ordered.{AreInOrder}
 
 each_at : (P : Ref → Type 0) (ys : List Ref) (k : ℕ) (e : Ref) → Each P ys → k < length ys → P (get_or ys k e)

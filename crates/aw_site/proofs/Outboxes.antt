@@ -12,12 +12,12 @@ use Rattle.aw_store.specs.declared.facts.Facts.{Ghosts}
 use Rattle.aw_apply.specs.Messages as P
 use Rattle.aw_msg.specs.declared.message.Message.{Message}
 use Rattle.aw_msg.specs.MessageView.{message_of}
-use Rattle.aw_react.specs.Choosing.{choose}
-use Rattle.aw_react.specs.Reacting.{receive}
-use Rattle.aw_react.specs.SiteEvents.{after_choice, after_message}
-use Rattle.aw_react.specs.Sites.{Site}
-use Rattle.aw_react.specs.ValidNames.{equations_ok}
-use Rattle.aw_react.specs.Worlds.{node_of}
+use Rattle.aw_law_sites.specs.Choosing.{choose}
+use Rattle.aw_law_sites.specs.Reacting.{receive}
+use Rattle.aw_law_sites.specs.SiteEvents.{after_choice, after_message}
+use Rattle.aw_law_sites.specs.Sites.{Site}
+use Rattle.aw_law_sites.specs.ValidNames.{equations_ok}
+use Rattle.aw_law_sites.specs.Worlds.{node_of}
 use Rattle.aw_space.specs.declared.space.Space.{Space}
 use Rattle.aw_space.specs.Seen.{grammar_in}
 use Rattle.aw_space.specs.Spaces as S

@@ -6,7 +6,7 @@ use Rattle.std.proofs.lemmas.Option.{same_Some}
 use Rattle.aw_term.specs.Names.{Step, Node}
 use Rattle.aw_term.specs.Rules.{Child, Rule, Sort, Grammar, child_at, sort_of_step, sort_after, sort_of, last_step, role_or_0, role_of}
 use Rattle.aw_term.proofs.LastSteps.{followed, where_true}
-use Rattle.aw_react.specs.Homes.{home, front, parent, has_steps}
+use Rattle.aw_law_sites.specs.Homes.{home, front, parent, has_steps}
 use Rattle.aw_site.specs.Parents.{home_before}
 
 -- something stands there only where the test holds

@@ -12,8 +12,8 @@ use Rattle.aw_grammar.specs.GrammarOf.{grammar_of}
 use Rattle.aw_grammar.specs.declared.grammar.Grammar.{Grammar}
 use Rattle.aw_grammar.specs.declared.rule.Rule.{Rule}
 use Rattle.aw_apply.specs.Made.{Call}
-use Rattle.aw_react.specs.Homes.{home, parent, has_steps}
-use Rattle.aw_react.specs.ValidNames.{refs_ok, takes_as, call_ok}
+use Rattle.aw_law_sites.specs.Homes.{home, parent, has_steps}
+use Rattle.aw_law_sites.specs.ValidNames.{refs_ok, takes_as, call_ok}
 use Rattle.aw_site.specs.Parents.{home_before}
 use Rattle.aw_site.proofs.ParentHomes.{home_of_parent, steps_exact}
 

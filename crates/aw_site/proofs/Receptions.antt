@@ -14,13 +14,13 @@ use Rattle.aw_apply.specs.Messages.{Kind, Calls, Asks, Tells, Message, Clash, Ba
 use Rattle.aw_msg.specs.declared.message.MsgKind.{MsgKind}
 use Rattle.aw_msg.specs.declared.message.MsgKind.TheVariants as msg
 use Rattle.aw_msg.specs.MessageView.{plain_kind}
-use Rattle.aw_react.specs.Receiving.{is_mine, about_ok, clash, is_repeat, first_clash, call_clash, all_held}
-use Rattle.aw_react.specs.Reacting.{received_on, receive, react}
-use Rattle.aw_react.specs.Sites.{Watch, Site}
-use Rattle.aw_react.specs.ValidNames.{message_ok, names_ok, origin_ok}
+use Rattle.aw_law_sites.specs.Receiving.{is_mine, about_ok, clash, is_repeat, first_clash, call_clash, all_held}
+use Rattle.aw_law_sites.specs.Reacting.{received_on, receive, react}
+use Rattle.aw_law_sites.specs.Sites.{Watch, Site}
+use Rattle.aw_law_sites.specs.ValidNames.{message_ok, names_ok, origin_ok}
 use Rattle.aw_space.specs.Placings.{MayBeCalled, MayBeLearnt}
-use Rattle.aw_repeat.specs.Holders.{holder, IsOfRole}
-use Rattle.aw_repeat.specs.Views.{kind_of}
+use Rattle.aw_site_repeat.specs.Holders.{holder, IsOfRole}
+use Rattle.aw_site_repeat.specs.Views.{kind_of}
 use Rattle.aw_site.specs.Judged.{IsFresh}
 
 -- ---- the answer

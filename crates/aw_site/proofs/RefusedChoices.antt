@@ -6,9 +6,9 @@ use Rattle.aw_term.specs.Choices.{Choice, Taken, answer_of as told_of}
 use Rattle.aw_choice.specs.ChoiceView.{answer_of}
 use Rattle.aw_choice.specs.declared.choice.Answer.{Answer}
 use Rattle.aw_choice.specs.declared.choice.Answer.TheVariants as answer
-use Rattle.aw_react.specs.Choosing.{Chosen, No, Did, answer_to, choose}
-use Rattle.aw_react.specs.SiteEvents.{after_choice}
-use Rattle.aw_react.specs.Sites.{Site}
+use Rattle.aw_law_sites.specs.Choosing.{Chosen, No, Did, answer_to, choose}
+use Rattle.aw_law_sites.specs.SiteEvents.{after_choice}
+use Rattle.aw_law_sites.specs.Sites.{Site}
 use Rattle.aw_space.specs.Spaces.{Space, outcome}
 use Rattle.aw_space.proofs.Refused.{told_refused}
 use Rattle.aw_site.specs.Answers.{sent_by}

@@ -11,11 +11,11 @@ use Rattle.aw_term.specs.Rules.{Grammar}
 use Rattle.aw_store.specs.Equations.{Equation}
 use Rattle.aw_apply.specs.Made.{Call}
 use Rattle.aw_apply.specs.Messages.{Message}
-use Rattle.aw_react.specs.Homes.{home}
-use Rattle.aw_react.specs.Sites.{Watch, Site}
-use Rattle.aw_react.specs.Telling.{has_watch, watchers_from, tell, tells, call_out, calls_out}
+use Rattle.aw_law_sites.specs.Homes.{home}
+use Rattle.aw_law_sites.specs.Sites.{Watch, Site}
+use Rattle.aw_law_sites.specs.Telling.{has_watch, watchers_from, tell, tells, call_out, calls_out}
 use Rattle.aw_subs.specs.Entries.{has_bit}
-use Rattle.aw_repeat.specs.Holders.{AreWatchers}
+use Rattle.aw_site_repeat.specs.Holders.{AreWatchers}
 
 -- one item further, where what a list makes is what its first makes before what the rest makes
 pub pushed_more : {A M : Type 0} (F : List A → List M) → ((x : A) (xs : List A) → F (x ∷ xs) ≡ F (x ∷ []) ++ F xs) → (before after whole : List M) (rest xs : List A) (x : A)

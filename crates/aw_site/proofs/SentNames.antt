@@ -11,14 +11,14 @@ use Rattle.aw_base.specs.ChoiceFits.{ref_ok}
 use Rattle.aw_store.specs.Equations.{Body, Same, Is, Equation, Map, find, mentions}
 use Rattle.aw_apply.specs.Made.{Call}
 use Rattle.aw_apply.specs.Messages.{Message}
-use Rattle.aw_react.specs.Joint.{called_held}
-use Rattle.aw_react.specs.Asking.{all_mentions, all_inherited, ask_message}
-use Rattle.aw_react.specs.Homes.{home}
-use Rattle.aw_react.specs.InOrder.{insert_ref, in_order}
-use Rattle.aw_react.specs.Loads.{Given, may_give, given_on, next_given, walk, load_of}
-use Rattle.aw_react.specs.Sites.{Site}
-use Rattle.aw_react.specs.Telling.{tell, tells, tell_back, call_out, calls_out, calls_in, watchers_from}
-use Rattle.aw_react.specs.ValidNames.{refs_ok, body_ok, equation_ok, equations_ok, call_ok}
+use Rattle.aw_law_sites.specs.Joint.{called_held}
+use Rattle.aw_law_sites.specs.Asking.{all_mentions, all_inherited, ask_message}
+use Rattle.aw_law_sites.specs.Homes.{home}
+use Rattle.aw_law_sites.specs.InOrder.{insert_ref, in_order}
+use Rattle.aw_law_sites.specs.Loads.{Given, may_give, given_on, next_given, walk, load_of}
+use Rattle.aw_law_sites.specs.Sites.{Site}
+use Rattle.aw_law_sites.specs.Telling.{tell, tells, tell_back, call_out, calls_out, calls_in, watchers_from}
+use Rattle.aw_law_sites.specs.ValidNames.{refs_ok, body_ok, equation_ok, equations_ok, call_ok}
 use Rattle.aw_site.specs.Sendable.{load_ok, may_send, all_sendable}
 
 -- ---- references

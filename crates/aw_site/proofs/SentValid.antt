@@ -10,15 +10,15 @@ use Rattle.aw_term.specs.Held.{held_of}
 use Rattle.aw_term.specs.WellFormed.{Each}
 use Rattle.aw_apply.specs.Made.{Call}
 use Rattle.aw_apply.specs.Messages.{Kind, Calls, Asks, Tells, Message, BadName, NotMine, Clash}
-use Rattle.aw_react.specs.Asking.{all_mentions, all_inherited, is_wanted, ask_message}
-use Rattle.aw_react.specs.Choosing.{outcome, choose}
-use Rattle.aw_react.specs.InOrder.{in_order}
-use Rattle.aw_react.specs.Reacting.{add_held, react, received_on, receive}
-use Rattle.aw_react.specs.Receiving.{is_mine, add_all, clash, is_repeat}
-use Rattle.aw_react.specs.SiteEvents.{after_choice, after_message}
-use Rattle.aw_react.specs.Sites.{Site, Reaction}
-use Rattle.aw_react.specs.Telling.{calls_in, calls_out, tells}
-use Rattle.aw_react.specs.ValidNames.{refs_ok, equations_ok, call_ok, names_ok, origin_ok, message_ok}
+use Rattle.aw_law_sites.specs.Asking.{all_mentions, all_inherited, is_wanted, ask_message}
+use Rattle.aw_law_sites.specs.Choosing.{outcome, choose}
+use Rattle.aw_law_sites.specs.InOrder.{in_order}
+use Rattle.aw_law_sites.specs.Reacting.{add_held, react, received_on, receive}
+use Rattle.aw_law_sites.specs.Receiving.{is_mine, add_all, clash, is_repeat}
+use Rattle.aw_law_sites.specs.SiteEvents.{after_choice, after_message}
+use Rattle.aw_law_sites.specs.Sites.{Site, Reaction}
+use Rattle.aw_law_sites.specs.Telling.{calls_in, calls_out, tells}
+use Rattle.aw_law_sites.specs.ValidNames.{refs_ok, equations_ok, call_ok, names_ok, origin_ok, message_ok}
 use Rattle.aw_space.specs.Spaces.{making}
 use Rattle.aw_site.specs.Answers.{sent_by, sent_for}
 use Rattle.aw_site.specs.Chosen.{worked, reaction_of}

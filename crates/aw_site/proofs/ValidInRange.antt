@@ -17,7 +17,7 @@ use Rattle.aw_grammar.specs.declared.grammar.Grammar as program
 use Rattle.aw_grammar.specs.GrammarOf.{grammar_of, words_of}
 use Rattle.aw_grammar.proofs.Fits.{each_at}
 use Rattle.aw_base.specs.ChoiceFits.{slot_ok, ref_ok}
-use Rattle.aw_wire.specs.Ranges.{From1To, StepInRange, NodeInRange, SlotInRange, RefInRange, HeadInRange, RefsInRange}
+use Rattle.aw_codec.specs.Ranges.{From1To, StepInRange, NodeInRange, SlotInRange, RefInRange, HeadInRange, RefsInRange}
 use Rattle.aw_term.proofs.Eaches.{each_map}
 use Rattle.aw_store.specs.Equations.{Body, Same, Is, Equation}
 use Rattle.aw_apply.specs.Made.{Call}

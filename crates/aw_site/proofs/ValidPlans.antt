@@ -13,10 +13,10 @@ use Rattle.aw_store.specs.declared.facts.Facts.{Ghosts}
 use Rattle.aw_apply.specs.Made.{Call}
 use Rattle.aw_apply.specs.declared.making.Made.{Made}
 use Rattle.aw_apply.specs.declared.making.MadeChild.{MadeChild}
-use Rattle.aw_held.specs.HeldView.{all_of}
-use Rattle.aw_react.specs.Joint.{outcome_in}
-use Rattle.aw_react.specs.ValidNames.{refs_ok, equations_ok, call_ok}
-use Rattle.aw_react.specs.Worlds.{node_of}
+use Rattle.aw_node_list.specs.HeldView.{all_of}
+use Rattle.aw_law_sites.specs.Joint.{outcome_in}
+use Rattle.aw_law_sites.specs.ValidNames.{refs_ok, equations_ok, call_ok}
+use Rattle.aw_law_sites.specs.Worlds.{node_of}
 use Rattle.aw_space.specs.declared.space.Space.{Space}
 use Rattle.aw_space.specs.Outcomes.{IsMade}
 use Rattle.aw_space.specs.Placings.{MayBeCalledIf}

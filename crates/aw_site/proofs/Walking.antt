@@ -10,9 +10,9 @@ use Rattle.aw_store.specs.Equations.{find, mentions}
 use Rattle.aw_store.specs.EquationView.{body_of, equation_of}
 use Rattle.aw_store.specs.declared.equation.Body.{Body}
 use Rattle.aw_store.specs.declared.equation.Equation.{Equation}
-use Rattle.aw_react.specs.InOrder.{has_ref}
-use Rattle.aw_react.specs.Loads.{Given, may_give, given_on, next_given, walk}
-use Rattle.aw_react.specs.Sites.{Site}
+use Rattle.aw_law_sites.specs.InOrder.{has_ref}
+use Rattle.aw_law_sites.specs.Loads.{Given, may_give, given_on, next_given, walk}
+use Rattle.aw_law_sites.specs.Sites.{Site}
 use Rattle.aw_site.specs.Walks.{Gives, GivesFirst, seen_with}
 
 -- one more reference on the stack

@@ -12,15 +12,15 @@ use Rattle.aw_store.specs.EquationView.{body_of, equation_of}
 use Rattle.aw_store.specs.declared.equation.Equation.{Equation}
 use Rattle.aw_store.specs.declared.facts.Facts.{Ghosts}
 use Rattle.aw_apply.specs.Made.{Call}
-use Rattle.aw_react.specs.Joint.{called_held}
-use Rattle.aw_react.specs.Asking.{all_mentions, all_inherited, is_wanted}
-use Rattle.aw_react.specs.Homes.{home}
-use Rattle.aw_react.specs.InOrder.{has_ref, insert_ref, in_order}
-use Rattle.aw_react.specs.Sites.{Site}
-use Rattle.aw_react.specs.Telling.{calls_in}
-use Rattle.aw_react.specs.ValidNames.{refs_ok}
+use Rattle.aw_law_sites.specs.Joint.{called_held}
+use Rattle.aw_law_sites.specs.Asking.{all_mentions, all_inherited, is_wanted}
+use Rattle.aw_law_sites.specs.Homes.{home}
+use Rattle.aw_law_sites.specs.InOrder.{has_ref, insert_ref, in_order}
+use Rattle.aw_law_sites.specs.Sites.{Site}
+use Rattle.aw_law_sites.specs.Telling.{calls_in}
+use Rattle.aw_law_sites.specs.ValidNames.{refs_ok}
 use Rattle.aw_subs.specs.declared.subs.Subs.{Subs}
-use Rattle.aw_repeat.specs.Holders.{ShowsAsked}
+use Rattle.aw_site_repeat.specs.Holders.{ShowsAsked}
 use Rattle.aw_site.specs.Ordered.{AreInOrder}
 use Rattle.aw_site.specs.Plans.{wanted_of}
 use Rattle.aw_site.specs.Senders.{SendsAs}

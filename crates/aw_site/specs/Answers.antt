@@ -3,8 +3,8 @@ use Rattle.std.specs.Prelude.{◌≡◌, List, [], length}
 use Rattle.aw_term.specs.Trees.{Never}
 use Rattle.aw_apply.specs.Messages as P
 use Rattle.aw_msg.specs.MessageView.{content_of}
-use Rattle.aw_react.specs.Choosing.{Chosen, No, Did}
-use Rattle.aw_react.specs.Sites.{Reaction}
+use Rattle.aw_law_sites.specs.Choosing.{Chosen, No, Did}
+use Rattle.aw_law_sites.specs.Sites.{Reaction}
 use Rattle.aw_site.specs.declared.received.Received.{Received}
 use Rattle.aw_site.specs.declared.received.Received.TheVariants.{BadName, NotMine, Conflict, Repeat, New}
 

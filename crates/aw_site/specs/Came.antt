@@ -4,9 +4,9 @@ use Rattle.aw_term.specs.Names.{Ref}
 use Rattle.aw_term.specs.Rules.{Grammar}
 use Rattle.aw_store.specs.Equations.{Equation}
 use Rattle.aw_apply.specs.Made.{Call}
-use Rattle.aw_react.specs.Asking.{all_mentions, asking}
-use Rattle.aw_react.specs.Receiving.{add_all}
-use Rattle.aw_react.specs.Sites.{Site, Reaction}
+use Rattle.aw_law_sites.specs.Asking.{all_mentions, asking}
+use Rattle.aw_law_sites.specs.Receiving.{add_all}
+use Rattle.aw_law_sites.specs.Sites.{Site, Reaction}
 use Rattle.aw_space.specs.Spaces.{with_call}
 
 -- the references of a call, if there is one

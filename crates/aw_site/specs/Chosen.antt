@@ -4,8 +4,8 @@ use Rattle.aw_term.specs.Names.{Ref}
 use Rattle.aw_term.specs.Rules.{Grammar}
 use Rattle.aw_term.specs.Choices.{Choice, Outcome}
 use Rattle.aw_choice.specs.ChoiceView.{answer_of}
-use Rattle.aw_react.specs.Choosing.{Chosen, No, Did, outcome, answer_to, choose}
-use Rattle.aw_react.specs.Sites.{Site, Reaction, silently}
+use Rattle.aw_law_sites.specs.Choosing.{Chosen, No, Did, outcome, answer_to, choose}
+use Rattle.aw_law_sites.specs.Sites.{Site, Reaction, silently}
 use Rattle.aw_space.specs.Spaces.{space_on}
 use Rattle.aw_site.specs.Doing.{IsPlanned}
 use Rattle.aw_site.specs.Shown.{space_in}

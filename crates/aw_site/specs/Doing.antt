@@ -4,7 +4,7 @@ use Rattle.aw_term.specs.Names.{Ref}
 use Rattle.aw_term.specs.Rules.{Grammar}
 use Rattle.aw_apply.specs.Messages.{Message}
 use Rattle.aw_msg.specs.MessageView.{message_of}
-use Rattle.aw_react.specs.Sites.{Site, Reaction}
+use Rattle.aw_law_sites.specs.Sites.{Site, Reaction}
 use Rattle.aw_site.specs.declared.plan.Plan.{Plan}
 
 -- the site asks for these references, and sends these messages

@@ -5,12 +5,12 @@ use Rattle.aw_store.specs.EquationView.{equation_of}
 use Rattle.aw_apply.specs.Messages as P
 use Rattle.aw_apply.specs.Messages.{carried}
 use Rattle.aw_msg.specs.declared.message.MsgKind.{MsgKind}
-use Rattle.aw_react.specs.Reacting.{receive}
-use Rattle.aw_react.specs.Receiving.{is_mine, clash, is_repeat}
-use Rattle.aw_react.specs.SiteEvents.{after_message}
-use Rattle.aw_react.specs.Sites.{Site}
-use Rattle.aw_react.specs.ValidNames.{message_ok}
-use Rattle.aw_repeat.specs.Views.{kind_of}
+use Rattle.aw_law_sites.specs.Reacting.{receive}
+use Rattle.aw_law_sites.specs.Receiving.{is_mine, clash, is_repeat}
+use Rattle.aw_law_sites.specs.SiteEvents.{after_message}
+use Rattle.aw_law_sites.specs.Sites.{Site}
+use Rattle.aw_law_sites.specs.ValidNames.{message_ok}
+use Rattle.aw_site_repeat.specs.Views.{kind_of}
 use Rattle.aw_site.specs.Answers.{IsReceived, sent_for}
 use Rattle.aw_site.specs.Views.{clash_of}
 use Rattle.aw_site.specs.declared.judging.Judged.{Judged}

@@ -5,10 +5,10 @@ use Rattle.aw_term.specs.Rules.{Grammar}
 use Rattle.aw_store.specs.Equations.{Equation}
 use Rattle.aw_apply.specs.Made.{Call}
 use Rattle.aw_apply.specs.Messages.{Message}
-use Rattle.aw_react.specs.Asking.{all_mentions, all_inherited, is_wanted, ask_message}
-use Rattle.aw_react.specs.InOrder.{in_order}
-use Rattle.aw_react.specs.Sites.{Site}
-use Rattle.aw_react.specs.Telling.{tells, calls_out, calls_in}
+use Rattle.aw_law_sites.specs.Asking.{all_mentions, all_inherited, is_wanted, ask_message}
+use Rattle.aw_law_sites.specs.InOrder.{in_order}
+use Rattle.aw_law_sites.specs.Sites.{Site}
+use Rattle.aw_law_sites.specs.Telling.{tells, calls_out, calls_in}
 
 -- what a site asks for of these references, in order
 abbrev pub wanted_of : Grammar → Site → List Ref → List Ref

@@ -6,9 +6,9 @@ use Rattle.aw_term.specs.Choices.{Choice}
 use Rattle.aw_grammar.specs.GrammarOf.{grammar_of}
 use Rattle.aw_store.specs.Equations.{Map}
 use Rattle.aw_store.specs.declared.facts.Facts.{Ghosts}
-use Rattle.aw_react.specs.Choosing.{choose}
-use Rattle.aw_react.specs.SiteEvents.{after_choice}
-use Rattle.aw_react.specs.Sites as P
+use Rattle.aw_law_sites.specs.Choosing.{choose}
+use Rattle.aw_law_sites.specs.SiteEvents.{after_choice}
+use Rattle.aw_law_sites.specs.Sites as P
 use Rattle.aw_space.specs.Seen.{space_seen}
 use Rattle.aw_site.specs.declared.site.Site.{Site}
 use Rattle.aw_site.specs.Shown.{Shows}

@@ -8,7 +8,7 @@ use Rattle.aw_apply.specs.Messages as P
 use Rattle.aw_apply.specs.Messages.{Kind, Calls, Asks, Tells}
 use Rattle.aw_msg.specs.declared.message.Message.{Message}
 use Rattle.aw_msg.specs.MessageView.{plain_kind}
-use Rattle.aw_react.specs.ValidNames.{call_ok, equation_ok, equations_ok}
+use Rattle.aw_law_sites.specs.ValidNames.{call_ok, equation_ok, equations_ok}
 
 -- ---- valid names
 

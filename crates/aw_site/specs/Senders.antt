@@ -4,7 +4,7 @@ use Rattle.aw_term.specs.Names.{Ref}
 use Rattle.aw_store.specs.Equations.{find}
 use Rattle.aw_store.specs.EquationView.{equation_of}
 use Rattle.aw_store.specs.declared.facts.Facts.{Ghosts}
-use Rattle.aw_react.specs.Sites.{Site}
+use Rattle.aw_law_sites.specs.Sites.{Site}
 use Rattle.aw_site.specs.declared.sender.Sender.{Sender}
 
 -- The plain site sends as this: it has the role, and sends loads where this does; and its equations say of each reference what the store and the

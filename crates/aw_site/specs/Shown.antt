@@ -4,11 +4,11 @@ use Rattle.aw_store.specs.declared.facts.Facts.{Ghosts}
 use Rattle.aw_subs.specs.declared.subs.Subs.{Subs}
 use Rattle.aw_msg.specs.declared.message.Message.{Message}
 use Rattle.aw_msg.specs.MessageView.{message_of}
-use Rattle.aw_react.specs.Sites as P
+use Rattle.aw_law_sites.specs.Sites as P
 use Rattle.aw_space.specs.declared.space.Space.{Space}
 use Rattle.aw_space.specs.Spaces as S
 use Rattle.aw_space.specs.Seen.{grammar_in, space_seen}
-use Rattle.aw_repeat.specs.Holders.{ShowsAsked, ShowsWatchers}
+use Rattle.aw_site_repeat.specs.Holders.{ShowsAsked, ShowsWatchers}
 
 -- the nodes, choices and equations of a site
 abbrev pub space_in : P.Site → S.Space

@@ -5,7 +5,7 @@ use Rattle.aw_term.specs.Names.{Ref}
 use Rattle.aw_store.specs.Equations.{mentions}
 use Rattle.aw_store.specs.EquationView.{equation_of}
 use Rattle.aw_store.specs.declared.equation.Equation.{Equation}
-use Rattle.aw_react.specs.Loads.{Given}
+use Rattle.aw_law_sites.specs.Loads.{Given}
 
 -- one item alone, or none
 abbrev pub listed : {A : Type 0} → Option A → List A

@@ -3,12 +3,12 @@ use Rattle.std.specs.Prelude.{◌≡◌, true, List, [], ◌∷◌, filter}
 use Rattle.aw_term.specs.Names.{Ref}
 use Rattle.aw_grammar.specs.GrammarOf.{grammar_of}
 use Rattle.aw_store.specs.declared.facts.Facts.{Ghosts}
-use Rattle.aw_react.specs.Asking.{is_wanted}
-use Rattle.aw_react.specs.InOrder.{insert_ref}
-use Rattle.aw_react.specs.Sites.{Site}
-use Rattle.aw_react.specs.ValidNames.{refs_ok}
+use Rattle.aw_law_sites.specs.Asking.{is_wanted}
+use Rattle.aw_law_sites.specs.InOrder.{insert_ref}
+use Rattle.aw_law_sites.specs.Sites.{Site}
+use Rattle.aw_law_sites.specs.ValidNames.{refs_ok}
 use Rattle.aw_subs.specs.declared.subs.Subs.{Subs}
-use Rattle.aw_repeat.specs.Holders.{ShowsAsked}
+use Rattle.aw_site_repeat.specs.Holders.{ShowsAsked}
 use Rattle.aw_site.specs.Ordered.{AreInOrder}
 use Rattle.aw_site.specs.Senders.{SendsAs}
 use Rattle.aw_site.specs.declared.sender.Sender.{Sender}

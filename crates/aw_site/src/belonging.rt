@@ -3,9 +3,9 @@ ghost use Rattle.std.specs.Prelude.{◌≡◌, true, map as list_map};
 ghost use Rattle.aw_grammar.specs.GrammarOf.{grammar_of};
 ghost use Rattle.aw_store.specs.EquationView.{equation_of};
 ghost use Rattle.aw_msg.specs.MessageView.{message_of};
-ghost use Rattle.aw_react.specs.Receiving.{none_mine, about_ok, is_mine};
-ghost use Rattle.aw_react.specs.ValidNames.{equations_ok, names_ok};
-ghost use Rattle.aw_repeat.specs.Views.{kind_of};
+ghost use Rattle.aw_law_sites.specs.Receiving.{none_mine, about_ok, is_mine};
+ghost use Rattle.aw_law_sites.specs.ValidNames.{equations_ok, names_ok};
+ghost use Rattle.aw_site_repeat.specs.Views.{kind_of};
 
 use crate::validity::valid_home;
 use aw_base::Grammar;

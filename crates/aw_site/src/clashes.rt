@@ -2,17 +2,17 @@
 ghost use Rattle.std.specs.Prelude.{◌≡◌, ◌++◌, IfOk, None, map as list_map, option_map};
 ghost use Rattle.aw_term.specs.Held.{held_of};
 ghost use Rattle.aw_term.specs.Rules as T;
-ghost use Rattle.aw_held.specs.InOrder.{IsInOrder};
-ghost use Rattle.aw_held.specs.HeldView.{all_of};
+ghost use Rattle.aw_node_list.specs.InOrder.{IsInOrder};
+ghost use Rattle.aw_node_list.specs.HeldView.{all_of};
 ghost use Rattle.aw_store.specs.Equations.{find};
 ghost use Rattle.aw_store.specs.EquationView.{body_of, equation_of};
-ghost use Rattle.aw_react.specs.Receiving.{refs_eq, clash_on, first_clash, call_clash};
+ghost use Rattle.aw_law_sites.specs.Receiving.{refs_eq, clash_on, first_clash, call_clash};
 ghost use Rattle.aw_site.specs.Views.{clash_of};
 ghost use Rattle.aw_space.specs.Spaces.{call_of};
 
 use crate::finding::body_in_both;
-use aw_held::{Holding, find_held};
 use aw_name::{Node, Refs};
+use aw_node_list::{Holding, find_held};
 use aw_store::bodies::is_same_body;
 use aw_store::{Content, Equation, Facts, copy_body};
 use std::alloc::{AllocError, Global};

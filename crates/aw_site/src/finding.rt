@@ -4,7 +4,7 @@ ghost use Rattle.aw_store.specs.Equations.{find};
 ghost use Rattle.aw_store.specs.EquationView.{body_of, equation_of};
 
 use aw_name::Ref;
-use aw_repeat::has_equation;
+use aw_site_repeat::has_equation;
 use aw_store::bodies::find_body;
 use aw_store::{Body, Equation, Facts, copy_body, equation_at};
 use std::alloc::{AllocError, Global};

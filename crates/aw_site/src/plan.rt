@@ -3,10 +3,10 @@ ghost use Rattle.std.specs.Prelude.{◌≡◌, ◌++◌, [], true, IfOk, OnOk, m
 ghost use Rattle.aw_grammar.specs.GrammarOf.{grammar_of};
 ghost use Rattle.aw_store.specs.EquationView.{equation_of};
 ghost use Rattle.aw_msg.specs.MessageView.{message_of};
-ghost use Rattle.aw_react.specs.Asking.{all_mentions};
-ghost use Rattle.aw_react.specs.Sites as P;
-ghost use Rattle.aw_react.specs.ValidNames.{refs_ok, equations_ok, call_ok};
-ghost use Rattle.aw_repeat.specs.Holders.{ShowsAsked, ShowsWatchers};
+ghost use Rattle.aw_law_sites.specs.Asking.{all_mentions};
+ghost use Rattle.aw_law_sites.specs.Sites as P;
+ghost use Rattle.aw_law_sites.specs.ValidNames.{refs_ok, equations_ok, call_ok};
+ghost use Rattle.aw_site_repeat.specs.Holders.{ShowsAsked, ShowsWatchers};
 ghost use Rattle.aw_site.specs.Plans.{wanted_of, asks_for, made_mentions, told};
 ghost use Rattle.aw_site.specs.Senders.{SendsAs};
 ghost use Rattle.aw_site.specs.Views.{child_call};

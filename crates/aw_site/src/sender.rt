@@ -6,11 +6,11 @@ ghost use Rattle.aw_grammar.specs.GrammarOf.{grammar_of};
 ghost use Rattle.aw_name.specs.declared.node.Ref.{Ref as RefName};
 ghost use Rattle.aw_store.specs.Equations.{find, mentions};
 ghost use Rattle.aw_store.specs.EquationView.{body_of, equation_of};
-ghost use Rattle.aw_react.specs.Homes.{home};
-ghost use Rattle.aw_react.specs.InOrder.{has_ref};
-ghost use Rattle.aw_react.specs.Loads.{Given, may_give, given_on, next_given, walk, load_of};
-ghost use Rattle.aw_react.specs.Sites as P;
-ghost use Rattle.aw_react.specs.ValidNames.{body_ok, refs_ok, equations_ok};
+ghost use Rattle.aw_law_sites.specs.Homes.{home};
+ghost use Rattle.aw_law_sites.specs.InOrder.{has_ref};
+ghost use Rattle.aw_law_sites.specs.Loads.{Given, may_give, given_on, next_given, walk, load_of};
+ghost use Rattle.aw_law_sites.specs.Sites as P;
+ghost use Rattle.aw_law_sites.specs.ValidNames.{body_ok, refs_ok, equations_ok};
 ghost use Rattle.aw_site.specs.Walks.{Gives, GivesFirst, listed, seen_with};
 
 use crate::finding::{body_in_both, is_behind};

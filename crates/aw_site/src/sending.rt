@@ -2,9 +2,9 @@
 //! be refused.
 ghost use Rattle.std.specs.Prelude.{◌≡◌, ◌+◌, ◌++◌, ◌∷◌, [], ◌≤◌, ◌<◌, List, true, All, OnOk, OnErr, length, take, vec_len, vec_capacity};
 ghost use Rattle.aw_term.specs.Names.{Ref as RefName};
-ghost use Rattle.aw_react.specs.Sites.{Watch};
+ghost use Rattle.aw_law_sites.specs.Sites.{Watch};
 ghost use Rattle.aw_subs.specs.Entries.{is_ready};
-ghost use Rattle.aw_repeat.specs.Holders.{ShowsAsked, ShowsWatchers};
+ghost use Rattle.aw_site_repeat.specs.Holders.{ShowsAsked, ShowsWatchers};
 ghost use Rattle.aw_site.specs.Sendable.{all_short};
 
 use crate::plan::Plan;

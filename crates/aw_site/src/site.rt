@@ -4,8 +4,8 @@ ghost use Rattle.aw_choice.specs.ChoiceView.{choice_of, answer_of};
 ghost use Rattle.aw_grammar.specs.GrammarOf.{grammar_of};
 ghost use Rattle.aw_base.specs.ChoiceFits.{choice_ok};
 ghost use Rattle.aw_msg.specs.MessageView.{message_of};
-ghost use Rattle.aw_react.specs.Sites as P;
-ghost use Rattle.aw_react.specs.Worlds.{node_of};
+ghost use Rattle.aw_law_sites.specs.Sites as P;
+ghost use Rattle.aw_law_sites.specs.Worlds.{node_of};
 ghost use Rattle.aw_space.specs.Keeping.{KeepsFacts, KeepsNodes, KeepsNodesBut};
 ghost use Rattle.aw_space.specs.Spaces.{is_home};
 ghost use Rattle.aw_site.specs.Sendable.{all_sendable, all_short};
@@ -34,12 +34,12 @@ pub struct Site<'g, F: Facts> {
 }
 
 impl<'g, F: Facts> Site<'g, F> {
-    ghost use Rattle.aw_react.specs.Choosing.{answer_to, choose as plain_choose};
-    ghost use Rattle.aw_react.specs.Reacting.{receive as plain_receive};
-    ghost use Rattle.aw_react.specs.SiteEvents.{after_message};
+    ghost use Rattle.aw_law_sites.specs.Choosing.{answer_to, choose as plain_choose};
+    ghost use Rattle.aw_law_sites.specs.Reacting.{receive as plain_receive};
+    ghost use Rattle.aw_law_sites.specs.SiteEvents.{after_message};
     ghost use Rattle.aw_choice.specs.ChoiceView.{item_of};
-    ghost use Rattle.aw_react.specs.Sites.{empty_site};
-    ghost use Rattle.aw_react.specs.Worklists.{site_worklist};
+    ghost use Rattle.aw_law_sites.specs.Sites.{empty_site};
+    ghost use Rattle.aw_law_sites.specs.Worklists.{site_worklist};
     ghost use Rattle.aw_msg.specs.Messages.{MessageInRange};
     ghost use Rattle.aw_term.specs.WellFormed.{Each};
     ghost use Rattle.aw_site.specs.Answers.{sent_by, sent_for, IsReceived};

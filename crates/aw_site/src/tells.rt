@@ -5,11 +5,11 @@ ghost use Rattle.aw_grammar.specs.GrammarOf.{grammar_of};
 ghost use Rattle.aw_store.specs.Equations.{find, mentions};
 ghost use Rattle.aw_store.specs.EquationView.{body_of, equation_of};
 ghost use Rattle.aw_msg.specs.MessageView.{message_of};
-ghost use Rattle.aw_react.specs.Loads.{load_of};
-ghost use Rattle.aw_react.specs.Sites as P;
-ghost use Rattle.aw_react.specs.Telling.{watchers_from, tell, tells, tell_back};
-ghost use Rattle.aw_react.specs.ValidNames.{body_ok, equation_ok, equations_ok};
-ghost use Rattle.aw_repeat.specs.Holders.{AreWatchers, ShowsWatchers};
+ghost use Rattle.aw_law_sites.specs.Loads.{load_of};
+ghost use Rattle.aw_law_sites.specs.Sites as P;
+ghost use Rattle.aw_law_sites.specs.Telling.{watchers_from, tell, tells, tell_back};
+ghost use Rattle.aw_law_sites.specs.ValidNames.{body_ok, equation_ok, equations_ok};
+ghost use Rattle.aw_site_repeat.specs.Holders.{AreWatchers, ShowsWatchers};
 ghost use Rattle.aw_site.specs.Senders.{SendsAs};
 ghost use Rattle.aw_site.specs.Walks.{listed};
 

@@ -5,7 +5,7 @@ ghost use Rattle.aw_choice.specs.ChoiceView.{choice_of, item_of};
 ghost use Rattle.aw_grammar.specs.GrammarOf.{grammar_of};
 ghost use Rattle.aw_base.specs.ChoiceFits.{choice_ok};
 ghost use Rattle.aw_store.specs.EquationView.{equation_of};
-ghost use Rattle.aw_react.specs.Worlds.{node_of};
+ghost use Rattle.aw_law_sites.specs.Worlds.{node_of};
 ghost use Rattle.aw_space.specs.Keeping.{KeepsFacts, KeepsNodes, KeepsNodesBut};
 ghost use Rattle.aw_space.specs.Outcomes.{IsOutcome};
 ghost use Rattle.aw_space.specs.Placings.{MayBeCalledIf, MayBeLearnt, called_by};

@@ -6,9 +6,9 @@ ghost use Rattle.aw_term.specs.WellFormed.{head_fits};
 ghost use Rattle.aw_grammar.specs.GrammarOf.{grammar_of};
 ghost use Rattle.aw_store.specs.EquationView.{body_of, equation_of};
 ghost use Rattle.aw_msg.specs.MessageView.{message_of};
-ghost use Rattle.aw_react.specs.Homes.{home, parent, has_steps};
-ghost use Rattle.aw_react.specs.ValidNames.{refs_ok, body_ok, equation_ok, equations_ok, call_ok, names_ok, origin_ok, message_ok};
-ghost use Rattle.aw_repeat.specs.Views.{kind_of};
+ghost use Rattle.aw_law_sites.specs.Homes.{home, parent, has_steps};
+ghost use Rattle.aw_law_sites.specs.ValidNames.{refs_ok, body_ok, equation_ok, equations_ok, call_ok, names_ok, origin_ok, message_ok};
+ghost use Rattle.aw_site_repeat.specs.Views.{kind_of};
 ghost use Rattle.aw_site.specs.Parents.{home_before};
 ghost use Rattle.aw_space.specs.Spaces.{call_of};
 

@@ -3,9 +3,9 @@ use Rattle.std.proofs.Common.{◌≡◌, ℕ, List, [], refl, sym, subst, arith}
 use Rattle.aw_term.specs.Names.{Ref}
 use Rattle.aw_term.specs.Rules.{Grammar}
 use Rattle.aw_store.specs.Equations.{Map}
-use Rattle.aw_held.specs.declared.held.Held.{Held}
-use Rattle.aw_kept.specs.declared.kept.Kept.{Kept}
-use Rattle.aw_kept.specs.KeptStates.{IsKept}
+use Rattle.aw_node_list.specs.declared.held.Held.{Held}
+use Rattle.aw_standing.specs.declared.kept.Kept.{Kept}
+use Rattle.aw_standing.specs.KeptStates.{IsKept}
 use Rattle.aw_space.specs.Sound.{IsSound}
 use Rattle.aw_space.specs.Valid.{IsValid}
 

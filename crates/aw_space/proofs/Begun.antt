@@ -14,12 +14,12 @@ use Rattle.aw_grammar.specs.declared.grammar.Grammar.{Grammar}
 use Rattle.aw_grammar.specs.GrammarOf.{grammar_of, words_of}
 use Rattle.aw_base.specs.NodeNames.{is_start}
 use Rattle.aw_store.specs.Equations.{Map}
-use Rattle.aw_held.specs.declared.held.Held.{Held}
-use Rattle.aw_held.specs.HeldView.{all_of}
-use Rattle.aw_held.specs.InOrder.{IsInOrder, insert_in}
-use Rattle.aw_react.specs.Joint.{outcome_in}
-use Rattle.aw_merge.proofs.Sorts.{sort_of_root}
-use Rattle.aw_react.specs.ValidNames.{takes_as}
+use Rattle.aw_node_list.specs.declared.held.Held.{Held}
+use Rattle.aw_node_list.specs.HeldView.{all_of}
+use Rattle.aw_node_list.specs.InOrder.{IsInOrder, insert_in}
+use Rattle.aw_law_sites.specs.Joint.{outcome_in}
+use Rattle.aw_law_worlds.proofs.Sorts.{sort_of_root}
+use Rattle.aw_law_sites.specs.ValidNames.{takes_as}
 use Rattle.aw_space.specs.Sound.{IsSound}
 use Rattle.aw_space.specs.Spaces.{is_home, space_on, space_after}
 use Rattle.aw_space.specs.SpaceView.{space_of}

@@ -8,14 +8,14 @@ use Rattle.aw_term.specs.Held.{insert_held}
 use Rattle.aw_store.specs.Equations.{Map}
 use Rattle.aw_store.specs.NamedRefs.{all_named, Grows}
 use Rattle.aw_store.proofs.NameLemmas.{all_named-grown}
-use Rattle.aw_held.specs.declared.held.Held.{Held}
-use Rattle.aw_held.specs.HeldView.{sort_or, held_of, all_of}
-use Rattle.aw_held.specs.InOrder.{IsInOrder, place_in, insert_in}
-use Rattle.aw_held.proofs.HeldViews.{view_inserted, held_nowhere, held_here}
-use Rattle.aw_react.specs.Joint.{called_held}
-use Rattle.aw_react.specs.Homes.{has_steps, parent}
-use Rattle.aw_react.specs.ValidNames.{refs_ok, takes_as}
-use Rattle.aw_react.specs.Reacting.{add_held}
+use Rattle.aw_node_list.specs.declared.held.Held.{Held}
+use Rattle.aw_node_list.specs.HeldView.{sort_or, held_of, all_of}
+use Rattle.aw_node_list.specs.InOrder.{IsInOrder, place_in, insert_in}
+use Rattle.aw_node_list.proofs.HeldViews.{view_inserted, held_nowhere, held_here}
+use Rattle.aw_law_sites.specs.Joint.{called_held}
+use Rattle.aw_law_sites.specs.Homes.{has_steps, parent}
+use Rattle.aw_law_sites.specs.ValidNames.{refs_ok, takes_as}
+use Rattle.aw_law_sites.specs.Reacting.{add_held}
 use Rattle.aw_space.specs.Missing.{missing_on, missing_node, with_node, inherited_by, LacksIf}
 use Rattle.aw_space.specs.Placings.{MayBeCalled, MayBeCalledIf, called_open, placed_call}
 use Rattle.aw_space.specs.Sound.{all_inherited, IsSound}

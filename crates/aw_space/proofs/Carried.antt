@@ -30,17 +30,17 @@ use Rattle.aw_apply.specs.Made.{Call, Making, made}
 use Rattle.aw_apply.specs.MadeView.{as_child}
 use Rattle.aw_apply.proofs.MadeCalls.{IsBelow, made-below, made-differ, made-sorts}
 use Rattle.aw_apply.proofs.Numbering.{Lies, made-apart, made-new}
-use Rattle.aw_held.specs.declared.held.Held.{Held}
-use Rattle.aw_held.specs.HeldView.{sort_or}
-use Rattle.aw_held.specs.InOrder.{IsInOrder, place_in, insert_all_in, done_at, Lacks, LackEach}
-use Rattle.aw_held.proofs.InOrderLemmas.{Up, up_of}
-use Rattle.aw_held.proofs.HeldViews.{held_here}
-use Rattle.aw_react.specs.Homes.{has_steps, parent}
-use Rattle.aw_react.specs.ValidNames.{refs_ok, takes_as, equations_ok}
-use Rattle.aw_merge.proofs.Delivering.{parent-below}
-use Rattle.aw_merge.proofs.GuardBinds.{all_bound, all_many}
-use Rattle.aw_merge.proofs.Learning.{find-member}
-use Rattle.aw_merge.proofs.Sorts.{some_sort}
+use Rattle.aw_node_list.specs.declared.held.Held.{Held}
+use Rattle.aw_node_list.specs.HeldView.{sort_or}
+use Rattle.aw_node_list.specs.InOrder.{IsInOrder, place_in, insert_all_in, done_at, Lacks, LackEach}
+use Rattle.aw_node_list.proofs.InOrderLemmas.{Up, up_of}
+use Rattle.aw_node_list.proofs.HeldViews.{held_here}
+use Rattle.aw_law_sites.specs.Homes.{has_steps, parent}
+use Rattle.aw_law_sites.specs.ValidNames.{refs_ok, takes_as, equations_ok}
+use Rattle.aw_law_worlds.proofs.Delivering.{parent-below}
+use Rattle.aw_law_worlds.proofs.GuardBinds.{all_bound, all_many}
+use Rattle.aw_law_worlds.proofs.Learning.{find-member}
+use Rattle.aw_law_worlds.proofs.Sorts.{some_sort}
 use Rattle.aw_space.specs.Children.{own_children, are_named}
 use Rattle.aw_space.specs.Sound.{is_own, all_own, is_done, is_rooted, all_rooted, all_inherited, IsSound}
 use Rattle.aw_space.specs.Spaces.{is_home, develop_space, space_on, space_after}

@@ -23,15 +23,15 @@ use Rattle.aw_store.specs.StoreView.{all_few}
 use Rattle.aw_apply.specs.Made.{Making, made}
 use Rattle.aw_apply.specs.MadeView.{as_child}
 use Rattle.aw_apply.specs.declared.making.Made.{Made}
-use Rattle.aw_held.specs.declared.held.Held.{Held}
-use Rattle.aw_held.specs.HeldView.{sort_or, all_of}
-use Rattle.aw_held.specs.InOrder.{IsInOrder, Lacks, LackEach, place_in, insert_in, insert_all_in, done_at}
-use Rattle.aw_react.specs.Joint.{outcome_in}
-use Rattle.aw_merge.proofs.Sorts.{sort_of_root}
-use Rattle.aw_react.specs.Telling.{calls_in}
-use Rattle.aw_react.specs.ValidNames.{takes_as}
-use Rattle.aw_react.specs.Worklists.{site_worklist}
-use Rattle.aw_react.specs.Worlds.{node_of}
+use Rattle.aw_node_list.specs.declared.held.Held.{Held}
+use Rattle.aw_node_list.specs.HeldView.{sort_or, all_of}
+use Rattle.aw_node_list.specs.InOrder.{IsInOrder, Lacks, LackEach, place_in, insert_in, insert_all_in, done_at}
+use Rattle.aw_law_sites.specs.Joint.{outcome_in}
+use Rattle.aw_law_worlds.proofs.Sorts.{sort_of_root}
+use Rattle.aw_law_sites.specs.Telling.{calls_in}
+use Rattle.aw_law_sites.specs.ValidNames.{takes_as}
+use Rattle.aw_law_sites.specs.Worklists.{site_worklist}
+use Rattle.aw_law_sites.specs.Worlds.{node_of}
 use Rattle.aw_space.specs.Children.{own_children, are_named}
 use Rattle.aw_space.specs.Costs.{rules_of, rules_at, added, choice_cost, waiting_on_lefts}
 use Rattle.aw_space.specs.Outcomes.{IsMade}

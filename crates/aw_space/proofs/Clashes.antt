@@ -8,7 +8,7 @@ use Rattle.aw_term.proofs.RefTests.{ref_eq-true}
 use Rattle.aw_store.specs.Equations.{Body, Same, Is, Equation, Map, find}
 use Rattle.aw_store.specs.StoreView.{IsAddable}
 use Rattle.aw_apply.specs.Messages.{Clash, OfReference}
-use Rattle.aw_react.specs.Receiving.{refs_eq, body_eq, add_on, clash_on, first_clash}
+use Rattle.aw_law_sites.specs.Receiving.{refs_eq, body_eq, add_on, clash_on, first_clash}
 
 pub refs_eq-true : (rs ss : List Ref) → refs_eq rs ss ≡ true → rs ≡ ss
 refs_eq-true [] [] e = refl

@@ -6,14 +6,14 @@ use Rattle.std.proofs.lemmas.List.Elements.{All-nil, All-cons}
 use Rattle.aw_term.specs.Rules.{Grammar, sort_of}
 use Rattle.aw_apply.specs.declared.making.MadeChild.{MadeChild}
 use Rattle.aw_store.specs.Equations.{Equation, find}
-use Rattle.aw_held.specs.declared.held.Held.{Held}
-use Rattle.aw_held.specs.HeldView.{all_of}
-use Rattle.aw_held.specs.Row.{Row}
-use Rattle.aw_held.specs.InOrder.{place_in}
-use Rattle.aw_react.specs.Receiving.{add_on}
-use Rattle.aw_react.specs.ValidNames.{takes_as, refs_ok}
-use Rattle.aw_react.specs.Worklists.{site_worklist}
-use Rattle.aw_kept.specs.Items.{waiting_on}
+use Rattle.aw_node_list.specs.declared.held.Held.{Held}
+use Rattle.aw_node_list.specs.HeldView.{all_of}
+use Rattle.aw_node_list.specs.Row.{Row}
+use Rattle.aw_node_list.specs.InOrder.{place_in}
+use Rattle.aw_law_sites.specs.Receiving.{add_on}
+use Rattle.aw_law_sites.specs.ValidNames.{takes_as, refs_ok}
+use Rattle.aw_law_sites.specs.Worklists.{site_worklist}
+use Rattle.aw_standing.specs.Items.{waiting_on}
 use Rattle.aw_space.specs.Children.{open_child, own_children}
 use Rattle.aw_space.specs.Costs.{rules_of, call_cost, learning_cost, taking_cost}
 use Rattle.aw_space.specs.Missing.{missing_on, missing_node, with_node, inherited_by}
@@ -23,7 +23,7 @@ use Rattle.aw_space.specs.Sound.{is_own, all_own}
 use Rattle.aw_space.specs.Spaces.{Space, is_home, with_call}
 use Rattle.aw_term.specs.Names.{Ref}
 use Rattle.aw_store.specs.NamedRefs.{Grows, all_named}
-use Rattle.aw_kept.specs.declared.kept.Kept.{Kept}
+use Rattle.aw_standing.specs.declared.kept.Kept.{Kept}
 use Rattle.aw_space.specs.declared.opening.Opening.{Opening}
 use Rattle.aw_space.specs.TakenIn.{IsOpenableIf, IsReadyIf, tests_if, rules_if, taken_cost}
 use Rattle.aw_space.proofs.Openings.{ready_grows, ready_named, tests_are}

@@ -12,7 +12,7 @@ use Rattle.aw_grammar.specs.declared.grammar.Grammar.{Grammar}
 use Rattle.aw_grammar.specs.GrammarOf.{grammar_of}
 use Rattle.aw_store.specs.Equations.{Body, Same, Is, Equation, mentions}
 use Rattle.aw_store.specs.StoreView.{has_few, all_few}
-use Rattle.aw_react.specs.ValidNames.{refs_ok, body_ok, equation_ok, equations_ok}
+use Rattle.aw_law_sites.specs.ValidNames.{refs_ok, body_ok, equation_ok, equations_ok}
 
 few_parts : (arities : List ℕ) (c n : ℕ) → Each (λ m. m ≤ 8) arities → head_fits arities (Con c) n ≡ true → n ≤ 8
 few_parts [] c n few e = absurd cc

@@ -17,12 +17,12 @@ use Rattle.aw_apply.specs.Made as M
 use Rattle.aw_apply.specs.MadeView.{as_child}
 use Rattle.aw_apply.specs.declared.making.Made.{Made}
 use Rattle.aw_space.specs.declared.outcome.Outcome.{Outcome}
-use Rattle.aw_held.specs.declared.held.Held.{Held}
-use Rattle.aw_held.specs.HeldView.{all_of}
-use Rattle.aw_held.specs.InOrder.{place_in}
-use Rattle.aw_held.proofs.HeldViews.{held_here, held_nowhere}
+use Rattle.aw_node_list.specs.declared.held.Held.{Held}
+use Rattle.aw_node_list.specs.HeldView.{all_of}
+use Rattle.aw_node_list.specs.InOrder.{place_in}
+use Rattle.aw_node_list.proofs.HeldViews.{held_here, held_nowhere}
 use Rattle.aw_term.specs.Held as J
-use Rattle.aw_react.specs.Joint.{by_root}
+use Rattle.aw_law_sites.specs.Joint.{by_root}
 use Rattle.aw_space.specs.Outcomes.{IsOutcome}
 use Rattle.aw_space.specs.Weighing.{Weighs}
 use Rattle.aw_space.specs.Spaces.{making}

@@ -6,7 +6,7 @@ use Rattle.aw_term.specs.Names.{Node, Ref, ref_eq}
 use Rattle.aw_term.specs.Rules.{Grammar}
 use Rattle.aw_term.proofs.RefTests.{ref_eq-true}
 use Rattle.aw_store.specs.Equations.{Body, Equation, Map, find}
-use Rattle.aw_held.specs.declared.held.Held.{Held}
+use Rattle.aw_node_list.specs.declared.held.Held.{Held}
 use Rattle.aw_space.specs.Sound.{all_done, is_done}
 use Rattle.aw_space.specs.Spaces.{is_home}
 

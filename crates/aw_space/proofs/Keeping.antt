@@ -10,9 +10,9 @@ use Rattle.aw_store.specs.StoreView.{Adds}
 use Rattle.aw_store.specs.declared.equation.Equation.{Equation}
 use Rattle.aw_store.specs.declared.facts.Added.{Added}
 use Rattle.aw_store.specs.declared.facts.Added.TheVariants as added
-use Rattle.aw_held.specs.declared.held.Held.{Held}
+use Rattle.aw_node_list.specs.declared.held.Held.{Held}
 use Rattle.aw_space.specs.Sound.{all_done, is_done}
-use Rattle.aw_react.specs.ValidNames.{equation_ok, equations_ok}
+use Rattle.aw_law_sites.specs.ValidNames.{equation_ok, equations_ok}
 use Rattle.aw_space.specs.Spaces.{is_home}
 use Rattle.aw_space.specs.Keeping.{KeepsFacts}
 use Rattle.aw_space.proofs.KeptValid.{valid_append}

@@ -9,9 +9,9 @@ use Rattle.aw_name.specs.SameNodes.{node_self}
 use Rattle.aw_choice.specs.declared.choice.Choice.{Choice}
 use Rattle.aw_store.specs.Equations.{Equation, Map}
 use Rattle.aw_store.specs.NamedRefs.{all_named}
-use Rattle.aw_held.specs.declared.held.Held.{Held}
-use Rattle.aw_held.specs.InOrder.{insert_in, insert_all_in, done_at}
-use Rattle.aw_react.specs.Homes.{has_steps, parent}
+use Rattle.aw_node_list.specs.declared.held.Held.{Held}
+use Rattle.aw_node_list.specs.InOrder.{insert_in, insert_all_in, done_at}
+use Rattle.aw_law_sites.specs.Homes.{has_steps, parent}
 use Rattle.aw_space.specs.Sound.{is_own, all_own, is_done, all_done, is_rooted, all_rooted, all_inherited}
 use Rattle.aw_space.specs.Spaces.{is_home}
 use Rattle.aw_space.proofs.Names.{all_named-append, all_named-left, all_named-right}

@@ -5,9 +5,9 @@ use Rattle.aw_term.specs.Names.{node_lt}
 use Rattle.aw_term.specs.Rules.{Grammar}
 use Rattle.aw_choice.specs.declared.choice.Choice.{Choice}
 use Rattle.aw_store.specs.Equations.{Map}
-use Rattle.aw_held.specs.declared.held.Held.{Held}
-use Rattle.aw_held.specs.InOrder.{insert_in, insert_all_in, done_at}
-use Rattle.aw_react.specs.ValidNames.{refs_ok, equation_ok, equations_ok}
+use Rattle.aw_node_list.specs.declared.held.Held.{Held}
+use Rattle.aw_node_list.specs.InOrder.{insert_in, insert_all_in, done_at}
+use Rattle.aw_law_sites.specs.ValidNames.{refs_ok, equation_ok, equations_ok}
 use Rattle.aw_space.specs.Valid.{done_fits, held_fits, all_fit}
 
 fit_cases : (g : Grammar) (b : Bool) (h k : Held) (ks zs : List Held) → held_fits g h ≡ true → all_fit g (k ∷ ks) ≡ true → all_fit g zs ≡ true → all_fit g (cond b (h ∷ k ∷ ks) (k ∷ zs)) ≡ true

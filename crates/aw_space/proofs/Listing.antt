@@ -2,9 +2,9 @@
 use Rattle.std.proofs.Common.{◌≡◌, ℕ, zero, suc, List, [], ◌∷◌, ◌++◌, Some, slice_get, take, sym, ap, ◌∙◌, append-nil, append_assoc}
 use Rattle.aw_term.specs.Rules.{Grammar}
 use Rattle.aw_store.specs.Equations.{Map}
-use Rattle.aw_held.specs.declared.held.Held.{Held}
-use Rattle.aw_held.specs.HeldView.{held_of, all_of, state_of}
-use Rattle.aw_react.specs.Worklists.{open_items, site_worklist}
+use Rattle.aw_node_list.specs.declared.held.Held.{Held}
+use Rattle.aw_node_list.specs.HeldView.{held_of, all_of, state_of}
+use Rattle.aw_law_sites.specs.Worklists.{open_items, site_worklist}
 
 -- one node more: its items come last
 pub site_taken : (g : Grammar) (k : Map) (hs : List Held) (i : ℕ) (h : Held) → slice_get hs i ≡ Some h →

@@ -16,12 +16,12 @@ use Rattle.aw_accept.proofs.Fitting.{each_member, given_of}
 use Rattle.aw_store.specs.Equations.{Equation}
 use Rattle.aw_apply.specs.Made.{Call, Making, made}
 use Rattle.aw_apply.proofs.Numbering.{Covers, Lies, made-apart}
-use Rattle.aw_react.proofs.Entering.{IsTermOf, variables_enter}
-use Rattle.aw_react.specs.ValidNames.{body_ok, equation_ok, equations_ok, refs_ok, takes_as}
-use Rattle.aw_merge.proofs.MadeHeads.{all-refs-ok, body-of, kid-many, made-heads}
-use Rattle.aw_merge.proofs.MadeMentions.{MentionsIn, made-in}
-use Rattle.aw_merge.proofs.PartNumbers.{Under, made-under}
-use Rattle.aw_merge.proofs.Sorts.{sort_below, step_sort}
+use Rattle.aw_law_sites.proofs.Entering.{IsTermOf, variables_enter}
+use Rattle.aw_law_sites.specs.ValidNames.{body_ok, equation_ok, equations_ok, refs_ok, takes_as}
+use Rattle.aw_law_worlds.proofs.MadeHeads.{all-refs-ok, body-of, kid-many, made-heads}
+use Rattle.aw_law_worlds.proofs.MadeMentions.{MentionsIn, made-in}
+use Rattle.aw_law_worlds.proofs.PartNumbers.{Under, made-under}
+use Rattle.aw_law_worlds.proofs.Sorts.{sort_below, step_sort}
 
 -- a part up to 512, or a result of the sort
 slot_within : (g : Grammar) (s k a b m : ℕ) (t : Slot) → k ≤ 513 → m ≤ 1 + gives g s → Under k t → Covers a b 1 m t → slot_ok g (Some s) t ≡ true

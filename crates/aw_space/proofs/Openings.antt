@@ -8,14 +8,14 @@ use Rattle.aw_term.specs.Rules.{Rule, Grammar, sort_of}
 use Rattle.aw_term.specs.WellFormed.{takes_of}
 use Rattle.aw_store.specs.NamedRefs.{Grows, all_named}
 use Rattle.aw_store.proofs.SlotLemmas.{AreNamed-all}
-use Rattle.aw_held.specs.declared.held.Held.{Held}
-use Rattle.aw_held.specs.HeldView.{sort_or, state_of, held_of, all_of}
-use Rattle.aw_react.specs.ValidNames.{takes_as}
-use Rattle.aw_kept.specs.declared.kept.Kept.{Kept}
-use Rattle.aw_kept.specs.declared.record.Record.{Record}
-use Rattle.aw_kept.specs.KeptStates.{HasRoom}
-use Rattle.aw_kept.specs.Records.{IsOf, open_node, open_rules, mark_rule, rules_of as numbers_of}
-use Rattle.aw_kept.proofs.Growing.{fit_grows, of_grows}
+use Rattle.aw_node_list.specs.declared.held.Held.{Held}
+use Rattle.aw_node_list.specs.HeldView.{sort_or, state_of, held_of, all_of}
+use Rattle.aw_law_sites.specs.ValidNames.{takes_as}
+use Rattle.aw_standing.specs.declared.kept.Kept.{Kept}
+use Rattle.aw_standing.specs.declared.record.Record.{Record}
+use Rattle.aw_standing.specs.KeptStates.{HasRoom}
+use Rattle.aw_standing.specs.Records.{IsOf, open_node, open_rules, mark_rule, rules_of as numbers_of}
+use Rattle.aw_standing.proofs.Growing.{fit_grows, of_grows}
 use Rattle.aw_term.specs.Held as P
 use Rattle.aw_space.specs.Costs.{rules_of, rules_at}
 use Rattle.aw_space.specs.Openings.{IsReady, held_in, tests_of, all_tests}

@@ -13,11 +13,11 @@ use Rattle.aw_name.specs.SameNodes.{node_is}
 use Rattle.aw_apply.specs.Made.{Call}
 use Rattle.aw_apply.specs.MadeView.{as_child}
 use Rattle.aw_apply.specs.declared.making.MadeChild.{MadeChild}
-use Rattle.aw_held.specs.declared.held.Held.{Held}
-use Rattle.aw_held.specs.HeldView.{sort_or, all_of}
-use Rattle.aw_held.specs.InOrder.{place_in, insert_in, Lacks, LackEach}
-use Rattle.aw_react.specs.Joint.{called_held}
-use Rattle.aw_react.specs.Telling.{calls_in}
+use Rattle.aw_node_list.specs.declared.held.Held.{Held}
+use Rattle.aw_node_list.specs.HeldView.{sort_or, all_of}
+use Rattle.aw_node_list.specs.InOrder.{place_in, insert_in, Lacks, LackEach}
+use Rattle.aw_law_sites.specs.Joint.{called_held}
+use Rattle.aw_law_sites.specs.Telling.{calls_in}
 use Rattle.aw_space.specs.Children.{open_child, own_children, are_named}
 use Rattle.aw_space.specs.Sound.{is_own, all_own, is_rooted, all_rooted}
 use Rattle.aw_space.specs.Spaces.{is_home}

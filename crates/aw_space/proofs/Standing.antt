@@ -24,12 +24,12 @@ use Rattle.aw_apply.specs.Telling.{weighed_of}
 use Rattle.aw_apply.specs.declared.telling.Weighed.{Weighed}
 use Rattle.aw_apply.specs.declared.telling.Weighed.TheVariants as weighed
 use Rattle.aw_choice.specs.declared.choice.Answer.TheVariants as answer
-use Rattle.aw_held.specs.declared.held.Held.{Held}
-use Rattle.aw_held.specs.HeldView.{sort_or, held_of, all_of, state_of}
-use Rattle.aw_held.specs.InOrder.{place_in}
-use Rattle.aw_held.proofs.HeldViews.{held_here}
-use Rattle.aw_react.specs.Joint.{by_rule, by_held}
-use Rattle.aw_react.specs.ValidNames.{takes_as}
+use Rattle.aw_node_list.specs.declared.held.Held.{Held}
+use Rattle.aw_node_list.specs.HeldView.{sort_or, held_of, all_of, state_of}
+use Rattle.aw_node_list.specs.InOrder.{place_in}
+use Rattle.aw_node_list.proofs.HeldViews.{held_here}
+use Rattle.aw_law_sites.specs.Joint.{by_rule, by_held}
+use Rattle.aw_law_sites.specs.ValidNames.{takes_as}
 use Rattle.aw_space.specs.Sound.{is_own, all_own}
 use Rattle.aw_space.specs.Spaces.{is_home}
 use Rattle.aw_space.specs.Weighing.{Weighs}

@@ -12,14 +12,14 @@ use Rattle.aw_name.specs.SameNodes.{node_is}
 use Rattle.aw_store.specs.Equations.{Body, Equation, Map, find}
 use Rattle.aw_store.proofs.MoreEquations.{find-left_more}
 use Rattle.aw_apply.specs.Made.{Call, made}
-use Rattle.aw_react.specs.Joint.{root_held, called_held}
-use Rattle.aw_react.specs.Laws.{IsSubmap}
-use Rattle.aw_react.proofs.AnyOrders.{Member-inserted_held, Member-all_held}
-use Rattle.aw_react.proofs.Guarding.{Final, guard_all-keeps}
-use Rattle.aw_react.specs.Receiving.{add_on, add_all}
-use Rattle.aw_react.specs.Reacting.{add_held}
-use Rattle.aw_react.specs.Telling.{calls_in}
-use Rattle.aw_react.specs.Worlds.{node_of}
+use Rattle.aw_law_sites.specs.Joint.{root_held, called_held}
+use Rattle.aw_law_sites.specs.Laws.{IsSubmap}
+use Rattle.aw_law_sites.proofs.AnyOrders.{Member-inserted_held, Member-all_held}
+use Rattle.aw_law_sites.proofs.Guarding.{Final, guard_all-keeps}
+use Rattle.aw_law_sites.specs.Receiving.{add_on, add_all}
+use Rattle.aw_law_sites.specs.Reacting.{add_held}
+use Rattle.aw_law_sites.specs.Telling.{calls_in}
+use Rattle.aw_law_sites.specs.Worlds.{node_of}
 use Rattle.aw_space.specs.Keeping.{KeepsFacts, KeepsNodes, KeepsNodesBut}
 use Rattle.aw_space.specs.Spaces.{Space, outcome, space_on, space_after, with_call}
 

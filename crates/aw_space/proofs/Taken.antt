@@ -15,14 +15,14 @@ use Rattle.aw_choice.specs.ChoiceView.{choice_of}
 use Rattle.aw_store.specs.Equations.{Map}
 use Rattle.aw_apply.specs.Made.{Call, Making}
 use Rattle.aw_apply.specs.MadeView.{as_child}
-use Rattle.aw_held.specs.HeldView.{sort_or, held_of, all_of}
-use Rattle.aw_held.specs.InOrder.{insert_in, insert_all_in, done_at}
-use Rattle.aw_held.specs.declared.held.Held.{Held}
-use Rattle.aw_held.proofs.InOrderLemmas.{Up}
-use Rattle.aw_held.proofs.HeldViews.{view_inserted, view_all_inserted, view_marked}
-use Rattle.aw_react.specs.Joint.{root_held}
-use Rattle.aw_merge.proofs.Sorts.{sort_of_root}
-use Rattle.aw_react.specs.Telling.{calls_in}
+use Rattle.aw_node_list.specs.HeldView.{sort_or, held_of, all_of}
+use Rattle.aw_node_list.specs.InOrder.{insert_in, insert_all_in, done_at}
+use Rattle.aw_node_list.specs.declared.held.Held.{Held}
+use Rattle.aw_node_list.proofs.InOrderLemmas.{Up}
+use Rattle.aw_node_list.proofs.HeldViews.{view_inserted, view_all_inserted, view_marked}
+use Rattle.aw_law_sites.specs.Joint.{root_held}
+use Rattle.aw_law_worlds.proofs.Sorts.{sort_of_root}
+use Rattle.aw_law_sites.specs.Telling.{calls_in}
 use Rattle.aw_space.specs.Spaces.{develop_space}
 use Rattle.aw_space.specs.SpaceView.{space_of}
 use Rattle.aw_space.specs.Children.{own_children}

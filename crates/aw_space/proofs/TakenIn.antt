@@ -6,10 +6,10 @@ use Rattle.aw_term.specs.Rules.{Grammar}
 use Rattle.aw_choice.specs.declared.choice.Choice.{Choice}
 use Rattle.aw_store.specs.Equations.{Equation, Map}
 use Rattle.aw_store.specs.NamedRefs.{all_named, Grows}
-use Rattle.aw_held.specs.declared.held.Held.{Held}
-use Rattle.aw_held.specs.HeldView.{all_of}
-use Rattle.aw_held.specs.InOrder.{IsInOrder}
-use Rattle.aw_react.specs.Receiving.{add_all}
+use Rattle.aw_node_list.specs.declared.held.Held.{Held}
+use Rattle.aw_node_list.specs.HeldView.{all_of}
+use Rattle.aw_node_list.specs.InOrder.{IsInOrder}
+use Rattle.aw_law_sites.specs.Receiving.{add_all}
 use Rattle.aw_space.specs.Keeping.{KeepsFacts, KeepsNodes}
 use Rattle.aw_space.specs.Missing.{missing_node, with_node, inherited_by}
 use Rattle.aw_space.specs.Placings.{MayBeCalledIf, MayBeLearnt, placed_call}

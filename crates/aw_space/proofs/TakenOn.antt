@@ -10,11 +10,11 @@ use Rattle.aw_choice.specs.declared.choice.Choice.{Choice}
 use Rattle.aw_choice.specs.declared.choice.Choice.TheVariants as choice
 use Rattle.aw_store.specs.Equations.{Map}
 use Rattle.aw_apply.specs.Guard.{guard_all}
-use Rattle.aw_held.specs.declared.held.Held.{Held}
-use Rattle.aw_held.specs.HeldView.{state_of, held_of, all_of}
-use Rattle.aw_held.specs.InOrder.{place_in}
-use Rattle.aw_held.proofs.HeldViews.{held_here, held_nowhere}
-use Rattle.aw_react.specs.Joint.{by_rule, by_state, by_held, by_root, outcome_in}
+use Rattle.aw_node_list.specs.declared.held.Held.{Held}
+use Rattle.aw_node_list.specs.HeldView.{state_of, held_of, all_of}
+use Rattle.aw_node_list.specs.InOrder.{place_in}
+use Rattle.aw_node_list.proofs.HeldViews.{held_here, held_nowhere}
+use Rattle.aw_law_sites.specs.Joint.{by_rule, by_state, by_held, by_root, outcome_in}
 
 -- what the rule is, and what its guard binds
 pub record TookRule (g : Grammar) (k : Map) (n : Node) (r : ℕ) (args : List Ground) (h : P.Held) (x : Outcome Ref Ref) : Type 0 where

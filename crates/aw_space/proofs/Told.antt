@@ -7,9 +7,9 @@ use Rattle.aw_term.specs.Held as P
 use Rattle.aw_store.specs.Equations.{Body, Equation, Map, find}
 use Rattle.aw_apply.specs.Made.{Call}
 use Rattle.aw_apply.specs.Messages.{Clash, OfNode}
-use Rattle.aw_held.specs.declared.held.Held.{Held}
-use Rattle.aw_react.specs.Receiving.{none_mine, refs_eq, add_on, add_all, call_clash, first_clash}
-use Rattle.aw_react.specs.ValidNames.{equation_ok, equations_ok}
+use Rattle.aw_node_list.specs.declared.held.Held.{Held}
+use Rattle.aw_law_sites.specs.Receiving.{none_mine, refs_eq, add_on, add_all, call_clash, first_clash}
+use Rattle.aw_law_sites.specs.ValidNames.{equation_ok, equations_ok}
 use Rattle.aw_space.specs.Sound.{all_done, is_done}
 use Rattle.aw_space.specs.Spaces.{Space, is_home, clash_with}
 use Rattle.aw_space.proofs.Keeping.{done-push}

@@ -15,16 +15,16 @@ use Rattle.aw_store.specs.StoreView.{Adds}
 use Rattle.aw_store.specs.declared.equation.Equation as program
 use Rattle.aw_store.specs.declared.facts.Added.{Added}
 use Rattle.aw_store.specs.declared.facts.Added.TheVariants.{New, Same, Conflict}
-use Rattle.aw_held.specs.declared.held.Held.{Held}
-use Rattle.aw_held.specs.HeldView.{all_of}
-use Rattle.aw_react.specs.Receiving.{add_on}
-use Rattle.aw_react.specs.Worklists.{site_worklist}
+use Rattle.aw_node_list.specs.declared.held.Held.{Held}
+use Rattle.aw_node_list.specs.HeldView.{all_of}
+use Rattle.aw_law_sites.specs.Receiving.{add_on}
+use Rattle.aw_law_sites.specs.Worklists.{site_worklist}
 use Rattle.aw_work.specs.Triples.{waiting_at}
-use Rattle.aw_kept.specs.Items.{waiting_on}
-use Rattle.aw_kept.proofs.ItemLemmas.{pairs_wait}
-use Rattle.aw_kept.specs.declared.kept.Kept.{Kept}
-use Rattle.aw_kept.specs.KeptStates.{IsFitKept, IsKept, IsKeptBut, AreLate}
-use Rattle.aw_kept.proofs.Growing.{fit_grows, kept_named, kept_grown}
+use Rattle.aw_standing.specs.Items.{waiting_on}
+use Rattle.aw_standing.proofs.ItemLemmas.{pairs_wait}
+use Rattle.aw_standing.specs.declared.kept.Kept.{Kept}
+use Rattle.aw_standing.specs.KeptStates.{IsFitKept, IsKept, IsKeptBut, AreLate}
+use Rattle.aw_standing.proofs.Growing.{fit_grows, kept_named, kept_grown}
 use Rattle.aw_space.specs.Waking.{IsKnown, IsBound, left_of, lefts_of}
 
 -- it stays fit where names come

@@ -16,9 +16,9 @@ use Rattle.aw_grammar.specs.GrammarOf.{grammar_of}
 use Rattle.aw_grammar.specs.GrammarView.{rule_of}
 use Rattle.aw_store.specs.Equations.{Map}
 use Rattle.aw_apply.specs.declared.telling.Weighed.TheVariants as weighed
-use Rattle.aw_held.specs.declared.held.Held.{Held}
-use Rattle.aw_held.specs.HeldView.{sort_or}
-use Rattle.aw_kept.specs.Items.{RuleStands, StandsAt}
+use Rattle.aw_node_list.specs.declared.held.Held.{Held}
+use Rattle.aw_node_list.specs.HeldView.{sort_or}
+use Rattle.aw_standing.specs.Items.{RuleStands, StandsAt}
 
 -- what leads to a refusal is refused so
 pub refused_is : (x : Q.Outcome Ref Ref) (a : Q.Answer Ref) → Some a ≡ plain_refusal x → Q.Refused a ≡ x

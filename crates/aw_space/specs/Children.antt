@@ -2,7 +2,7 @@
 use Rattle.std.specs.Prelude.{ℕ, Bool, true, ◌&&◌, List, [], ◌∷◌, map, filter, None, is_some}
 use Rattle.aw_term.specs.Rules.{Grammar, sort_of}
 use Rattle.aw_apply.specs.declared.making.MadeChild.{MadeChild}
-use Rattle.aw_held.specs.declared.held.Held.{Held}
+use Rattle.aw_node_list.specs.declared.held.Held.{Held}
 use Rattle.aw_space.specs.Spaces.{is_home}
 
 -- a child that nothing has developed

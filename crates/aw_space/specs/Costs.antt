@@ -7,10 +7,10 @@ use Rattle.aw_term.specs.Artifacts.{Item}
 use Rattle.aw_term.specs.Held.{Held}
 use Rattle.aw_store.specs.Equations.{Equation, find}
 use Rattle.aw_apply.specs.Made.{Call, made}
-use Rattle.aw_react.specs.Joint.{root_held}
-pub use Rattle.aw_kept.specs.Items.{waiting_on}
-use Rattle.aw_react.specs.Telling.{calls_in}
-use Rattle.aw_react.specs.Receiving.{add_on}
+use Rattle.aw_law_sites.specs.Joint.{root_held}
+pub use Rattle.aw_standing.specs.Items.{waiting_on}
+use Rattle.aw_law_sites.specs.Telling.{calls_in}
+use Rattle.aw_law_sites.specs.Receiving.{add_on}
 use Rattle.aw_space.specs.Spaces.{Space, outcome, making, with_call, worklist}
 
 -- how many rules are of this sort

@@ -6,7 +6,7 @@ use Rattle.aw_term.specs.Rules.{Ground}
 use Rattle.aw_term.specs.Configs.{Done}
 use Rattle.aw_term.specs.Held.{Held}
 use Rattle.aw_store.specs.Equations.{Map}
-use Rattle.aw_react.specs.Laws.{IsSubmap, YesStays, DiffersStays}
+use Rattle.aw_law_sites.specs.Laws.{IsSubmap, YesStays, DiffersStays}
 
 -- equations stay; a guard that is met stays so with the same bound references, and one that differs stays so at the same place
 pub record KeepsFacts (k l : Map) : Type 0 where

@@ -1,8 +1,8 @@
 -- A called node that is not held yet.
 use Rattle.std.specs.Prelude.{ℕ, List, [], Option, Some, None}
 use Rattle.aw_term.specs.Names.{Ref}
-use Rattle.aw_held.specs.declared.held.Held.{Held}
-use Rattle.aw_held.specs.InOrder.{place_in, insert_in, Lacks}
+use Rattle.aw_node_list.specs.declared.held.Held.{Held}
+use Rattle.aw_node_list.specs.InOrder.{place_in, insert_in, Lacks}
 use Rattle.aw_space.specs.declared.placing.Placing.{Placing}
 use Rattle.aw_space.specs.Placings.{called_open}
 

@@ -2,10 +2,10 @@
 use Rattle.std.specs.Prelude.{◌≡◌, ℕ, true, List, None, sum_by, vec_len}
 use Rattle.aw_term.specs.Names.{Ref}
 use Rattle.aw_term.specs.Rules.{Grammar, sort_of}
-use Rattle.aw_held.specs.declared.held.Held.{Held}
-use Rattle.aw_react.specs.ValidNames.{takes_as}
-use Rattle.aw_kept.specs.Records.{IsFit, IsOf}
-use Rattle.aw_kept.specs.Tested.{IsFresh}
+use Rattle.aw_node_list.specs.declared.held.Held.{Held}
+use Rattle.aw_law_sites.specs.ValidNames.{takes_as}
+use Rattle.aw_standing.specs.Records.{IsFit, IsOf}
+use Rattle.aw_standing.specs.Tested.{IsFresh}
 use Rattle.aw_space.specs.declared.opening.Opening.{Opening}
 
 -- The node is open and goes by its name; what is kept is of this node, and none of its rules waits yet.

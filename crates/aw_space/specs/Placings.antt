@@ -4,10 +4,10 @@ use Rattle.aw_term.specs.Names.{Node, Ref}
 use Rattle.aw_term.specs.Rules.{Grammar}
 use Rattle.aw_store.specs.Equations.{Equation}
 use Rattle.aw_apply.specs.Made.{Call}
-use Rattle.aw_held.specs.declared.held.Held as program
-use Rattle.aw_react.specs.Homes.{parent, has_steps}
-use Rattle.aw_react.specs.Receiving.{none_mine}
-use Rattle.aw_react.specs.ValidNames.{call_ok, equations_ok}
+use Rattle.aw_node_list.specs.declared.held.Held as program
+use Rattle.aw_law_sites.specs.Homes.{parent, has_steps}
+use Rattle.aw_law_sites.specs.Receiving.{none_mine}
+use Rattle.aw_law_sites.specs.ValidNames.{call_ok, equations_ok}
 use Rattle.aw_space.specs.declared.placing.Placing.{Placing}
 use Rattle.aw_space.specs.Spaces.{is_home, call_of}
 

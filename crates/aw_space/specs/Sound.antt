@@ -4,10 +4,10 @@ use Rattle.aw_term.specs.Names.{Node, Ref, node_eq}
 use Rattle.aw_term.specs.Rules.{Grammar, sort_of}
 use Rattle.aw_store.specs.Equations.{Map}
 use Rattle.aw_store.specs.NamedRefs.{all_named}
-use Rattle.aw_held.specs.declared.held.Held.{Held}
-use Rattle.aw_held.specs.InOrder.{IsInOrder}
-use Rattle.aw_react.specs.Homes.{parent, has_steps}
-use Rattle.aw_react.specs.ValidNames.{takes_as}
+use Rattle.aw_node_list.specs.declared.held.Held.{Held}
+use Rattle.aw_node_list.specs.InOrder.{IsInOrder}
+use Rattle.aw_law_sites.specs.Homes.{parent, has_steps}
+use Rattle.aw_law_sites.specs.ValidNames.{takes_as}
 use Rattle.aw_space.specs.Spaces.{is_home}
 
 -- the node is this role's, and has a reference for each value that its sort inherits

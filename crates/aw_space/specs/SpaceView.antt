@@ -5,8 +5,8 @@ use Rattle.aw_term.specs.Choices as Q
 use Rattle.aw_choice.specs.declared.choice.Choice.{Choice}
 use Rattle.aw_choice.specs.ChoiceView.{choice_of}
 use Rattle.aw_store.specs.Equations.{Map}
-use Rattle.aw_held.specs.declared.held.Held.{Held}
-use Rattle.aw_held.specs.HeldView.{all_of}
+use Rattle.aw_node_list.specs.declared.held.Held.{Held}
+use Rattle.aw_node_list.specs.HeldView.{all_of}
 use Rattle.aw_space.specs.Costs.{choice_cost}
 use Rattle.aw_space.specs.Spaces.{Space}
 

@@ -9,12 +9,12 @@ use Rattle.aw_term.specs.Held.{Held, insert_held, insert_all, held_of, mark}
 use Rattle.aw_store.specs.Equations.{Equation, Map}
 use Rattle.aw_apply.specs.Made.{Call, Making, made}
 use Rattle.aw_apply.specs.Messages.{Clash}
-use Rattle.aw_react.specs.Joint.{root_held, outcome_in}
-use Rattle.aw_react.specs.Homes.{home}
-use Rattle.aw_react.specs.Telling.{calls_in}
-use Rattle.aw_react.specs.Receiving.{add_all, call_clash, first_clash}
-use Rattle.aw_react.specs.Reacting.{add_held}
-use Rattle.aw_react.specs.Worklists.{site_worklist}
+use Rattle.aw_law_sites.specs.Joint.{root_held, outcome_in}
+use Rattle.aw_law_sites.specs.Homes.{home}
+use Rattle.aw_law_sites.specs.Telling.{calls_in}
+use Rattle.aw_law_sites.specs.Receiving.{add_all, call_clash, first_clash}
+use Rattle.aw_law_sites.specs.Reacting.{add_held}
+use Rattle.aw_law_sites.specs.Worklists.{site_worklist}
 
 -- held nodes in their order, the choices taken in turn, and all equations that are known here
 pub record Space : Type 0 where

@@ -3,11 +3,11 @@ use Rattle.std.specs.Prelude.{ℕ, ◌<◌, ◌+◌, List, Option, Some, None}
 use Rattle.aw_term.specs.Names.{Ref}
 use Rattle.aw_term.specs.Rules.{Grammar, sort_of}
 use Rattle.aw_store.specs.Equations.{Equation, Map}
-use Rattle.aw_held.specs.declared.held.Held.{Held}
-use Rattle.aw_held.specs.HeldView.{sort_or, all_of}
-use Rattle.aw_held.specs.Row.{Row}
-use Rattle.aw_kept.specs.declared.kept.Kept.{Kept}
-use Rattle.aw_kept.specs.KeptStates.{HasRoom}
+use Rattle.aw_node_list.specs.declared.held.Held.{Held}
+use Rattle.aw_node_list.specs.HeldView.{sort_or, all_of}
+use Rattle.aw_node_list.specs.Row.{Row}
+use Rattle.aw_standing.specs.declared.kept.Kept.{Kept}
+use Rattle.aw_standing.specs.KeptStates.{HasRoom}
 use Rattle.aw_space.specs.Costs.{rules_of}
 use Rattle.aw_space.specs.Missing.{missing_node, with_node}
 use Rattle.aw_space.specs.Openings.{IsOpenable, IsReady, tests_of}

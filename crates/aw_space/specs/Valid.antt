@@ -7,8 +7,8 @@ use Rattle.aw_base.specs.ChoiceFits.{args_ok}
 use Rattle.aw_choice.specs.declared.choice.Choice.{Choice}
 use Rattle.aw_choice.specs.declared.choice.Choice.TheVariants.{Start, Develop}
 use Rattle.aw_store.specs.Equations.{Map}
-use Rattle.aw_held.specs.declared.held.Held.{Held}
-use Rattle.aw_react.specs.ValidNames.{refs_ok, equations_ok}
+use Rattle.aw_node_list.specs.declared.held.Held.{Held}
+use Rattle.aw_law_sites.specs.ValidNames.{refs_ok, equations_ok}
 
 -- the rule is of the sort
 abbrev pub is_of_sort : Option Rule → Option ℕ → Bool

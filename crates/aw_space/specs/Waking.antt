@@ -6,11 +6,11 @@ use Rattle.aw_term.specs.Held.{Held}
 use Rattle.aw_store.specs.Equations.{Equation, Map, find}
 use Rattle.aw_store.specs.declared.equation.Equation as program
 use Rattle.aw_store.specs.NamedRefs.{body_at}
-use Rattle.aw_react.specs.Receiving.{add_on}
-use Rattle.aw_react.specs.Worklists.{site_worklist}
+use Rattle.aw_law_sites.specs.Receiving.{add_on}
+use Rattle.aw_law_sites.specs.Worklists.{site_worklist}
 use Rattle.aw_work.specs.Triples.{waiting_at}
-use Rattle.aw_kept.specs.Items.{waiting_on}
-use Rattle.aw_kept.specs.declared.kept.Kept.{Kept}
+use Rattle.aw_standing.specs.Items.{waiting_on}
+use Rattle.aw_standing.specs.declared.kept.Kept.{Kept}
 
 -- the left side
 abbrev pub left_of : program.Equation → Ref

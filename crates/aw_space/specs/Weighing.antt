@@ -11,8 +11,8 @@ use Rattle.aw_grammar.specs.declared.rule.Sort.{Sort}
 use Rattle.aw_grammar.specs.GrammarView.{rule_of}
 use Rattle.aw_store.specs.Equations.{Map}
 use Rattle.aw_choice.specs.declared.choice.Standing.{Standing}
-use Rattle.aw_held.specs.declared.held.Held.{Held}
-use Rattle.aw_kept.specs.Items.{RuleStands}
+use Rattle.aw_node_list.specs.declared.held.Held.{Held}
+use Rattle.aw_standing.specs.Items.{RuleStands}
 use Rattle.aw_apply.specs.declared.telling.Weighed.{Weighed}
 use Rattle.aw_apply.specs.declared.telling.Weighed.TheVariants as weighed
 use Rattle.aw_apply.specs.Telling.{weighed_of, HasRoom}

@@ -2,8 +2,8 @@
 ghost use Rattle.std.specs.Prelude.{◌≡◌, IfOk};
 ghost use Rattle.aw_space.specs.Placings.{called_open};
 
-use aw_held::Held;
 use aw_name::{Node, Refs, copy_node};
+use aw_node_list::Held;
 use std::alloc::AllocError;
 
 /// A called node, open.

@@ -3,16 +3,16 @@ ghost use Rattle.std.specs.Prelude.{◌≡◌, ◌<◌, ◌≤◌, ◌+◌, ◌+
 ghost use Rattle.aw_term.specs.Names.{Ref as RefName};
 ghost use Rattle.aw_term.specs.Rules.{Grammar as PlainGrammar};
 ghost use Rattle.aw_grammar.specs.GrammarOf.{grammar_of};
-ghost use Rattle.aw_held.specs.declared.held.Held.{Held as HeldValue};
+ghost use Rattle.aw_node_list.specs.declared.held.Held.{Held as HeldValue};
 ghost use Rattle.aw_store.specs.Equations.{Map};
 ghost use Rattle.aw_store.specs.NamedRefs.{Grows};
-ghost use Rattle.aw_kept.specs.KeptStates.{HasRoom, IsKept, IsKeptBut};
+ghost use Rattle.aw_standing.specs.KeptStates.{HasRoom, IsKept, IsKeptBut};
 ghost use Rattle.aw_space.specs.Openings.{IsOpenable, IsReady, all_tests, held_in, tests_of};
 
 use crate::opening::{Opening, ready};
 use aw_grammar::Grammar;
-use aw_held::{Held, Holding};
-use aw_kept::Kept;
+use aw_node_list::{Held, Holding};
+use aw_standing::Kept;
 use aw_store::Facts;
 use std::alloc::{AllocError, Global};
 

@@ -3,15 +3,15 @@ ghost use Rattle.std.specs.Prelude.{◌≡◌, ◌<◌, ◌≤◌, ◌+◌, ℕ,
 ghost use Rattle.aw_term.specs.Rules.{sort_of};
 ghost use Rattle.aw_grammar.specs.GrammarOf.{grammar_of};
 ghost use Rattle.aw_store.specs.NamedRefs.{Grows};
-ghost use Rattle.aw_held.specs.InOrder.{IsInOrder, Lacks, LackEach, insert_in, insert_all_in};
-ghost use Rattle.aw_react.specs.ValidNames.{takes_as};
-ghost use Rattle.aw_kept.specs.KeptStates.{HasRoom, IsKept};
+ghost use Rattle.aw_node_list.specs.InOrder.{IsInOrder, Lacks, LackEach, insert_in, insert_all_in};
+ghost use Rattle.aw_law_sites.specs.ValidNames.{takes_as};
+ghost use Rattle.aw_standing.specs.KeptStates.{HasRoom, IsKept};
 ghost use Rattle.aw_space.specs.Openings.{IsReady, all_tests, held_in, tests_of};
 
 use aw_apply::Steps;
 use aw_grammar::Grammar;
-use aw_held::{Held, Holding, put_between};
-use aw_kept::{Kept, Record, prepare};
+use aw_node_list::{Held, Holding, put_between};
+use aw_standing::{Kept, Record, prepare};
 use aw_store::Facts;
 use std::alloc::{AllocError, Global};
 use std::sync::ledger::Ledger;

@@ -1,7 +1,7 @@
 -- Line feeds in front of a text: each is an empty line, and changes nothing.
 use Rattle.std.proofs.Common.{◌≡◌, ℕ, suc, ◌+◌, refl, sym, ap, ◌∙◌, arith, Bool, true, false, cond, ◌==◌, List, [], ◌∷◌, drop, Some, option_map}
 use Rattle.std.specs.List.{prefix_len}
-use Rattle.aw_text.specs.Spelling.{cut, with_front}
+use Rattle.aw_spelling.specs.Spelling.{cut, with_front}
 use Rattle.aw_lex.specs.Lines.{lines_of}
 use Rattle.aw_lex.proofs.LineCuts.{lines_by_cut}
 use Rattle.aw_spec.specs.Reading.{Draft, read_lines}

@@ -4,9 +4,9 @@ use Rattle.std.proofs.lemmas.Bool.{ltb-false}
 use Rattle.aw_lex.specs.declared.token.Token.{Token}
 use Rattle.aw_lex.specs.Lines.{passed_over}
 use Rattle.aw_lex.specs.Tokens.{tokens_of}
-use Rattle.aw_form.specs.Lexemes.{lexemes}
+use Rattle.aw_term_reader.specs.Lexemes.{lexemes}
 use Rattle.aw_lex.proofs.Slices.{tokens_are_slices}
-use Rattle.aw_form.proofs.SoundTerms.{tokens_are_sound}
+use Rattle.aw_term_reader.proofs.SoundTerms.{tokens_are_sound}
 use Rattle.aw_spec.proofs.SoundLines.{line_declared}
 use Rattle.aw_spec.specs.Declares.{IsDeclared}
 use Rattle.aw_spec.specs.declared.fault.SpecKind.TheVariants.{Order}

@@ -3,10 +3,10 @@ use Rattle.std.proofs.Common.{codes, ◌≡◌, ◌≢◌, ℕ, zero, suc, ◌+�
 use Rattle.std.proofs.lemmas.List.{map-append, length-map}
 use Rattle.std.proofs.lemmas.Bool.{and_parts, and_from, both_ways, eq-eqb, eqb-true, leb-true, leb-false}
 use Rattle.std.specs.List.{list_any}
-use Rattle.aw_text.specs.Spelling.{is_name}
-use Rattle.aw_index.specs.Places.{number_of, place_of}
-use Rattle.aw_index.proofs.FirstTold.{NoneHolds}
-use Rattle.aw_index.proofs.Lookups.{place_within}
+use Rattle.aw_spelling.specs.Spelling.{is_name}
+use Rattle.aw_name_index.specs.Places.{number_of, place_of}
+use Rattle.aw_name_index.proofs.FirstTold.{NoneHolds}
+use Rattle.aw_name_index.proofs.Lookups.{place_within}
 use Rattle.aw_term.specs.WellFormed.{Each}
 use Rattle.aw_term.proofs.Eaches.{each_push, each_map}
 use Rattle.aw_grammar.specs.declared.rule.Con.{Con}
@@ -24,7 +24,7 @@ use Rattle.aw_spec.specs.declared.fault.SpecFault.{SpecFault}
 use Rattle.aw_spec.specs.declared.spec_text.SpecText.{SpecText}
 use Rattle.aw_spec.specs.Answers.{Spells}
 use Rattle.aw_spec.specs.Declares.{IsDeclared}
-use Rattle.aw_form.proofs.Steps.{bound}
+use Rattle.aw_term_reader.proofs.Steps.{bound}
 use Rattle.aw_spec.specs.Lines.{Line, RoleLine, ConLine, SortLine, StartLine, OfferLine, UseLine, TypeLine, ShapeLine, CarryLine, DependsLine, FreeLine, RuleLine, ScheduleLine}
 use Rattle.aw_spec.specs.TypeLines.{type_names, types_named, shape_named, carry_named, is_other_arity, are_other_counts, are_no_positions, is_position}
 use Rattle.aw_spec.specs.TypesFit.{Alongside, is_empty, ShapeFits, CarryFits, IsOfSort, AreTwo, arities_in, counts_in, TypesFit}

@@ -1,7 +1,7 @@
 -- Reading on by one line.
 use Rattle.std.proofs.Common.{◌≡◌, ℕ, zero, suc, ◌+◌, ◌-◌, ◌≤◌, refl, sym, ap, ◌∙◌, add-one, Bool, true, false, cond, ◌==◌, List, [], ◌∷◌, drop, length, length-drop, arith, Option, Some, None, option_map, unwrap_or}
 use Rattle.std.proofs.lemmas.List.{drop-drop, drop_all}
-use Rattle.aw_text.specs.Spelling.{cut, with_front}
+use Rattle.aw_spelling.specs.Spelling.{cut, with_front}
 use Rattle.aw_lex.specs.Lines.{first_line}
 use Rattle.aw_spec.specs.Reading.{Draft, LineRead, Next, read_line, after_line, read_lines}
 

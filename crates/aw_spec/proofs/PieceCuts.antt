@@ -7,7 +7,7 @@ use Rattle.aw_lex.specs.declared.token.Token.{Token}
 use Rattle.aw_lex.specs.declared.token.TokenKind.{TokenKind}
 use Rattle.aw_lex.specs.declared.token.TokenKind.TheVariants as kinds
 use Rattle.aw_grammar.specs.Written.{WrittenChild}
-use Rattle.aw_form.specs.Lexemes.{Lexeme, lexeme, lexemes, said, slice}
+use Rattle.aw_term_reader.specs.Lexemes.{Lexeme, lexeme, lexemes, said, slice}
 use Rattle.aw_spec.specs.ReadLine.{is_semicolon, pieces, in_front}
 use Rattle.aw_spec.specs.Pieces.{parts_children}
 

@@ -4,11 +4,11 @@ use Rattle.aw_term.specs.Trees as P
 use Rattle.aw_term.specs.WellFormed.{Each}
 use Rattle.aw_term.proofs.Eaches.{each_append}
 use Rattle.aw_grammar.specs.Written.{Written, Word, Apply, Literal, Writtens, Empty, Then, WrittenChild, WrittenRule, side_by_side}
-use Rattle.aw_form.specs.Lexemes.{Lexeme, Name, Mark}
-use Rattle.aw_form.specs.Laws.{AreWritten}
-use Rattle.aw_form.specs.Terms.{spelling, spellings, spellings_behind, names_of}
-use Rattle.aw_form.specs.Forms.{◌>>=◌, name, terms_between, names_between, terms_in_braces, names_in_braces}
-use Rattle.aw_form.proofs.ReadsSpelled.{reads_spelled}
+use Rattle.aw_term_reader.specs.Lexemes.{Lexeme, Name, Mark}
+use Rattle.aw_term_reader.specs.Laws.{AreWritten}
+use Rattle.aw_term_reader.specs.Terms.{spelling, spellings, spellings_behind, names_of}
+use Rattle.aw_term_reader.specs.Forms.{◌>>=◌, name, terms_between, names_between, terms_in_braces, names_in_braces}
+use Rattle.aw_term_reader.proofs.ReadsSpelled.{reads_spelled}
 use Rattle.aw_spec.specs.Laws.{IsWrittenChild, IsWrittenLine}
 use Rattle.aw_spec.specs.Lines.{Line, RoleLine, ConLine, SortLine, StartLine, OfferLine, UseLine, TypeLine, ShapeLine, CarryLine, DependsLine, FreeLine, RuleLine, ScheduleLine, as_words, in_parentheses, in_angles, params_spelling, child_spelling, behind_child, children_spelling, rule_spelling, line_spelling}
 use Rattle.aw_spec.specs.ReadLine.{child_of, is_semicolon, in_front, pieces, children_of, rest_of_rule, line_of}

@@ -2,17 +2,17 @@
 use Rattle.std.proofs.Common.{◌≡◌, ℕ, Bool, true, false, cond, ◌&&◌, List, [], ◌∷◌, ◌++◌, Option, None, Some, option_map, nat_eq, refl, subst}
 use Rattle.std.proofs.lemmas.Bool.{and_parts, and_from}
 use Rattle.std.proofs.lemmas.Option.{same_Some}
-use Rattle.aw_text.specs.Spelling.{is_name}
+use Rattle.aw_spelling.specs.Spelling.{is_name}
 use Rattle.aw_term.specs.WellFormed.{Each}
 use Rattle.aw_grammar.specs.Written.{Written, Word, Apply, Literal, WrittenChild, WrittenRule}
 use Rattle.aw_grammar.specs.Terms.{all_have_contents, are_names, args_of, results_of, uses_of}
 use Rattle.aw_grammar.proofs.Contents.{contents_append}
-use Rattle.aw_form.specs.Lexemes.{Lexeme, Name, Number, Node, Quoted, Mark}
-use Rattle.aw_form.specs.Terms.{names_of}
-use Rattle.aw_form.specs.Forms.{◌>>=◌, name, number, mark, end, only, terms_between, names_between, terms_in_braces, names_in_braces}
-use Rattle.aw_form.specs.Sound.{IsSound}
-use Rattle.aw_form.proofs.SoundForms.{AreSound, name_sound, mark_sound, TermsSound, between_sound, braces_sound}
-use Rattle.aw_form.proofs.Steps.{bound, chosen}
+use Rattle.aw_term_reader.specs.Lexemes.{Lexeme, Name, Number, Node, Quoted, Mark}
+use Rattle.aw_term_reader.specs.Terms.{names_of}
+use Rattle.aw_term_reader.specs.Forms.{◌>>=◌, name, number, mark, end, only, terms_between, names_between, terms_in_braces, names_in_braces}
+use Rattle.aw_term_reader.specs.Sound.{IsSound}
+use Rattle.aw_term_reader.proofs.SoundForms.{AreSound, name_sound, mark_sound, TermsSound, between_sound, braces_sound}
+use Rattle.aw_term_reader.proofs.Steps.{bound, chosen}
 use Rattle.aw_spec.specs.Lines.{Line, RoleLine, ConLine, SortLine, StartLine, OfferLine, UseLine, TypeLine, ShapeLine, CarryLine, DependsLine, FreeLine, RuleLine, ScheduleLine}
 use Rattle.aw_spec.specs.Declares.{IsDeclared}
 use Rattle.aw_spec.specs.ReadLine.{child_of, is_semicolon, in_front, pieces, children_of, rest_of_rule, role_line, con_line, sort_line, start_line, offer_line, use_line, type_line, shape_line, carry_line, depends_line, rule_line, versioned, schedule_line, by_word, line_of}

@@ -4,13 +4,13 @@ use Rattle.std.proofs.lemmas.Bool.{eqb-true, and_parts}
 use Rattle.std.proofs.lemmas.Option.{same_Some}
 use Rattle.aw_term.specs.Trees.{nats_eq}
 use Rattle.aw_grammar.specs.Written.{Written, Word, Apply, Literal, WrittenChild, WrittenRule, side_by_side}
-use Rattle.aw_form.specs.Lexemes.{Lexeme, Name, Number, Node, Quoted, Mark}
-use Rattle.aw_form.specs.Terms.{spellings, terms_up_to, some_terms_up_to, names_of}
-use Rattle.aw_form.specs.Forms.{◌>>=◌, name, number, mark, end, only, terms_between, names_between, terms_in_braces, names_in_braces}
-use Rattle.aw_form.proofs.ReadForms.{name_is, number_is, mark_is, end_is}
-use Rattle.aw_form.proofs.SpelledIfRead.{spelled_if_read, some_spelled_if_read}
-use Rattle.aw_form.proofs.SomeTerms.{IsNonempty, some_terms}
-use Rattle.aw_form.proofs.Steps.{bound}
+use Rattle.aw_term_reader.specs.Lexemes.{Lexeme, Name, Number, Node, Quoted, Mark}
+use Rattle.aw_term_reader.specs.Terms.{spellings, terms_up_to, some_terms_up_to, names_of}
+use Rattle.aw_term_reader.specs.Forms.{◌>>=◌, name, number, mark, end, only, terms_between, names_between, terms_in_braces, names_in_braces}
+use Rattle.aw_term_reader.proofs.ReadForms.{name_is, number_is, mark_is, end_is}
+use Rattle.aw_term_reader.proofs.SpelledIfRead.{spelled_if_read, some_spelled_if_read}
+use Rattle.aw_term_reader.proofs.SomeTerms.{IsNonempty, some_terms}
+use Rattle.aw_term_reader.proofs.Steps.{bound}
 use Rattle.aw_spec.specs.Lines.{Line, RoleLine, ConLine, SortLine, StartLine, OfferLine, UseLine, TypeLine, ShapeLine, CarryLine, DependsLine, FreeLine, RuleLine, ScheduleLine, as_words, in_parentheses, in_angles, params_spelling, child_spelling, behind_child, children_spelling, line_spelling}
 use Rattle.aw_spec.specs.ReadLine.{child_of, is_semicolon, in_front, pieces, children_of, rest_of_rule, role_line, con_line, sort_line, start_line, offer_line, use_line, type_line, shape_line, carry_line, depends_line, rule_line, versioned, schedule_line, by_word, line_of}
 

@@ -14,7 +14,7 @@ use Rattle.aw_spec.specs.declared.draft.LineFault.{LineFault}
 use Rattle.aw_spec.specs.declared.reader.Reader.{Reader}
 use Rattle.aw_spec.specs.LineAnswers.{Says, spec_so_far}
 use Rattle.aw_spec.specs.ReaderAnswers.{IsAtStage, IsStill}
-use Rattle.aw_index.specs.Places.{first_told}
+use Rattle.aw_name_index.specs.Places.{first_told}
 use Rattle.aw_spec.specs.declared.fault.SpecKind.{SpecKind}
 use Rattle.aw_spec.specs.Stages.{sorts_stage, rules_stage}
 use Rattle.aw_spec.specs.Lines.{Line, RoleLine, ConLine, SortLine, StartLine, OfferLine, UseLine, TypeLine, ShapeLine, CarryLine, DependsLine, FreeLine, RuleLine, ScheduleLine}

@@ -1,8 +1,8 @@
 -- What a line with tests says, and what offers and uses say by the places of their names.
 use Rattle.std.proofs.Common.{◌≡◌, ℕ, Bool, true, false, cond, not, ◌&&◌, List, [], ◌∷◌, ◌++◌, length, Option, Some, None, is_some, refl, sym, ap, ◌∙◌}
-use Rattle.aw_index.specs.Places.{stands, place_of, number_of, or_else, first_told}
-use Rattle.aw_index.proofs.FirstTold.{NoneHolds, none_holds, none_told}
-use Rattle.aw_index.proofs.Lookups.{stands_is_placed}
+use Rattle.aw_name_index.specs.Places.{stands, place_of, number_of, or_else, first_told}
+use Rattle.aw_name_index.proofs.FirstTold.{NoneHolds, none_holds, none_told}
+use Rattle.aw_name_index.proofs.Lookups.{stands_is_placed}
 use Rattle.aw_grammar.specs.Declarations.{sort_names}
 use Rattle.aw_face.specs.Faces.{is_offered, is_used}
 use Rattle.aw_spec.specs.declared.fault.SpecKind.{SpecKind}

@@ -2,12 +2,12 @@
 use Rattle.std.proofs.Common.{◌≡◌, ◌≢◌, ℕ, zero, suc, ◌+◌, ◌<◌, refl, ap, ◌∙◌, subst, Bool, true, false, ◌||◌, List, [], ◌∷◌, ◌++◌, set, map, length, Option, Some, None, is_some, option_map, cond, slice_get, arith}
 use Rattle.std.proofs.lemmas.Bool.{or_parts}
 use Rattle.std.specs.List.{list_any}
-use Rattle.aw_index.specs.Places.{is_same, stands, place_of}
-use Rattle.aw_index.proofs.Same.{other_is_not}
-use Rattle.aw_index.proofs.Lookups.{place_within}
+use Rattle.aw_name_index.specs.Places.{is_same, stands, place_of}
+use Rattle.aw_name_index.proofs.Same.{other_is_not}
+use Rattle.aw_name_index.proofs.Lookups.{place_within}
 use Rattle.aw_term.specs.WellFormed.{Each, Later}
 use Rattle.aw_term.proofs.Eaches.{each_push}
-use Rattle.aw_form.proofs.Steps.{bound}
+use Rattle.aw_term_reader.proofs.Steps.{bound}
 use Rattle.aw_spec.specs.TypeLines.{types_named}
 use Rattle.aw_spec.specs.TypesFit.{Alongside}
 use Rattle.aw_spec.specs.TypePlaces.{place_from}

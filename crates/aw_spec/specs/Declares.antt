@@ -1,6 +1,6 @@
 -- What a line declares: its name and the names of its variables are names, and its texts are contents.
 use Rattle.std.specs.Prelude.{◌≡◌, ◌++◌, true}
-use Rattle.aw_text.specs.Spelling.{is_name}
+use Rattle.aw_spelling.specs.Spelling.{is_name}
 use Rattle.aw_grammar.specs.Terms.{all_have_contents, are_names, results_of, terms_of}
 use Rattle.aw_spec.specs.Lines.{Line, RoleLine, ConLine, SortLine, StartLine, OfferLine, UseLine, TypeLine, ShapeLine, CarryLine, DependsLine, FreeLine, RuleLine, ScheduleLine}
 

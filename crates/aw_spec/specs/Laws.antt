@@ -2,8 +2,8 @@
 use Rattle.std.specs.Prelude.{◌≡◌, ℕ, Bool, List, Some}
 use Rattle.aw_term.specs.WellFormed.{Each}
 use Rattle.aw_grammar.specs.Written.{WrittenChild, side_by_side}
-use Rattle.aw_form.specs.Lexemes.{Lexeme}
-use Rattle.aw_form.specs.Laws.{AreWritten}
+use Rattle.aw_term_reader.specs.Lexemes.{Lexeme}
+use Rattle.aw_term_reader.specs.Laws.{AreWritten}
 use Rattle.aw_spec.specs.Lines.{Line, RoleLine, ConLine, SortLine, StartLine, OfferLine, UseLine, TypeLine, ShapeLine, CarryLine, DependsLine, FreeLine, RuleLine, ScheduleLine, line_spelling}
 use Rattle.aw_spec.specs.ReadLine.{line_of}
 use Rattle.aw_spec.specs.Reading.{Spec, Good, specification}

@@ -5,8 +5,8 @@ use Rattle.aw_grammar.specs.declared.fault.AddFault.{AddFault}
 use Rattle.aw_grammar.specs.declared.fault.AddFault.TheVariants as add
 use Rattle.aw_lex.specs.declared.token.LexFault.{LexFault}
 use Rattle.aw_lex.specs.declared.token.LexFault.TheVariants as lex
-use Rattle.aw_form.specs.declared.unread.Unread.{Unread}
-use Rattle.aw_form.specs.declared.unread.Unread.TheVariants as unread
+use Rattle.aw_term_reader.specs.declared.unread.Unread.{Unread}
+use Rattle.aw_term_reader.specs.declared.unread.Unread.TheVariants as unread
 use Rattle.aw_spec.specs.declared.fault.SpecKind.TheVariants as kind
 use Rattle.aw_spec.specs.declared.draft.LineFault.{LineFault}
 use Rattle.aw_spec.specs.declared.draft.LineFault.TheVariants.{Bad, NoMemory}

@@ -1,8 +1,8 @@
 -- The lines of a specification, and how each is spelled in lexemes.
 use Rattle.std.specs.Prelude.{ℕ, Bool, true, false, List, [], ◌∷◌, ◌++◌, codes}
 use Rattle.aw_grammar.specs.Written.{Written, WrittenChild, WrittenRule, side_by_side, Word}
-use Rattle.aw_form.specs.Lexemes.{Lexeme, Name, Number, Mark}
-use Rattle.aw_form.specs.Terms.{spellings}
+use Rattle.aw_term_reader.specs.Lexemes.{Lexeme, Name, Number, Mark}
+use Rattle.aw_term_reader.specs.Terms.{spellings}
 
 -- a line, with the names that it has as they are written
 pub data Line : Type 0 where

@@ -2,7 +2,7 @@
 use Rattle.std.specs.Prelude.{Bool, false, List, [], Option, Some, None, nat_eq}
 use Rattle.aw_lex.specs.declared.token.TokenKind.{TokenKind}
 use Rattle.aw_lex.specs.declared.token.TokenKind.TheVariants.{Mark}
-use Rattle.aw_form.specs.Lexemes.{Lexeme}
+use Rattle.aw_term_reader.specs.Lexemes.{Lexeme}
 use Rattle.aw_spec.specs.ReadLine.{pieces}
 
 -- a token of this kind is a `;`

@@ -2,8 +2,8 @@
 use Rattle.std.specs.Prelude.{ℕ, Bool, true, false, List, [], ◌∷◌, Option, None, Some, nat_eq, if◌then◌else◌, codes}
 use Rattle.aw_term.specs.Trees.{nats_eq}
 use Rattle.aw_grammar.specs.Written.{Written, WrittenChild}
-use Rattle.aw_form.specs.Lexemes.{Lexeme, Mark}
-use Rattle.aw_form.specs.Forms.{◌>>=◌, name, number, mark, only, terms_between, names_between, names_in_braces}
+use Rattle.aw_term_reader.specs.Lexemes.{Lexeme, Mark}
+use Rattle.aw_term_reader.specs.Forms.{◌>>=◌, name, number, mark, only, terms_between, names_between, names_in_braces}
 use Rattle.aw_spec.specs.Lines.{Line, RoleLine, ConLine, SortLine, StartLine, OfferLine, UseLine, TypeLine, ShapeLine, CarryLine, DependsLine, FreeLine, RuleLine, ScheduleLine}
 
 -- a subtask, and nothing behind it

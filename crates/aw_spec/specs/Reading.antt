@@ -9,14 +9,14 @@ use Rattle.aw_grammar.specs.declared.fault.DeclKind.{DeclKind}
 use Rattle.aw_grammar.specs.declared.fault.DeclKind.TheVariants as decl
 use Rattle.aw_grammar.specs.Written.{WrittenRule}
 use Rattle.aw_grammar.specs.GrammarView.{sorts_of}
-use Rattle.aw_index.specs.Places.{stands, number_of, place_of, first_told}
+use Rattle.aw_name_index.specs.Places.{stands, number_of, place_of, first_told}
 use Rattle.aw_grammar.specs.Declarations.{Declarations, no_declarations, con_names, sort_names, entry_of, with_role, with_con, with_sort, with_start, with_rule}
 use Rattle.aw_grammar.specs.Kinds.{role_kind, con_kind, sort_kind, start_kind, rule_kind}
 use Rattle.aw_base.specs.declared.declared.Triple.{Triple}
 use Rattle.aw_typed.specs.declared.data.Shape.{Shape}
 use Rattle.aw_typed.specs.declared.data.Carry.{Carry}
 use Rattle.aw_typed.specs.declared.data.Types.{Types}
-use Rattle.aw_form.specs.Lexemes.{lexemes}
+use Rattle.aw_term_reader.specs.Lexemes.{lexemes}
 use Rattle.aw_face.specs.declared.faces.Using.{Using}
 use Rattle.aw_face.specs.declared.faces.FaceKind.{FaceKind}
 use Rattle.aw_face.specs.declared.faces.FaceKind.TheVariants as face

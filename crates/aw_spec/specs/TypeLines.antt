@@ -1,11 +1,11 @@
 -- What lines of types declare: types by name, the shapes of constructors, the carries of sorts, and which results may depend on which inherited values.
 use Rattle.std.specs.Prelude.{ℕ, Bool, true, false, ◌&&◌, not, List, [], ◌∷◌, ◌++◌, length, set, codes, nat_eq, nat_le, Option, None, Some, slice_get, option_and_then}
 use Rattle.std.specs.List.{list_any}
-use Rattle.aw_index.specs.Places.{place_of}
+use Rattle.aw_name_index.specs.Places.{place_of}
 use Rattle.aw_grammar.specs.declared.rule.Con.{Con}
 use Rattle.aw_grammar.specs.declared.rule.Sort.{Sort}
 use Rattle.aw_base.specs.declared.declared.Triple.{Triple}
-use Rattle.aw_form.specs.Forms.{◌>>=◌}
+use Rattle.aw_term_reader.specs.Forms.{◌>>=◌}
 use Rattle.aw_typed.specs.declared.data.Shape.{Shape}
 use Rattle.aw_typed.specs.declared.data.Carry.{Carry}
 use Rattle.aw_typed.specs.declared.data.Types.{Types}

@@ -1,7 +1,7 @@
 -- When types and dependences fit what is declared.
 use Rattle.std.specs.Prelude.{◌≡◌, ℕ, ◌+◌, ◌<◌, ◌≤◌, Bool, true, false, ◌||◌, not, List, [], ◌∷◌, map, length, Option, Some, None, is_some, slice_get}
 use Rattle.std.specs.List.{list_any}
-use Rattle.aw_text.specs.Spelling.{is_name}
+use Rattle.aw_spelling.specs.Spelling.{is_name}
 use Rattle.aw_term.specs.WellFormed.{Each, Later, Differ}
 use Rattle.aw_grammar.specs.declared.rule.Con.{Con}
 use Rattle.aw_grammar.specs.declared.rule.Sort.{Sort}

@@ -1,6 +1,6 @@
 //! A specification as far as it has been read.
 ghost use Rattle.std.specs.Prelude.{◌≡◌, ◌≤◌, ◌++◌, ◌<◌, ◌-◌, [], true, length, slice_get, IfErr, OnOk, Ok, Err, Some, option_map};
-ghost use Rattle.aw_text.specs.Spelling.{is_name};
+ghost use Rattle.aw_spelling.specs.Spelling.{is_name};
 ghost use Rattle.aw_grammar.specs.Terms.{all_have_contents, are_names, results_of, terms_of};
 ghost use Rattle.aw_grammar.specs.Written.{rule_of_raw};
 ghost use Rattle.aw_spec.specs.LastFault.{IsLastFault};
@@ -20,9 +20,9 @@ use crate::fault::SpecKind;
 use crate::line::SpecLine;
 use aw_base::{AddFault, DeclKind, Grammar, RawCon, RawRule, RawSort, Rule};
 use aw_face::{FaceKind, Faces, Using, is_offered, rule_fault};
-use aw_form::Unread;
 use aw_lex::LexFault;
 use aw_list::Text;
+use aw_term_reader::Unread;
 use aw_typed::Types;
 use std::alloc::{AllocError, AllocFailed};
 use std::mem;

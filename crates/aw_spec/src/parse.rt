@@ -3,9 +3,9 @@ ghost use Rattle.std.specs.Prelude.{◌≡◌, ◌<◌, ◌∷◌, length, map, 
 ghost use Rattle.std.specs.Option.{option_copied};
 ghost use Rattle.aw_term.specs.Trees.{nats_eq};
 ghost use Rattle.aw_grammar.specs.Written.{child_of_raw, written_of};
-ghost use Rattle.aw_form.specs.Lexemes.{lexemes};
-ghost use Rattle.aw_form.specs.Gives.{Gives};
-ghost use Rattle.aw_form.specs.Forms.{only};
+ghost use Rattle.aw_term_reader.specs.Lexemes.{lexemes};
+ghost use Rattle.aw_term_reader.specs.Gives.{Gives};
+ghost use Rattle.aw_term_reader.specs.Forms.{only};
 ghost use Rattle.aw_spec.specs.Lines as lines;
 ghost use Rattle.aw_spec.specs.ReadLine as read;
 ghost use Rattle.aw_spec.specs.Pieces.{parts_children, pieces_behind};
@@ -13,9 +13,11 @@ ghost use Rattle.aw_spec.specs.Views.{line_seen};
 
 use crate::line::SpecLine;
 use aw_base::{Names, RawChild, RawChildren, RawCon, RawRule, RawSort, RawTerms};
-use aw_form::{Unread, end, mark, name, names_between, names_in_braces, number, terms_between};
 use aw_lex::{Token, TokenKind};
 use aw_list::Text;
+use aw_term_reader::{
+    Unread, end, mark, name, names_between, names_in_braces, number, terms_between,
+};
 use std::alloc::Global;
 
 fn parts_children(kind: TokenKind) -> bool

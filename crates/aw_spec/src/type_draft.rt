@@ -1,7 +1,7 @@
 //! What lines of types add to what the lines so far say.
 ghost use Rattle.std.specs.Prelude.{◌≡◌, ◌≤◌, ◌∷◌, ◌++◌, [], false, Some, length, IfOk, IfErr};
 ghost use Rattle.std.specs.Option.{option_copied};
-ghost use Rattle.aw_index.specs.Places.{first_told};
+ghost use Rattle.aw_name_index.specs.Places.{first_told};
 ghost use Rattle.aw_spec.specs.Lines as lines;
 ghost use Rattle.aw_spec.specs.LineAnswers.{Adds, spec_so_far};
 ghost use Rattle.aw_spec.specs.Reading as reading;

@@ -1,7 +1,7 @@
 //! Lines of types: what they declare, and what is wrong with them.
 ghost use Rattle.std.specs.Prelude.{◌≡◌, ◌≤◌, length, IfOk, Some, None, is_some, if◌then◌else◌};
 ghost use Rattle.std.specs.Option.{option_copied};
-ghost use Rattle.aw_index.specs.Places.{is_same, place_of, stands};
+ghost use Rattle.aw_name_index.specs.Places.{is_same, place_of, stands};
 ghost use Rattle.aw_spec.specs.TypeLines as lines;
 ghost use Rattle.aw_spec.specs.TypePlaces.{place_from};
 

@@ -7,3 +7,4 @@ pub mod ChaseEnds
 pub mod Ends
 pub mod MoreEquations
 pub mod SlotLemmas
+pub mod StayingNames

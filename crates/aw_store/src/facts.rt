@@ -1,9 +1,9 @@
 //! Stores of equations, by what a contract can see of them.
-ghost use Rattle.std.specs.Prelude.{◌≡◌, ◌<◌, List, Some, true, false, IfOk, OnOk, OnErr, IsOk, IsSome, MatchOption, Contains, length, map as list_map, slice_get};
+ghost use Rattle.std.specs.Prelude.{◌≡◌, ◌<◌, ◌++◌, ◌∷◌, [], None, List, Some, true, false, IfOk, OnOk, OnErr, IsOk, IsSome, MatchOption, Contains, length, map as list_map, slice_get};
 ghost use Rattle.aw_term.specs.Names.{Ref as RefName};
-ghost use Rattle.aw_store.specs.Equations.{Equation as PlainEquation, Map, find};
-ghost use Rattle.aw_store.specs.EquationView.{equation_of};
-ghost use Rattle.aw_store.specs.NamedRefs.{is_named, has_names, with_name, refs_in, all_refs_in, IsNamedOnce, Grows, NamesOnly, body_at, parts_at, text_at};
+ghost use Rattle.aw_store.specs.Equations.{Equation as PlainEquation, Map, find, mentions};
+ghost use Rattle.aw_store.specs.EquationView.{body_of, equation_of};
+ghost use Rattle.aw_store.specs.NamedRefs.{is_named, has_names, has_names_of, AreNamed, with_name, refs_in, all_refs_in, IsNamedOnce, Grows, NamesOnly, body_at, parts_at, text_at};
 ghost use Rattle.aw_store.specs.StoreView.{IsKindOf, Adds, IsAddable, has_few, all_few};
 
 use crate::equation::{Body, Equation, Equations};
@@ -129,6 +129,36 @@ pub trait Facts {
         ensures kept_ready { IsSome (find (map self.old) e.left) → (x : PlainEquation) → is_ready self.old x → is_ready self.new x }
         ensures ready { is_ready self.old (equation_of e) → (x : PlainEquation) → is_ready self.old x → is_ready self.new x }
         ensures sure { is_ready self.old (equation_of e) → IsAddable (map self.old) (equation_of e) → IsOk result };
+
+    /// The same of equations whose references are named already. It names nothing.
+    fn reserve_named(&mut self, es: &Equations) -> Result<(), AllocError>
+        requires few { all_few (list_map equation_of es.now) ≡ true }
+        requires named { has_names (names self.old) (list_map equation_of es.now) ≡ true }
+        ensures map { map self.new ≡ map self.old }
+        ensures names { names self.new ≡ names self.old }
+        ensures ready { OnOk result ((e : PlainEquation) → Contains (list_map equation_of es.now) e → is_ready self.new e) }
+    {
+        self.reserve(es)
+    }
+
+    /// Adds an equation that is ready, whose left side has this slot and no equation, and the references of whose body have these slots.
+    /// It takes no memory, and names nothing.
+    fn add_at(&mut self, left: usize, _parts: &[usize], e: Equation)
+        requires few { has_few (equation_of e) ≡ true }
+        requires at { slice_get (names self.old) left ≡ Some e.left }
+        requires parts { AreNamed (names self.old) _parts.now (mentions (body_of e.body)) }
+        requires named { has_names_of (names self.old) (equation_of e) ≡ true }
+        requires ready { is_ready self.old (equation_of e) }
+        requires lacks { find (map self.old) e.left ≡ None }
+        ensures map { map self.new ≡ map self.old ++ equation_of e ∷ [] }
+        ensures names { names self.new ≡ names self.old }
+        ensures ready { (x : PlainEquation) → is_ready self.old x → is_ready self.new x }
+    {
+        match self.add(e) {
+            Ok(Added::New) => {}
+            _ => unreachable!(),
+        }
+    }
 
     /// No reference is named twice.
     ghost once: { (x : Self) → IsNamedOnce (names x) };

@@ -12,7 +12,7 @@ use aw_base::{NameWriter, con_name, push_ref, push_refs};
 use aw_grammar::Grammar;
 use aw_list::Text;
 use aw_name::Ref;
-use aw_text::{push_number, push_quoted};
+use aw_spelling::{push_number, push_quoted};
 use std::alloc::{AllocError, Global};
 
 fn add_con(

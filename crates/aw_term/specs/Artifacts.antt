@@ -1,7 +1,7 @@
 -- Texts: of names, references, values, answers, and of the rows of a configuration.
 use Rattle.std.specs.Prelude.{ℕ, List, [], ◌∷◌, ◌++◌, map, codes, Option, None, Some}
 use Rattle.std.specs.Fmt.{decimal}
-use Rattle.aw_text.specs.Spelling.{quoted}
+use Rattle.aw_spelling.specs.Spelling.{quoted}
 use Rattle.aw_term.specs.Trees.{Head, Con, Num, Text, Tree, Leaf, Made, Trees, Nil, More}
 use Rattle.aw_term.specs.Names.{Step, Node, Slot, Result, Part, Ref}
 use Rattle.aw_term.specs.Rules.{Ground, Value, get}

@@ -1,6 +1,6 @@
 -- Well-formed grammars: what reading a specification makes sure of.
 use Rattle.std.specs.Prelude.{◌≡◌, ◌≢◌, ℕ, suc, ◌+◌, ◌<◌, ◌≤◌, Bool, true, false, ◌&&◌, List, [], ◌∷◌, ◌++◌, length, max, Option, Some, None, slice_get, nat_eq}
-use Rattle.aw_text.specs.Spelling.{is_name, is_content}
+use Rattle.aw_spelling.specs.Spelling.{is_name, is_content}
 use Rattle.aw_term.specs.Trees.{Head, Con, Num, Text, Tree, Leaf, Made, Trees, Nil, More, count}
 use Rattle.aw_term.specs.Rules.{Child, Rule, Sort, Grammar, upto}
 use Rattle.aw_term.specs.Choices.{gives_of}

@@ -15,8 +15,8 @@ use Rattle.aw_choice.specs.ChoiceView.{choice_of}
 use Rattle.aw_msg.specs.MessageView.{message_of}
 use Rattle.aw_out.specs.declared.error.PrintFault.{PrintFault}
 use Rattle.aw_out.specs.declared.error.PrintFault.TheVariants.{TooLarge, NoMemory}
-use Rattle.aw_react.specs.Worlds as V
-use Rattle.aw_react.specs.Bounds.{settled}
+use Rattle.aw_law_sites.specs.Worlds as V
+use Rattle.aw_law_sites.specs.Bounds.{settled}
 use Rattle.aw_world.specs.declared.workspace.Workspace.{Ghosts}
 use Rattle.aw_world.specs.declared.world.World.{World}
 use Rattle.aw_world.specs.Shown.{Shows}

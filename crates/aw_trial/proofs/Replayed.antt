@@ -11,19 +11,19 @@ use Rattle.aw_term.specs.WellFormed.{Each}
 use Rattle.aw_choice.specs.Events.{Event, Chooses, Delivers, Settles}
 use Rattle.aw_base.specs.ChoiceFits.{args_ok}
 use Rattle.aw_base.specs.NodeNames.{is_start}
-use Rattle.aw_react.specs.Laws.{IsAccepted}
-use Rattle.aw_kept.specs.Records.{rules_of}
+use Rattle.aw_law_sites.specs.Laws.{IsAccepted}
+use Rattle.aw_standing.specs.Records.{rules_of}
 use Rattle.aw_apply.specs.Messages.{Received, Repeat, New}
-use Rattle.aw_react.specs.Sites.{Reaction}
-use Rattle.aw_react.specs.Reacting.{receive}
-use Rattle.aw_react.specs.Worlds as V
-use Rattle.aw_react.specs.Worlds.{World, MayCome, empty_world, world_after, undelivered, deliver, deliver_on, received_at, settle, gather, site_at}
-use Rattle.aw_react.specs.Bounds.{settled}
-use Rattle.aw_react.specs.Outputs.{MayStand, after_event, after_events, all_moves, all_lines}
+use Rattle.aw_law_sites.specs.Sites.{Reaction}
+use Rattle.aw_law_sites.specs.Reacting.{receive}
+use Rattle.aw_law_sites.specs.Worlds as V
+use Rattle.aw_law_sites.specs.Worlds.{World, MayCome, empty_world, world_after, undelivered, deliver, deliver_on, received_at, settle, gather, site_at}
+use Rattle.aw_law_sites.specs.Bounds.{settled}
+use Rattle.aw_law_sites.specs.Outputs.{MayStand, after_event, after_events, all_moves, all_lines}
 use Rattle.aw_world.specs.Opened.{open_nodes}
-use Rattle.aw_merge.proofs.Headlining.{events_run, events_may, headline_law}
-use Rattle.aw_merge.proofs.Settling.{run_both}
-use Rattle.aw_merge.proofs.WorldLaws.{knowledge_law, repeats_law, quiet_law, bound_law, settle_law, invariant_law}
+use Rattle.aw_law_worlds.proofs.Headlining.{events_run, events_may, headline_law}
+use Rattle.aw_law_worlds.proofs.Settling.{run_both}
+use Rattle.aw_law_worlds.proofs.WorldLaws.{knowledge_law, repeats_law, quiet_law, bound_law, settle_law, invariant_law}
 use Rattle.aw_trial.proofs.Steps.{rules_declared}
 use Rattle.aw_trial.specs.Counts.{config_of}
 use Rattle.aw_trial.specs.Laws.{SettlesFresh, after_turns, schedule_of, AreReplayed}

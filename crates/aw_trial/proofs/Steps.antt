@@ -7,9 +7,9 @@ use Rattle.aw_term.specs.Choices as P
 use Rattle.aw_accept.specs.declared.accepted.Accepted.{Accepted}
 use Rattle.aw_grammar.specs.GrammarOf.{grammar_of}
 use Rattle.aw_choice.specs.Events.{Event}
-use Rattle.aw_kept.specs.Records.{rules_of, is_of_sort}
-use Rattle.aw_kept.proofs.MarkLemmas.{rule_listed}
-use Rattle.aw_react.specs.Worlds as V
+use Rattle.aw_standing.specs.Records.{rules_of, is_of_sort}
+use Rattle.aw_standing.proofs.MarkLemmas.{rule_listed}
+use Rattle.aw_law_sites.specs.Worlds as V
 use Rattle.aw_world.specs.declared.workspace.Workspace.{Ghosts}
 use Rattle.aw_world.specs.declared.world.World.{World}
 use Rattle.aw_world.specs.WorldView.{plain_of}

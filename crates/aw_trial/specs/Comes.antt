@@ -1,7 +1,7 @@
 -- What a part of a trial does to a world of the program and to a tally.
 use Rattle.std.specs.Prelude.{◌≡◌, ℕ, suc, ◌≤◌, List}
 use Rattle.aw_choice.specs.Events.{Event}
-use Rattle.aw_react.specs.Worlds as V
+use Rattle.aw_law_sites.specs.Worlds as V
 use Rattle.aw_world.specs.declared.workspace.Workspace.{Ghosts}
 use Rattle.aw_world.specs.declared.world.World.{World}
 use Rattle.aw_world.specs.Shown.{Shows}

@@ -5,8 +5,8 @@ use Rattle.aw_term.specs.Configs.{Config}
 use Rattle.aw_term.specs.Choices.{undivided, or_same}
 use Rattle.aw_choice.specs.Events.{Event}
 use Rattle.aw_term.specs.Artifacts.{Words, artifact_text}
-use Rattle.aw_react.specs.Worlds.{World, empty_world}
-use Rattle.aw_react.specs.Bounds.{settled}
+use Rattle.aw_law_sites.specs.Worlds.{World, empty_world}
+use Rattle.aw_law_sites.specs.Bounds.{settled}
 use Rattle.aw_trial.specs.Specification.{trial_grammar, trial_words}
 use Rattle.aw_trial.specs.Turns.{State, turns}
 use Rattle.aw_trial.specs.declared.tally.Tally.{Tally}

@@ -6,9 +6,9 @@ use Rattle.aw_term.specs.Runs.{artifacts}
 use Rattle.aw_term.specs.WellFormed.{Each}
 use Rattle.aw_choice.specs.Events.{Event, Settles}
 use Rattle.aw_base.specs.NodeNames.{is_start}
-use Rattle.aw_react.specs.Worlds.{Move, MayCome, IsNew, empty_world, world_after, undelivered, deliver, settle}
-use Rattle.aw_react.specs.Bounds.{settled}
-use Rattle.aw_react.specs.Outputs.{MayStand, after_events, all_lines, output_of}
+use Rattle.aw_law_sites.specs.Worlds.{Move, MayCome, IsNew, empty_world, world_after, undelivered, deliver, settle}
+use Rattle.aw_law_sites.specs.Bounds.{settled}
+use Rattle.aw_law_sites.specs.Outputs.{MayStand, after_events, all_lines, output_of}
 use Rattle.aw_trial.specs.Turns.{State, turns}
 use Rattle.aw_trial.specs.Counts.{start_from, config_of}
 

@@ -6,9 +6,9 @@ use Rattle.aw_term.specs.Rules.{Ground, Rule, Grammar, get, sort_of}
 use Rattle.aw_term.specs.Choices.{Choice, Start, Develop, is_taken}
 use Rattle.aw_choice.specs.Events as E
 use Rattle.aw_choice.specs.Events.{Event}
-use Rattle.aw_kept.specs.Records.{rules_of}
-use Rattle.aw_react.specs.Worlds as V
-use Rattle.aw_react.specs.Worlds.{World, Reply, Stepped, gather, step}
+use Rattle.aw_standing.specs.Records.{rules_of}
+use Rattle.aw_law_sites.specs.Worlds as V
+use Rattle.aw_law_sites.specs.Worlds.{World, Reply, Stepped, gather, step}
 use Rattle.aw_world.specs.Opened.{open_nodes}
 use Rattle.aw_trial.specs.Draws.{next_below, drew}
 use Rattle.aw_trial.specs.declared.tally.Tally.{Tally}

@@ -1,5 +1,5 @@
 //! What holds of trials, apart from any code.
-ghost use Rattle.aw_react.specs.Laws.{IsAccepted};
+ghost use Rattle.aw_law_sites.specs.Laws.{IsAccepted};
 ghost use Rattle.aw_term.specs.Artifacts.{Words};
 ghost use Rattle.aw_term.specs.Rules as P;
 ghost use Rattle.aw_trial.specs.Laws.{SettlesFresh, AreReplayed};

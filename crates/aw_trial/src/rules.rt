@@ -1,7 +1,7 @@
 //! The rules of a sort.
 ghost use Rattle.std.specs.Prelude.{◌≡◌, ◌+◌, ◌++◌, IfOk, OnOk, drop, slice_get};
 ghost use Rattle.aw_grammar.specs.GrammarOf.{grammar_of};
-ghost use Rattle.aw_kept.specs.Records.{rules_of};
+ghost use Rattle.aw_standing.specs.Records.{rules_of};
 ghost use Rattle.aw_trial.specs.Turns.{params_of};
 
 use aw_grammar::Grammar;

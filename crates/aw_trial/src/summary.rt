@@ -3,7 +3,7 @@ ghost use Rattle.std.specs.Prelude.{◌≡◌, ◌++◌, IfOk, OnOk};
 ghost use Rattle.aw_trial.specs.Summaries.{line, summary_text};
 
 use aw_list::Text;
-use aw_text::push_number;
+use aw_spelling::push_number;
 use std::alloc::{AllocError, Global};
 
 /// How many cases were started; how many choices were made, the starts aside, and how many of them were taken; how many messages were

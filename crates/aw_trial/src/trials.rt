@@ -4,7 +4,7 @@ ghost use Rattle.aw_base.specs.NodeNames.{is_start};
 ghost use Rattle.aw_choice.specs.Events.{Event};
 ghost use Rattle.aw_choice.specs.ChoiceView.{choice_of};
 ghost use Rattle.aw_grammar.specs.GrammarOf.{grammar_of, words_of};
-ghost use Rattle.aw_react.specs.Worlds as V;
+ghost use Rattle.aw_law_sites.specs.Worlds as V;
 ghost use Rattle.aw_world.specs.Shown.{Shows, first_open};
 ghost use Rattle.aw_world.specs.WorldView.{plain_of, named_by};
 ghost use Rattle.aw_trial.specs.Comes.{AreUpTo};

@@ -4,7 +4,7 @@ use Rattle.aw_list.proofs.Members.{never}
 use borrow.Author.Count.{below_more}
 use Rattle.aw_term.specs.Names.{Node, node_lt}
 use Rattle.aw_term.proofs.NodeOrder.{node_order, node-no}
-use Rattle.aw_held.specs.declared.held.Held.{Held}
+use Rattle.aw_node_list.specs.declared.held.Held.{Held}
 use Rattle.aw_world.specs.declared.workspace.Workspace.{Ghosts}
 use Rattle.aw_world.specs.Firsts.{next_of, IsFirst, IsFirstOf}
 

@@ -5,9 +5,9 @@ use Rattle.std.proofs.lemmas.Option.{same_Some}
 use Rattle.aw_term.specs.Names.{node_lt}
 use Rattle.aw_term.specs.WellFormed.{Each}
 use Rattle.aw_term.proofs.NodeOrder.{node_order, node-trans}
-use Rattle.aw_held.specs.declared.held.Held.{Held}
-use Rattle.aw_held.specs.InOrder.{insert_in, insert_all_in}
-use Rattle.aw_held.proofs.InOrderLemmas.{Up}
+use Rattle.aw_node_list.specs.declared.held.Held.{Held}
+use Rattle.aw_node_list.specs.InOrder.{insert_in, insert_all_in}
+use Rattle.aw_node_list.proofs.InOrderLemmas.{Up}
 use Rattle.aw_world.specs.Merged.{merged}
 use Rattle.aw_world.specs.Firsts.{IsFirst}
 

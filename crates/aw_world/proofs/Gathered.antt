@@ -6,10 +6,10 @@ use Rattle.aw_term.specs.SameGrammar.{same_grammar}
 use Rattle.aw_term.proofs.GrammarTests.{grammars_are_one}
 use Rattle.aw_term.specs.Held.{insert_all}
 use Rattle.aw_accept.specs.Acyclic.{Pairs}
-use Rattle.aw_held.specs.HeldView.{all_of}
-use Rattle.aw_held.proofs.HeldViews.{view_all_inserted}
-use Rattle.aw_react.specs.Sites.{Site}
-use Rattle.aw_react.specs.Worlds.{gather}
+use Rattle.aw_node_list.specs.HeldView.{all_of}
+use Rattle.aw_node_list.proofs.HeldViews.{view_all_inserted}
+use Rattle.aw_law_sites.specs.Sites.{Site}
+use Rattle.aw_law_sites.specs.Worlds.{gather}
 use Rattle.aw_world.specs.declared.workspace.Workspace.{Ghosts}
 use Rattle.aw_world.specs.Merged.{merged, nodes_of}
 

@@ -13,14 +13,14 @@ use Rattle.aw_accept.specs.Acyclic.{gives}
 use Rattle.aw_choice.specs.declared.choice.Choice.{Choice}
 use Rattle.aw_choice.specs.declared.choice.Choice.TheVariants.{Start, Develop}
 use Rattle.aw_store.specs.Equations.{Map}
-use Rattle.aw_held.specs.declared.held.Held.{Held}
-use Rattle.aw_held.specs.HeldView as held
-use Rattle.aw_held.specs.HeldView.{sort_or, held_of, all_of}
-use Rattle.aw_react.specs.Laws as joint
-use Rattle.aw_merge.specs.ReadRows.{IsRead}
+use Rattle.aw_node_list.specs.declared.held.Held.{Held}
+use Rattle.aw_node_list.specs.HeldView as held
+use Rattle.aw_node_list.specs.HeldView.{sort_or, held_of, all_of}
+use Rattle.aw_law_sites.specs.Laws as joint
+use Rattle.aw_law_worlds.specs.ReadRows.{IsRead}
 use Rattle.aw_print.specs.Rows as print
 use Rattle.aw_print.specs.Rows.{results_of, result_refs, line_text}
-use Rattle.aw_react.specs.ValidNames.{takes_as}
+use Rattle.aw_law_sites.specs.ValidNames.{takes_as}
 use Rattle.aw_space.specs.Valid.{done_fits, held_fits, all_fit}
 
 -- the values of references, told place by place

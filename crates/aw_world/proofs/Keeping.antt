@@ -7,14 +7,14 @@ use Rattle.aw_term.specs.Configs.{Done}
 use Rattle.aw_term.specs.Choices.{Choice}
 use Rattle.aw_term.specs.Held.{Held}
 use Rattle.aw_apply.specs.Messages.{Message, Received, BadName, NotMine, Conflict, Repeat, New}
-use Rattle.aw_react.specs.Homes.{home}
-use Rattle.aw_react.specs.Sites.{Site, Reaction, empty_site}
-use Rattle.aw_react.specs.Choosing.{Chosen, No, Did, choose}
-use Rattle.aw_react.specs.Reacting.{receive}
-use Rattle.aw_react.specs.SiteEvents.{Chose, Got, after_choice, after_message}
-use Rattle.aw_react.specs.Worlds.{World, Move, Chooses, Delivers, site_at, node_of, chosen_at, received_at, deliver_on, step}
-use Rattle.aw_merge.specs.Laws.{EquationsStay}
-use Rattle.aw_merge.proofs.Growing.{site_stays}
+use Rattle.aw_law_sites.specs.Homes.{home}
+use Rattle.aw_law_sites.specs.Sites.{Site, Reaction, empty_site}
+use Rattle.aw_law_sites.specs.Choosing.{Chosen, No, Did, choose}
+use Rattle.aw_law_sites.specs.Reacting.{receive}
+use Rattle.aw_law_sites.specs.SiteEvents.{Chose, Got, after_choice, after_message}
+use Rattle.aw_law_sites.specs.Worlds.{World, Move, Chooses, Delivers, site_at, node_of, chosen_at, received_at, deliver_on, step}
+use Rattle.aw_law_worlds.specs.Laws.{EquationsStay}
+use Rattle.aw_law_worlds.proofs.Growing.{site_stays}
 use Rattle.aw_world.specs.Staying.{KeepsSites}
 
 -- a site keeps this of another

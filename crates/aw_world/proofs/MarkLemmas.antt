@@ -1,7 +1,7 @@
 -- Marks of the first places of a list.
 use Rattle.std.proofs.Common.{◌≡◌, ℕ, zero, suc, ◌+◌, ◌<◌, ◌≤◌, arith, Bool, true, false, List, [], ◌∷◌, ◌++◌, length, drop, map, get_or, ap, ◌∙◌, refl, Some, None}
 use Rattle.std.specs.Prelude.{slice_set}
-use Rattle.aw_react.specs.Worlds.{count_open, count_set, first_false}
+use Rattle.aw_law_sites.specs.Worlds.{count_open, count_set, first_false}
 use Rattle.aw_world.specs.Marks.{marks, leading, is_marked}
 
 pub marked_at : (bs : List Bool) (i : ℕ) (b : Bool) → i < length bs → b ≡ get_or bs i b → b ≡ is_marked bs i

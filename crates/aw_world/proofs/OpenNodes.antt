@@ -8,10 +8,10 @@ use Rattle.aw_term.specs.WellFormed.{Each, Later}
 use Rattle.aw_term.proofs.NodeOrder.{node_order}
 use Rattle.aw_choice.specs.declared.choice.Choice.{Choice}
 use Rattle.aw_choice.specs.declared.choice.Choice.TheVariants.{Start, Develop}
-use Rattle.aw_held.specs.declared.held.Held.{Held}
-use Rattle.aw_held.specs.HeldView.{all_of, state_of}
-use Rattle.aw_held.specs.InOrder.{insert_in, insert_all_in}
-use Rattle.aw_held.proofs.InOrderLemmas.{Up}
+use Rattle.aw_node_list.specs.declared.held.Held.{Held}
+use Rattle.aw_node_list.specs.HeldView.{all_of, state_of}
+use Rattle.aw_node_list.specs.InOrder.{insert_in, insert_all_in}
+use Rattle.aw_node_list.proofs.InOrderLemmas.{Up}
 use Rattle.aw_world.specs.Merged.{merged, nodes_of}
 use Rattle.aw_world.specs.NodeLists.{AreOrdered, put_among, is_first_next}
 use Rattle.aw_world.specs.Opened.{open_on, open_nodes}

@@ -8,12 +8,12 @@ use Rattle.aw_term.specs.Choices.{Choice, undivided}
 use Rattle.aw_term.specs.Configs.{Config}
 use Rattle.aw_grammar.specs.GrammarOf.{grammar_of, words_of}
 use Rattle.aw_choice.specs.ChoiceView.{choice_of}
-use Rattle.aw_react.specs.Laws.{SameChoices}
+use Rattle.aw_law_sites.specs.Laws.{SameChoices}
 use Rattle.aw_out.specs.declared.error.PrintFault.{PrintFault}
 use Rattle.aw_out.specs.Report.{Bounded, Prints}
-use Rattle.aw_react.specs.Worlds as V
-use Rattle.aw_react.specs.Worlds.{world_after, gather}
-use Rattle.aw_merge.proofs.WorldLaws.{artifacts_law, headline}
+use Rattle.aw_law_sites.specs.Worlds as V
+use Rattle.aw_law_sites.specs.Worlds.{world_after, gather}
+use Rattle.aw_law_worlds.proofs.WorldLaws.{artifacts_law, headline}
 use Rattle.aw_world.specs.declared.workspace.Workspace.{Ghosts}
 use Rattle.aw_world.specs.declared.world.World.{World}
 use Rattle.aw_world.specs.Reactions.{PrintsRows, PrintsArtifacts}

@@ -8,14 +8,14 @@ use Rattle.aw_grammar.specs.declared.grammar.Grammar.{Grammar}
 use Rattle.aw_grammar.specs.GrammarOf.{grammar_of, words_of}
 use Rattle.aw_choice.specs.declared.choice.Choice.{Choice}
 use Rattle.aw_accept.specs.declared.accepted.Accepted.{Accepted}
-use Rattle.aw_react.specs.Worlds as V
-use Rattle.aw_react.specs.Worlds.{MayCome, world_after}
+use Rattle.aw_law_sites.specs.Worlds as V
+use Rattle.aw_law_sites.specs.Worlds.{MayCome, world_after}
 use Rattle.aw_world.specs.declared.workspace.Workspace.{Ghosts}
 use Rattle.aw_msg.specs.declared.message.Message.{Message}
 use Rattle.aw_world.specs.declared.moves.Reply.{Reply}
 use Rattle.aw_msg.specs.MessageView.{message_of}
 use Rattle.aw_world.specs.Seen.{Seen, Steps, IsReached}
-use Rattle.aw_merge.proofs.Nearing.{after_more, addressed}
+use Rattle.aw_law_worlds.proofs.Nearing.{after_more, addressed}
 
 pub reached_next : {W E : Type 0} (f : Ghosts W) (d : Grammar) (loads : Bool) (ws xs : List W) (ms ns : List Message) (bs cs : List Bool) (ts us : List Choice) (e : V.Move) (r : Result Reply E)
     → MayCome (grammar_of d) e

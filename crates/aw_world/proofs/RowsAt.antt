@@ -9,14 +9,14 @@ use Rattle.aw_term.specs.Rules.{get}
 use Rattle.aw_term.proofs.GrammarTests.{grammars_are_one}
 use Rattle.aw_grammar.specs.declared.grammar.Grammar.{Grammar}
 use Rattle.aw_grammar.specs.GrammarOf.{grammar_of, words_of}
-use Rattle.aw_held.specs.declared.held.Held.{Held}
-use Rattle.aw_held.specs.HeldView.{held_of, all_of}
+use Rattle.aw_node_list.specs.declared.held.Held.{Held}
+use Rattle.aw_node_list.specs.HeldView.{held_of, all_of}
 use Rattle.aw_out.specs.declared.error.PrintFault.{PrintFault}
 use Rattle.aw_out.specs.Report.{Bounded, Prints}
-use Rattle.aw_react.specs.Homes.{home}
-use Rattle.aw_react.specs.Sites.{Site, empty_site}
-use Rattle.aw_react.specs.Worlds.{World, gather, site_at}
-use Rattle.aw_merge.specs.ReadRows.{IsRead, AreRead}
+use Rattle.aw_law_sites.specs.Homes.{home}
+use Rattle.aw_law_sites.specs.Sites.{Site, empty_site}
+use Rattle.aw_law_sites.specs.Worlds.{World, gather, site_at}
+use Rattle.aw_law_worlds.specs.ReadRows.{IsRead, AreRead}
 use Rattle.aw_world.specs.declared.workspace.Workspace.{Ghosts}
 use Rattle.aw_world.specs.declared.merging.Spot.{Spot}
 use Rattle.aw_world.specs.Merged.{merged, nodes_of, held_at}

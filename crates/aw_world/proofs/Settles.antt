@@ -7,18 +7,18 @@ use Rattle.aw_term.specs.Rules.{Grammar}
 use Rattle.aw_term.specs.WellFormed.{Each}
 use Rattle.aw_grammar.specs.GrammarOf.{grammar_of, words_of}
 use Rattle.aw_choice.specs.ChoiceView.{choice_of}
-use Rattle.aw_react.specs.Laws.{IsAccepted}
-use Rattle.aw_react.specs.Worlds as V
-use Rattle.aw_react.specs.Worlds.{MayCome, world_after}
+use Rattle.aw_law_sites.specs.Laws.{IsAccepted}
+use Rattle.aw_law_sites.specs.Worlds as V
+use Rattle.aw_law_sites.specs.Worlds.{MayCome, world_after}
 use Rattle.aw_world.specs.declared.workspace.Workspace.{Ghosts}
 use Rattle.aw_world.specs.declared.world.World.{World}
-use Rattle.aw_react.specs.Worlds.{count_set}
+use Rattle.aw_law_sites.specs.Worlds.{count_set}
 use Rattle.aw_world.specs.Marks.{marks}
-use Rattle.aw_react.specs.Bounds.{bound_of}
+use Rattle.aw_law_sites.specs.Bounds.{bound_of}
 use Rattle.aw_world.specs.Shown.{Shows}
 use Rattle.aw_world.proofs.MarkLemmas.{marks_count}
-use Rattle.aw_merge.proofs.Nearing.{nearer, count_bounded}
-use Rattle.aw_merge.proofs.Settling.{settle_more, settle_done, settle_taken, deliver_taken}
+use Rattle.aw_law_worlds.proofs.Nearing.{nearer, count_bounded}
+use Rattle.aw_law_worlds.proofs.Settling.{settle_more, settle_done, settle_taken, deliver_taken}
 
 module _ {W : Type 0} (f : Ghosts W) (w : World W f) where
   -- a bound that holds of the plain world that events lead to

@@ -14,11 +14,11 @@ use Rattle.aw_grammar.specs.GrammarOf.{grammar_of}
 use Rattle.aw_choice.specs.declared.choice.Choice.{Choice}
 use Rattle.aw_choice.specs.declared.choice.Answer.{Answer}
 use Rattle.aw_choice.specs.ChoiceView.{choice_of, answer_of}
-use Rattle.aw_react.specs.Sites.{Site, Reaction, empty_site}
-use Rattle.aw_react.specs.Choosing.{Chosen, No, Did, choose}
-use Rattle.aw_merge.proofs.Refusing.{refusals_law}
+use Rattle.aw_law_sites.specs.Sites.{Site, Reaction, empty_site}
+use Rattle.aw_law_sites.specs.Choosing.{Chosen, No, Did, choose}
+use Rattle.aw_law_worlds.proofs.Refusing.{refusals_law}
 use Rattle.aw_apply.specs.Messages.{Received, BadName, NotMine, Conflict, Repeat, New}
-use Rattle.aw_react.specs.Worlds as V
+use Rattle.aw_law_sites.specs.Worlds as V
 use Rattle.aw_world.specs.declared.workspace.Workspace.{Ghosts}
 use Rattle.aw_msg.specs.declared.message.Message.{Message}
 use Rattle.aw_world.specs.declared.moves.Reply.TheVariants as replies

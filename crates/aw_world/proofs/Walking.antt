@@ -1,8 +1,8 @@
 -- The nodes of workspaces from a place on.
 use Rattle.std.proofs.Common.{◌≡◌, ℕ, zero, suc, ◌+◌, ◌<◌, arith, List, [], ◌∷◌, length, drop, replicate, get_or, ap, sym, ◌∙◌, refl, subst, Option, Some, None, slice_get}
 use Rattle.std.specs.Prelude.{option_and_then, slice_set, IsSome}
-use Rattle.aw_held.specs.declared.held.Held.{Held}
-use Rattle.aw_held.proofs.InOrderLemmas.{Up}
+use Rattle.aw_node_list.specs.declared.held.Held.{Held}
+use Rattle.aw_node_list.proofs.InOrderLemmas.{Up}
 use Rattle.aw_world.specs.declared.workspace.Workspace.{Ghosts}
 use Rattle.std.proofs.lemmas.Option.{get_or_from_slice_get}
 use Rattle.aw_world.specs.declared.merging.Spot.{Spot}

@@ -21,20 +21,22 @@ use Rattle.aw_grammar.specs.declared.grammar.Grammar.{Grammar}
 use Rattle.aw_grammar.specs.GrammarOf.{grammar_of, words_of}
 use Rattle.aw_choice.specs.declared.choice.Choice.{Choice}
 use Rattle.aw_choice.specs.ChoiceView.{choice_of}
-use Rattle.aw_held.specs.HeldView.{held_of, all_of}
-use Rattle.aw_react.specs.Laws.{IsAccepted}
-use Rattle.aw_react.specs.Homes.{home}
-use Rattle.aw_react.specs.Sites.{Site, empty_site}
-use Rattle.aw_react.specs.Bounds.{bound_of}
-use Rattle.aw_react.specs.Worlds as V
-use Rattle.aw_react.specs.Worlds.{MayCome, world_after}
-use Rattle.aw_merge.proofs.Nearing.{within_bound}
-use Rattle.aw_merge.proofs.WorldLaws.{invariant_law, headline}
+use Rattle.aw_node_list.specs.HeldView.{held_of, all_of}
+use Rattle.aw_law_sites.specs.Laws.{IsAccepted}
+use Rattle.aw_law_sites.specs.Homes.{home}
+use Rattle.aw_law_sites.specs.Sites.{Site, empty_site}
+use Rattle.aw_law_sites.specs.Bounds.{bound_of}
+use Rattle.aw_law_sites.specs.Worlds as V
+use Rattle.aw_law_sites.specs.Worlds.{MayCome, world_after}
+use Rattle.aw_law_worlds.proofs.Nearing.{within_bound}
+use Rattle.aw_law_worlds.proofs.WorldLaws.{invariant_law, headline}
 use Rattle.aw_msg.specs.declared.message.Message.{Message}
 use Rattle.aw_msg.specs.MessageView.{message_of}
 use Rattle.aw_world.specs.declared.workspace.Workspace.{Ghosts}
 use Rattle.aw_world.specs.Opened.{AreAtHome}
-use Rattle.aw_world.specs.Seen.{ArePlaced, IsReached}
+use Rattle.aw_law_sites.specs.Joint.{Joint}
+use Rattle.aw_law_worlds.specs.Invariant.{IsInvariant}
+use Rattle.aw_world.specs.Seen.{ArePlaced, IsReached, Seen}
 use Rattle.aw_world.specs.Staying.{IsConfigured}
 
 -- ---- what is known of the plain world
@@ -89,3 +91,8 @@ module _ {W : Type 0} (f : Ghosts W) (a : Accepted) (loads : Bool) (ws : List W)
   reached_configured =
       ∥∥₁_elim d.well_formed ∥∥₁_prop (λ w. ∥∥₁_elim a.sound ∥∥₁_prop (λ s. ∥∥₁_map h (λ r.
       subst (IsConfigured p) r.2.taken (configured_law (words_of d) p (w, s) loads r.0 r.1))))
+
+  pub reached_together : ∥ ((v : V.World) × Seen f a.grammar ws ms bs ts v × (x : Joint) × IsInvariant p loads v x) ∥₁
+  reached_together =
+      ∥∥₁_elim d.well_formed ∥∥₁_prop (λ w. ∥∥₁_elim a.sound ∥∥₁_prop (λ s. ∥∥₁_map h (λ r.
+      (let (x, fits) = invariant_law (words_of d) p (w, s) loads r.0 r.1 in (world_after p loads r.0, r.2, x, fits)))))

@@ -1,7 +1,7 @@
 -- Of several workspaces the one whose next node is the first.
 use Rattle.std.specs.Prelude.{◌≡◌, ℕ, ◌<◌, ◌≤◌, true, false, List, Option, Some, slice_get, option_and_then}
 use Rattle.aw_term.specs.Names.{node_lt}
-use Rattle.aw_held.specs.declared.held.Held.{Held}
+use Rattle.aw_node_list.specs.declared.held.Held.{Held}
 use Rattle.aw_world.specs.declared.workspace.Workspace.{Ghosts}
 
 -- the node of a workspace that is next in order, where these are the places of the next ones

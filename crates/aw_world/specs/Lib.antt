@@ -10,6 +10,7 @@ pub mod Merged
 pub mod Staying
 pub mod Opened
 pub mod Shown
+pub mod Together
 pub mod WorldView
 pub mod SpotRows
 pub mod NodeLists

@@ -4,8 +4,8 @@ use Rattle.aw_term.specs.Names.{Node}
 use Rattle.aw_term.specs.Configs.{State, Pending, Done}
 use Rattle.aw_term.specs.Held.{Held}
 use Rattle.aw_term.specs.Rules.{Grammar}
-use Rattle.aw_held.specs.declared.held.Held as made
-use Rattle.aw_react.specs.Homes.{home}
+use Rattle.aw_node_list.specs.declared.held.Held as made
+use Rattle.aw_law_sites.specs.Homes.{home}
 use Rattle.aw_world.specs.declared.workspace.Workspace.{Ghosts}
 use Rattle.aw_world.specs.declared.merging.Spot.{Spot}
 use Rattle.aw_world.specs.Merged.{merged, nodes_of, held_at}

@@ -9,8 +9,8 @@ use Rattle.aw_term.specs.Held.{Held}
 use Rattle.aw_store.specs.Equations.{Map}
 use Rattle.aw_out.specs.declared.error.PrintFault.{PrintFault}
 use Rattle.aw_out.specs.Report.{Bounded, Prints}
-use Rattle.aw_react.specs.Sites.{Site}
-use Rattle.aw_merge.specs.ReadRows.{IsRead}
+use Rattle.aw_law_sites.specs.Sites.{Site}
+use Rattle.aw_law_worlds.specs.ReadRows.{IsRead}
 
 -- the line of the node at this place, its values unfolded over the equations of the site
 abbrev pub PrintsRow : Grammar → Site → ℕ → Bounded → Bounded → Result Unit PrintFault → Type 0

@@ -14,11 +14,11 @@ use Rattle.aw_apply.specs.Messages as plain
 use Rattle.aw_apply.specs.Messages.{Received}
 use Rattle.aw_out.specs.declared.error.PrintFault.{PrintFault}
 use Rattle.aw_out.specs.Report.{Bounded, Prints}
-use Rattle.aw_react.specs.Sites.{Site, Reaction}
-use Rattle.aw_react.specs.Choosing.{Chosen, choose}
-use Rattle.aw_react.specs.Reacting.{receive}
-use Rattle.aw_react.specs.Worlds.{World}
-use Rattle.aw_merge.specs.ReadRows.{AreRead}
+use Rattle.aw_law_sites.specs.Sites.{Site, Reaction}
+use Rattle.aw_law_sites.specs.Choosing.{Chosen, choose}
+use Rattle.aw_law_sites.specs.Reacting.{receive}
+use Rattle.aw_law_sites.specs.Worlds.{World}
+use Rattle.aw_law_worlds.specs.ReadRows.{AreRead}
 
 -- what a site does for a choice
 abbrev pub choice_at : Grammar → Site → Choice → Chosen

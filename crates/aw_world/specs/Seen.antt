@@ -7,13 +7,13 @@ use Rattle.aw_grammar.specs.GrammarOf.{grammar_of}
 use Rattle.aw_choice.specs.ChoiceView.{choice_of, answer_of}
 use Rattle.aw_choice.specs.declared.choice.Choice.{Choice}
 use Rattle.aw_choice.specs.declared.choice.Answer.{Answer}
-use Rattle.aw_react.specs.Sites.{Site, Reaction, empty_site}
+use Rattle.aw_law_sites.specs.Sites.{Site, Reaction, empty_site}
 use Rattle.aw_term.specs.Rules.{get}
-use Rattle.aw_react.specs.Choosing.{Chosen, answer_to}
+use Rattle.aw_law_sites.specs.Choosing.{Chosen, answer_to}
 use Rattle.aw_apply.specs.Messages.{Received}
-use Rattle.aw_react.specs.SiteEvents.{after_choice, after_message}
-use Rattle.aw_react.specs.Worlds as P
-use Rattle.aw_react.specs.Worlds.{MayCome, world_after}
+use Rattle.aw_law_sites.specs.SiteEvents.{after_choice, after_message}
+use Rattle.aw_law_sites.specs.Worlds as P
+use Rattle.aw_law_sites.specs.Worlds.{MayCome, world_after}
 use Rattle.aw_world.specs.declared.workspace.Workspace.{Ghosts}
 use Rattle.aw_msg.specs.declared.message.Message.{Message}
 use Rattle.aw_world.specs.declared.moves.Move.{Move}

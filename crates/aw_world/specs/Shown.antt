@@ -2,8 +2,8 @@
 use Rattle.std.specs.Prelude.{◌≡◌, ℕ, List, Option}
 use Rattle.aw_term.specs.Artifacts.{Item}
 use Rattle.aw_grammar.specs.GrammarOf.{grammar_of}
-use Rattle.aw_react.specs.Worklists.{site_worklist}
-use Rattle.aw_react.specs.Worlds as P
+use Rattle.aw_law_sites.specs.Worklists.{site_worklist}
+use Rattle.aw_law_sites.specs.Worlds as P
 use Rattle.aw_world.specs.declared.workspace.Workspace.{Ghosts}
 use Rattle.aw_world.specs.declared.world.World.{World}
 use Rattle.aw_world.specs.declared.moves.Reply.{Reply}

@@ -5,7 +5,7 @@ use Rattle.aw_term.specs.Rules.{get}
 use Rattle.aw_grammar.specs.declared.grammar.Grammar.{Grammar}
 use Rattle.aw_out.specs.declared.error.PrintFault.{PrintFault}
 use Rattle.aw_out.specs.Report.{Bounded}
-use Rattle.aw_react.specs.Sites.{Site, empty_site}
+use Rattle.aw_law_sites.specs.Sites.{Site, empty_site}
 use Rattle.aw_world.specs.declared.workspace.Workspace.{Ghosts}
 use Rattle.aw_world.specs.declared.merging.Spot.{Spot}
 use Rattle.aw_world.specs.PrintedRows.{PrintsRow}

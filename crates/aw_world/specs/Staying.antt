@@ -7,8 +7,8 @@ use Rattle.aw_term.specs.Choices.{Choice, undivided}
 use Rattle.aw_term.specs.Held.{Held}
 use Rattle.aw_iograph.specs.Dependence.{IO}
 use Rattle.aw_accept.specs.Acyclic.{IsAcyclic}
-use Rattle.aw_react.specs.Worlds.{World, site_at}
-use Rattle.aw_merge.specs.Laws.{EquationsStay}
+use Rattle.aw_law_sites.specs.Worlds.{World, site_at}
+use Rattle.aw_law_worlds.specs.Holding.{EquationsStay}
 
 -- Each site keeps its equations, and each guard that is met or differs stays so, with the same bound references or at the same place; and it keeps
 -- its nodes with the references that they inherited, perhaps developed.

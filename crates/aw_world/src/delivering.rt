@@ -1,6 +1,6 @@
 //! The delivery of a message in a world.
 ghost use Rattle.std.specs.Prelude.{◌≡◌, ◌<◌, ◌≤◌, ℕ, List, Some, None, IfOk, OnErr, length};
-ghost use Rattle.aw_react.specs.Sites as P;
+ghost use Rattle.aw_law_sites.specs.Sites as P;
 ghost use Rattle.aw_world.specs.Marked.{DeliversTo, StaysSeenForAllTaken};
 ghost use Rattle.aw_world.specs.Seen.{ArePlaced, AreAddressed, ShowEach, TakesInAt, reply_for};
 

@@ -4,7 +4,7 @@ ghost use Rattle.aw_choice.specs.ChoiceView.{item_of};
 ghost use Rattle.aw_grammar.specs.GrammarOf.{grammar_of};
 ghost use Rattle.aw_grammar.specs.declared.grammar.Grammar.{Grammar as GrammarValue};
 ghost use Rattle.aw_out.specs.Report.{Bounded};
-ghost use Rattle.aw_react.specs.Worlds as V;
+ghost use Rattle.aw_law_sites.specs.Worlds as V;
 ghost use Rattle.aw_term.specs.SameGrammar.{same_grammar};
 ghost use Rattle.aw_world.specs.Merged.{held_at};
 ghost use Rattle.aw_world.specs.Opened.{AreAllInOrder, AreAtHome, open_nodes};

@@ -3,8 +3,8 @@ ghost use Rattle.std.specs.Prelude.{◌≡◌, IfOk, map as list_map};
 ghost use Rattle.aw_accept.specs.Acyclic.{Pairs};
 ghost use Rattle.aw_grammar.specs.GrammarOf.{grammar_of};
 ghost use Rattle.aw_term.specs.Rules.{upto};
-ghost use Rattle.aw_react.specs.Sites as P;
-ghost use Rattle.aw_react.specs.Worlds as V;
+ghost use Rattle.aw_law_sites.specs.Sites as P;
+ghost use Rattle.aw_law_sites.specs.Worlds as V;
 ghost use Rattle.aw_world.specs.Seen.{ArePlaced};
 
 use crate::marks::Marks;

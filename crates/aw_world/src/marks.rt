@@ -1,7 +1,7 @@
 //! Which messages were delivered.
 ghost use Rattle.std.specs.Prelude.{◌≡◌, ◌+◌, ◌<◌, ◌≤◌, ℕ, List, [], true, OnOk, length, drop, slice_set};
 ghost use Rattle.aw_world.specs.Marks.{marks, leading, is_marked};
-ghost use Rattle.aw_react.specs.Worlds.{count_set};
+ghost use Rattle.aw_law_sites.specs.Worlds.{count_set};
 ghost use Rattle.aw_msg.specs.declared.message.Message.{Message};
 
 use std::alloc::{AllocError, Global};

@@ -4,7 +4,7 @@ ghost use Rattle.aw_world.specs.Firsts.{next_of, IsFirstOf};
 ghost use Rattle.aw_world.specs.Merged.{merged, nodes_of, left_of, held_at, PassesOn};
 
 use crate::workspace::Workspace;
-use aw_held::{Held, Holding};
+use aw_node_list::{Held, Holding};
 use aw_term::order::is_before;
 use std::alloc::{AllocError, Global};
 

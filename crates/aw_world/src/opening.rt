@@ -1,14 +1,14 @@
 //! The open nodes of several workspaces in one order.
 ghost use Rattle.std.specs.Prelude.{◌≡◌, ◌++◌, ◌∷◌, [], None, IfOk, IfSome, OnOk, drop};
-ghost use Rattle.aw_held.specs.HeldView.{all_of, state_of};
+ghost use Rattle.aw_node_list.specs.HeldView.{all_of, state_of};
 ghost use Rattle.aw_term.specs.Rules.{Grammar as PlainGrammar};
 ghost use Rattle.aw_world.specs.Merged.{merged, nodes_of};
 ghost use Rattle.aw_world.specs.NodeLists.{AreOrdered, put_among, is_first_next};
 ghost use Rattle.aw_world.specs.Opened.{open_on, open_nodes};
 
 use crate::workspace::Workspace;
-use aw_held::{Held, Holding};
 use aw_name::{Node, copy_node};
+use aw_node_list::{Held, Holding};
 use aw_term::order::is_before;
 use std::alloc::{AllocError, Global};
 

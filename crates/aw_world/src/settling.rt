@@ -1,9 +1,9 @@
 //! Delivering what is left.
 ghost use Rattle.std.specs.Prelude.{◌≡◌, ℕ, None, OnOk, OnErr};
 ghost use Rattle.aw_grammar.specs.GrammarOf.{grammar_of};
-ghost use Rattle.aw_react.specs.Worlds as V;
+ghost use Rattle.aw_law_sites.specs.Worlds as V;
 ghost use Rattle.aw_world.specs.Marks.{marks};
-ghost use Rattle.aw_react.specs.Bounds.{settled};
+ghost use Rattle.aw_law_sites.specs.Bounds.{settled};
 ghost use Rattle.aw_world.specs.Shown.{Shows};
 
 use crate::moves::Move;

@@ -1,11 +1,11 @@
 //! A world.
 ghost use Rattle.std.specs.Prelude.{◌≡◌, ◌≤◌, ◌<◌, IfOk, OnErr, length, map as list_map};
 ghost use Rattle.aw_grammar.specs.GrammarOf.{grammar_of};
-ghost use Rattle.aw_react.specs.Worlds as V;
-ghost use Rattle.aw_react.specs.Worlds.{count_set, count_open, MayCome};
+ghost use Rattle.aw_law_sites.specs.Worlds as V;
+ghost use Rattle.aw_law_sites.specs.Worlds.{count_set, count_open, MayCome};
 ghost use Rattle.aw_world.specs.Marks.{marks};
 ghost use Rattle.aw_choice.specs.ChoiceView.{choice_of};
-ghost use Rattle.aw_react.specs.Bounds.{bound_of};
+ghost use Rattle.aw_law_sites.specs.Bounds.{bound_of};
 ghost use Rattle.aw_world.specs.Staying.{KeepsSites, IsConfigured};
 ghost use Rattle.aw_world.specs.MoveView.{move_of};
 ghost use Rattle.aw_world.specs.Marked.{MovesTo, StaysSeen};
@@ -66,6 +66,7 @@ fn step<W: Workspace>(
 
 impl<'g, W: Workspace> World<'g, W> {
     ghost use Rattle.aw_world.specs.Shown.{Shows, ShowsMove};
+    ghost use Rattle.aw_world.specs.Together.{FitsTogether};
 
     /// All messages that were ever sent, by number.
     pub fn messages(&self) -> &[Message]
@@ -120,6 +121,7 @@ impl<'g, W: Workspace> World<'g, W> {
         ensures err { OnErr result ((v : V.World) → Shows ⟦<W as Workspace>⟧ self.old v → Shows ⟦<W as Workspace>⟧ self.new v) }
         ensures keeps { (v : V.World) → Shows ⟦<W as Workspace>⟧ self.old v → KeepsSites v (V.step (grammar_of self.old.accepted.now.grammar) v (move_of event)).world }
         ensures acyclic { ∥ IsConfigured (grammar_of self.new.accepted.now.grammar) (list_map choice_of self.new.taken.items) ∥₁ }
+        ensures invariant { ∥ FitsTogether ⟦<W as Workspace>⟧ self.new ∥₁ }
         ensures bound { length self.new.messages ≤ bound_of (grammar_of self.new.accepted.now.grammar) (list_map choice_of self.new.taken.items) }
     {
         step(

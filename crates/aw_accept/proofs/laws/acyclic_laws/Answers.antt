@@ -1,4 +1,4 @@
-use Rattle.aw_iograph.specs.Dependence.{IO, passed}
+use Rattle.aw_iograph.specs.Dependence.{IO}
 use Rattle.aw_iograph.proofs.Relations.{io_closed}
 use Rattle.aw_accept.proofs.Fitting.{given_of}
 use Rattle.aw_accept.proofs.UndividedRuns.{acyclic_runs}
@@ -15,6 +15,3 @@ returns-clause-all c g given accepted = (acyclic_runs g given (IO g) (io_closed 
 
 pub returns-clause-leaves_no_hole : goal.returns-clause-leaves_no_hole
 returns-clause-leaves_no_hole c g given accepted = (acyclic_runs g given (IO g) (io_closed g) accepted).leaves_none
-
-pub returns-clause-over_tests : goal.returns-clause-over_tests
-returns-clause-over_tests c g test given closed accepted = acyclic_runs g given (passed test) closed accepted

@@ -1,5 +1,5 @@
 use Rattle.std.proofs.Common.{◌∙◌, sym, ap, option_map, option_copied}
-use Rattle.aw_text.specs.Spelling.{steps_of, parts_behind}
+use Rattle.aw_spelling.specs.Spelling.{steps_of, parts_behind}
 use Rattle.aw_grammar.specs.GrammarOf.{grammar_of, words_of}
 use Rattle.aw_base.proofs.ReadFronts.{start_is_named}
 use Rattle.aw_base.proofs.node_reader.start_alone.Goals as goal

@@ -1,5 +1,5 @@
 use Rattle.std.proofs.Common.{◌≡◌, ◌++◌, option_map, option_copied}
-use Rattle.aw_text.proofs.Cuts.{bytes_left}
+use Rattle.aw_spelling.proofs.Cuts.{bytes_left}
 use Rattle.aw_grammar.specs.GrammarOf.{words_of}
 use Rattle.aw_base.specs.NodeReading.{steps_behind}
 use Rattle.aw_base.proofs.read_node.named_steps.Given as goal

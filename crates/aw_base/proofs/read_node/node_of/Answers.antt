@@ -1,5 +1,5 @@
 use Rattle.std.proofs.Common.{◌∙◌, sym, ap, option_copied, Some}
-use Rattle.aw_text.specs.Spelling.{steps_of, parts_behind}
+use Rattle.aw_spelling.specs.Spelling.{steps_of, parts_behind}
 use Rattle.aw_grammar.specs.GrammarOf.{grammar_of, words_of}
 use Rattle.aw_base.specs.NodeNames.{first_misfit, fitted, with_parts}
 use Rattle.aw_base.proofs.NodeReads.{all_declared, few_steps}

@@ -1,7 +1,7 @@
 use Rattle.std.proofs.Common.{refl, sym, subst, arith}
 use Rattle.std.specs.Prelude.{Err}
-use Rattle.aw_text.specs.NodeParts.{begins}
-use Rattle.aw_text.specs.Spelling.{parts_of_name}
+use Rattle.aw_spelling.specs.NodeParts.{begins}
+use Rattle.aw_spelling.specs.Spelling.{parts_of_name}
 use Rattle.aw_grammar.specs.GrammarOf.{grammar_of, words_of}
 use Rattle.aw_base.specs.NodeNames.{node_read}
 use Rattle.aw_base.specs.NodeReading.{Reads}

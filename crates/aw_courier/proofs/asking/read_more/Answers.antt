@@ -2,7 +2,7 @@ use Rattle.std.proofs.Common.{◌++◌, take, refl, ap, ◌∙◌, arith}
 use Rattle.std.proofs.lemmas.List.{length-take}
 use Rattle.std.proofs.lemmas.Result.{err_from_is_err_and}
 use Rattle.aw_session.proofs.TalkLemmas.{talks-read, talks-end, talks-not_read}
-use Rattle.aw_courier.proofs.AskLemmas.{none-left-at-end}
+use Rattle.aw_out.proofs.WireLemmas.{end-unread}
 use Rattle.aw_courier.proofs.asking.read_more.Goals as goal
 
 pub returns-in_err-push_bytes-in-Read-clause-err : goal.returns-in_err-push_bytes-in-Read-clause-err
@@ -29,7 +29,7 @@ pub returns-in-End-clause-err : goal.returns-in-End-clause-err
 returns-in-End-clause-err g c = (
   talks-end g.W.Wire.content g.W.Wire.is_open g.W.Wire.faults g.W.Wire.failed_openings c.args.wire.now c.read.new.self c.read.new.buf
       c.in-End.ensures.«open» c.in-End.ensures.content (c.in-End.ensures.kept (λ e. absurd (cc e))) c.in-End.ensures.same_openings,
-  none-left-at-end c.read.new.buf _ _ c.in-End.ensures.content,
+  end-unread c.read.new.buf _ _ c.in-End.ensures.content,
 )
 
 pub returns-in-Failed-clause-err : goal.returns-in-Failed-clause-err

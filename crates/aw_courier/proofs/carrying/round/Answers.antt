@@ -1,5 +1,5 @@
 use Rattle.std.proofs.Common.{arith}
-use Rattle.aw_nodes.specs.Couriers.{after_all}
+use Rattle.aw_law_nodes.specs.Couriers.{after_all}
 use Rattle.aw_courier.specs.Carrying.{sessions_of}
 use Rattle.aw_courier.proofs.MailLemmas.{still-roles, size-then}
 use Rattle.aw_courier.proofs.RoundLemmas.{round-more, round-broken}

@@ -1,6 +1,6 @@
 use Rattle.std.proofs.Common.{◌≡◌}
 use Rattle.aw_term.specs.Rules.{Grammar}
-use Rattle.aw_nodes.specs.Couriers.{Courier}
+use Rattle.aw_law_nodes.specs.Couriers.{Courier}
 use Rattle.aw_courier.specs.Carrying.{IsRoundMade}
 use Rattle.aw_courier.specs.Mails.{Shows, HasRoles, SameSize}
 use Rattle.aw_courier.proofs.carrying.round.Given as goal

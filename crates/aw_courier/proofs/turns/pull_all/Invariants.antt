@@ -1,7 +1,7 @@
 use Rattle.std.proofs.Common.{◌≡◌, true}
 use Rattle.aw_term.specs.Rules.{Grammar}
 use Rattle.aw_session.specs.Talking.{Talks}
-use Rattle.aw_nodes.specs.Couriers.{Courier, turn_messages}
+use Rattle.aw_law_nodes.specs.Couriers.{Courier, turn_messages}
 use Rattle.aw_courier.specs.Mails.{Holds, SameSize}
 use Rattle.aw_courier.specs.Turns.{IsUnderway, pulling}
 use Rattle.aw_courier.proofs.turns.pull_all.Given as goal

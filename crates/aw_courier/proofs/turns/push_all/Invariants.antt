@@ -1,7 +1,7 @@
 use Rattle.std.proofs.Common.{◌≡◌, true, length}
 use Rattle.aw_term.specs.Rules.{Grammar}
 use Rattle.aw_session.specs.Talking.{Talks}
-use Rattle.aw_nodes.specs.Couriers.{Courier}
+use Rattle.aw_law_nodes.specs.Couriers.{Courier}
 use Rattle.aw_courier.specs.Mails.{Shows, Holds, SameSize, queue_at}
 use Rattle.aw_courier.specs.Turns.{IsUnderway, pushing}
 use Rattle.aw_courier.proofs.turns.push_all.Given as goal

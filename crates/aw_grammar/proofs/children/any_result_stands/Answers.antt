@@ -1,7 +1,7 @@
 use Rattle.std.proofs.Common.{◌∙◌, ◌+◌, ◌||◌, map, drop, sym, ap}
 use Rattle.aw_grammar.specs.Written.{child_of_raw}
 use Rattle.aw_grammar.specs.Terms.{results_of}
-use Rattle.aw_index.specs.Places.{any_stands}
+use Rattle.aw_name_index.specs.Places.{any_stands}
 use Rattle.aw_grammar.proofs.Appends.{any_append}
 use Rattle.aw_grammar.proofs.Steps.{or_stops, or_goes}
 use Rattle.aw_grammar.proofs.children.any_result_stands.Goals as goal

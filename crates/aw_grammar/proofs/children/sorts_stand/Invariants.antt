@@ -1,7 +1,7 @@
 use Rattle.std.proofs.Common.{◌≡◌, drop, map}
 use Rattle.aw_grammar.specs.Written.{child_of_raw}
 use Rattle.aw_grammar.specs.Kinds.{child_sorts}
-use Rattle.aw_index.specs.Places.{all_stand}
+use Rattle.aw_name_index.specs.Places.{all_stand}
 use Rattle.aw_grammar.proofs.children.sorts_stand.Given as goal
 
 abbrev pub invariant-loop-child : goal.invariant-loop-child

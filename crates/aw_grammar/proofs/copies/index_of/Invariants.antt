@@ -1,5 +1,5 @@
 use Rattle.std.proofs.Common.{◌≡◌, map, take, drop, false}
-use Rattle.aw_index.specs.Places.{stands_again}
+use Rattle.aw_name_index.specs.Places.{stands_again}
 use Rattle.aw_grammar.proofs.copies.index_of.Given as goal
 
 abbrev pub invariant-loop-item : goal.invariant-loop-item

@@ -1,6 +1,6 @@
 use Rattle.std.proofs.Common.{◌≡◌, ◌∙◌, false, ◌||◌, sym, ap}
 use Rattle.std.proofs.lemmas.Bool.{or_from}
-use Rattle.aw_index.specs.Places.{any_stands, has_double}
+use Rattle.aw_name_index.specs.Places.{any_stands, has_double}
 use Rattle.aw_grammar.specs.Written.{rule_of_raw}
 use Rattle.aw_grammar.specs.Resolved.{entering}
 use Rattle.aw_grammar.specs.Declarations.{entry_of}

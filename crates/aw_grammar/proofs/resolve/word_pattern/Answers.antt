@@ -1,6 +1,6 @@
 use Rattle.std.proofs.Common.{◌≡◌, ◌∙◌, ◌||◌, Some, false, ap}
 use Rattle.std.proofs.lemmas.Bool.{or_from}
-use Rattle.aw_index.specs.Places.{place_of, stands}
+use Rattle.aw_name_index.specs.Places.{place_of, stands}
 use Rattle.aw_term.specs.Views.{pattern_of}
 use Rattle.aw_grammar.specs.Written.{Word}
 use Rattle.aw_grammar.specs.Resolved.{numbered}

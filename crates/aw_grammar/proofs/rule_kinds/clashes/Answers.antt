@@ -1,5 +1,5 @@
 use Rattle.std.proofs.Common.{◌∙◌, map, sym, ap}
-use Rattle.aw_index.specs.Places.{any_stands}
+use Rattle.aw_name_index.specs.Places.{any_stands}
 use Rattle.aw_grammar.specs.Written.{child_of_raw}
 use Rattle.aw_grammar.specs.Terms.{results_of}
 use Rattle.aw_grammar.specs.GrammarOf.{words_of}

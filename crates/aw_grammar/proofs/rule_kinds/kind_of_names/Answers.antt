@@ -1,6 +1,6 @@
 use Rattle.std.proofs.Common.{◌≡◌, ◌∙◌, ◌≤◌, length, false, nat_lt, sym, ap, refl, subst}
 use Rattle.std.proofs.lemmas.Bool.{le-ltb}
-use Rattle.aw_index.specs.Places.{stands}
+use Rattle.aw_name_index.specs.Places.{stands}
 use Rattle.aw_grammar.specs.Written.{rule_of_raw}
 use Rattle.aw_grammar.specs.Resolved.{entering}
 use Rattle.aw_grammar.specs.Declarations.{rule_names}

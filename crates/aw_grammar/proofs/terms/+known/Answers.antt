@@ -1,5 +1,5 @@
 use Rattle.std.proofs.Common.{◌≡◌, true, ◌&&◌, map, ap, sym, ◌∙◌}
-use Rattle.aw_index.specs.Places.{stands}
+use Rattle.aw_name_index.specs.Places.{stands}
 use Rattle.aw_grammar.specs.Written.{written_of}
 use Rattle.aw_grammar.specs.Kinds.{is_known, all_known}
 use Rattle.aw_grammar.proofs.TermLemmas.{known_apply}

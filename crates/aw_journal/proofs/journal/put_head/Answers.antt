@@ -1,10 +1,10 @@
 use Rattle.std.specs.Prelude.{◌≡◌, ℕ, List, [], ◌∷◌, ◌++◌}
 use Rattle.std.proofs.Common.{refl, ◌∙◌, subst}
 use Rattle.aw_disk.specs.Disk.{LeavesOnly}
-use Rattle.aw_journal.specs.Format.{events_of, head}
+use Rattle.aw_journal.specs.Format.{head}
 use Rattle.aw_journal.specs.Journal.{IsAround, StandsAt, behind_gate}
-use Rattle.aw_journal.proofs.Bytes.{headless}
-use Rattle.aw_journal.proofs.Heads.{around_head}
+use Rattle.aw_journal.specs.Opens.{HasEvents}
+use Rattle.aw_journal.proofs.Heads.{around_head, no_events}
 use Rattle.aw_journal.proofs.Moments.{runs_on, weaker}
 use Rattle.aw_journal.proofs.journal.put_head.Goals as goal
 
@@ -22,9 +22,9 @@ returns-in-Done-clause-any_moment g c told role text fits is =
     let mid = c.close_first.new.disk in
     let new = c.put_record.new.disk in
     let closed = c.in-Done.ensures.done refl told in
-    let P : List ℕ → Type 0 = λ f. events_of f ≡ [] in
+    let P = HasEvents role text [] in
     let bytes : c.deref.result.now ≡ head role text ++ 0 ∷ [] = c.deref.ensures.value ∙ is in
-    let begun = weaker D.moment D.left_since old mid _ P (c.close_first.ensures.any_moment told) headless in
+    let begun = weaker D.moment D.left_since old mid _ P (c.close_first.ensures.any_moment told) (no_events role text) in
     let any = c.put_record.ensures.any_moment [] closed.rest closed.shut closed.stands in
     let any_bytes = subst (λ (b : List ℕ). LeavesOnly D.moment D.left_since mid new (IsAround [] closed.shut (behind_gate b closed.rest))) bytes any in
     runs_on D.moment D.left_since old mid new P _ begun any_bytes (λ f left. around_head role text closed.rest f closed.shut fits closed.closed left)
@@ -32,4 +32,4 @@ returns-in-Done-clause-any_moment g c told role text fits is =
 pub returns-clause-any_moment : goal.returns-clause-any_moment
 returns-clause-any_moment g c told role text fits is =
     let D = g.D.Disk in
-    weaker D.moment D.left_since c.args.disk.now c.close_first.new.disk _ (λ f. events_of f ≡ []) (c.close_first.ensures.any_moment told) headless
+    weaker D.moment D.left_since c.args.disk.now c.close_first.new.disk _ (HasEvents role text []) (c.close_first.ensures.any_moment told) (no_events role text)

@@ -1,97 +1,99 @@
-use Rattle.std.specs.Prelude.{◌≡◌, ℕ, ◌+◌, List, [], true, length, drop, get_or, ◌==◌, if◌then◌else◌}
-use Rattle.std.proofs.Common.{refl, sym, ◌∙◌, ap}
-use Rattle.aw_journal.specs.Format.{events_of, front}
-use Rattle.aw_journal.specs.Journal.{StandsAt}
+use Rattle.std.specs.Prelude.{◌≡◌, ℕ, ◌≤◌, ◌<◌, List, IsTrue, true, length, get_or, ◌==◌}
+use Rattle.std.proofs.Common.{refl, sym, ◌∙◌, subst, arith}
 use Rattle.aw_journal.specs.EventView.{events_seen}
-use Rattle.aw_journal.proofs.Moments.{weaker}
-use Rattle.aw_journal.proofs.Heads.{ended_events, shut_after, as_made}
-use Rattle.aw_journal.proofs.Openings.{is_resumed, keeps, keeps_all, not_resumed}
+use Rattle.aw_journal.specs.Openings.{Resumed}
+use Rattle.aw_journal.specs.Opens.{HasThisHead}
+use Rattle.aw_journal.proofs.Heads.{as_made}
+use Rattle.aw_journal.proofs.Openings.{is_resumed, keeps_ended, settled_ended}
+use Rattle.aw_journal.proofs.Quiets.{quiet_then}
 use Rattle.aw_journal.proofs.journal.resume.Goals as goal
 
-pub made-requires-clause-all : goal.made-requires-clause-all
-made-requires-clause-all g c = c.in-Ok.ensures.found.all
-
-pub made-requires-clause-gate : goal.made-requires-clause-gate
-made-requires-clause-gate g c =
-    let found = c.in-Ok.known.found in
-    c.in-Ok.ensures.found.place ∙ ap (λ (t : List ℕ). length (front c.args.role t (events_seen found.events.items))) (sym c.in-Ok.ensures.text)
-
-pub returns-in-Err-clause-keeps : goal.returns-in-Err-clause-keeps
-returns-in-Err-clause-keeps g c =
+pub end_at-requires-clause-within : goal.end_at-requires-clause-within
+end_at-requires-clause-within g c told_mid =
     let D = g.D.Disk in
     let L = g.met.D.Disk in
-    keeps_all D.tells D.seen D.may_leave D.moment D.left_since D.faults L.reads_an_outcome L.counts_now L.only_now c.args.disk.now c.args.bytes.now c.requires.read
-
-pub returns-in-Err-clause-opens : goal.returns-in-Err-clause-opens
-returns-in-Err-clause-opens g c =
-    let D = g.D.Disk in
-    let L = g.met.D.Disk in
-    not_resumed D.tells D.seen D.may_leave D.moment D.left_since D.faults L.reads_an_outcome L.counts_now L.only_now c.args.role c.args.text.now c.args.limit c.args.bytes.now c.args.disk.now c.in-Err.fault c.requires.headed c.in-Err.ensures.fault
+    let old = c.args.disk.now in
+    let mid = c.find_events.new.disk in
+    let role = c.args.role in
+    let text = c.args.text.now in
+    let file = D.seen old in
+    let known = c.in_ok-kept.field-0 in
+    let events = known.found.events.items in
+    let first = c.in_ok-has_this_head.ensures in
+    let next = c.in_ok-kept.ensures in
+    let reads = λ (told : IsTrue (D.tells old)). first.reads file (c.requires.reads told) in
+    let own : IsTrue (D.tells old) → HasThisHead role text file = λ told. (first.own file (c.requires.reads told)).0 c.if-not-branch.false in
+    let r : IsTrue (D.tells old) → Resumed role text file known.found.gate (events_seen events) = λ told. next.found file (reads told) role (own told) in
+    let gate_open : IsTrue (D.tells old) → known.is_open ≡ (get_or file known.found.gate 0 == 1) = λ told. next.open file (reads told) role (own told) in
+    let quiet = quiet_then D.tells D.seen D.may_leave D.moment D.left_since L.counts_now L.only_now old c.has_this_head.new.disk mid first.only.quiet next.only.quiet in
+    let later : D.faults old ≤ D.faults mid = omega (arith, first.only.kept, next.only.kept) in
+    let told : IsTrue (D.tells old) = subst IsTrue quiet.told_same told_mid in
+    subst (λ (l : List ℕ). known.found.gate < length l) (sym quiet.seen_same) (r told).within
 
 pub returns-in-Done-clause-keeps : goal.returns-in-Done-clause-keeps
 returns-in-Done-clause-keeps g c =
     let D = g.D.Disk in
     let L = g.met.D.Disk in
     let old = c.args.disk.now in
-    let new = c.end_at.new.disk in
+    let mid = c.find_events.new.disk in
+    let role = c.args.role in
     let text = c.args.text.now in
-    let bytes = c.args.bytes.now in
-    let found = c.in-Ok.known.found in
-    let r = c.in-Ok.ensures.found in
-    let events = events_seen found.events.items in
-    let gate = get_or bytes found.gate 0 in
-    let rest = drop (found.gate + 1) bytes in
-    keeps D.tells D.seen D.may_leave D.moment D.left_since D.faults L.reads_an_outcome L.counts_now L.only_now old new (events_of bytes)
-    (λ told.
-    let all = c.requires.read told in
-    let standing : StandsAt D.tells D.seen D.may_leave old found.gate (front c.args.role text events) rest gate = record { told = told; is = all.is ∙ r.is; durable = all.durable; place_is = r.place } in
-    weaker D.moment D.left_since old new _ (λ f. events_of f ≡ events_of bytes) (c.end_at.ensures.any_moment (front c.args.role text events) rest gate standing)
-    (λ f left. ended_events c.args.role text rest f events gate r.all r.fits r.none left ∙ sym r.events_are))
-    c.end_at.ensures.tells c.end_at.ensures.never_falls
+    let file = D.seen old in
+    let known = c.in_ok-kept.field-0 in
+    let events = known.found.events.items in
+    let first = c.in_ok-has_this_head.ensures in
+    let next = c.in_ok-kept.ensures in
+    let reads = λ (told : IsTrue (D.tells old)). first.reads file (c.requires.reads told) in
+    let own : IsTrue (D.tells old) → HasThisHead role text file = λ told. (first.own file (c.requires.reads told)).0 c.if-not-branch.false in
+    let r : IsTrue (D.tells old) → Resumed role text file known.found.gate (events_seen events) = λ told. next.found file (reads told) role (own told) in
+    let gate_open : IsTrue (D.tells old) → known.is_open ≡ (get_or file known.found.gate 0 == 1) = λ told. next.open file (reads told) role (own told) in
+    let quiet = quiet_then D.tells D.seen D.may_leave D.moment D.left_since L.counts_now L.only_now old c.has_this_head.new.disk mid first.only.quiet next.only.quiet in
+    let later : D.faults old ≤ D.faults mid = omega (arith, first.only.kept, next.only.kept) in
+    keeps_ended D L.reads_an_outcome L.counts_now L.only_now role text old mid quiet later c.requires.durable known.found.gate (events_seen events) known.is_open c.end_at.new.disk r gate_open
+    c.end_at.ensures.any_moment c.end_at.ensures.tells c.end_at.ensures.never_falls
 
 pub returns-in-Failed-clause-keeps : goal.returns-in-Failed-clause-keeps
 returns-in-Failed-clause-keeps g c =
     let D = g.D.Disk in
     let L = g.met.D.Disk in
     let old = c.args.disk.now in
-    let new = c.end_at.new.disk in
+    let mid = c.find_events.new.disk in
+    let role = c.args.role in
     let text = c.args.text.now in
-    let bytes = c.args.bytes.now in
-    let found = c.in-Ok.known.found in
-    let r = c.in-Ok.ensures.found in
-    let events = events_seen found.events.items in
-    let gate = get_or bytes found.gate 0 in
-    let rest = drop (found.gate + 1) bytes in
-    keeps D.tells D.seen D.may_leave D.moment D.left_since D.faults L.reads_an_outcome L.counts_now L.only_now old new (events_of bytes)
-    (λ told.
-    let all = c.requires.read told in
-    let standing : StandsAt D.tells D.seen D.may_leave old found.gate (front c.args.role text events) rest gate = record { told = told; is = all.is ∙ r.is; durable = all.durable; place_is = r.place } in
-    weaker D.moment D.left_since old new _ (λ f. events_of f ≡ events_of bytes) (c.end_at.ensures.any_moment (front c.args.role text events) rest gate standing)
-    (λ f left. ended_events c.args.role text rest f events gate r.all r.fits r.none left ∙ sym r.events_are))
-    c.end_at.ensures.tells c.end_at.ensures.never_falls
+    let file = D.seen old in
+    let known = c.in_ok-kept.field-0 in
+    let events = known.found.events.items in
+    let first = c.in_ok-has_this_head.ensures in
+    let next = c.in_ok-kept.ensures in
+    let reads = λ (told : IsTrue (D.tells old)). first.reads file (c.requires.reads told) in
+    let own : IsTrue (D.tells old) → HasThisHead role text file = λ told. (first.own file (c.requires.reads told)).0 c.if-not-branch.false in
+    let r : IsTrue (D.tells old) → Resumed role text file known.found.gate (events_seen events) = λ told. next.found file (reads told) role (own told) in
+    let gate_open : IsTrue (D.tells old) → known.is_open ≡ (get_or file known.found.gate 0 == 1) = λ told. next.open file (reads told) role (own told) in
+    let quiet = quiet_then D.tells D.seen D.may_leave D.moment D.left_since L.counts_now L.only_now old c.has_this_head.new.disk mid first.only.quiet next.only.quiet in
+    let later : D.faults old ≤ D.faults mid = omega (arith, first.only.kept, next.only.kept) in
+    keeps_ended D L.reads_an_outcome L.counts_now L.only_now role text old mid quiet later c.requires.durable known.found.gate (events_seen events) known.is_open c.end_at.new.disk r gate_open
+    c.end_at.ensures.any_moment c.end_at.ensures.tells c.end_at.ensures.never_falls
 
 pub returns-in-Done-clause-opens : goal.returns-in-Done-clause-opens
 returns-in-Done-clause-opens g c =
     let D = g.D.Disk in
     let L = g.met.D.Disk in
     let old = c.args.disk.now in
-    let new = c.end_at.new.disk in
+    let mid = c.find_events.new.disk in
+    let role = c.args.role in
     let text = c.args.text.now in
-    let bytes = c.args.bytes.now in
-    let found = c.in-Ok.known.found in
-    let r = c.in-Ok.ensures.found in
-    let events = events_seen found.events.items in
-    let gate = get_or bytes found.gate 0 in
-    let rest = drop (found.gate + 1) bytes in
-    let made : c.made.result ≡ record { role = c.args.role; text = text; events = found.events.items; limit = c.args.limit; usable = true } = as_made c.made.result c.args.role c.args.limit text c.in-Ok.known.text found.events.items found.events.items c.made.ensures c.in-Ok.ensures.text refl in (
-      is_resumed D.tells D.seen D.may_leave D.moment D.left_since D.faults L.reads_an_outcome L.counts_now L.only_now (D.tells old) c.args.role text c.args.limit bytes new c.made.result found.gate found.events.items made c.requires.headed r
-          (λ told.
-          let all = c.requires.read told in
-          let standing : StandsAt D.tells D.seen D.may_leave old found.gate (front c.args.role text events) rest gate = record { told = told; is = all.is ∙ r.is; durable = all.durable; place_is = r.place } in
-          let after = c.in-Done.ensures.done refl (front c.args.role text events) rest gate standing in
-          record { file = record { gate = if gate == 1 then 0 else gate; rest = []; shut = shut_after gate; is = after.is }; durable = after.durable }),
-      c.in-Done.ensures.kept (λ e. cc),
-    )
-
-pub returns-in-Failed-clause-opens : goal.returns-in-Failed-clause-opens
-returns-in-Failed-clause-opens g c = c.in-Failed.ensures.cause refl
+    let file = D.seen old in
+    let known = c.in_ok-kept.field-0 in
+    let events = known.found.events.items in
+    let first = c.in_ok-has_this_head.ensures in
+    let next = c.in_ok-kept.ensures in
+    let reads = λ (told : IsTrue (D.tells old)). first.reads file (c.requires.reads told) in
+    let own : IsTrue (D.tells old) → HasThisHead role text file = λ told. (first.own file (c.requires.reads told)).0 c.if-not-branch.false in
+    let r : IsTrue (D.tells old) → Resumed role text file known.found.gate (events_seen events) = λ told. next.found file (reads told) role (own told) in
+    let gate_open : IsTrue (D.tells old) → known.is_open ≡ (get_or file known.found.gate 0 == 1) = λ told. next.open file (reads told) role (own told) in
+    let quiet = quiet_then D.tells D.seen D.may_leave D.moment D.left_since L.counts_now L.only_now old c.has_this_head.new.disk mid first.only.quiet next.only.quiet in
+    let later : D.faults old ≤ D.faults mid = omega (arith, first.only.kept, next.only.kept) in
+    let made : c.made.result ≡ record { role = role; text = text; events = events; limit = c.args.limit; usable = true } = as_made c.made.result role c.args.limit text known.text events events c.made.ensures next.text refl in
+    is_resumed D L.reads_an_outcome L.counts_now L.only_now role text c.args.limit old c.end_at.new.disk c.made.result known.found.gate events made c.requires.headed r
+    (settled_ended D L.reads_an_outcome L.counts_now L.only_now role text old mid quiet later c.requires.durable known.found.gate c.args.limit events known.is_open c.end_at.new.disk r gate_open (c.in-Done.ensures.done refl))
+    (c.in-Done.ensures.kept (λ e. cc) ∙ next.only.kept ∙ first.only.kept)

@@ -1,6 +1,6 @@
 use Rattle.std.proofs.Common.{arith}
 use Rattle.aw_term.specs.Views.{ground_of}
-use Rattle.aw_wire.specs.Grounds.{spelled_ground}
+use Rattle.aw_codec.specs.Grounds.{spelled_ground}
 use Rattle.aw_journal.proofs.Counts.{counted_more, counted_all, con_counted}
 use Rattle.aw_journal.proofs.lengths.+counting.Goals as goal
 

@@ -1,7 +1,7 @@
 use Rattle.std.proofs.Common.{◌≡◌, ◌+◌, length, take}
 use Rattle.std.specs.List.{flat_map}
 use Rattle.aw_term.specs.Views.{ground_of}
-use Rattle.aw_wire.specs.Grounds.{spelled_ground}
+use Rattle.aw_codec.specs.Grounds.{spelled_ground}
 use Rattle.aw_journal.specs.Lengths.{capped}
 use Rattle.aw_journal.proofs.lengths.+counting.Given as goal
 

@@ -1,4 +1,4 @@
-use Rattle.aw_wire.specs.Names.{spelled_ref}
+use Rattle.aw_codec.specs.Names.{spelled_ref}
 use Rattle.aw_journal.proofs.Counts.{counted_more}
 use Rattle.aw_journal.proofs.lengths.refs_len.Goals as goal
 

@@ -1,6 +1,6 @@
 use Rattle.std.proofs.Common.{◌≡◌, ◌+◌, length, take}
 use Rattle.std.specs.List.{flat_map}
-use Rattle.aw_wire.specs.Names.{spelled_ref}
+use Rattle.aw_codec.specs.Names.{spelled_ref}
 use Rattle.aw_journal.specs.Lengths.{capped}
 use Rattle.aw_journal.proofs.lengths.refs_len.Given as goal
 

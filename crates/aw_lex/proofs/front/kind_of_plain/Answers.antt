@@ -1,5 +1,5 @@
 use Rattle.std.proofs.Common.{sym}
-use Rattle.aw_text.proofs.NodeNames.{plain_is_no_node}
+use Rattle.aw_spelling.proofs.NodeNames.{plain_is_no_node}
 use Rattle.aw_lex.proofs.Words.{no_kind}
 use Rattle.aw_lex.proofs.front.kind_of_plain.Goals as goal
 

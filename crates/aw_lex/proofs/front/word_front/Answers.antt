@@ -1,6 +1,6 @@
 use Rattle.std.proofs.Common.{◌≡◌, ◌+◌, ◌∙◌, ℕ, List, drop, sym, ap, arith, Some, None}
 use Rattle.std.specs.List.{prefix_len}
-use Rattle.aw_text.specs.Spelling.{is_name_byte}
+use Rattle.aw_spelling.specs.Spelling.{is_name_byte}
 use Rattle.aw_lex.specs.Tokens.{is_word_byte, word_len}
 use Rattle.aw_lex.proofs.Words.{past_name, kept_prefix, cut_word}
 use Rattle.aw_lex.proofs.front.word_front.Goals as goal

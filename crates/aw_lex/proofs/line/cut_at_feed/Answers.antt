@@ -1,6 +1,6 @@
 use Rattle.std.proofs.Common.{◌≡◌, ◌∙◌, sym, ap, add-one, option_map, Some, drop, suc}
 use Rattle.std.proofs.lemmas.List.{drop-drop}
-use Rattle.aw_text.proofs.Cuts.{round, cut_by_place}
+use Rattle.aw_spelling.proofs.Cuts.{round, cut_by_place}
 use Rattle.aw_lex.proofs.line.cut_at_feed.Goals as goal
 
 pub returns-clause-value : goal.returns-clause-value

@@ -1,5 +1,5 @@
 use Rattle.std.proofs.Common.{arith}
-use Rattle.aw_wire.proofs.Placing.{finds, is_found}
+use Rattle.aw_codec.proofs.Placing.{finds, is_found}
 use Rattle.aw_msg.proofs.MessageLaws.{message_law}
 use Rattle.aw_msg.proofs.decoding.decode.Goals as goal
 

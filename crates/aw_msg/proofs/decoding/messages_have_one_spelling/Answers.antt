@@ -1,5 +1,5 @@
-use Rattle.aw_wire.proofs.Laws.{reads_spelled, spelled_if_read, none_begins_another}
-use Rattle.aw_wire.proofs.Cuts.{cut_short}
+use Rattle.aw_codec.proofs.Laws.{reads_spelled, spelled_if_read, none_begins_another}
+use Rattle.aw_codec.proofs.Cuts.{cut_short}
 use Rattle.aw_msg.proofs.MessageLaws.{message_law}
 use Rattle.aw_msg.proofs.MessageExtends.{message_extends}
 use Rattle.aw_msg.proofs.decoding.messages_have_one_spelling.Goals as goal

@@ -1,6 +1,6 @@
 use Rattle.std.proofs.lemmas.Result.{err_from_is_err_and}
-use Rattle.aw_wire.specs.Reading.{times}
-use Rattle.aw_wire.proofs.Loop.{goes_on, ends, is_done}
+use Rattle.aw_codec.specs.Reading.{times}
+use Rattle.aw_codec.proofs.Loop.{goes_on, ends, is_done}
 use Rattle.aw_msg.specs.Messages.{equation}
 use Rattle.aw_msg.proofs.equations.some_equations_at.Goals as goal
 

@@ -1,6 +1,6 @@
 use Rattle.std.proofs.Common.{◌≡◌, ◌-◌}
-use Rattle.aw_wire.specs.Reading.{times}
-use Rattle.aw_wire.proofs.Loop.{with_front}
+use Rattle.aw_codec.specs.Reading.{times}
+use Rattle.aw_codec.proofs.Loop.{with_front}
 use Rattle.aw_msg.specs.Messages.{equation}
 use Rattle.aw_msg.proofs.equations.some_equations_at.Given as goal
 

@@ -2,8 +2,8 @@ use Rattle.std.proofs.Common.{◌++◌, ◌∷◌, [], sym, ap, ◌∙◌}
 use Rattle.std.proofs.lemmas.Result.{on_ok_weaker, on_err_weaker}
 use Rattle.aw_list.proofs.Fronts.{behind}
 use Rattle.aw_store.specs.EquationView.{body_of}
-use Rattle.aw_wire.specs.Names.{spelled_ref}
-use Rattle.aw_wire.proofs.Adding.{two}
+use Rattle.aw_codec.specs.Names.{spelled_ref}
+use Rattle.aw_codec.proofs.Adding.{two}
 use Rattle.aw_msg.specs.Spelling.{spelled_body}
 use Rattle.aw_msg.proofs.writing.add_body.Goals as goal
 

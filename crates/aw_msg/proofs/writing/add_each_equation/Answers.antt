@@ -3,7 +3,7 @@ use Rattle.std.proofs.lemmas.List.{take_all}
 use Rattle.std.specs.List.{flat_map}
 use Rattle.std.proofs.lemmas.List.Folds.{flat_map-map}
 use Rattle.aw_store.specs.EquationView.{equation_of}
-use Rattle.aw_wire.proofs.Adding.{one_more, each_at, each_more_seen}
+use Rattle.aw_codec.proofs.Adding.{one_more, each_at, each_more_seen}
 use Rattle.aw_msg.specs.Spelling.{spelled_equation}
 use Rattle.aw_msg.specs.MessageRanges.{EquationSized, EquationInRange}
 use Rattle.aw_msg.proofs.writing.add_each_equation.Goals as goal

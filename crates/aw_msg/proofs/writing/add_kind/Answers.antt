@@ -3,8 +3,8 @@ use Rattle.std.specs.Int.{w16, to_be_bytes}
 use Rattle.std.proofs.lemmas.Result.{on_ok_weaker, on_err_weaker}
 use Rattle.aw_list.proofs.Fronts.{behind, on_err_held}
 use Rattle.aw_store.specs.EquationView.{equation_of}
-use Rattle.aw_wire.specs.Names.{spelled_node, spelled_ref, spelled_refs}
-use Rattle.aw_wire.proofs.Adding.{two}
+use Rattle.aw_codec.specs.Names.{spelled_node, spelled_ref, spelled_refs}
+use Rattle.aw_codec.proofs.Adding.{two}
 use Rattle.aw_msg.specs.Spelling.{spelled_equation, spelled_load, spelled_kind}
 use Rattle.aw_msg.specs.MessageView.{plain_kind}
 use Rattle.aw_msg.proofs.writing.add_kind.Goals as goal

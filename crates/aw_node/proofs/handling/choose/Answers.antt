@@ -4,8 +4,8 @@ use Rattle.aw_choice.specs.ChoiceView.{choice_of}
 use Rattle.aw_grammar.specs.GrammarOf.{grammar_of}
 use Rattle.aw_typed.specs.TypeFaults.{arg_ok}
 use Rattle.aw_typed.specs.Typing.{types_of}
-use Rattle.aw_react.specs.Homes.{home}
-use Rattle.aw_react.specs.Worlds.{node_of}
+use Rattle.aw_law_sites.specs.Homes.{home}
+use Rattle.aw_law_sites.specs.Worlds.{node_of}
 use Rattle.aw_node.specs.TypedNodes.{rules_of}
 use Rattle.aw_node.proofs.Choices.{choice-taken}
 use Rattle.aw_node.proofs.handling.choose.Goals as goal

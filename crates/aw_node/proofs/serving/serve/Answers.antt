@@ -1,5 +1,5 @@
 use Rattle.std.proofs.Common.{true, arith}
-use Rattle.aw_react.specs.Sites.{empty_site}
+use Rattle.aw_law_sites.specs.Sites.{empty_site}
 use Rattle.aw_node.proofs.SiteReplies.{few_roles}
 use Rattle.aw_node.proofs.serving.serve.Goals as goal
 

@@ -1,6 +1,6 @@
 use Rattle.std.proofs.Common.{Some, length, map, ap, sym, ◌∙◌, arith}
 use Rattle.aw_choice.specs.ChoiceView.{item_of}
-use Rattle.aw_nodes.specs.Nodes as N
+use Rattle.aw_law_nodes.specs.Nodes as N
 use Rattle.aw_node.proofs.SiteReplies.{at_some, at_none}
 use Rattle.aw_node.proofs.sites.item_at.Goals as goal
 

@@ -1,6 +1,6 @@
 use Rattle.std.proofs.Common.{◌≡◌, ◌++◌, map, take, drop, arith, ap, ◌∙◌}
 use Rattle.aw_term.specs.Configs.{Row}
-use Rattle.aw_rows.specs.RowView.{config_of}
+use Rattle.aw_plain_rows.specs.RowView.{config_of}
 use Rattle.aw_plain.specs.Changes.{row_taken, changed}
 use Rattle.aw_plain.proofs.TouchLemmas.{stay_in_front, stay_behind}
 use Rattle.aw_plain.proofs.change.changes.Goals as goal

@@ -2,7 +2,7 @@ use Rattle.std.proofs.Common.{◌+◌, ap, subst, sym, ◌∙◌}
 use Rattle.std.specs.Prelude.{option_map}
 use Rattle.aw_term.specs.Configs.{Row}
 use Rattle.aw_term.specs.Choices.{or_same}
-use Rattle.aw_rows.specs.RowView.{plain_row}
+use Rattle.aw_plain_rows.specs.RowView.{plain_row}
 use Rattle.aw_plain.specs.Changes.{row_taken, IsChangedTo}
 use Rattle.aw_plain.proofs.ChangeLemmas.{change_some, change_none}
 use Rattle.aw_plain.proofs.change.push_change.Goals as goal

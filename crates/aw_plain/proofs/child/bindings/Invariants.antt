@@ -2,7 +2,7 @@ use Rattle.std.proofs.Common.{◌≡◌, ◌+◌, ◌++◌, map, drop}
 use Rattle.aw_term.specs.Configs.{child_holes, env as plain_env}
 use Rattle.aw_term.specs.Views.{ground_of}
 use Rattle.aw_grammar.specs.GrammarView.{child_of, rule_of}
-use Rattle.aw_rows.specs.TreeView.{values_of}
+use Rattle.aw_plain_rows.specs.TreeView.{values_of}
 use Rattle.aw_plain.proofs.child.bindings.Given as goal
 
 abbrev pub invariant-loop-i : goal.invariant-loop-i

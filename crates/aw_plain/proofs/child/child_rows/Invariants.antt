@@ -1,8 +1,8 @@
 use Rattle.std.proofs.Common.{◌≡◌, ◌+◌, ◌++◌, map, drop}
 use Rattle.aw_term.specs.Configs.{child_rows as plain_child_rows}
 use Rattle.aw_grammar.specs.GrammarView.{child_of, rule_of}
-use Rattle.aw_rows.specs.TreeView.{values_of}
-use Rattle.aw_rows.specs.RowView.{config_of}
+use Rattle.aw_plain_rows.specs.TreeView.{values_of}
+use Rattle.aw_plain_rows.specs.RowView.{config_of}
 use Rattle.aw_plain.proofs.child.child_rows.Given as goal
 
 abbrev pub invariant-loop-i : goal.invariant-loop-i

@@ -2,10 +2,10 @@ use Rattle.std.proofs.Common.{length, map, ap, subst, sym, ◌∙◌}
 use Rattle.aw_term.specs.Configs.{Done, fill, put, child_rows, env}
 use Rattle.aw_term.specs.Views.{ground_of, term_of}
 use Rattle.aw_grammar.specs.GrammarView.{rule_of}
-use Rattle.aw_rows.specs.TreeView.{values_of}
-use Rattle.aw_rows.specs.RowView.{config_of}
+use Rattle.aw_plain_rows.specs.TreeView.{values_of}
+use Rattle.aw_plain_rows.specs.RowView.{config_of}
 use Rattle.aw_plain.specs.Cases.{AreApart}
-use Rattle.aw_rows.specs.Rounds.{row_fed}
+use Rattle.aw_plain_rows.specs.Rounds.{row_fed}
 use Rattle.aw_plain.specs.Changes.{row_after, changed}
 use Rattle.aw_plain.specs.Ordered.{IsOrdered}
 use Rattle.aw_plain.proofs.ChangeLemmas.{developed}

@@ -1,8 +1,8 @@
 use Rattle.std.proofs.Common.{◌≡◌, ◌++◌, map}
 use Rattle.std.specs.Vec.Iter.{into_iter_items}
-use Rattle.aw_rows.specs.TreeView.{values_of}
-use Rattle.aw_rows.specs.RowView.{config_of}
-use Rattle.aw_rows.specs.Rounds.{row_fed}
+use Rattle.aw_plain_rows.specs.TreeView.{values_of}
+use Rattle.aw_plain_rows.specs.RowView.{config_of}
+use Rattle.aw_plain_rows.specs.Rounds.{row_fed}
 use Rattle.aw_plain.proofs.develop.put_each.Given as goal
 
 abbrev pub invariant-loop-row : goal.invariant-loop-row

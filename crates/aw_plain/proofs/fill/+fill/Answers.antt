@@ -2,8 +2,8 @@ use Rattle.std.proofs.Common.{◌∙◌, ap}
 use Rattle.std.proofs.lemmas.Result.{IfOk-weaker}
 use Rattle.aw_term.specs.Trees.{Made, join}
 use Rattle.aw_term.specs.Trees as P
-use Rattle.aw_rows.specs.declared.tree.Tree.{Tree}
-use Rattle.aw_rows.specs.TreeView.{values_of}
+use Rattle.aw_plain_rows.specs.declared.tree.Tree.{Tree}
+use Rattle.aw_plain_rows.specs.TreeView.{values_of}
 use Rattle.aw_plain.proofs.FillLemmas.{fill_con}
 use Rattle.aw_plain.proofs.fill.+fill.Goals as goal
 

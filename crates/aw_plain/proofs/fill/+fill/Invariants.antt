@@ -1,7 +1,7 @@
 use Rattle.std.proofs.Common.{◌≡◌, map, take}
 use Rattle.aw_term.specs.Configs.{fill as plain_fill}
 use Rattle.aw_term.specs.Views.{term_of}
-use Rattle.aw_rows.specs.TreeView.{values_of}
+use Rattle.aw_plain_rows.specs.TreeView.{values_of}
 use Rattle.aw_plain.proofs.fill.+fill.Given as goal
 
 abbrev pub invariant-fill_all-loop-expr : goal.invariant-fill_all-loop-expr

@@ -1,7 +1,7 @@
 use Rattle.std.proofs.Common.{◌≡◌, map, take}
 use Rattle.aw_term.specs.Configs.{lift as plain_lift}
 use Rattle.aw_term.specs.Views.{ground_of}
-use Rattle.aw_rows.specs.TreeView.{values_of}
+use Rattle.aw_plain_rows.specs.TreeView.{values_of}
 use Rattle.aw_plain.proofs.fill.+lift.Given as goal
 
 abbrev pub invariant-lift_all-loop-ground : goal.invariant-lift_all-loop-ground

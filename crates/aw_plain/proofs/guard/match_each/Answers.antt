@@ -2,7 +2,7 @@ use Rattle.std.proofs.Common.{◌≡◌, ◌+◌, ◌<◌, length, ap, sym, ◌�
 use Rattle.aw_term.specs.Matching.{Yes, Differs, and_then, match}
 use Rattle.aw_term.specs.Views.{pattern_of}
 use Rattle.aw_choice.specs.ChoiceView.{path_of}
-use Rattle.aw_rows.specs.TreeView.{value_of, values_of}
+use Rattle.aw_plain_rows.specs.TreeView.{value_of, values_of}
 use Rattle.aw_plain.specs.MatchView.{matched_of}
 use Rattle.aw_plain.proofs.MatchLemmas.{more_taken}
 use Rattle.aw_plain.proofs.GuardLemmas.{guard_from, guard_step}

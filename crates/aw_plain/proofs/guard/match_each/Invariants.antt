@@ -1,6 +1,6 @@
 use Rattle.std.proofs.Common.{◌≡◌, ◌+◌}
 use Rattle.aw_term.specs.Matching.{Yes, and_then}
-use Rattle.aw_rows.specs.TreeView.{values_of}
+use Rattle.aw_plain_rows.specs.TreeView.{values_of}
 use Rattle.aw_plain.proofs.GuardLemmas.{guard_from}
 use Rattle.aw_plain.proofs.guard.match_each.Given as goal
 

@@ -6,8 +6,8 @@ use Rattle.aw_term.specs.Views.{pattern_of}
 use Rattle.aw_choice.specs.ChoiceView.{path_of}
 use Rattle.std.specs.declared.vec.Vec.{Vec}
 use Rattle.std.specs.declared.alloc.Global.{Global}
-use Rattle.aw_rows.specs.declared.tree.Tree.{Tree}
-use Rattle.aw_rows.specs.TreeView.{value_of, values_of}
+use Rattle.aw_plain_rows.specs.declared.tree.Tree.{Tree}
+use Rattle.aw_plain_rows.specs.TreeView.{value_of, values_of}
 use Rattle.aw_plain.specs.MatchView.{matched_of, behind}
 use Rattle.aw_plain.specs.declared.matching.Matched.{Matched}
 use Rattle.aw_term.proofs.Joined.{symbols_at, nesting_at}

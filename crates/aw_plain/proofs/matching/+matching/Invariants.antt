@@ -4,7 +4,7 @@ use Rattle.aw_term.specs.Matching.{Yes, and_then}
 use Rattle.aw_term.specs.WellFormed.{symbols, all_symbols}
 use Rattle.aw_term.specs.Views.{pattern_of}
 use Rattle.aw_choice.specs.ChoiceView.{path_of}
-use Rattle.aw_rows.specs.TreeView.{values_of}
+use Rattle.aw_plain_rows.specs.TreeView.{values_of}
 use Rattle.aw_plain.specs.MatchView.{behind}
 use Rattle.aw_plain.proofs.MatchLemmas.{from}
 use Rattle.aw_plain.proofs.matching.+matching.Given as goal

@@ -6,7 +6,7 @@ use Rattle.aw_term.specs.Matching.{match}
 use Rattle.aw_term.specs.Views.{pattern_of}
 use Rattle.aw_term.specs.declared.term.Pattern as pattern
 use Rattle.aw_choice.specs.ChoiceView.{path_of}
-use Rattle.aw_rows.specs.TreeView.{value_of}
+use Rattle.aw_plain_rows.specs.TreeView.{value_of}
 use Rattle.aw_plain.specs.MatchView.{behind}
 use Rattle.aw_plain.specs.declared.matching.Matched.{Matched}
 use Rattle.aw_plain.proofs.matching.match_lit.Goals as goal

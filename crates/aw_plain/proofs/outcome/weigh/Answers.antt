@@ -7,8 +7,8 @@ use Rattle.aw_term.specs.Views.{ground_of}
 use Rattle.aw_term.specs.WellFormed.{takes_of}
 use Rattle.aw_grammar.specs.GrammarOf.{grammar_of}
 use Rattle.aw_plain.specs.declared.outcome.Outcome.{Outcome}
-use Rattle.aw_rows.specs.TreeView.{value_of}
-use Rattle.aw_rows.specs.RowView.{plain_row, config_of}
+use Rattle.aw_plain_rows.specs.TreeView.{value_of}
+use Rattle.aw_plain_rows.specs.RowView.{plain_row, config_of}
 use Rattle.aw_plain.specs.Filled.{IsFilled}
 use Rattle.aw_grammar.proofs.RuleSizes.{patterns_shallow, patterns_few, patterns_taken}
 use Rattle.aw_plain.proofs.FitLemmas.{patterns_narrow}

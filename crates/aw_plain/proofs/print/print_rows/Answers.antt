@@ -1,7 +1,7 @@
 use Rattle.std.proofs.Common.{◌+◌, drop, rules}
 use Rattle.aw_term.specs.Artifacts.{row_text, artifact_text}
 use Rattle.aw_grammar.specs.GrammarOf.{words_of}
-use Rattle.aw_rows.specs.RowView.{plain_row, config_of}
+use Rattle.aw_plain_rows.specs.RowView.{plain_row, config_of}
 use Rattle.aw_plain.proofs.LineLemmas.{lines_more, then_prints, stops, no_lines}
 use Rattle.aw_plain.proofs.print.print_rows.Goals as goal
 

@@ -3,7 +3,7 @@ use Rattle.aw_term.specs.Artifacts.{artifact_text}
 use Rattle.aw_grammar.specs.GrammarOf.{words_of}
 use Rattle.aw_out.specs.Report.{Bounded, Prints}
 use Rattle.aw_out.specs.declared.error.PrintFault.{PrintFault}
-use Rattle.aw_rows.specs.RowView.{config_of}
+use Rattle.aw_plain_rows.specs.RowView.{config_of}
 use Rattle.aw_plain.proofs.print.print_rows.Given as goal
 
 abbrev pub invariant-loop-row : goal.invariant-loop-row

@@ -1,7 +1,7 @@
 use Rattle.std.proofs.Common.{◌≡◌, ◌+◌, ◌-◌, ◌<◌, ◌++◌, length, drop, codes, ap, sym, ◌∙◌, arith, append_assoc}
 use Rattle.std.proofs.lemmas.List.{at_drop_more}
 use Rattle.aw_term.specs.Artifacts.{value_text}
-use Rattle.aw_rows.specs.Places.{places, places_of_all}
+use Rattle.aw_plain_rows.specs.Places.{places, places_of_all}
 use Rattle.aw_plain.specs.Pieces.{text_of, texts_under, following, pending, pieces_work}
 use Rattle.aw_plain.proofs.PrintLemmas.{pending_push, work_more, following_more, places_copied}
 use Rattle.aw_plain.proofs.print.push_following.Goals as goal

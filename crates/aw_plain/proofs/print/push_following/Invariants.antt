@@ -1,6 +1,6 @@
 use Rattle.std.proofs.Common.{◌≡◌, ◌+◌, ◌*◌, ◌≤◌, ◌++◌, drop, length}
 use Rattle.aw_term.specs.Artifacts.{Words}
-use Rattle.aw_rows.specs.Places.{places_of_all}
+use Rattle.aw_plain_rows.specs.Places.{places_of_all}
 use Rattle.aw_plain.specs.Pieces.{texts_under, following, pending, pieces_work}
 use Rattle.aw_plain.proofs.print.push_following.Given as goal
 

@@ -1,7 +1,7 @@
 use Rattle.std.proofs.Common.{◌++◌, drop, ap, sym, ◌∙◌, arith, append_assoc}
 use Rattle.std.proofs.lemmas.List.{at_drop_more}
 use Rattle.aw_term.specs.Artifacts.{value_text}
-use Rattle.aw_rows.specs.Places.{places, places_of_all}
+use Rattle.aw_plain_rows.specs.Places.{places, places_of_all}
 use Rattle.aw_plain.specs.Pieces.{text_of, texts_under, following, pending, pieces_work}
 use Rattle.aw_base.proofs.TextLemmas.{all_behind}
 use Rattle.aw_plain.proofs.PrintLemmas.{pending_push, work_more, listed_split, places_copied}

@@ -2,7 +2,7 @@ use Rattle.std.proofs.Common.{◌≡◌, refl, true, false, ◌++◌, codes, ap,
 use Rattle.std.proofs.lemmas.Result.{on_ok_weaker}
 use Rattle.std.specs.declared.vec.Vec.{Vec}
 use Rattle.std.specs.declared.alloc.Global.{Global}
-use Rattle.aw_rows.specs.declared.tree.Tree.{Tree}
+use Rattle.aw_plain_rows.specs.declared.tree.Tree.{Tree}
 use Rattle.aw_grammar.specs.GrammarOf.{words_of}
 use Rattle.aw_plain.proofs.PrintLemmas.{opening_none, opening_some}
 use Rattle.aw_plain.proofs.print.push_opening.Goals as goal

@@ -2,12 +2,12 @@ use Rattle.std.proofs.Common.{◌≡◌, refl, true, false, ◌++◌, ap, sym, �
 use Rattle.std.proofs.lemmas.Result.{on_ok_weaker}
 use Rattle.std.specs.declared.vec.Vec.{Vec}
 use Rattle.std.specs.declared.alloc.Global.{Global}
-use Rattle.aw_rows.specs.declared.tree.Tree.{Tree}
+use Rattle.aw_plain_rows.specs.declared.tree.Tree.{Tree}
 use Rattle.aw_term.specs.Artifacts.{listed}
-use Rattle.aw_rows.specs.TreeView.{value_of}
-use Rattle.aw_rows.specs.Places.{places_of_all}
+use Rattle.aw_plain_rows.specs.TreeView.{value_of}
+use Rattle.aw_plain_rows.specs.Places.{places_of_all}
 use Rattle.aw_plain.specs.Pieces.{opening, texts_under, pending, pieces_work}
-use Rattle.aw_rows.proofs.Counts.{places_made}
+use Rattle.aw_plain_rows.proofs.Counts.{places_made}
 use Rattle.aw_plain.proofs.PrintLemmas.{pending_push, work_more, text_none, opened}
 use Rattle.aw_plain.proofs.print.push_parts.Goals as goal
 

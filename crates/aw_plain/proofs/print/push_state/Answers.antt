@@ -3,7 +3,7 @@ use Rattle.std.proofs.lemmas.Result.{on_ok_weaker}
 use Rattle.aw_term.specs.Artifacts.{state_text}
 use Rattle.aw_term.specs.Views.{ground_of}
 use Rattle.aw_grammar.specs.GrammarOf.{words_of}
-use Rattle.aw_rows.specs.RowView.{plain_state}
+use Rattle.aw_plain_rows.specs.RowView.{plain_state}
 use Rattle.aw_plain.specs.Pieces.{arguments, pending}
 use Rattle.aw_plain.proofs.LineLemmas.{done_line}
 use Rattle.aw_plain.proofs.print.push_state.Goals as goal

@@ -1,7 +1,7 @@
 use Rattle.std.proofs.Common.{rules, subst, sym, ap, ◌∙◌}
 use Rattle.std.specs.Vec.Iter.{into_iter_items}
 use Rattle.aw_term.specs.Configs.{insert_rows}
-use Rattle.aw_rows.specs.RowView.{plain_row, config_of}
+use Rattle.aw_plain_rows.specs.RowView.{plain_row, config_of}
 use Rattle.aw_plain.specs.Ordered.{IsOrdered}
 use Rattle.aw_term.proofs.ByNodeLemmas.{ordered_inserted}
 use Rattle.aw_plain.proofs.OrderedLemmas.{at_row}

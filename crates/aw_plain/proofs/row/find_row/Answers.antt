@@ -2,9 +2,9 @@ use Rattle.std.proofs.Common.{rules, refl, ◌∙◌, sym, length}
 use Rattle.std.proofs.lemmas.List.Sorted.{IsPartitionPoint-from_clause}
 use Rattle.std.proofs.lemmas.Option.{slice_get_read, slice_get_past}
 use Rattle.aw_term.specs.Names.{node_lt}
-use Rattle.aw_rows.specs.declared.row.Row.{Row}
+use Rattle.aw_plain_rows.specs.declared.row.Row.{Row}
 use Rattle.aw_term.proofs.ByNodeLemmas.{before_first, found_here, found_nowhere, other_here, nothing_here}
-use Rattle.aw_rows.specs.RowView.{plain_row}
+use Rattle.aw_plain_rows.specs.RowView.{plain_row}
 use Rattle.aw_plain.proofs.OrderedLemmas.{at_row}
 use Rattle.aw_plain.proofs.row.find_row.Goals as goal
 use Rattle.aw_plain.proofs.row.find_row.Goals.{in_default-via-in-Some+else-is_node, in_default-via-in_default}

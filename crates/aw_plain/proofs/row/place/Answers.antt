@@ -2,9 +2,9 @@ use Rattle.std.proofs.Common.{rules}
 use Rattle.std.specs.Prelude.{not}
 use Rattle.std.proofs.lemmas.List.Sorted.{IsPartitionPoint-from_clause}
 use Rattle.aw_term.specs.Names.{node_lt}
-use Rattle.aw_rows.specs.declared.row.Row.{Row}
+use Rattle.aw_plain_rows.specs.declared.row.Row.{Row}
 use Rattle.aw_term.proofs.ByNodeLemmas.{after_last, inserted_at}
-use Rattle.aw_rows.specs.RowView.{plain_row}
+use Rattle.aw_plain_rows.specs.RowView.{plain_row}
 use Rattle.aw_plain.proofs.OrderedLemmas.{at_row}
 use Rattle.aw_plain.proofs.row.place.Goals as goal
 

@@ -2,7 +2,7 @@ use Rattle.std.proofs.Common.{rules}
 use Rattle.std.specs.Prelude.{not}
 use Rattle.std.proofs.lemmas.List.Sorted.{IsPartitionPoint-from_clause}
 use Rattle.aw_plain.specs.Cases.{case_lt}
-use Rattle.aw_rows.specs.declared.row.Row.{Row}
+use Rattle.aw_plain_rows.specs.declared.row.Row.{Row}
 use Rattle.aw_plain.proofs.CaseOrder.{case_order}
 use Rattle.aw_plain.proofs.TouchLemmas.{case_starts, case_ends, order_of_ends, outside_case}
 use Rattle.aw_plain.proofs.touch.rows_of_case.Goals as goal

@@ -2,10 +2,10 @@ use Rattle.std.proofs.Common.{rules}
 use Rattle.std.specs.Prelude.{not}
 use Rattle.std.proofs.lemmas.List.Sorted.{IsPartitionPoint-from_clause}
 use Rattle.aw_term.specs.Names.{node_lt}
-use Rattle.aw_rows.specs.declared.row.Row.{Row}
+use Rattle.aw_plain_rows.specs.declared.row.Row.{Row}
 use Rattle.aw_term.proofs.NodeOrder.{node_order}
 use Rattle.aw_term.proofs.ByNodeLemmas.{before_first, after_last}
-use Rattle.aw_rows.specs.RowView.{plain_row}
+use Rattle.aw_plain_rows.specs.RowView.{plain_row}
 use Rattle.aw_plain.proofs.OrderedLemmas.{at_row}
 use Rattle.aw_plain.proofs.TouchLemmas.{order_of_ends, outside_node}
 use Rattle.aw_plain.proofs.touch.rows_of_node.Goals as goal

@@ -1,8 +1,8 @@
 use Rattle.std.proofs.Common.{sym, ◌∙◌}
 use Rattle.std.proofs.lemmas.Bool.{eqb-true}
 use Rattle.std.proofs.lemmas.List.{length-map}
-use Rattle.aw_rows.specs.TreeView.{value_of, values_of}
-use Rattle.aw_rows.specs.RowView.{config_of}
+use Rattle.aw_plain_rows.specs.TreeView.{value_of, values_of}
+use Rattle.aw_plain_rows.specs.RowView.{config_of}
 use Rattle.aw_plain.proofs.TouchLemmas.{untouched_by_none, untouched_cases}
 use Rattle.aw_plain.proofs.touch.touched.Goals as goal
 

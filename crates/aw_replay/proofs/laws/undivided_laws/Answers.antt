@@ -2,7 +2,7 @@ use Rattle.std.proofs.Common.{◌≡◌, true, false, refl, ◌∙◌}
 use Rattle.aw_term.specs.Choices.{Choice}
 use Rattle.aw_term.proofs.Eaches.{each_map}
 use Rattle.aw_base.specs.ChoiceFits.{choice_ok}
-use Rattle.aw_react.specs.Laws.{IsAccepted}
+use Rattle.aw_law_sites.specs.Laws.{IsAccepted}
 use Rattle.aw_replay.specs.United.{united, united_words}
 use Rattle.aw_replay.proofs.laws.undivided_laws.Goals as goal
 

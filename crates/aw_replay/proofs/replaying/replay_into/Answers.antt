@@ -3,10 +3,10 @@ use Rattle.aw_accept.specs.declared.accepted.Accepted.{Accepted}
 use Rattle.aw_grammar.specs.GrammarOf.{grammar_of, words_of}
 use Rattle.aw_out.specs.Report.{Prints}
 use Rattle.aw_out.proofs.Printing.{Prints-second}
-use Rattle.aw_react.specs.Worlds as V
+use Rattle.aw_law_sites.specs.Worlds as V
 use Rattle.aw_sched.specs.Answers.{event_seen}
-use Rattle.aw_react.specs.Outputs.{after_events, all_moves, ending}
-use Rattle.aw_merge.proofs.Headlining.{events_run}
+use Rattle.aw_law_sites.specs.Outputs.{after_events, all_moves, ending}
+use Rattle.aw_law_worlds.proofs.Headlining.{events_run}
 use Rattle.aw_world.specs.Shown.{Shows}
 use Rattle.aw_world.proofs.Pairings.{on_err}
 use Rattle.aw_world.proofs.Lines.{stops}

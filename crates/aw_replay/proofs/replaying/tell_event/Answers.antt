@@ -1,12 +1,12 @@
 use Rattle.std.proofs.Common.{ℕ, take, ap, sym, ◌∙◌, subst}
 use Rattle.aw_grammar.specs.GrammarOf.{grammar_of}
-use Rattle.aw_react.specs.Worlds as V
+use Rattle.aw_law_sites.specs.Worlds as V
 use Rattle.aw_sched.specs.Answers.{event_seen}
 use Rattle.aw_world.specs.Shown.{Shows}
 use Rattle.aw_world.proofs.Pairings.{on_err}
-use Rattle.aw_react.specs.Outputs.{moves_of}
+use Rattle.aw_law_sites.specs.Outputs.{moves_of}
 use Rattle.aw_replay.proofs.Events.{all_taken}
-use Rattle.aw_merge.proofs.Headlining.{event_runs}
+use Rattle.aw_law_worlds.proofs.Headlining.{event_runs}
 use Rattle.aw_replay.proofs.replaying.tell_event.Goals as goal
 
 pub returns-clause-some : goal.returns-clause-some

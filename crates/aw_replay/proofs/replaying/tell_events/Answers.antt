@@ -4,11 +4,11 @@ use Rattle.aw_accept.specs.declared.accepted.Accepted.{Accepted}
 use Rattle.aw_grammar.specs.GrammarOf.{grammar_of, words_of}
 use Rattle.aw_out.specs.Report.{Prints}
 use Rattle.aw_out.proofs.Printing.{Prints-second, Prints-nothing}
-use Rattle.aw_react.specs.Worlds as V
+use Rattle.aw_law_sites.specs.Worlds as V
 use Rattle.aw_sched.specs.Answers.{event_seen, MayCome}
 use Rattle.aw_sched.specs.declared.event.Event.{Event}
 use Rattle.aw_world.specs.Shown.{Shows}
-use Rattle.aw_react.specs.Outputs.{after_event, after_events, event_lines, all_lines, moves_of, all_moves}
+use Rattle.aw_law_sites.specs.Outputs.{after_event, after_events, event_lines, all_lines, moves_of, all_moves}
 use Rattle.aw_replay.proofs.Events.{each_here, events_more, lines_drop, some_before}
 use Rattle.aw_world.proofs.Lines.{stops}
 use Rattle.aw_world.proofs.Pairings.{on_err}

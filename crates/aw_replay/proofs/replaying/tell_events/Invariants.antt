@@ -3,10 +3,10 @@ use Rattle.std.specs.declared.result.Result.{Result}
 use Rattle.aw_grammar.specs.GrammarOf.{grammar_of, words_of}
 use Rattle.aw_out.specs.declared.error.PrintFault.{PrintFault}
 use Rattle.aw_out.specs.Report.{Bounded, Prints}
-use Rattle.aw_react.specs.Worlds as V
+use Rattle.aw_law_sites.specs.Worlds as V
 use Rattle.aw_sched.specs.Answers.{event_seen}
 use Rattle.aw_world.specs.Shown.{Shows}
-use Rattle.aw_react.specs.Outputs.{after_events, all_lines}
+use Rattle.aw_law_sites.specs.Outputs.{after_events, all_lines}
 use Rattle.aw_replay.proofs.replaying.tell_events.Given as goal
 
 -- the world is that after the events so far, and whatever prints what is left from here on has printed the whole

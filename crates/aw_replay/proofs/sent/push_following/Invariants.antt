@@ -1,6 +1,6 @@
 use Rattle.std.proofs.Common.{◌≡◌, ◌++◌, take, codes, flat_map}
 use Rattle.aw_grammar.specs.GrammarOf.{words_of}
-use Rattle.aw_react.specs.Transcripts.{equation_text}
+use Rattle.aw_law_sites.specs.Transcripts.{equation_text}
 use Rattle.aw_store.specs.EquationView.{equation_of}
 use Rattle.aw_replay.proofs.sent.push_following.Given as goal
 

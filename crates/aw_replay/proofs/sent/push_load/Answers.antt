@@ -2,7 +2,7 @@ use Rattle.std.proofs.Common.{◌∙◌, ◌≡◌, ◌++◌, ◌-◌, codes, dr
 use Rattle.std.specs.Prelude.{OnOk}
 use Rattle.aw_grammar.specs.GrammarOf.{words_of}
 use Rattle.aw_store.specs.EquationView.{equation_of}
-use Rattle.aw_react.specs.Transcripts.{equation_text, load_text}
+use Rattle.aw_law_sites.specs.Transcripts.{equation_text, load_text}
 use Rattle.aw_replay.proofs.SentLines.{load_split, all_behind, added_thrice}
 use Rattle.aw_replay.proofs.sent.push_load.Goals as goal
 

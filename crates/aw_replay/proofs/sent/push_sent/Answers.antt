@@ -3,7 +3,7 @@ use Rattle.std.specs.Prelude.{slice_get, option_map}
 use Rattle.std.proofs.lemmas.Option.{slice_get-map, slice_get_read}
 use Rattle.aw_grammar.specs.GrammarOf.{grammar_of, words_of}
 use Rattle.aw_msg.specs.MessageView.{message_of}
-use Rattle.aw_react.specs.Transcripts.{sent_line, sent_lines}
+use Rattle.aw_law_sites.specs.Transcripts.{sent_line, sent_lines}
 use Rattle.aw_replay.proofs.SentLines.{sent_drop}
 use Rattle.aw_replay.proofs.sent.push_sent.Goals as goal
 

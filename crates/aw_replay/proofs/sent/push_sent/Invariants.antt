@@ -1,7 +1,7 @@
 use Rattle.std.proofs.Common.{◌≡◌, ◌++◌, drop, map}
 use Rattle.aw_grammar.specs.GrammarOf.{grammar_of, words_of}
 use Rattle.aw_msg.specs.MessageView.{message_of}
-use Rattle.aw_react.specs.Transcripts.{sent_lines}
+use Rattle.aw_law_sites.specs.Transcripts.{sent_lines}
 use Rattle.aw_replay.proofs.sent.push_sent.Given as goal
 
 -- the lines so far, and those that are left

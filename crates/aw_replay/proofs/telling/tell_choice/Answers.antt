@@ -1,13 +1,14 @@
-use Rattle.std.proofs.Common.{◌++◌, length, map, ap, sym, ◌∙◌}
+use Rattle.std.proofs.Common.{◌++◌, length, map, ap, sym, subst, ◌∙◌}
 use Rattle.std.proofs.lemmas.Result.{on_ok_weaker}
 use Rattle.std.proofs.lemmas.List.{length-map}
 use Rattle.aw_accept.specs.declared.accepted.Accepted.{Accepted}
 use Rattle.aw_grammar.specs.GrammarOf.{grammar_of, words_of}
 use Rattle.aw_choice.specs.ChoiceView.{choice_of}
-use Rattle.aw_react.specs.Worlds as V
-use Rattle.aw_react.specs.Transcripts.{move_lines}
+use Rattle.aw_law_sites.specs.Worlds as V
+use Rattle.aw_law_sites.specs.Transcripts.{move_lines}
 use Rattle.aw_msg.specs.MessageView.{message_of}
 use Rattle.aw_world.specs.MoveView.{reply_of}
+use Rattle.aw_world.specs.Shown.{Shows}
 use Rattle.aw_replay.proofs.LineParts.{told_choice}
 use Rattle.aw_replay.proofs.telling.tell_choice.Goals as goal
 
@@ -22,3 +23,9 @@ returns-clause-text g c = on_ok_weaker c.push_chosen.result (λ e v S.
     (ap length S.messages ∙ length-map w.messages (message_of (grammar_of w.accepted.now.grammar)) ∙ ap length (sym c.messages-before.ensures))
     ∙ ap (λ z. move_lines (words_of w.accepted.now.grammar) v (V.Chooses (choice_of c.get.result.now)) (V.step (grammar_of w.accepted.now.grammar) v (V.Chooses (choice_of z)))) c.in_ok-copy.ensures.cases
     ∙ ap (λ z. move_lines (words_of w.accepted.now.grammar) v (V.Chooses (choice_of z)) (V.step (grammar_of w.accepted.now.grammar) v (V.Chooses (choice_of c.args.choice.now)))) c.get.ensures)) c.push_chosen.ensures.text
+
+pub returns-clause-stepped : goal.returns-clause-stepped
+returns-clause-stepped g c = on_ok_weaker c.push_chosen.result (λ e v S.
+    let w = c.args.world.now in
+    subst (λ z. Shows g.W.Workspace c.step.new.self (V.step (grammar_of w.accepted.now.grammar) v (V.Chooses (choice_of z))).world) c.in_ok-copy.ensures.cases
+    (c.in_ok-reply.ensures.steps v S).world) c.push_chosen.ensures.text

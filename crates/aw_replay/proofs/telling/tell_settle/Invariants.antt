@@ -1,10 +1,10 @@
 use Rattle.std.proofs.Common.{◌≡◌, ◌≤◌, ◌-◌, ◌++◌, map}
 use Rattle.aw_choice.specs.ChoiceView.{choice_of}
 use Rattle.aw_grammar.specs.GrammarOf.{grammar_of, words_of}
-use Rattle.aw_react.specs.Worlds as V
-use Rattle.aw_react.specs.Transcripts.{settle_lines}
-use Rattle.aw_react.specs.Worlds.{count_set}
-use Rattle.aw_react.specs.Bounds.{bound_of}
+use Rattle.aw_law_sites.specs.Worlds as V
+use Rattle.aw_law_sites.specs.Transcripts.{settle_lines}
+use Rattle.aw_law_sites.specs.Worlds.{count_set}
+use Rattle.aw_law_sites.specs.Bounds.{bound_of}
 use Rattle.aw_world.specs.Shown.{Shows}
 use Rattle.aw_replay.proofs.telling.tell_settle.Given as goal
 

@@ -1,7 +1,7 @@
 use Rattle.std.proofs.Common.{◌≡◌, ◌∙◌, sym, ap, subst, Some, []}
 use Rattle.aw_run.specs.Words.{command_of}
 use Rattle.aw_run.specs.declared.words.Command.TheVariants.{Reads, Tries, Serves, Keeps, Carries}
-use Rattle.aw_run.proofs.Endings.{replies-read, replies-node, replies-kept, replies-carried, stops-kept, stops-carried, for-any}
+use Rattle.aw_run.proofs.Endings.{replies-read, replies-node, replies-kept, replies-carried, stops-served, stops-kept, stops-carried, for-any}
 use Rattle.std.proofs.lemmas.Result.{IfOk-weaker}
 use Rattle.aw_run.specs.Promises.{RepliesKeeping}
 use Rattle.aw_run.specs.Replies.{ForInput, around, wired}
@@ -31,6 +31,11 @@ pub returns-in-Serves-clause-reply : goal.returns-in-Serves-clause-reply
 returns-in-Serves-clause-reply g c =
     let spelled : command_of c.args.words.now ≡ Some (Serves c.in-Serves.sessions) = sym c.from_words.ensures ∙ c.in-Some.is ∙ ap Some c.in-Serves.is in
     replies-node c.serve_source.result _ c.args.words.now (around g.W.Wire g.D.Disk c.args.wire.now c.serve_source.new.wire c.args.disk.now c.args.disk.now) _ c.in-Serves.sessions c.role_word.ensures spelled c.serve_source.ensures.reply
+
+pub returns-in-Serves-clause-unserved : goal.returns-in-Serves-clause-unserved
+returns-in-Serves-clause-unserved g c = λ n is.
+    let spelled : command_of c.args.words.now ≡ Some (Serves c.in-Serves.sessions) = sym c.from_words.ensures ∙ c.in-Some.is ∙ ap Some c.in-Serves.is in
+    stops-served c.serve_source.result status_of_stop _ c.args.words.now (wired g.W.Wire c.args.wire.now c.serve_source.new.wire) _ c.in-Serves.sessions n c.role_word.ensures spelled is c.serve_source.ensures.stopped
 
 pub returns-in-Keeps-clause-reply : goal.returns-in-Keeps-clause-reply
 returns-in-Keeps-clause-reply g c =

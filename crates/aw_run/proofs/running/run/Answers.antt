@@ -4,12 +4,13 @@ use Rattle.aw_out.specs.Edge.{Gets}
 use Rattle.aw_run.specs.Replies.{around, wired, ForInput}
 use Rattle.aw_run.specs.Keeping.{StopsKeeping}
 use Rattle.aw_run.specs.Carrying.{StopsCarrying}
+use Rattle.aw_run.specs.Unserved.{StopsServing}
 use Rattle.aw_run.specs.Words.{role_word}
 use Rattle.aw_run.proofs.Endings.{Says-job, Says-cause, Says-complete, Says-kept, Says-kept-node, Says-carried, Says-node, Says-trial, done-said}
 use Rattle.aw_run.proofs.Stops.{journal-stops, never-stops, refused-told, stop-complete}
 use Rattle.aw_run.specs.declared.words.Job.TheVariants.{Tells}
 use Rattle.aw_run.specs.declared.words.Telling.TheVariants.{Undivided, Replayed}
-use Rattle.aw_run.specs.Promises.{PlainIsTyped, ReplayIsTyped, RulesStayEnabled, Settled, StartsStayEnabled, StaysAcyclic, WritesAnyOrder}
+use Rattle.aw_run.specs.Promises.{ArrivalsAnswer, KnowledgeStays, MessagesStayFew, NothingCircles, PlainIsTyped, ReplayIsTyped, RulesStayEnabled, Settled, SitesAnswerAsOne, SitesMerge, StartsStayEnabled, StaysAcyclic, WritesAnyOrder}
 use Rattle.aw_run.proofs.running.run.Goals as goal
 
 pub returns-in-Ok-clause-cause : goal.returns-in-Ok-clause-cause
@@ -55,6 +56,36 @@ returns-in-Ok-clause-any_order g c = λ is done.
     let said = done-said c.in-Ok.reply.status c.deliver.result c.deliver.ensures.status done in
     Says-kept WritesAnyOrder (λ t w h loads es p. p.any_order) (g.S.Source.left c.args.src.now) Replayed c.in-Ok.reply _ (c.in-Ok.ensures.promises (Tells Replayed) is) said (search (rules, done))
 
+pub returns-in-Ok-clause-merged : goal.returns-in-Ok-clause-merged
+returns-in-Ok-clause-merged g c = λ is done.
+    let said = done-said c.in-Ok.reply.status c.deliver.result c.deliver.ensures.status done in
+    Says-kept SitesMerge (λ t w h loads es p. p.merged) (g.S.Source.left c.args.src.now) Replayed c.in-Ok.reply _ (c.in-Ok.ensures.promises (Tells Replayed) is) said (search (rules, done))
+
+pub returns-in-Ok-clause-answers : goal.returns-in-Ok-clause-answers
+returns-in-Ok-clause-answers g c = λ is done.
+    let said = done-said c.in-Ok.reply.status c.deliver.result c.deliver.ensures.status done in
+    Says-kept SitesAnswerAsOne (λ t w h loads es p. p.answers) (g.S.Source.left c.args.src.now) Replayed c.in-Ok.reply _ (c.in-Ok.ensures.promises (Tells Replayed) is) said (search (rules, done))
+
+pub returns-in-Ok-clause-arrived : goal.returns-in-Ok-clause-arrived
+returns-in-Ok-clause-arrived g c = λ is done.
+    let said = done-said c.in-Ok.reply.status c.deliver.result c.deliver.ensures.status done in
+    Says-kept ArrivalsAnswer (λ t w h loads es p. p.arrived) (g.S.Source.left c.args.src.now) Replayed c.in-Ok.reply _ (c.in-Ok.ensures.promises (Tells Replayed) is) said (search (rules, done))
+
+pub returns-in-Ok-clause-stays : goal.returns-in-Ok-clause-stays
+returns-in-Ok-clause-stays g c = λ is done.
+    let said = done-said c.in-Ok.reply.status c.deliver.result c.deliver.ensures.status done in
+    Says-kept KnowledgeStays (λ t w h loads es p. p.stays) (g.S.Source.left c.args.src.now) Replayed c.in-Ok.reply _ (c.in-Ok.ensures.promises (Tells Replayed) is) said (search (rules, done))
+
+pub returns-in-Ok-clause-no_circle : goal.returns-in-Ok-clause-no_circle
+returns-in-Ok-clause-no_circle g c = λ is done.
+    let said = done-said c.in-Ok.reply.status c.deliver.result c.deliver.ensures.status done in
+    Says-kept NothingCircles (λ t w h loads es p. p.no_circle) (g.S.Source.left c.args.src.now) Replayed c.in-Ok.reply _ (c.in-Ok.ensures.promises (Tells Replayed) is) said (search (rules, done))
+
+pub returns-in-Ok-clause-bounded : goal.returns-in-Ok-clause-bounded
+returns-in-Ok-clause-bounded g c = λ is done.
+    let said = done-said c.in-Ok.reply.status c.deliver.result c.deliver.ensures.status done in
+    Says-kept MessagesStayFew (λ t w h loads es p. p.bounded) (g.S.Source.left c.args.src.now) Replayed c.in-Ok.reply _ (c.in-Ok.ensures.promises (Tells Replayed) is) said (search (rules, done))
+
 pub returns-in-Ok-clause-settles : goal.returns-in-Ok-clause-settles
 returns-in-Ok-clause-settles g c = λ is done.
     let said = done-said c.in-Ok.reply.status c.deliver.result c.deliver.ensures.status done in
@@ -86,6 +117,9 @@ returns-in-Ok-clause-kept g c = λ n is done.
     let told : c.in-Ok.reply.status ≡ Done = elim c.deliver.ensures.status [ inl e ↦ sym e ∙ done | inr e ↦ absurd (cc (e, done)) ] in
     Says-kept-node _ n c.args.words.now (around g.W.Wire g.D.Disk c.args.wire.now c.prepare.new.wire c.args.disk.now c.prepare.new.disk) c.in-Ok.reply _ c.in-Ok.ensures.reply is told (search (rules, done))
 
+pub returns-in-Ok-clause-unserved : goal.returns-in-Ok-clause-unserved
+returns-in-Ok-clause-unserved g c = λ n is stop. never-stops c.in-Ok.reply.status c.deliver.result c.in-Ok.ensures.is_reply c.deliver.ensures.status stop
+
 pub returns-in-Ok-clause-stopped : goal.returns-in-Ok-clause-stopped
 returns-in-Ok-clause-stopped g c = λ n is stop. never-stops c.in-Ok.reply.status c.deliver.result c.in-Ok.ensures.is_reply c.deliver.ensures.status stop
 
@@ -98,6 +132,11 @@ returns-in-Ok-clause-refused g c = refused-told c.in-Ok.reply.status c.deliver.r
 pub returns-in-Err-clause-complete : goal.returns-in-Err-clause-complete
 returns-in-Err-clause-complete g c =
     stop-complete _ c.args.words.now (around g.W.Wire g.D.Disk c.args.wire.now c.prepare.new.wire c.args.disk.now c.prepare.new.disk) c.in-Err.stop _ c.status.ensures (λ e. c.in-Err.ensures.net_command (ap Err e)) c.in-Err.ensures.disk_command
+
+pub returns-in-Err-clause-unserved : goal.returns-in-Err-clause-unserved
+returns-in-Err-clause-unserved g c = λ n is stops.
+    subst (λ st. ForInput (g.S.Source.left c.args.src.now) (λ input. StopsServing (role_word c.args.words.now) n (wired g.W.Wire c.args.wire.now c.prepare.new.wire) input st))
+    (sym c.status.ensures) (c.in-Err.ensures.unserved n is)
 
 pub returns-in-Err-clause-stopped : goal.returns-in-Err-clause-stopped
 returns-in-Err-clause-stopped g c = λ n is stops.

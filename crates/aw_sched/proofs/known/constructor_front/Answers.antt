@@ -1,5 +1,5 @@
 use Rattle.std.proofs.Common.{rules, ◌≡◌, ◌∷◌, [], refl, get_or}
-use Rattle.aw_form.specs.Lexemes.{Name, Mark}
+use Rattle.aw_term_reader.specs.Lexemes.{Name, Mark}
 use Rattle.aw_sched.proofs.ByteFronts.{mark_passed, others, says_then}
 use Rattle.aw_sched.proofs.ReadArguments.{word_read}
 use Rattle.aw_sched.proofs.known.constructor_front.Goals as goal

@@ -1,5 +1,5 @@
-use Rattle.aw_form.specs.Lexemes.{lexemes}
-use Rattle.aw_form.proofs.SoundTerms.{tokens_are_sound}
+use Rattle.aw_term_reader.specs.Lexemes.{lexemes}
+use Rattle.aw_term_reader.proofs.SoundTerms.{tokens_are_sound}
 use Rattle.aw_sched.specs.LineSeen.{line_seen}
 use Rattle.aw_sched.proofs.SoundLines.{sound_line}
 use Rattle.aw_sched.proofs.read.event_said.Goals as goal

@@ -3,8 +3,8 @@ use Rattle.std.proofs.lemmas.List.{append-nil}
 use Rattle.aw_choice.specs.ChoiceView.{choice_of}
 use Rattle.aw_grammar.specs.GrammarOf.{grammar_of}
 use Rattle.aw_msg.specs.MessageView.{message_of}
-use Rattle.aw_react.specs.Choosing.{choose}
-use Rattle.aw_react.specs.Sites.{Site}
+use Rattle.aw_law_sites.specs.Choosing.{choose}
+use Rattle.aw_law_sites.specs.Sites.{Site}
 use Rattle.aw_space.specs.Seen.{space_seen}
 use Rattle.aw_site.specs.Shown.{Shows}
 use Rattle.aw_site.proofs.RefusedChoices.{answer_foreseen, none_sent, refused_there, site_stays}

@@ -4,7 +4,7 @@ use Rattle.aw_term.specs.Choices.{answer_of}
 use Rattle.aw_grammar.specs.declared.grammar.Grammar as program
 use Rattle.aw_grammar.specs.GrammarOf.{grammar_of}
 use Rattle.aw_store.specs.Equations.{Map, find}
-use Rattle.aw_react.specs.Choosing.{outcome}
+use Rattle.aw_law_sites.specs.Choosing.{outcome}
 use Rattle.aw_space.specs.Outcomes.{IsMade}
 use Rattle.aw_space.specs.Spaces as S
 use Rattle.aw_space.specs.SpaceView.{space_of}

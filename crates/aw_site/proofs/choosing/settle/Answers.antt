@@ -2,8 +2,8 @@ use Rattle.std.proofs.Common.{◌≡◌, ◌∙◌, ◌++◌, sym, ap, map, leng
 use Rattle.aw_choice.specs.ChoiceView.{choice_of}
 use Rattle.aw_grammar.specs.GrammarOf.{grammar_of}
 use Rattle.aw_msg.specs.MessageView.{message_of}
-use Rattle.aw_react.specs.Choosing.{outcome, choose}
-use Rattle.aw_react.specs.Sites.{Site}
+use Rattle.aw_law_sites.specs.Choosing.{outcome, choose}
+use Rattle.aw_law_sites.specs.Sites.{Site}
 use Rattle.aw_space.specs.Spaces as S
 use Rattle.aw_space.specs.Spaces.{space_on}
 use Rattle.aw_site.specs.Chosen.{worked, reaction_of}

@@ -1,6 +1,6 @@
 use Rattle.std.proofs.Common.{◌∙◌, ◌+◌, ap, sym, map, take, drop, option_map}
 use Rattle.aw_store.specs.EquationView.{equation_of}
-use Rattle.aw_react.specs.Receiving.{add_all, first_clash}
+use Rattle.aw_law_sites.specs.Receiving.{add_all, first_clash}
 use Rattle.aw_site.specs.Views.{clash_of}
 use Rattle.aw_site.proofs.Steps.{drop_map, take_map}
 use Rattle.aw_site.proofs.Clashing.{clash_next, clash_here}

@@ -1,6 +1,6 @@
 use Rattle.std.proofs.Common.{◌≡◌, take, drop, map}
 use Rattle.aw_store.specs.EquationView.{equation_of}
-use Rattle.aw_react.specs.Receiving.{add_all, first_clash}
+use Rattle.aw_law_sites.specs.Receiving.{add_all, first_clash}
 use Rattle.aw_site.proofs.clashes.first_clash.Given as goal
 
 abbrev pub invariant-loop-i : goal.invariant-loop-i

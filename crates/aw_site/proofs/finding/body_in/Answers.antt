@@ -1,5 +1,5 @@
 use Rattle.std.proofs.Common.{sym}
-use Rattle.aw_repeat.proofs.FindLemmas.{find_unnamed}
+use Rattle.aw_site_repeat.proofs.FindLemmas.{find_unnamed}
 use Rattle.aw_site.proofs.finding.body_in.Goals as goal
 
 pub returns-in-None : goal.returns-in-None

@@ -1,6 +1,6 @@
 use Rattle.std.proofs.Common.{◌∙◌, ap, sym, subst, option_map}
 use Rattle.aw_msg.specs.MessageView.{plain_kind}
-use Rattle.aw_repeat.specs.Holders.{IsOfRole}
+use Rattle.aw_site_repeat.specs.Holders.{IsOfRole}
 use Rattle.aw_site.specs.Views.{clash_of}
 use Rattle.aw_site.proofs.Holding.{ok_by, mine_by, clash_by, repeat_by, of_role}
 use Rattle.aw_site.proofs.judging.judge.Goals as goal

@@ -2,7 +2,7 @@ use Rattle.std.proofs.Common.{◌∙◌, sym, map}
 use Rattle.aw_grammar.specs.GrammarOf.{grammar_of}
 use Rattle.aw_apply.specs.Messages.{Asks}
 use Rattle.aw_msg.specs.MessageView.{message_of}
-use Rattle.aw_react.specs.Reacting.{react}
+use Rattle.aw_law_sites.specs.Reacting.{react}
 use Rattle.aw_site.specs.Came.{watching}
 use Rattle.aw_site.proofs.Holding.{equations_by, shown_planned}
 use Rattle.aw_site.proofs.Noting.{asked_same, watched_one}

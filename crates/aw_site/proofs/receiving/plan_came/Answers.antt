@@ -2,12 +2,12 @@ use Rattle.std.proofs.Common.{◌∙◌, ◌++◌, sym, ap, map, option_map}
 use Rattle.std.specs.Option.{option_copied}
 use Rattle.aw_grammar.specs.GrammarOf.{grammar_of}
 use Rattle.aw_store.specs.EquationView.{equation_of}
-use Rattle.aw_react.specs.Asking.{all_mentions}
+use Rattle.aw_law_sites.specs.Asking.{all_mentions}
 use Rattle.aw_space.specs.Placings.{placed_call}
 use Rattle.aw_site.specs.Came.{holding}
 use Rattle.aw_site.proofs.Coming.{both_ok, sends_as, came_behind, planned_came}
 use Rattle.aw_site.proofs.Holding.{equations_by}
-use Rattle.aw_react.specs.ValidNames.{refs_ok, equations_ok}
+use Rattle.aw_law_sites.specs.ValidNames.{refs_ok, equations_ok}
 use Rattle.aw_space.specs.Placings.{called_by}
 use Rattle.aw_site.proofs.ValidPlans.{holds_valid, inherited_valid}
 use Rattle.aw_site.proofs.receiving.plan_came.Goals as goal

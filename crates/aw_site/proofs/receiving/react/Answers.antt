@@ -3,10 +3,10 @@ use Rattle.std.proofs.lemmas.Result.{IfOk-weaker}
 use Rattle.aw_grammar.specs.GrammarOf.{grammar_of}
 use Rattle.aw_store.specs.EquationView.{equation_of}
 use Rattle.aw_msg.specs.MessageView.{message_of, plain_kind}
-use Rattle.aw_react.specs.Sites.{Reaction}
+use Rattle.aw_law_sites.specs.Sites.{Reaction}
 use Rattle.aw_space.specs.Seen.{space_seen}
 use Rattle.aw_space.specs.Spaces.{call_of}
-use Rattle.aw_repeat.specs.Holders.{IsOfRole}
+use Rattle.aw_site_repeat.specs.Holders.{IsOfRole}
 use Rattle.aw_site.specs.Shown.{HoldsAs, Shows}
 use Rattle.aw_site.proofs.Coming.{call_fits, tell_fits, call_clashes, tell_clashes, fresh_ok, fresh_mine, fresh_free, reacts_to_call, reacts_to_tell, on_ok}
 use Rattle.aw_site.proofs.Holding.{of_role}

@@ -3,8 +3,8 @@ use Rattle.std.proofs.lemmas.List.{append-nil}
 use Rattle.aw_grammar.specs.GrammarOf.{grammar_of}
 use Rattle.aw_apply.specs.Messages.{Received}
 use Rattle.aw_msg.specs.MessageView.{message_of}
-use Rattle.aw_react.specs.SiteEvents.{after_message}
-use Rattle.aw_react.specs.Sites.{Site, Reaction}
+use Rattle.aw_law_sites.specs.SiteEvents.{after_message}
+use Rattle.aw_law_sites.specs.Sites.{Site, Reaction}
 use Rattle.aw_site.specs.Answers.{IsReceived, sent_for}
 use Rattle.aw_site.specs.Judged.{Sees, Carries}
 use Rattle.aw_site.specs.Shown.{Shows}

@@ -1,8 +1,8 @@
 use Rattle.std.proofs.Common.{◌≡◌, ◌++◌, take, true, List}
 use Rattle.aw_term.specs.Names.{Ref}
-use Rattle.aw_react.specs.Sites.{Watch}
+use Rattle.aw_law_sites.specs.Sites.{Watch}
 use Rattle.aw_subs.specs.Entries.{is_ready}
-use Rattle.aw_repeat.specs.Holders.{ShowsAsked, ShowsWatchers}
+use Rattle.aw_site_repeat.specs.Holders.{ShowsAsked, ShowsWatchers}
 use Rattle.aw_site.proofs.sending.ask_all.Given as goal
 
 abbrev pub invariant-loop-r : goal.invariant-loop-r

@@ -1,6 +1,6 @@
 use Rattle.std.proofs.Common.{◌∙◌, ap, sym, ◌-◌, ◌&&◌, not, nat_eq, length, slice_get}
 use Rattle.aw_grammar.specs.GrammarOf.{grammar_of}
-use Rattle.aw_react.specs.Homes.{home, parent}
+use Rattle.aw_law_sites.specs.Homes.{home, parent}
 use Rattle.aw_site.proofs.ParentRoles.{called_by_last, start_not_called}
 use Rattle.aw_site.proofs.validity.is_called.Goals as goal
 

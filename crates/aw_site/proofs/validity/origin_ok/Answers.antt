@@ -2,9 +2,9 @@ use Rattle.std.proofs.Common.{◌≡◌, true, map, subst}
 use Rattle.std.proofs.lemmas.Bool.{and_parts}
 use Rattle.aw_grammar.specs.GrammarOf.{grammar_of}
 use Rattle.aw_store.specs.EquationView.{equation_of}
-use Rattle.aw_react.specs.ValidNames.{equations_ok, call_ok, names_ok}
+use Rattle.aw_law_sites.specs.ValidNames.{equations_ok, call_ok, names_ok}
 use Rattle.aw_space.specs.Spaces.{call_of}
-use Rattle.aw_repeat.specs.Views.{kind_of}
+use Rattle.aw_site_repeat.specs.Views.{kind_of}
 use Rattle.aw_site.proofs.ParentRoles.{called_valid}
 use Rattle.aw_site.proofs.validity.origin_ok.Goals as goal
 

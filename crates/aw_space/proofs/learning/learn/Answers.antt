@@ -1,8 +1,8 @@
 use Rattle.std.proofs.Common.{◌+◌, ◌≤◌, subst}
 use Rattle.aw_grammar.specs.GrammarOf.{grammar_of}
-use Rattle.aw_held.specs.HeldView.{all_of}
-use Rattle.aw_react.specs.Worklists.{site_worklist}
-use Rattle.aw_kept.specs.Items.{waiting_on}
+use Rattle.aw_node_list.specs.HeldView.{all_of}
+use Rattle.aw_law_sites.specs.Worklists.{site_worklist}
+use Rattle.aw_standing.specs.Items.{waiting_on}
 use Rattle.aw_space.proofs.Waking.{fits_named, grown_same}
 use Rattle.aw_space.proofs.learning.learn.Goals as goal
 

@@ -2,13 +2,13 @@ use Rattle.std.proofs.Common.{◌≡◌, None, ◌∷◌, ◌∙◌, sym, ap, su
 use Rattle.std.proofs.lemmas.Bool.{and_parts}
 use Rattle.std.specs.Vec.Iter.{into_iter_items}
 use Rattle.aw_grammar.specs.GrammarOf.{grammar_of}
-use Rattle.aw_held.specs.HeldView.{all_of}
+use Rattle.aw_node_list.specs.HeldView.{all_of}
 use Rattle.aw_store.specs.EquationView.{equation_of}
 use Rattle.aw_store.specs.NamedRefs.{is_named, all_named}
 use Rattle.aw_store.specs.StoreView.{has_few, all_few}
 use Rattle.aw_store.proofs.NameLemmas.{grows_more, all_named-grown}
 use Rattle.aw_store.proofs.AddLemmas.{contains_first, contains_later}
-use Rattle.aw_react.specs.Receiving.{add_all, first_clash}
+use Rattle.aw_law_sites.specs.Receiving.{add_all, first_clash}
 use Rattle.aw_space.specs.Waking.{lefts_of, turns_cost}
 use Rattle.aw_space.proofs.Clashes.{first_free}
 use Rattle.aw_space.proofs.learning.learn_in_turn.Goals as goal

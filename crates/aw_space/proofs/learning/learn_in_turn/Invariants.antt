@@ -1,14 +1,14 @@
 use Rattle.std.proofs.Common.{◌≡◌, ◌+◌, ◌≤◌, List, None, true, map, Contains}
 use Rattle.std.specs.Vec.Iter.{into_iter_items}
 use Rattle.aw_grammar.specs.GrammarOf.{grammar_of}
-use Rattle.aw_held.specs.declared.held.Held.{Held}
-use Rattle.aw_held.specs.HeldView.{all_of}
+use Rattle.aw_node_list.specs.declared.held.Held.{Held}
+use Rattle.aw_node_list.specs.HeldView.{all_of}
 use Rattle.aw_store.specs.Equations.{Equation}
 use Rattle.aw_store.specs.EquationView.{equation_of}
 use Rattle.aw_store.specs.NamedRefs.{Grows, all_named}
 use Rattle.aw_store.specs.StoreView.{all_few}
-use Rattle.aw_react.specs.Receiving.{add_all, first_clash}
-use Rattle.aw_kept.specs.KeptStates.{IsFitKept, IsKept}
+use Rattle.aw_law_sites.specs.Receiving.{add_all, first_clash}
+use Rattle.aw_standing.specs.KeptStates.{IsFitKept, IsKept}
 use Rattle.aw_space.specs.Waking.{lefts_of, turns_cost}
 use Rattle.aw_space.proofs.learning.learn_in_turn.Given as goal
 

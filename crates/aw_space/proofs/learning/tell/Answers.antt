@@ -3,7 +3,7 @@ use Rattle.aw_grammar.specs.GrammarOf.{grammar_of}
 use Rattle.aw_store.specs.StoreView.{Adds}
 use Rattle.aw_store.specs.declared.facts.Added.TheVariants.{New}
 use Rattle.aw_store.proofs.SlotLemmas.{slot-grown}
-use Rattle.aw_kept.proofs.ItemLemmas.{pairs_wait}
+use Rattle.aw_standing.proofs.ItemLemmas.{pairs_wait}
 use Rattle.aw_space.proofs.Waking.{fits_named, named_more, grown_same, grown_by, left_there, told_same}
 use Rattle.aw_space.proofs.learning.tell.Goals as goal
 

@@ -2,8 +2,8 @@ use Rattle.std.proofs.Common.{◌+◌, ◌≤◌, ℕ, List, take, drop}
 use Rattle.std.specs.Prelude.{sum_by}
 use Rattle.aw_term.specs.Names.{Ref}
 use Rattle.aw_grammar.specs.GrammarOf.{grammar_of}
-use Rattle.aw_held.specs.declared.held.Held.{Held}
-use Rattle.aw_kept.specs.KeptStates.{HasRoom, IsFitKept, IsKeptBut}
+use Rattle.aw_node_list.specs.declared.held.Held.{Held}
+use Rattle.aw_standing.specs.KeptStates.{HasRoom, IsFitKept, IsKeptBut}
 use Rattle.aw_space.specs.Waking.{IsBound}
 use Rattle.aw_space.proofs.learning.wake_all.Given as goal
 

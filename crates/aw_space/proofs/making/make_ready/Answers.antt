@@ -1,6 +1,6 @@
 use Rattle.std.proofs.Common.{[], sym, subst}
 use Rattle.aw_grammar.specs.GrammarOf.{grammar_of}
-use Rattle.aw_kept.specs.KeptStates.{IsKept}
+use Rattle.aw_standing.specs.KeptStates.{IsKept}
 use Rattle.aw_space.proofs.Waking.{grown_same}
 use Rattle.aw_space.proofs.making.make_ready.Goals as goal
 

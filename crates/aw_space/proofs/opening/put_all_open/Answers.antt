@@ -3,8 +3,8 @@ use Rattle.std.specs.Vec.Iter.{into_iter_items}
 use Rattle.std.proofs.lemmas.List.Elements.{All-head, All-tail}
 use Rattle.std.proofs.lemmas.List.Sums.{sum_by-cons}
 use Rattle.aw_grammar.specs.GrammarOf.{grammar_of}
-use Rattle.aw_held.specs.InOrder.{LackEach, insert_all_in}
-use Rattle.aw_kept.specs.KeptStates.{HasRoom}
+use Rattle.aw_node_list.specs.InOrder.{LackEach, insert_all_in}
+use Rattle.aw_standing.specs.KeptStates.{HasRoom}
 use Rattle.aw_space.specs.Openings.{IsReady, all_tests, held_in, tests_of}
 use Rattle.aw_space.specs.declared.opening.Opening.{Opening}
 use Rattle.aw_space.proofs.Openings.{less_room}

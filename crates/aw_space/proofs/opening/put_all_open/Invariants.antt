@@ -1,8 +1,8 @@
 use Rattle.std.proofs.Common.{◌≡◌, ◌+◌, ◌≤◌, length, map, All}
 use Rattle.std.specs.Vec.Iter.{into_iter_items}
 use Rattle.aw_grammar.specs.GrammarOf.{grammar_of}
-use Rattle.aw_held.specs.InOrder.{IsInOrder, insert_all_in, LackEach}
-use Rattle.aw_kept.specs.KeptStates.{HasRoom, IsKept}
+use Rattle.aw_node_list.specs.InOrder.{IsInOrder, insert_all_in, LackEach}
+use Rattle.aw_standing.specs.KeptStates.{HasRoom, IsKept}
 use Rattle.aw_space.specs.Openings.{IsReady, all_tests, held_in}
 use Rattle.aw_space.proofs.opening.put_all_open.Given as goal
 

@@ -1,6 +1,6 @@
 use Rattle.std.proofs.Common.{[], sym, subst, arith}
 use Rattle.aw_grammar.specs.GrammarOf.{grammar_of}
-use Rattle.aw_kept.specs.KeptStates.{IsKept}
+use Rattle.aw_standing.specs.KeptStates.{IsKept}
 use Rattle.aw_space.proofs.opening.put_open.Goals as goal
 
 pub open-requires-clause-within : goal.open-requires-clause-within

@@ -1,5 +1,5 @@
 use Rattle.std.proofs.Common.{◌∙◌, ap, length, subst}
-use Rattle.aw_kept.specs.Records.{IsOf, open_node}
+use Rattle.aw_standing.specs.Records.{IsOf, open_node}
 use Rattle.aw_term.specs.Rules.{sort_of}
 use Rattle.aw_grammar.specs.GrammarOf.{grammar_of}
 use Rattle.aw_space.proofs.Openings.{takes_sort, takes_many, of_held}

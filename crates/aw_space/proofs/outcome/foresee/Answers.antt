@@ -3,9 +3,9 @@ use Rattle.std.specs.Prelude.{IfOk}
 use Rattle.aw_grammar.specs.GrammarOf.{grammar_of}
 use Rattle.aw_base.specs.ChoiceFits.{choice_ok}
 use Rattle.aw_choice.specs.ChoiceView.{choice_of}
-use Rattle.aw_held.specs.HeldView.{all_of}
-use Rattle.aw_held.specs.InOrder.{place_in}
-use Rattle.aw_react.specs.Joint.{outcome_in}
+use Rattle.aw_node_list.specs.HeldView.{all_of}
+use Rattle.aw_node_list.specs.InOrder.{place_in}
+use Rattle.aw_law_sites.specs.Joint.{outcome_in}
 use Rattle.aw_space.specs.Outcomes.{IsOutcome}
 use Rattle.aw_space.proofs.Foretelling.{known_foretold, starts_foretold}
 use Rattle.aw_space.proofs.outcome.foresee.Goals as goal

@@ -1,8 +1,8 @@
 use Rattle.std.proofs.Common.{ap, arith}
 use Rattle.aw_term.specs.Rules.{sort_of}
 use Rattle.aw_grammar.specs.GrammarOf.{grammar_of}
-use Rattle.aw_held.specs.declared.held.Held.{Held}
-use Rattle.aw_held.specs.HeldView.{sort_or}
+use Rattle.aw_node_list.specs.declared.held.Held.{Held}
+use Rattle.aw_node_list.specs.HeldView.{sort_or}
 use Rattle.aw_space.specs.Costs.{rules_of}
 use Rattle.aw_space.proofs.Openings.{tests_are}
 use Rattle.aw_space.proofs.starting.hold_new.Goals as goal

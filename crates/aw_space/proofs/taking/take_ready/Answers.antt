@@ -3,13 +3,13 @@ use Rattle.std.specs.Prelude.{sum_by}
 use Rattle.std.proofs.lemmas.List.Elements.{All-weaker}
 use Rattle.aw_term.specs.Names.{Ref}
 use Rattle.aw_grammar.specs.GrammarOf.{grammar_of}
-use Rattle.aw_held.specs.InOrder.{IsInOrder, done_at}
-use Rattle.aw_held.specs.HeldView.{all_of}
-use Rattle.aw_held.proofs.InOrderLemmas.{up_of, far}
-use Rattle.aw_held.proofs.HeldViews.{ordered_done}
-use Rattle.aw_react.specs.Worklists.{site_worklist}
-use Rattle.aw_kept.specs.Items.{waiting_on}
-use Rattle.aw_kept.specs.KeptStates.{IsKept, IsKeptBut}
+use Rattle.aw_node_list.specs.InOrder.{IsInOrder, done_at}
+use Rattle.aw_node_list.specs.HeldView.{all_of}
+use Rattle.aw_node_list.proofs.InOrderLemmas.{up_of, far}
+use Rattle.aw_node_list.proofs.HeldViews.{ordered_done}
+use Rattle.aw_law_sites.specs.Worklists.{site_worklist}
+use Rattle.aw_standing.specs.Items.{waiting_on}
+use Rattle.aw_standing.specs.KeptStates.{IsKept, IsKeptBut}
 use Rattle.aw_space.specs.Openings.{IsReady}
 use Rattle.aw_space.specs.Waking.{IsKnown}
 use Rattle.aw_space.proofs.Openings.{ready_grows}

@@ -4,9 +4,9 @@ use Rattle.aw_store.specs.NamedRefs.{all_named}
 use Rattle.aw_store.proofs.NameLemmas.{all_named-grown}
 use Rattle.aw_store.specs.EquationView.{equation_of}
 use Rattle.aw_store.specs.declared.equation.Equation.{Equation}
-use Rattle.aw_held.specs.HeldView.{all_of}
-use Rattle.aw_held.specs.InOrder.{LackEach, insert_all_in, done_at}
-use Rattle.aw_react.specs.Worklists.{site_worklist}
+use Rattle.aw_node_list.specs.HeldView.{all_of}
+use Rattle.aw_node_list.specs.InOrder.{LackEach, insert_all_in, done_at}
+use Rattle.aw_law_sites.specs.Worklists.{site_worklist}
 use Rattle.aw_space.specs.Children.{own_children}
 use Rattle.aw_space.specs.Costs.{rules_at, waiting_on_lefts}
 use Rattle.aw_space.specs.Sound.{all_inherited}

@@ -4,9 +4,9 @@ use Rattle.aw_term.specs.Choices.{Develop}
 use Rattle.aw_term.specs.Views.{ground_of}
 use Rattle.aw_grammar.specs.GrammarOf.{grammar_of}
 use Rattle.aw_apply.specs.declared.telling.Weighed.{Weighed}
-use Rattle.aw_held.specs.HeldView.{held_of, all_of}
-use Rattle.aw_held.proofs.HeldViews.{held_nowhere}
-use Rattle.aw_react.specs.Joint.{by_held, outcome_in}
+use Rattle.aw_node_list.specs.HeldView.{held_of, all_of}
+use Rattle.aw_node_list.proofs.HeldViews.{held_nowhere}
+use Rattle.aw_law_sites.specs.Joint.{by_held, outcome_in}
 use Rattle.aw_space.specs.Weighing.{Weighs, HasRoomFor}
 use Rattle.aw_space.proofs.Standing.{node_here, takes_here, weighs_here}
 use Rattle.aw_space.proofs.weighing.weigh.Goals as goal

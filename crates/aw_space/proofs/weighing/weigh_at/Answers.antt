@@ -10,9 +10,9 @@ use Rattle.aw_grammar.specs.declared.rule.Sort.{Sort}
 use Rattle.aw_grammar.proofs.RuleSizes.{patterns_few, patterns_shallow}
 use Rattle.aw_apply.specs.Telling.{weighed_of, HasRoom}
 use Rattle.aw_apply.specs.declared.telling.Weighed.{Weighed}
-use Rattle.aw_held.specs.HeldView.{held_of}
-use Rattle.aw_react.specs.Joint.{by_rule, by_held}
-use Rattle.aw_kept.specs.Items.{RuleStands}
+use Rattle.aw_node_list.specs.HeldView.{held_of}
+use Rattle.aw_law_sites.specs.Joint.{by_rule, by_held}
+use Rattle.aw_standing.specs.Items.{RuleStands}
 use Rattle.aw_space.specs.Weighing.{Weighs, HasRoomFor, IsRefused}
 use Rattle.aw_space.proofs.Weighed.{stands_there}
 use Rattle.aw_space.proofs.Standing.{patterns_room, found_rule, none_noted, same_many, sort_here, weighs_open, weighs_done}

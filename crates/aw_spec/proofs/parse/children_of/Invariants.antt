@@ -2,7 +2,7 @@ use Rattle.std.proofs.Common.{◌≡◌, ◌+◌, ℕ, List, length, map, Option
 use Rattle.std.specs.Option.{option_copied}
 use Rattle.aw_lex.specs.declared.token.Token.{Token}
 use Rattle.aw_grammar.specs.Written.{child_of_raw}
-use Rattle.aw_form.specs.Lexemes.{lexemes}
+use Rattle.aw_term_reader.specs.Lexemes.{lexemes}
 use Rattle.aw_spec.specs.ReadLine as read
 use Rattle.aw_spec.specs.Pieces.{pieces_behind}
 use Rattle.aw_spec.proofs.PieceCuts.{behind}

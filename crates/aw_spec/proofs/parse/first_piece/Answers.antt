@@ -1,6 +1,6 @@
 use Rattle.std.proofs.Common.{◌≡◌, ◌∙◌, sym, ap, add-one, drop, suc, ◌∷◌}
 use Rattle.std.proofs.lemmas.List.{drop-drop}
-use Rattle.aw_form.specs.Lexemes.{lexemes}
+use Rattle.aw_term_reader.specs.Lexemes.{lexemes}
 use Rattle.aw_spec.specs.ReadLine.{pieces}
 use Rattle.aw_spec.proofs.PieceCuts.{cut_pieces, pieces_by_cut}
 use Rattle.aw_spec.proofs.parse.first_piece.Goals as goal

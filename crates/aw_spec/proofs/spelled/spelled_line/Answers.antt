@@ -1,6 +1,6 @@
 use Rattle.std.proofs.Common.{◌∙◌, sym, ap}
-use Rattle.aw_form.specs.Lexemes.{lexemes}
-use Rattle.aw_form.proofs.SoundTerms.{tokens_are_sound}
+use Rattle.aw_term_reader.specs.Lexemes.{lexemes}
+use Rattle.aw_term_reader.proofs.SoundTerms.{tokens_are_sound}
 use Rattle.aw_spec.specs.ReadLine.{line_of}
 use Rattle.aw_spec.specs.Views.{line_seen}
 use Rattle.aw_spec.proofs.SoundLines.{line_declared}

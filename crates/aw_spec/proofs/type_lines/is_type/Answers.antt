@@ -1,5 +1,5 @@
 use Rattle.std.proofs.Common.{◌∙◌, ap, is_some}
-use Rattle.aw_index.proofs.Lookups.{stands_is_placed}
+use Rattle.aw_name_index.proofs.Lookups.{stands_is_placed}
 use Rattle.aw_spec.specs.TypeLines.{type_names}
 use Rattle.aw_spec.proofs.type_lines.is_type.Goals as goal
 

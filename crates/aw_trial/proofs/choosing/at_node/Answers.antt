@@ -1,8 +1,9 @@
-use Rattle.std.proofs.Common.{ap, sym, ◌∙◌, subst}
+use Rattle.std.proofs.Common.{◌≡◌, ap, sym, ◌∙◌, subst, refl, true}
+use Rattle.std.specs.Prelude.{is_some}
 use Rattle.std.proofs.lemmas.Result.{on_ok_weaker}
 use Rattle.aw_accept.specs.declared.accepted.Accepted.{Accepted}
 use Rattle.aw_grammar.specs.GrammarOf.{grammar_of}
-use Rattle.aw_kept.specs.Records.{rules_of}
+use Rattle.aw_standing.specs.Records.{rules_of}
 use Rattle.aw_term.specs.Rules.{sort_of}
 use Rattle.aw_world.specs.WorldView.{plain_of}
 use Rattle.aw_trial.specs.Comes.{Comes}
@@ -14,6 +15,12 @@ returns-in_default-clause-does g c v es S =
     let same = ap (λ (a : Accepted). grammar_of a.grammar) c.accepted.ensures in
     let sort = ap (λ p. sort_of p c.args.node) (sym (ap grammar_of c.grammar.ensures.value ∙ same)) ∙ sym c.sort_of.ensures ∙ c.in_default.is in
     subst (Comes g.W.Workspace c.args.world.now c.args.tally.now) (no_sort (plain_of c.args.world.now) c.args.node _ sort) (nothing g.W.Workspace c.args.world.now c.args.tally.now v es S)
+
+pub among_rules-requires-clause-node : goal.among_rules-requires-clause-node
+among_rules-requires-clause-node g c =
+    let same = ap grammar_of c.grammar.ensures.value ∙ ap (λ (a : Accepted). grammar_of a.grammar) c.accepted.ensures in
+    let sort = ap (λ p. sort_of p c.args.node) (sym same) ∙ sym c.sort_of.ensures ∙ c.in-Some.is in
+    subst (λ o. is_some o ≡ true) (sym sort) refl
 
 pub among_rules-requires-clause-rules : goal.among_rules-requires-clause-rules
 among_rules-requires-clause-rules g c i r got =

@@ -1,8 +1,8 @@
 use Rattle.std.proofs.Common.{rules, ◌≡◌, ◌∙◌, ◌+◌, ◌++◌, nat_eq, false, eq-eqb, ap, drop}
 use Rattle.aw_grammar.specs.GrammarView.{rule_of}
 use Rattle.aw_grammar.specs.GrammarOf.{grammar_of}
-use Rattle.aw_kept.specs.Records.{rules_of}
-use Rattle.aw_kept.proofs.MarkLemmas.{found_rule, no_rule, plain_here, plain_past, rule_kept, rule_passed, rule_past}
+use Rattle.aw_standing.specs.Records.{rules_of}
+use Rattle.aw_standing.proofs.MarkLemmas.{found_rule, no_rule, plain_here, plain_past, rule_kept, rule_passed, rule_past}
 use Rattle.aw_trial.proofs.rules.push_rule.Goals as goal
 
 pub returns-in_default : goal.returns-in_default

@@ -1,6 +1,6 @@
 use Rattle.std.proofs.Common.{◌≡◌, ◌++◌, drop}
 use Rattle.aw_grammar.specs.GrammarOf.{grammar_of}
-use Rattle.aw_kept.specs.Records.{rules_of}
+use Rattle.aw_standing.specs.Records.{rules_of}
 use Rattle.aw_trial.proofs.rules.rules_of.Given as goal
 
 abbrev pub invariant-loop-number : goal.invariant-loop-number

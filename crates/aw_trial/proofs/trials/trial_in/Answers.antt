@@ -1,7 +1,7 @@
 use Rattle.std.proofs.Common.{rules, sym, subst, false}
 use Rattle.aw_accept.specs.declared.accepted.Accepted.{Accepted}
 use Rattle.aw_grammar.specs.GrammarOf.{grammar_of, words_of}
-use Rattle.aw_react.specs.Worlds.{empty_world}
+use Rattle.aw_law_sites.specs.Worlds.{empty_world}
 use Rattle.aw_world.specs.Shown.{Shows}
 use Rattle.aw_trial.specs.Counts.{trial_in}
 use Rattle.aw_trial.specs.Told.{Tells}

@@ -4,10 +4,10 @@ use Rattle.std.proofs.Math.Logic.{∥∥₁_elim}
 use Rattle.std.specs.Coded.{le_prop}
 use Rattle.aw_grammar.specs.GrammarOf.{grammar_of, words_of}
 use Rattle.aw_choice.specs.ChoiceView.{choice_of, answer_of}
-use Rattle.aw_react.specs.Homes.{home}
-use Rattle.aw_react.specs.Worlds as V
-use Rattle.aw_react.specs.Choosing as D
-use Rattle.aw_merge.proofs.Sorts.{home_within, choice_node}
+use Rattle.aw_law_sites.specs.Homes.{home}
+use Rattle.aw_law_sites.specs.Worlds as V
+use Rattle.aw_law_sites.specs.Choosing as D
+use Rattle.aw_law_worlds.proofs.Sorts.{home_within, choice_node}
 use Rattle.aw_world.specs.declared.moves.Reply.TheVariants as replies
 use Rattle.aw_term.specs.Choices.{is_taken}
 use Rattle.aw_world.specs.Seen.{AnswersAt, Steps}

@@ -2,8 +2,8 @@ use Rattle.std.proofs.Common.{◌≡◌, ◌≤◌, Some, true, length, ap, sym,
 use Rattle.std.specs.Prelude.{slice_get, option_map, if◌then◌else◌}
 use Rattle.std.proofs.lemmas.Option.{slice_get-map}
 use Rattle.aw_grammar.specs.GrammarOf.{grammar_of}
-use Rattle.aw_react.specs.Worlds as V
-use Rattle.aw_react.specs.Reacting.{receive}
+use Rattle.aw_law_sites.specs.Worlds as V
+use Rattle.aw_law_sites.specs.Reacting.{receive}
 use Rattle.aw_world.specs.declared.moves.Reply.TheVariants as replies
 use Rattle.aw_msg.specs.MessageView.{message_of}
 use Rattle.aw_world.specs.Seen.{Steps}

@@ -1,6 +1,6 @@
 use Rattle.std.proofs.Common.{◌<◌, false, arith, length, refl}
 use Rattle.std.proofs.lemmas.Option.{slice_get_read}
-use Rattle.aw_react.specs.Sites.{empty_site}
+use Rattle.aw_law_sites.specs.Sites.{empty_site}
 use Rattle.aw_term.specs.Rules.{get}
 use Rattle.aw_world.proofs.Pairings.{pairs_at, pairs_length}
 use Rattle.aw_world.proofs.Printers.{pairs_got, pairs_renewed, place_within, keep_on}

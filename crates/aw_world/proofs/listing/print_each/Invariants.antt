@@ -5,8 +5,8 @@ use Rattle.aw_term.specs.Configs.{Config}
 use Rattle.aw_grammar.specs.GrammarOf.{grammar_of, words_of}
 use Rattle.aw_out.specs.declared.error.PrintFault.{PrintFault}
 use Rattle.aw_out.specs.Report.{Bounded, Prints}
-use Rattle.aw_react.specs.Worlds.{World}
-use Rattle.aw_merge.specs.ReadRows.{AreRead}
+use Rattle.aw_law_sites.specs.Worlds.{World}
+use Rattle.aw_law_worlds.specs.ReadRows.{AreRead}
 use Rattle.aw_world.specs.Seen.{ShowEach, KeepEach}
 use Rattle.aw_world.proofs.listing.print_each.Given as goal
 

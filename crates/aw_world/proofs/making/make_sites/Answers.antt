@@ -4,7 +4,7 @@ use Rattle.std.proofs.lemmas.List.{length-append}
 use Rattle.aw_accept.specs.Acyclic.{Pairs}
 use Rattle.aw_grammar.specs.GrammarOf.{grammar_of}
 use Rattle.aw_term.specs.Rules.{upto}
-use Rattle.aw_react.specs.Sites.{Site, empty_site}
+use Rattle.aw_law_sites.specs.Sites.{Site, empty_site}
 use Rattle.aw_term.specs.SameGrammar.{same_grammar}
 use Rattle.aw_world.proofs.Growing.{pairs_end, get_end, all_end}
 use Rattle.aw_world.proofs.making.make_sites.Goals as goal

@@ -3,7 +3,7 @@ use Rattle.std.specs.Prelude.{slice_get}
 use Rattle.aw_accept.specs.Acyclic.{Pairs}
 use Rattle.aw_grammar.specs.GrammarOf.{grammar_of}
 use Rattle.aw_term.specs.Rules.{upto}
-use Rattle.aw_react.specs.Sites as P
+use Rattle.aw_law_sites.specs.Sites as P
 use Rattle.aw_term.specs.SameGrammar.{same_grammar}
 use Rattle.aw_world.proofs.making.make_sites.Given as goal
 

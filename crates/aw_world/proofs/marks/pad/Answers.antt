@@ -1,6 +1,6 @@
 use Rattle.std.proofs.Common.{◌∙◌, length, ap, arith, false, [], ◌∷◌}
 use Rattle.std.proofs.lemmas.List.{length-append}
-use Rattle.aw_react.specs.Worlds.{count_set}
+use Rattle.aw_law_sites.specs.Worlds.{count_set}
 use Rattle.aw_world.specs.Marks.{marks, leading}
 use Rattle.aw_world.proofs.MarkLemmas.{marks_padded, leading_padded, count_padded}
 use Rattle.aw_world.proofs.marks.pad.Goals as goal

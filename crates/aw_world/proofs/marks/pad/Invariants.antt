@@ -1,5 +1,5 @@
 use Rattle.std.proofs.Common.{◌≡◌, ◌≤◌, ◌<◌, ◌+◌, ℕ, List, length, ◌-◌}
-use Rattle.aw_react.specs.Worlds.{count_set}
+use Rattle.aw_law_sites.specs.Worlds.{count_set}
 use Rattle.aw_world.specs.Marks.{marks, leading}
 use Rattle.aw_msg.specs.declared.message.Message.{Message}
 use Rattle.aw_world.proofs.marks.pad.Given as goal

@@ -1,5 +1,5 @@
 use Rattle.std.proofs.Common.{refl}
-use Rattle.aw_held.proofs.InOrderLemmas.{up_of}
+use Rattle.aw_node_list.proofs.InOrderLemmas.{up_of}
 use Rattle.aw_world.proofs.Walking.{none_next, passes}
 use Rattle.aw_world.proofs.RowsAt.{there}
 use Rattle.aw_world.proofs.merging.take_next.Goals as goal

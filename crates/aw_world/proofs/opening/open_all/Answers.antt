@@ -1,6 +1,6 @@
 use Rattle.std.proofs.Common.{◌≡◌, ◌<◌, ◌-◌, ◌+◌, arith, length, refl, ap, ◌∙◌}
 use Rattle.std.proofs.lemmas.Option.{slice_get_read}
-use Rattle.aw_held.specs.HeldView.{all_of}
+use Rattle.aw_node_list.specs.HeldView.{all_of}
 use Rattle.aw_world.specs.NodeLists.{put_among}
 use Rattle.aw_world.specs.Opened.{open_nodes}
 use Rattle.aw_world.proofs.OpenNodes.{opens_more}

@@ -1,5 +1,5 @@
 use Rattle.std.proofs.Common.{◌≡◌, ◌++◌, drop}
-use Rattle.aw_held.specs.HeldView.{all_of}
+use Rattle.aw_node_list.specs.HeldView.{all_of}
 use Rattle.aw_term.specs.Rules.{Grammar}
 use Rattle.aw_world.specs.Opened.{open_nodes}
 use Rattle.aw_world.proofs.opening.opens_of.Given as goal

@@ -1,6 +1,6 @@
 use Rattle.std.proofs.Common.{ap, sym, ◌∙◌, subst}
-use Rattle.aw_held.specs.HeldView.{all_of}
-use Rattle.aw_held.proofs.InOrderLemmas.{up_of}
+use Rattle.aw_node_list.specs.HeldView.{all_of}
+use Rattle.aw_node_list.proofs.InOrderLemmas.{up_of}
 use Rattle.aw_world.specs.NodeLists.{AreOrdered}
 use Rattle.aw_world.specs.Opened.{open_nodes}
 use Rattle.aw_world.proofs.OpenNodes.{opens_ordered}

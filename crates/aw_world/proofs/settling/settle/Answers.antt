@@ -2,8 +2,8 @@ use Rattle.std.proofs.Common.{◌-◌, ◌<◌, ap, sym, ◌∙◌, arith, subst
 use Rattle.aw_choice.specs.ChoiceView.{choice_of}
 use Rattle.aw_grammar.specs.GrammarOf.{grammar_of}
 use Rattle.aw_accept.specs.declared.accepted.Accepted.{Accepted}
-use Rattle.aw_react.specs.Worlds.{count_set}
-use Rattle.aw_react.specs.Bounds.{bound_of}
+use Rattle.aw_law_sites.specs.Worlds.{count_set}
+use Rattle.aw_law_sites.specs.Bounds.{bound_of}
 use Rattle.aw_world.specs.Shown.{Shows}
 use Rattle.aw_world.proofs.Settles.{fewer_left, one_more, settled_on, settled_whole}
 use Rattle.aw_world.proofs.settling.settle.Goals as goal

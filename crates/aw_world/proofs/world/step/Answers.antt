@@ -1,6 +1,6 @@
 use Rattle.std.proofs.Common.{sym, subst}
 use Rattle.aw_grammar.specs.GrammarOf.{grammar_of}
-use Rattle.aw_react.specs.Worlds as V
+use Rattle.aw_law_sites.specs.Worlds as V
 use Rattle.aw_world.specs.declared.moves.Reply.{Reply}
 use Rattle.aw_world.specs.declared.moves.Reply.TheVariants as replies
 use Rattle.aw_world.specs.MoveView.{move_of}

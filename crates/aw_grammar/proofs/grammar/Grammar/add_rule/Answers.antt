@@ -1,6 +1,6 @@
 use Rattle.std.proofs.Common.{◌∙◌, ◌++◌, ◌∷◌, [], map, sym, ap}
 use Rattle.std.proofs.lemmas.List.{map-append}
-use Rattle.aw_index.specs.Places.{stands}
+use Rattle.aw_name_index.specs.Places.{stands}
 use Rattle.aw_grammar.specs.declared.rule.Rule.{Rule}
 use Rattle.aw_grammar.specs.Declarations.{Entry, with_rule}
 use Rattle.aw_grammar.specs.Kinds.{rule_kind}

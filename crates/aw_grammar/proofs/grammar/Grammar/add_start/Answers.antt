@@ -1,5 +1,5 @@
 use Rattle.std.proofs.Common.{◌≡◌, ◌∙◌, ap, sym, map}
-use Rattle.aw_index.specs.Places.{stands, number_of}
+use Rattle.aw_name_index.specs.Places.{stands, number_of}
 use Rattle.aw_grammar.specs.declared.rule.Sort.{Sort}
 use Rattle.aw_grammar.specs.Declarations.{with_start_at}
 use Rattle.aw_grammar.proofs.Added.{good_start, start_found, start_stands, names_after_start}

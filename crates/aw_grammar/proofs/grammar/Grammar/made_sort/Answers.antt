@@ -1,10 +1,10 @@
 use Rattle.std.proofs.Common.{◌≡◌, ◌∙◌, ap, ℕ}
 use Rattle.std.proofs.lemmas.Bool.{not-false}
-use Rattle.aw_index.specs.Places.{stands, number_of}
+use Rattle.aw_name_index.specs.Places.{stands, number_of}
 use Rattle.aw_grammar.specs.declared.rule.Sort.{Sort}
 use Rattle.aw_grammar.specs.Declarations.{sort_declared}
 use Rattle.aw_grammar.specs.Kinds.{sort_tests}
-use Rattle.aw_index.proofs.FirstTold.{none_holds}
+use Rattle.aw_name_index.proofs.FirstTold.{none_holds}
 use Rattle.aw_grammar.proofs.Added.{listed}
 use Rattle.aw_grammar.proofs.grammar.Grammar.made_sort.Goals as goal
 

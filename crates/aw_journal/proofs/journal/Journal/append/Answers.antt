@@ -1,11 +1,12 @@
 use Rattle.std.specs.Prelude.{◌≡◌, ℕ, ◌^◌, ◌<◌, List, [], ◌∷◌, ◌++◌, length}
 use Rattle.std.proofs.Common.{refl, sym, ◌∙◌, ap, subst, arith, inl, length-append}
 use Rattle.aw_disk.specs.Disk.{LeavesOnly}
-use Rattle.aw_journal.specs.Format.{front, record_of, events_of}
+use Rattle.aw_journal.specs.Format.{front, record_of}
 use Rattle.aw_journal.specs.Events.{Event, AllEvents, payload_of}
 use Rattle.aw_journal.proofs.Bytes.{length-spelled, all_push}
 use Rattle.aw_journal.specs.Journal.{Kept, kept, IsSettled, IsBeforeOrAfter, IsAround, StandsAt, behind_gate, end_after}
 use Rattle.aw_journal.specs.EventView.{event_of, events_seen}
+use Rattle.aw_journal.specs.Opens.{HasEvents}
 use Rattle.aw_journal.specs.declared.payload.NodeEvent.{NodeEvent}
 use Rattle.std.specs.Prelude.{Err}
 use Rattle.aw_journal.specs.declared.journal.AppendFault.TheVariants.{Full}
@@ -20,7 +21,7 @@ returns-in-Err-clause-any_moment g c told =
     let j = kept c.self.inside in
     let settled : IsSettled g.D.Disk.seen g.D.Disk.may_leave old j = subst (IsSettled g.D.Disk.seen g.D.Disk.may_leave old) (sym c.self.view_is) (c.requires.settled told) in
     let fits : length (front j.role j.text (events_seen j.events)) < 2 ^ 64 = omega (arith, c.self.invariant.gate) in
-    rw (← c.self.view_is) (started g.D.Disk.moment g.D.Disk.left_since old (IsBeforeOrAfter (events_seen j.events) (event_of c.args.event)) (λ f left. inl (settled_events g.D.Disk.tells g.D.Disk.seen g.D.Disk.may_leave old j c.self.invariant.all fits settled f (g.met.D.Disk.only_now old f left))))
+    rw (← c.self.view_is) (started g.D.Disk.moment g.D.Disk.left_since old (IsBeforeOrAfter j (event_of c.args.event)) (λ f left. inl (settled_events g.D.Disk.tells g.D.Disk.seen g.D.Disk.may_leave old j c.self.invariant.all fits settled f (g.met.D.Disk.only_now old f left))))
 
 pub returns-in-Err-clause-full : goal.returns-in-Err-clause-full
 returns-in-Err-clause-full g c is =
@@ -57,7 +58,7 @@ returns-in-Done-clause-any_moment g c told =
     let standing = stands g.D.Disk.tells g.D.Disk.seen g.D.Disk.may_leave old j c.self.inside.gate told c.self.invariant.gate settled in
     let any = c.put_whole.ensures.any_moment (front j.role j.text (events_seen j.events)) settled.file.rest settled.file.gate standing in
     let any_bytes = subst (λ (b : List ℕ). LeavesOnly g.D.Disk.moment g.D.Disk.left_since old c.put_whole.new.disk (IsAround (front j.role j.text (events_seen j.events)) settled.file.gate (behind_gate b settled.file.rest))) bytes any in
-    rw (← c.self.view_is) (weaker g.D.Disk.moment g.D.Disk.left_since old c.put_whole.new.disk _ (IsBeforeOrAfter (events_seen j.events) (event_of c.args.event)) any_bytes
+    rw (← c.self.view_is) (weaker g.D.Disk.moment g.D.Disk.left_since old c.put_whole.new.disk (IsAround (front j.role j.text (events_seen j.events)) settled.file.gate (behind_gate (record_of (event_of c.args.event) ++ 0 ∷ []) settled.file.rest)) (IsBeforeOrAfter j (event_of c.args.event)) any_bytes
     (λ f left. around j.role j.text (events_seen j.events) c.self.invariant.all fits f settled.file.rest (event_of c.args.event) settled.file.gate settled.file.shut (c.in-Ok.ensures.sized, c.requires.event) small left))
 
 pub returns-in-Failed-clause-any_moment : goal.returns-in-Failed-clause-any_moment
@@ -71,7 +72,7 @@ returns-in-Failed-clause-any_moment g c told =
     let standing = stands g.D.Disk.tells g.D.Disk.seen g.D.Disk.may_leave old j c.self.inside.gate told c.self.invariant.gate settled in
     let any = c.put_whole.ensures.any_moment (front j.role j.text (events_seen j.events)) settled.file.rest settled.file.gate standing in
     let any_bytes = subst (λ (b : List ℕ). LeavesOnly g.D.Disk.moment g.D.Disk.left_since old c.put_whole.new.disk (IsAround (front j.role j.text (events_seen j.events)) settled.file.gate (behind_gate b settled.file.rest))) bytes any in
-    rw (← c.self.view_is) (weaker g.D.Disk.moment g.D.Disk.left_since old c.put_whole.new.disk _ (IsBeforeOrAfter (events_seen j.events) (event_of c.args.event)) any_bytes
+    rw (← c.self.view_is) (weaker g.D.Disk.moment g.D.Disk.left_since old c.put_whole.new.disk (IsAround (front j.role j.text (events_seen j.events)) settled.file.gate (behind_gate (record_of (event_of c.args.event) ++ 0 ∷ []) settled.file.rest)) (IsBeforeOrAfter j (event_of c.args.event)) any_bytes
     (λ f left. around j.role j.text (events_seen j.events) c.self.invariant.all fits f settled.file.rest (event_of c.args.event) settled.file.gate settled.file.shut (c.in-Ok.ensures.sized, c.requires.event) small left))
 
 pub returns-in-Done-clause-settled : goal.returns-in-Done-clause-settled
@@ -110,7 +111,7 @@ returns-in-Done-clause-durable g c told =
     let long = length-front_push j.role j.text (events_seen j.events) (event_of event) in
     let fits_now : length (front j.role j.text (events_seen (j.events ++ event ∷ []))) < 2 ^ 64 =
     omega (arith, long, c.in-Ok.ensures.next.0, c.in-Ok.ensures.fits, c.self.invariant.gate, ap (λ (es : List Event). length (front j.role j.text es)) seen) in
-    subst (λ (es : List NodeEvent). (f : List ℕ) → g.D.Disk.may_leave c.put_whole.new.disk f → events_of f ≡ events_seen es) (sym pushed)
+    subst (λ (es : List NodeEvent). (f : List ℕ) → g.D.Disk.may_leave c.put_whole.new.disk f → HasEvents j.role j.text (events_seen es) f) (sym pushed)
     (settled_events g.D.Disk.tells g.D.Disk.seen g.D.Disk.may_leave c.put_whole.new.disk (record j { events = j.events ++ event ∷ [] }) (subst AllEvents (sym seen) all) fits_now now)
 
 pub invariant_of-self-in-Done : goal.invariant_of-self-in-Done

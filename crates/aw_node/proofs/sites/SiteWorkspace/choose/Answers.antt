@@ -1,6 +1,6 @@
 use Rattle.aw_choice.specs.ChoiceView.{choice_of}
 use Rattle.aw_grammar.specs.GrammarOf.{grammar_of}
-use Rattle.aw_react.specs.Worlds.{node_of}
+use Rattle.aw_law_sites.specs.Worlds.{node_of}
 use Rattle.aw_node.proofs.SiteReplies.{here_at, err_any}
 use Rattle.aw_node.proofs.sites.SiteWorkspace.choose.Goals as goal
 

@@ -3,7 +3,7 @@ use Rattle.std.proofs.Math.Logic.{∥∥₁_map, ∥∥₁_map₂}
 use Rattle.aw_choice.specs.ChoiceView.{choice_of}
 use Rattle.aw_grammar.specs.GrammarOf.{grammar_of, words_of}
 use Rattle.aw_accept.specs.Sorts.{HaveTheirSorts}
-use Rattle.aw_rows.specs.RowView.{config_of}
+use Rattle.aw_plain_rows.specs.RowView.{config_of}
 use Rattle.aw_plain.specs.Filled.{AreFilled}
 use Rattle.aw_plain.specs.Ordered.{IsOrdered}
 use Rattle.aw_plain.specs.Cases.{AreApart}

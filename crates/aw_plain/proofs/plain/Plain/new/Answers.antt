@@ -1,5 +1,5 @@
 use Rattle.aw_grammar.specs.GrammarOf.{grammar_of, words_of}
-use Rattle.aw_rows.specs.RowView.{config_of}
+use Rattle.aw_plain_rows.specs.RowView.{config_of}
 use Rattle.aw_plain.proofs.TakenLemmas.{filled_none, reached_none, ordered_none, apart_none, tree_reached, acyclic_reached, sorts_none}
 use Rattle.aw_plain.proofs.plain.Plain.new.Goals as goal
 

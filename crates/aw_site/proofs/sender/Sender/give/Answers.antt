@@ -1,11 +1,11 @@
 use Rattle.std.proofs.Common.{◌∙◌, ap, reverse, option_map, true}
 use Rattle.aw_store.specs.EquationView.{body_of}
-use Rattle.aw_react.specs.Loads.{given_on}
+use Rattle.aw_law_sites.specs.Loads.{given_on}
 use Rattle.std.proofs.Common.{◌≡◌, Option, subst}
 use Rattle.std.specs.Prelude.{IfSome}
 use Rattle.aw_grammar.specs.GrammarOf.{grammar_of}
 use Rattle.aw_store.specs.declared.equation.Body.{Body}
-use Rattle.aw_react.specs.ValidNames.{body_ok}
+use Rattle.aw_law_sites.specs.ValidNames.{body_ok}
 use Rattle.aw_site.proofs.Named.{gave_valid}
 use Rattle.aw_site.proofs.Walking.{gave}
 use Rattle.aw_site.proofs.sender.Sender.give.Goals as goal

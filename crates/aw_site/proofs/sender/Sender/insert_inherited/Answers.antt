@@ -1,8 +1,8 @@
 use Rattle.std.proofs.Common.{◌≡◌, ◌-◌, true, length, map, arith}
 use Rattle.aw_grammar.specs.GrammarOf.{grammar_of}
-use Rattle.aw_react.specs.Asking.{all_inherited}
-use Rattle.aw_react.specs.Telling.{calls_in}
-use Rattle.aw_react.specs.ValidNames.{call_ok}
+use Rattle.aw_law_sites.specs.Asking.{all_inherited}
+use Rattle.aw_law_sites.specs.Telling.{calls_in}
+use Rattle.aw_law_sites.specs.ValidNames.{call_ok}
 use Rattle.aw_apply.specs.declared.making.MadeChild.{MadeChild}
 use Rattle.aw_site.proofs.Named.{each_at}
 use Rattle.aw_site.specs.Views.{child_call}

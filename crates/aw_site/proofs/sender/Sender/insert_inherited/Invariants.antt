@@ -1,7 +1,7 @@
 use Rattle.std.proofs.Common.{◌-◌, drop, length, map}
 use Rattle.aw_grammar.specs.GrammarOf.{grammar_of}
-use Rattle.aw_react.specs.Asking.{all_inherited}
-use Rattle.aw_react.specs.Telling.{calls_in}
+use Rattle.aw_law_sites.specs.Asking.{all_inherited}
+use Rattle.aw_law_sites.specs.Telling.{calls_in}
 use Rattle.aw_site.specs.Views.{child_call}
 use Rattle.aw_site.specs.Wanting.{PutsWanted}
 use Rattle.aw_site.proofs.sender.Sender.insert_inherited.Given as goal

@@ -4,7 +4,7 @@ use Rattle.aw_term.specs.Names.{Ref}
 use Rattle.aw_grammar.specs.GrammarOf.{grammar_of}
 use Rattle.aw_store.specs.Equations.{mentions}
 use Rattle.aw_store.specs.EquationView.{body_of, equation_of}
-use Rattle.aw_react.specs.Asking.{all_mentions}
+use Rattle.aw_law_sites.specs.Asking.{all_mentions}
 use Rattle.aw_site.specs.Wanting.{PutsWanted}
 use Rattle.aw_site.proofs.Named.{equation_at, body_in}
 use Rattle.aw_site.proofs.Wanting.{puts_more, mentions_split}

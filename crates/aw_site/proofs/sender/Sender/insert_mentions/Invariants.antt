@@ -1,6 +1,6 @@
 use Rattle.std.proofs.Common.{◌-◌, drop, length, map}
 use Rattle.aw_store.specs.EquationView.{equation_of}
-use Rattle.aw_react.specs.Asking.{all_mentions}
+use Rattle.aw_law_sites.specs.Asking.{all_mentions}
 use Rattle.aw_site.specs.Wanting.{PutsWanted}
 use Rattle.aw_site.proofs.sender.Sender.insert_mentions.Given as goal
 

@@ -1,6 +1,6 @@
 use Rattle.std.proofs.Common.{◌≡◌, ◌∙◌, true, sym, rules}
 use Rattle.aw_grammar.specs.GrammarOf.{grammar_of}
-use Rattle.aw_react.specs.InOrder.{insert_ref}
+use Rattle.aw_law_sites.specs.InOrder.{insert_ref}
 use Rattle.aw_site.proofs.Wanting.{puts_one, wanted_other}
 use Rattle.aw_site.proofs.sender.Sender.insert_other.Goals as goal
 

@@ -1,7 +1,7 @@
 use Rattle.std.proofs.Common.{◌∙◌, ap, reverse}
 use Rattle.std.specs.Option.{option_copied}
 use Rattle.aw_grammar.specs.GrammarOf.{grammar_of}
-use Rattle.aw_react.specs.Loads.{next_given}
+use Rattle.aw_law_sites.specs.Loads.{next_given}
 use Rattle.aw_site.specs.Walks.{listed, seen_with}
 use Rattle.aw_site.proofs.Named.{popped_valid}
 use Rattle.aw_site.proofs.Walking.{given_here, given_later}

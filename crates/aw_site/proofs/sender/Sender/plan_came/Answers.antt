@@ -3,10 +3,10 @@ use Rattle.std.proofs.lemmas.Result.{IfOk-weaker}
 use Rattle.aw_grammar.specs.GrammarOf.{grammar_of}
 use Rattle.aw_store.specs.EquationView.{equation_of}
 use Rattle.aw_msg.specs.MessageView.{message_of}
-use Rattle.aw_react.specs.Asking.{all_mentions}
+use Rattle.aw_law_sites.specs.Asking.{all_mentions}
 use Rattle.aw_site.specs.Plans.{asks_for}
 use Rattle.aw_site.proofs.Wanting.{puts_both, wanted_put}
-use Rattle.aw_react.specs.ValidNames.{refs_ok}
+use Rattle.aw_law_sites.specs.ValidNames.{refs_ok}
 use Rattle.aw_site.proofs.sender.Sender.plan_came.Goals as goal
 
 pub asking-requires : goal.asking-requires

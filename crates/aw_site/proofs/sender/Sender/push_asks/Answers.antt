@@ -3,7 +3,7 @@ use Rattle.std.proofs.lemmas.List.{drop_all}
 use Rattle.aw_grammar.specs.GrammarOf.{grammar_of}
 use Rattle.aw_msg.specs.MessageView.{message_of}
 use Rattle.aw_site.proofs.Steps.{drop_here}
-use Rattle.aw_react.specs.Asking.{ask_message}
+use Rattle.aw_law_sites.specs.Asking.{ask_message}
 use Rattle.aw_site.specs.Plans.{asks_for}
 use Rattle.aw_site.proofs.SentLists.{pushed_more, pushed_all, push_map}
 use Rattle.aw_site.proofs.Named.{ref_at}

@@ -1,7 +1,7 @@
 use Rattle.std.proofs.Common.{◌≡◌, ◌++◌, map, drop}
 use Rattle.aw_grammar.specs.GrammarOf.{grammar_of}
 use Rattle.aw_msg.specs.MessageView.{message_of}
-use Rattle.aw_react.specs.Sites.{Site}
+use Rattle.aw_law_sites.specs.Sites.{Site}
 use Rattle.aw_site.specs.Plans.{asks_for}
 use Rattle.aw_site.specs.Senders.{SendsAs}
 use Rattle.aw_site.proofs.sender.Sender.push_asks.Given as goal

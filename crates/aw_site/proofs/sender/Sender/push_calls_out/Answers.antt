@@ -2,11 +2,11 @@ use Rattle.std.proofs.Common.{◌≡◌, true, map, refl}
 use Rattle.std.proofs.lemmas.List.{drop_all}
 use Rattle.aw_grammar.specs.GrammarOf.{grammar_of}
 use Rattle.aw_site.proofs.Steps.{drop_here}
-use Rattle.aw_react.specs.Telling.{calls_out}
+use Rattle.aw_law_sites.specs.Telling.{calls_out}
 use Rattle.aw_site.specs.Views.{child_call}
 use Rattle.aw_site.proofs.SentLists.{pushed_more, pushed_all, calls_split}
 use Rattle.aw_apply.specs.declared.making.MadeChild.{MadeChild}
-use Rattle.aw_react.specs.ValidNames.{call_ok}
+use Rattle.aw_law_sites.specs.ValidNames.{call_ok}
 use Rattle.aw_site.proofs.Named.{each_at}
 use Rattle.aw_site.proofs.sender.Sender.push_calls_out.Goals as goal
 

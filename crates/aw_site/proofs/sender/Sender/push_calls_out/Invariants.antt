@@ -1,8 +1,8 @@
 use Rattle.std.proofs.Common.{◌≡◌, ◌++◌, map, drop}
 use Rattle.aw_grammar.specs.GrammarOf.{grammar_of}
 use Rattle.aw_msg.specs.MessageView.{message_of}
-use Rattle.aw_react.specs.Sites.{Site}
-use Rattle.aw_react.specs.Telling.{calls_out}
+use Rattle.aw_law_sites.specs.Sites.{Site}
+use Rattle.aw_law_sites.specs.Telling.{calls_out}
 use Rattle.aw_site.specs.Senders.{SendsAs}
 use Rattle.aw_site.specs.Views.{child_call}
 use Rattle.aw_site.proofs.sender.Sender.push_calls_out.Given as goal

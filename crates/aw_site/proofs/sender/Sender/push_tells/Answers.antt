@@ -1,10 +1,10 @@
 use Rattle.std.proofs.Common.{map, refl, subst, sym}
 use Rattle.std.proofs.lemmas.List.{drop_all}
 use Rattle.aw_grammar.specs.GrammarOf.{grammar_of}
-use Rattle.aw_repeat.specs.Holders.{AreWatchers}
+use Rattle.aw_site_repeat.specs.Holders.{AreWatchers}
 use Rattle.aw_site.proofs.Steps.{drop_here}
 use Rattle.aw_store.specs.EquationView.{equation_of}
-use Rattle.aw_react.specs.Telling.{tells}
+use Rattle.aw_law_sites.specs.Telling.{tells}
 use Rattle.aw_site.proofs.SentLists.{pushed_more, pushed_all, tells_split, tells_one}
 use Rattle.aw_site.proofs.Named.{equation_at}
 use Rattle.aw_site.proofs.sender.Sender.push_tells.Goals as goal

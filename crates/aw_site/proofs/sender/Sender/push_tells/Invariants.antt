@@ -2,9 +2,9 @@ use Rattle.std.proofs.Common.{◌≡◌, ◌++◌, map, drop}
 use Rattle.aw_grammar.specs.GrammarOf.{grammar_of}
 use Rattle.aw_store.specs.EquationView.{equation_of}
 use Rattle.aw_msg.specs.MessageView.{message_of}
-use Rattle.aw_react.specs.Sites.{Site}
-use Rattle.aw_react.specs.Telling.{tells}
-use Rattle.aw_repeat.specs.Holders.{ShowsWatchers}
+use Rattle.aw_law_sites.specs.Sites.{Site}
+use Rattle.aw_law_sites.specs.Telling.{tells}
+use Rattle.aw_site_repeat.specs.Holders.{ShowsWatchers}
 use Rattle.aw_site.specs.Senders.{SendsAs}
 use Rattle.aw_site.proofs.sender.Sender.push_tells.Given as goal
 

@@ -3,7 +3,7 @@ use Rattle.std.specs.Int.{bit_not}
 use Rattle.aw_grammar.specs.GrammarOf.{grammar_of}
 use Rattle.aw_msg.specs.MessageView.{message_of}
 use Rattle.aw_store.specs.EquationView.{equation_of}
-use Rattle.aw_react.specs.Telling.{tell}
+use Rattle.aw_law_sites.specs.Telling.{tell}
 use Rattle.aw_site.proofs.SentLists.{roles_of, told_next, told_all, push_map, left_less, first_role, watchers_are}
 use Rattle.aw_site.proofs.sender.Sender.push_told.Goals as goal
 

@@ -2,8 +2,8 @@ use Rattle.std.proofs.Common.{◌≡◌, ◌++◌, map}
 use Rattle.aw_grammar.specs.GrammarOf.{grammar_of}
 use Rattle.aw_store.specs.EquationView.{equation_of}
 use Rattle.aw_msg.specs.MessageView.{message_of}
-use Rattle.aw_react.specs.Sites.{Site}
-use Rattle.aw_react.specs.Telling.{tell}
+use Rattle.aw_law_sites.specs.Sites.{Site}
+use Rattle.aw_law_sites.specs.Telling.{tell}
 use Rattle.aw_site.specs.Senders.{SendsAs}
 use Rattle.aw_site.proofs.SentLists.{roles_of}
 use Rattle.aw_site.proofs.sender.Sender.push_told.Given as goal

@@ -2,9 +2,9 @@ use Rattle.std.proofs.Common.{◌∙◌, ◌++◌, ap, sym, map}
 use Rattle.aw_grammar.specs.GrammarOf.{grammar_of}
 use Rattle.aw_msg.specs.MessageView.{message_of}
 use Rattle.aw_store.specs.EquationView.{equation_of}
-use Rattle.aw_react.specs.Asking.{all_mentions, all_inherited}
-use Rattle.aw_react.specs.Telling.{tells, calls_out, calls_in}
-use Rattle.aw_react.specs.ValidNames.{refs_ok}
+use Rattle.aw_law_sites.specs.Asking.{all_mentions, all_inherited}
+use Rattle.aw_law_sites.specs.Telling.{tells, calls_out, calls_in}
+use Rattle.aw_law_sites.specs.ValidNames.{refs_ok}
 use Rattle.aw_site.specs.Plans.{wanted_of}
 use Rattle.aw_site.specs.Views.{child_call}
 use Rattle.aw_site.proofs.Wanting.{puts_both, wanted_put}

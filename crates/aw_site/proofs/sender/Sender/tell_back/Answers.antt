@@ -1,7 +1,7 @@
 use Rattle.std.proofs.Common.{◌∙◌, ◌∷◌, [], ◌++◌, ap, sym, map, option_map}
 use Rattle.aw_grammar.specs.GrammarOf.{grammar_of}
 use Rattle.aw_store.specs.EquationView.{body_of, equation_of}
-use Rattle.aw_react.specs.Telling.{tell_back}
+use Rattle.aw_law_sites.specs.Telling.{tell_back}
 use Rattle.aw_site.proofs.SentNames.{found_ok}
 use Rattle.aw_site.proofs.sender.Sender.tell_back.Goals as goal
 

@@ -3,8 +3,8 @@ use Rattle.std.proofs.lemmas.Result.{IfOk-weaker}
 use Rattle.aw_grammar.specs.GrammarOf.{grammar_of}
 use Rattle.aw_name.specs.declared.node.Ref.{Ref}
 use Rattle.aw_store.specs.EquationView.{body_of}
-use Rattle.aw_react.specs.Telling.{tell}
-use Rattle.aw_react.specs.ValidNames.{equation_ok}
+use Rattle.aw_law_sites.specs.Telling.{tell}
+use Rattle.aw_law_sites.specs.ValidNames.{equation_ok}
 use Rattle.aw_site.proofs.sender.Sender.tell_body.Goals as goal
 
 pub tell-told-requires : goal.tell-told-requires

@@ -3,7 +3,7 @@ use Rattle.std.specs.Prelude.{IfSome}
 use Rattle.std.specs.Option.{option_copied}
 use Rattle.aw_grammar.specs.GrammarOf.{grammar_of}
 use Rattle.aw_store.specs.declared.equation.Equation.{Equation}
-use Rattle.aw_react.specs.ValidNames.{refs_ok}
+use Rattle.aw_law_sites.specs.ValidNames.{refs_ok}
 use Rattle.aw_site.specs.Walks.{listed}
 use Rattle.aw_site.proofs.Walking.{at_slice, walked_more, walked_end}
 use Rattle.aw_site.proofs.sender.Sender.walk.Goals as goal

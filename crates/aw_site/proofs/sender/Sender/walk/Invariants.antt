@@ -2,9 +2,9 @@ use Rattle.std.proofs.Common.{◌≡◌, true, ◌++◌, ◌-◌, map, reverse}
 use Rattle.std.specs.Option.{option_copied}
 use Rattle.aw_grammar.specs.GrammarOf.{grammar_of}
 use Rattle.aw_store.specs.EquationView.{equation_of}
-use Rattle.aw_react.specs.Loads.{walk}
-use Rattle.aw_react.specs.Sites.{Site}
-use Rattle.aw_react.specs.ValidNames.{refs_ok}
+use Rattle.aw_law_sites.specs.Loads.{walk}
+use Rattle.aw_law_sites.specs.Sites.{Site}
+use Rattle.aw_law_sites.specs.ValidNames.{refs_ok}
 use Rattle.aw_site.specs.Senders.{SendsAs}
 use Rattle.aw_site.specs.Walks.{listed, seen_with}
 use Rattle.aw_site.proofs.sender.Sender.walk.Given as goal

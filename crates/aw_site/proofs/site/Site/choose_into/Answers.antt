@@ -2,8 +2,8 @@ use Rattle.std.proofs.Common.{◌∙◌, ◌++◌, ap, map}
 use Rattle.aw_choice.specs.ChoiceView.{choice_of}
 use Rattle.aw_grammar.specs.GrammarOf.{grammar_of}
 use Rattle.aw_msg.specs.MessageView.{message_of}
-use Rattle.aw_react.specs.Choosing.{choose}
-use Rattle.aw_react.specs.SiteEvents.{after_choice}
+use Rattle.aw_law_sites.specs.Choosing.{choose}
+use Rattle.aw_law_sites.specs.SiteEvents.{after_choice}
 use Rattle.aw_site.specs.Answers.{sent_by}
 use Rattle.aw_site.specs.Shown.{Shows}
 use Rattle.aw_site.proofs.Beginning.{shown_on}

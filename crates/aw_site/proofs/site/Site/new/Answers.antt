@@ -1,7 +1,7 @@
 use Rattle.std.proofs.Common.{ap, map}
 use Rattle.aw_grammar.specs.GrammarOf.{grammar_of}
 use Rattle.aw_msg.specs.MessageView.{message_of}
-use Rattle.aw_react.specs.Sites.{empty_site}
+use Rattle.aw_law_sites.specs.Sites.{empty_site}
 use Rattle.aw_site.specs.Sendable.{all_sendable, all_short}
 use Rattle.aw_site.proofs.Beginning.{new_shown}
 use Rattle.aw_site.proofs.site.Site.new.Goals as goal

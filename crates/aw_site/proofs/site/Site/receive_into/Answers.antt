@@ -2,8 +2,8 @@ use Rattle.std.proofs.Common.{ap}
 use Rattle.std.proofs.Math.Logic.{∥∥₁_map}
 use Rattle.aw_grammar.specs.GrammarOf.{grammar_of}
 use Rattle.aw_msg.specs.MessageView.{message_of}
-use Rattle.aw_react.specs.Reacting.{receive}
-use Rattle.aw_react.specs.SiteEvents.{after_message}
+use Rattle.aw_law_sites.specs.Reacting.{receive}
+use Rattle.aw_law_sites.specs.SiteEvents.{after_message}
 use Rattle.aw_site.specs.Answers.{sent_for}
 use Rattle.aw_site.specs.Shown.{Shows}
 use Rattle.aw_site.proofs.Beginning.{shown_on}

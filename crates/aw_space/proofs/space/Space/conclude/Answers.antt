@@ -2,7 +2,7 @@ use Rattle.std.proofs.Common.{ap, sym, subst}
 use Rattle.aw_grammar.specs.GrammarOf.{grammar_of}
 use Rattle.aw_choice.specs.ChoiceView.{choice_of}
 use Rattle.aw_term.specs.Choices.{answer_of}
-use Rattle.aw_react.specs.Worlds.{node_of}
+use Rattle.aw_law_sites.specs.Worlds.{node_of}
 use Rattle.aw_space.specs.Keeping.{KeepsFacts, KeepsNodesBut}
 use Rattle.aw_space.specs.Seen.{space_seen}
 use Rattle.aw_space.specs.Spaces as P

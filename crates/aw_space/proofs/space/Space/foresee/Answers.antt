@@ -2,8 +2,8 @@ use Rattle.std.proofs.Common.{◌∙◌, subst}
 use Rattle.std.proofs.lemmas.Result.{IfOk-weaker}
 use Rattle.aw_grammar.specs.GrammarOf.{grammar_of}
 use Rattle.aw_choice.specs.ChoiceView.{choice_of}
-use Rattle.aw_held.specs.HeldView.{all_of}
-use Rattle.aw_react.specs.Joint.{outcome_in}
+use Rattle.aw_node_list.specs.HeldView.{all_of}
+use Rattle.aw_law_sites.specs.Joint.{outcome_in}
 use Rattle.aw_space.specs.Outcomes.{IsOutcome}
 use Rattle.aw_space.specs.declared.outcome.Outcome.{Outcome}
 use Rattle.aw_space.proofs.space.Space.foresee.Goals as goal

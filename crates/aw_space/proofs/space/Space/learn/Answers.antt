@@ -1,12 +1,12 @@
 use Rattle.std.proofs.Common.{◌≡◌, ◌+◌, ◌≤◌, ◌∙◌, sym, subst, false, true}
 use Rattle.aw_grammar.specs.GrammarOf.{grammar_of}
-use Rattle.aw_held.specs.HeldView.{all_of}
+use Rattle.aw_node_list.specs.HeldView.{all_of}
 use Rattle.aw_store.specs.EquationView.{equation_of}
 use Rattle.aw_store.proofs.NameLemmas.{all_named-grown}
-use Rattle.aw_react.specs.ValidNames.{equation_ok}
-use Rattle.aw_react.specs.Worklists.{site_worklist}
-use Rattle.aw_kept.specs.Items.{waiting_on}
-use Rattle.aw_kept.specs.KeptStates.{IsFitKept, IsKept}
+use Rattle.aw_law_sites.specs.ValidNames.{equation_ok}
+use Rattle.aw_law_sites.specs.Worklists.{site_worklist}
+use Rattle.aw_standing.specs.Items.{waiting_on}
+use Rattle.aw_standing.specs.KeptStates.{IsFitKept, IsKept}
 use Rattle.aw_space.specs.Sound.{all_inherited}
 use Rattle.aw_space.specs.Spaces.{is_home}
 use Rattle.aw_space.proofs.FewParts.{few_valid}

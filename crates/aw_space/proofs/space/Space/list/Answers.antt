@@ -1,7 +1,7 @@
 use Rattle.std.proofs.Common.{◌≡◌, ◌+◌, ◌++◌, ◌∙◌, suc, take, refl, ap, sym, arith}
 use Rattle.aw_grammar.specs.GrammarOf.{grammar_of}
-use Rattle.aw_held.specs.HeldView.{held_of, all_of, state_of}
-use Rattle.aw_react.specs.Worklists.{open_items, site_worklist}
+use Rattle.aw_node_list.specs.HeldView.{held_of, all_of, state_of}
+use Rattle.aw_law_sites.specs.Worklists.{open_items, site_worklist}
 use Rattle.aw_space.proofs.Listing.{site_taken}
 use Rattle.aw_space.proofs.space.Space.list.Goals as goal
 

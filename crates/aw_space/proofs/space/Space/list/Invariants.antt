@@ -1,8 +1,8 @@
 use Rattle.std.proofs.Common.{◌≡◌, map, take}
 use Rattle.aw_grammar.specs.GrammarOf.{grammar_of}
 use Rattle.aw_choice.specs.ChoiceView.{item_of}
-use Rattle.aw_held.specs.HeldView.{all_of}
-use Rattle.aw_react.specs.Worklists.{site_worklist}
+use Rattle.aw_node_list.specs.HeldView.{all_of}
+use Rattle.aw_law_sites.specs.Worklists.{site_worklist}
 use Rattle.aw_space.proofs.space.Space.list.Given as goal
 
 abbrev pub invariant-loop-at : goal.invariant-loop-at

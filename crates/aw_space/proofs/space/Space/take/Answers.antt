@@ -2,9 +2,9 @@ use Rattle.std.proofs.Common.{◌+◌, ◌≤◌, ◌∙◌, sym, subst}
 use Rattle.aw_grammar.specs.GrammarOf.{grammar_of}
 use Rattle.aw_choice.specs.ChoiceView.{choice_of}
 use Rattle.aw_term.specs.Choices.{answer_of}
-use Rattle.aw_held.specs.HeldView.{all_of}
-use Rattle.aw_react.specs.Joint.{outcome_in}
-use Rattle.aw_kept.specs.KeptStates.{IsKept}
+use Rattle.aw_node_list.specs.HeldView.{all_of}
+use Rattle.aw_law_sites.specs.Joint.{outcome_in}
+use Rattle.aw_standing.specs.KeptStates.{IsKept}
 use Rattle.aw_space.specs.Costs.{choice_cost}
 use Rattle.aw_space.specs.Outcomes.{IsMade}
 use Rattle.aw_space.specs.Sound.{IsSound}

@@ -2,9 +2,9 @@ use Rattle.std.proofs.Common.{◌+◌, ◌≤◌, ◌∙◌, ap, sym, subst, map
 use Rattle.std.specs.Prelude.{option_map}
 use Rattle.std.specs.Option.{option_copied}
 use Rattle.aw_grammar.specs.GrammarOf.{grammar_of}
-use Rattle.aw_held.specs.HeldView.{all_of}
+use Rattle.aw_node_list.specs.HeldView.{all_of}
 use Rattle.aw_store.specs.EquationView.{equation_of}
-use Rattle.aw_kept.specs.KeptStates.{IsKept}
+use Rattle.aw_standing.specs.KeptStates.{IsKept}
 use Rattle.aw_space.specs.Missing.{missing_node}
 use Rattle.aw_space.specs.TakenIn.{IsOpenableIf, taken_cost}
 use Rattle.aw_space.proofs.Costing.{taking_costs, missing_openable}

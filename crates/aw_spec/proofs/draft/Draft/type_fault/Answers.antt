@@ -1,6 +1,6 @@
 use Rattle.std.proofs.Common.{◌∙◌, ◌<◌, sym, ap, cond, Some, None, length, arith}
 use Rattle.std.proofs.lemmas.Bool.{lt-leb}
-use Rattle.aw_index.specs.Places.{stands}
+use Rattle.aw_name_index.specs.Places.{stands}
 use Rattle.aw_spec.specs.declared.fault.SpecKind.TheVariants.{Limit, Double}
 use Rattle.aw_spec.specs.TypeLines.{type_names}
 use Rattle.aw_spec.proofs.draft.Draft.type_fault.Goals as goal

@@ -5,11 +5,11 @@ use Rattle.aw_cells.specs.contracts.cells.CellFactsFacts.TheImpl as cells
 use Rattle.aw_choice.specs.ChoiceView.{choice_of, answer_of}
 use Rattle.aw_grammar.specs.GrammarOf.{grammar_of}
 use Rattle.aw_msg.specs.MessageView.{message_of}
-use Rattle.aw_react.specs.Choosing.{answer_to, choose}
-use Rattle.aw_react.specs.Homes.{home}
-use Rattle.aw_react.specs.SiteEvents.{after_choice}
-use Rattle.aw_react.specs.Sites.{Site}
-use Rattle.aw_react.specs.Worlds.{node_of}
+use Rattle.aw_law_sites.specs.Choosing.{answer_to, choose}
+use Rattle.aw_law_sites.specs.Homes.{home}
+use Rattle.aw_law_sites.specs.SiteEvents.{after_choice}
+use Rattle.aw_law_sites.specs.Sites.{Site}
+use Rattle.aw_law_sites.specs.Worlds.{node_of}
 use Rattle.aw_site.specs.Seen.{IsShown}
 use Rattle.aw_site.specs.Answers.{sent_by}
 use Rattle.aw_world.proofs.OwnGrammars.{own_grammar, grows_either}

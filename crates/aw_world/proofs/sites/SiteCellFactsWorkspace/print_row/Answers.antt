@@ -1,11 +1,11 @@
 use Rattle.std.proofs.Common.{◌≡◌, true, ap, sym, subst, ◌∙◌, slice_get}
 use Rattle.aw_cells.specs.contracts.cells.CellFactsFacts.TheImpl as cells
 use Rattle.aw_grammar.specs.GrammarOf.{grammar_of, words_of}
-use Rattle.aw_held.specs.HeldView.{held_of}
-use Rattle.aw_merge.specs.ReadRows.{IsRead}
+use Rattle.aw_node_list.specs.HeldView.{held_of}
+use Rattle.aw_law_worlds.specs.ReadRows.{IsRead}
 use Rattle.aw_out.specs.Report.{Prints}
 use Rattle.aw_print.specs.Stacks.{IsReady}
-use Rattle.aw_react.specs.ValidNames.{takes_as}
+use Rattle.aw_law_sites.specs.ValidNames.{takes_as}
 use Rattle.aw_space.specs.Valid.{done_fits}
 use Rattle.aw_space.proofs.Standing.{takes_here}
 use Rattle.aw_term.specs.Artifacts.{row_text}

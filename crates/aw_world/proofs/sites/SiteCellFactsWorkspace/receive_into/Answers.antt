@@ -2,9 +2,9 @@ use Rattle.std.proofs.Common.{◌≡◌, ◌++◌, map, ap, subst, ◌∙◌}
 use Rattle.aw_cells.specs.contracts.cells.CellFactsFacts.TheImpl as cells
 use Rattle.aw_grammar.specs.GrammarOf.{grammar_of}
 use Rattle.aw_msg.specs.MessageView.{message_of}
-use Rattle.aw_react.specs.Reacting.{receive}
-use Rattle.aw_react.specs.SiteEvents.{after_message}
-use Rattle.aw_react.specs.Sites.{Site}
+use Rattle.aw_law_sites.specs.Reacting.{receive}
+use Rattle.aw_law_sites.specs.SiteEvents.{after_message}
+use Rattle.aw_law_sites.specs.Sites.{Site}
 use Rattle.aw_site.specs.Seen.{IsShown}
 use Rattle.aw_site.specs.Answers.{sent_for}
 use Rattle.aw_world.specs.SiteAnswers.{is_new}

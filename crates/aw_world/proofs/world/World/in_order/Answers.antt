@@ -1,7 +1,7 @@
 use Rattle.std.proofs.Common.{◌≡◌, None, length, subst}
 use Rattle.std.specs.Prelude.{IfOk}
 use Rattle.std.proofs.lemmas.Result.{IfOk-weaker}
-use Rattle.aw_react.specs.Worlds as V
+use Rattle.aw_law_sites.specs.Worlds as V
 use Rattle.aw_world.specs.Opened.{AreAllInOrder}
 use Rattle.aw_world.specs.Reactions.{HasRows}
 use Rattle.aw_world.specs.Shown.{Shows, first_open}

@@ -2,8 +2,8 @@ use Rattle.std.proofs.Common.{◌≡◌, map}
 use Rattle.std.proofs.lemmas.Result.{IfOk-weaker}
 use Rattle.aw_choice.specs.ChoiceView.{item_of}
 use Rattle.aw_grammar.specs.GrammarOf.{grammar_of}
-use Rattle.aw_react.specs.Worklists.{site_worklist}
-use Rattle.aw_react.specs.Worlds as V
+use Rattle.aw_law_sites.specs.Worklists.{site_worklist}
+use Rattle.aw_law_sites.specs.Worlds as V
 use Rattle.aw_world.specs.Shown.{Shows}
 use Rattle.aw_world.proofs.world.World.list.Goals as goal
 

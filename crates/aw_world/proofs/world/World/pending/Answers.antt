@@ -1,6 +1,6 @@
 use Rattle.std.proofs.Common.{ap, sym, ◌∙◌}
 use Rattle.aw_grammar.specs.GrammarOf.{grammar_of}
-use Rattle.aw_held.specs.HeldView.{all_of}
+use Rattle.aw_node_list.specs.HeldView.{all_of}
 use Rattle.aw_world.specs.Merged.{merged, nodes_of}
 use Rattle.aw_world.specs.Opened.{open_nodes}
 use Rattle.aw_world.proofs.Gathered.{gathered}

@@ -1,7 +1,7 @@
 use Rattle.std.proofs.Common.{◌<◌, false, length, ◌∙◌, subst, arith, refl}
 use Rattle.std.proofs.lemmas.Option.{slice_get_read}
-use Rattle.aw_react.specs.Sites.{empty_site}
-use Rattle.aw_react.specs.Worlds as V
+use Rattle.aw_law_sites.specs.Sites.{empty_site}
+use Rattle.aw_law_sites.specs.Worlds as V
 use Rattle.aw_world.proofs.Pairings.{pairs_at}
 use Rattle.aw_world.proofs.world.World.site.Goals as goal
 

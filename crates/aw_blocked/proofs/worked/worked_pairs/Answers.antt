@@ -1,5 +1,0 @@
-use Rattle.std.proofs.Common.{refl}
-use Rattle.aw_blocked.proofs.worked.worked_pairs.Goals as goal
-
-pub returns : goal.returns
-returns c = (refl, refl)

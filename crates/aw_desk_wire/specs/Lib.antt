@@ -1,0 +1,6 @@
+pub mod Asking
+pub mod Calls
+pub mod Honest
+pub mod Alike
+pub mod Shown
+pub mod Quiet

@@ -1,0 +1,21 @@
+//! What a wire over offices does.
+ghost use Rattle.aw_desk_wire.specs.Alike.{HonestAlike};
+ghost use Rattle.aw_node.specs.TypedNodes.{Rules, answers};
+ghost use Rattle.aw_desk_wire.specs.Quiet.{TurnsAreHonest};
+ghost use Rattle.aw_desk_wire.specs.Shown.{ShowsBy};
+
+use crate::desk::Desk;
+use crate::office::Office;
+
+/// A wire that was honest for offices was honest for the plain sites that they show and the rules by which they answer: each whole frame that
+/// was written in a session was asked of the site of its role, in order, what was read begins the replies, and the offices show then the
+/// sites behind all that was asked.
+pub fn offices_are_honest<'g>()
+    ensures { (r : Rules) → HonestAlike (ShowsBy r) ⟦<Office<'g> as Desk>⟧.answers (answers r) }
+{}
+
+/// Turns of a courier that typed sites answered, as those of a `SiteWire` are by `offices_are_honest`, are honest as `aw_courier::carry` asks for it in
+/// what Quiet means (`world`), where its requests have bytes: each message that was pushed, and each place that was pulled from.
+pub fn turns_are_honest()
+    ensures { (r : Rules) → TurnsAreHonest r }
+{}

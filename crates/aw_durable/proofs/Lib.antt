@@ -1,9 +1,0 @@
-pub mod CutOffs
-pub mod Exits
-pub mod KeptSites
-pub mod Kept
-pub mod Nodes
-pub mod Opening
-pub mod RedoneLists
-pub mod Runs
-pub mod Steps

@@ -1,8 +1,0 @@
-use Rattle.aw_durable.proofs.Runs.{sites-are-runs, first-are-kept}
-use Rattle.aw_durable.proofs.law.kept_sites.Goals as goal
-
-pub returns-clause-runs : goal.returns-clause-runs
-returns-clause-runs c r = sites-are-runs r
-
-pub returns-clause-first : goal.returns-clause-first
-returns-clause-first c r = first-are-kept r

@@ -1,6 +1,0 @@
-use Rattle.std.proofs.Common.{take}
-use Rattle.aw_store.specs.NamedRefs.{AreNamed}
-use Rattle.aw_flat.proofs.weigh.slots_of.Given as goal
-
-abbrev pub invariant-loop-r : goal.invariant-loop-r
-invariant-loop-r g l = AreNamed (g.F.Facts.names l.f) l.slots.items (take l.r-index l.refs)

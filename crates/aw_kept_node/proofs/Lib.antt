@@ -1,0 +1,11 @@
+pub mod BothWays
+pub mod CutOffs
+pub mod Exits
+pub mod KeptSites
+pub mod Kept
+pub mod Nodes
+pub mod Opening
+pub mod RedoneLists
+pub mod Runs
+pub mod Safety
+pub mod Steps

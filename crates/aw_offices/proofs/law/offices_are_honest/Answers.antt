@@ -1,5 +1,0 @@
-use Rattle.aw_offices.proofs.OfficeLemmas.{offices-honest}
-use Rattle.aw_offices.proofs.law.offices_are_honest.Goals as goal
-
-pub returns : goal.returns
-returns c r = offices-honest _ _ (λ o. o.site.space.accepted.now.grammar) (λ o. o.typed.now) _ (λ o p f x a. a) r

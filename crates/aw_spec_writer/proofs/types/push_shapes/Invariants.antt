@@ -1,0 +1,8 @@
+use Rattle.std.proofs.Common.{◌≡◌, ◌++◌, drop}
+use Rattle.aw_spec.specs.TypeLines.{type_names}
+use Rattle.aw_spec_writer.specs.SpecLines.{shape_lines}
+use Rattle.aw_spec_writer.specs.LineTexts.{text_of_lines}
+use Rattle.aw_spec_writer.proofs.types.push_shapes.Given as goal
+
+abbrev pub invariant-loop-i : goal.invariant-loop-i
+invariant-loop-i l = l.text ++ text_of_lines (shape_lines (type_names l.t) (drop l.i l.t.shapes) (drop l.i l.g.cons)) ≡ l.fn.text ++ text_of_lines (shape_lines (type_names l.t) l.t.shapes l.g.cons)

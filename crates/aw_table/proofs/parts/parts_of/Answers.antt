@@ -1,9 +1,0 @@
-use Rattle.std.proofs.Common.{subst}
-use Rattle.aw_table.specs.Parts.{IfSomePart}
-use Rattle.aw_table.proofs.Gathering.{first_more}
-use Rattle.aw_table.proofs.parts.parts_of.Goals as goal
-
-pub loop-role-preserved : goal.loop-role-preserved
-loop-role-preserved c =
-    let is = subst (IfSomePart c.args.g.now c.loop-role.role) c.in-Some.is c.in_ok-yes.ensures in
-    first_more c.args.g.now c.loop-role.role c.loop-role.parts c.push.new.self c.in-Some.yes c.loop-role.invariant is c.in_ok-push-in-Some.ensures.ok

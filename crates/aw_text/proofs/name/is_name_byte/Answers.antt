@@ -1,9 +1,0 @@
--- The table is held against the definition at each of the 256 bytes, by computing.
-use Rattle.std.proofs.Common.{not, nat_eq, get_or, refl, arith}
-use Rattle.std.proofs.lemmas.Bool.{agree_below_at}
-use Rattle.aw_text.specs.declared.name.TheConstants.{NAME_BYTES}
-use Rattle.aw_text.specs.Spelling.{is_name_byte}
-use Rattle.aw_text.proofs.name.is_name_byte.Goals as goal
-
-pub returns : goal.returns
-returns c = agree_below_at (λ b. not (nat_eq (get_or NAME_BYTES b 0) 44)) is_name_byte 256 c.args.byte refl (omega arith)

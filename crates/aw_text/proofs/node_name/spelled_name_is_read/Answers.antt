@@ -1,5 +1,0 @@
-use Rattle.aw_text.proofs.NodeNames.{name_again}
-use Rattle.aw_text.proofs.node_name.spelled_name_is_read.Goals as goal
-
-pub returns : goal.returns
-returns c = name_again

@@ -1,6 +1,0 @@
-use Rattle.aw_modular.specs.PartViews.{part_of}
-use Rattle.aw_told.proofs.Findings.{yes_found}
-use Rattle.aw_told.proofs.roles.find.Goals as goal
-
-pub returns-in-Ok : goal.returns-in-Ok
-returns-in-Ok c = yes_found c.args.part.now.faces.offers c.args.declared.now c.args.part.now.role (part_of c.args.part.now) c.in-Ok.ensures.says

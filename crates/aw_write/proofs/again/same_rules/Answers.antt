@@ -1,8 +1,0 @@
-use Rattle.aw_write.proofs.BackRules.{same_rule, same_rules}
-use Rattle.aw_write.proofs.again.same_rules.Goals as goal
-
-pub returns-clause-rule : goal.returns-clause-rule
-returns-clause-rule c = same_rule
-
-pub returns-clause-rules : goal.returns-clause-rules
-returns-clause-rules c = same_rules

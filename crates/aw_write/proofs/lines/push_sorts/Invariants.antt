@@ -1,7 +1,0 @@
-use Rattle.std.proofs.Common.{◌≡◌, ◌++◌, drop, map}
-use Rattle.aw_write.specs.SpecLines.{sort_line}
-use Rattle.aw_write.specs.LineTexts.{text_of_lines}
-use Rattle.aw_write.proofs.lines.push_sorts.Given as goal
-
-abbrev pub invariant-loop-sort : goal.invariant-loop-sort
-invariant-loop-sort l = l.text ++ text_of_lines (map (sort_line l.g.roles) (drop l.sort-index l.sort-items)) ≡ l.fn.text ++ text_of_lines (map (sort_line l.g.roles) l.g.sorts)
