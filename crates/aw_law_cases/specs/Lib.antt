@@ -1,0 +1,3 @@
+pub mod CaseWorlds
+pub mod Cases
+pub mod Worked

@@ -1,0 +1,6 @@
+pub mod Causes
+pub mod Coming
+pub mod Orders
+pub mod Picking
+pub mod Reaching
+pub mod Sameness

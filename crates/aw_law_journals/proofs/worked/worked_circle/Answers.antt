@@ -1,0 +1,14 @@
+use Rattle.std.proofs.Common.{refl, inl}
+use Rattle.aw_law_journals.proofs.worked.worked_circle.Goals as goal
+
+pub returns-clause-sound : goal.returns-clause-sound
+returns-clause-sound c = ((refl, ((_, refl), (refl, tt))), ((_, refl), tt))
+
+pub returns-clause-refused : goal.returns-clause-refused
+returns-clause-refused c = (refl, refl)
+
+pub returns-clause-causes : goal.returns-clause-causes
+returns-clause-causes c = ((λ i. i, inl refl), (λ i. i, inl refl))
+
+pub returns-clause-joins : goal.returns-clause-joins
+returns-clause-joins c = (refl, refl)

@@ -1,0 +1,5 @@
+pub mod Driving
+pub mod Journals
+pub mod Laws
+pub mod SameMessages
+pub mod Worked
