@@ -1,5 +1,5 @@
 #!/usr/bin/env python3
-"""What the table of drawn runs has to write: reads crates/aw_alike/stdin on standard input, and knows nothing of the program.
+"""What the table of drawn runs has to write: reads crates/table_undivided/stdin on standard input, and knows nothing of the program.
 It reads the specifications, draws the choices, and answers them as docs/MODEL.md has the undivided run: a taken choice puts
 the results of its node in the place of their holes, in as many rounds as there are results."""
 

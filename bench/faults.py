@@ -27,6 +27,7 @@ from collections import Counter
 from concurrent.futures import ThreadPoolExecutor
 
 sys.dont_write_bytecode = True
+import edge
 import inputs
 import nodes
 import served
@@ -238,6 +239,10 @@ def break_ends(binary, told):
             print("| %s | %d |" % (name, run.returncode))
         print("| a pipe that is closed after 100 bytes | %d |" % close_early(binary, told, 100))
         print("| a pipe that is closed at once | %d |" % close_early(binary, told, 0))
+    without = list(edge.closings(edge.Run(binary)))
+    for what, wrong in without:
+        told.check(not wrong, "%s: %s" % (what, "; ".join(wrong)))
+    print("\nNodes and couriers without some of the standard streams: %d" % len(without))
 
 
 def run_shell(binary, word, ends, folder):

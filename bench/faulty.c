@@ -7,7 +7,7 @@
  *                  dial     socket, bind, listen, accept, connect and setsockopt
  *                  receive  recv
  *                  send     send
- *                  disk     open, and of what was opened fsync, fdatasync, ftruncate, lseek, statx, read and write
+ *                  disk     open and flock, and of what was opened fsync, fdatasync, ftruncate, lseek, statx, read and write
  *   FAULTY_AT      the number of the first call that fails, from 1; 0 for none
  *   FAULTY_REST    1: all later calls fail too
  *   FAULTY_ERROR   the error number of a call that fails
@@ -95,10 +95,11 @@ static const char *kind_of(int file) { return file == 0 ? "read" : file == 1 ? "
 
 static int is_ours(void *caller) { return (uintptr_t)caller >= code_begin && (uintptr_t)caller < code_end; }
 
-/* Copies the bytes of a file that was synced. */
+/* Copies the bytes of a file that was synced; a folder has none. */
 static int noted(int file, int answer) {
     if (answer != 0 || !synced_path) return answer;
     char bytes[4096];
+    if (syscall(SYS_pread64, file, bytes, sizeof bytes, (off_t)0) < 0) return answer;
     int copy = (int)syscall(SYS_openat, AT_FDCWD, synced_path, O_WRONLY | O_CREAT | O_TRUNC, 0600);
     for (off_t place = 0;;) {
         long some = syscall(SYS_pread64, file, bytes, sizeof bytes, place);
@@ -190,6 +191,11 @@ int open(const char *path, int how, ...) {
 int fsync(int file) {
     if (fails("disk", __builtin_return_address(0))) return -1;
     return noted(file, (int)syscall(SYS_fsync, file));
+}
+
+int flock(int file, int how) {
+    if (fails("disk", __builtin_return_address(0))) return -1;
+    return (int)syscall(SYS_flock, file, how);
 }
 
 int fdatasync(int file) {

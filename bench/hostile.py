@@ -317,6 +317,21 @@ def quarrel(count):
     return first + second * count
 
 
+WIDE = text(["role near", "role far", "con ok 0", "con no 0", "sort top near 0 1", "sort task far 1 1", "start top", "offer task", "use near task",
+             "rule go : top()<y> = task(no)<y>"] + ["rule r%d : task(ok)<ok>" % number for number in range(1_000)])
+WIDE_STARTS = text(["role near", "con ok 0", "sort top near 0 1", "start top"] + ["rule r%d : top()<ok>" % number for number in range(1_000)])
+
+
+def wide(scale):
+    """Tasks whose sort has 1,000 rules, and calls of tasks that wait at a chain."""
+    n = 1_000 * scale
+    yield Attack("tasks of 1,000 rules that wait, %d *" % n, ["node", "far"], WIDE, (DONE,),
+                 lambda: [b"".join(call(task(case), part(name(case), 1)) for case in range(n))], b"end")
+    yield Attack("tasks of 1,000 rules that are ready, %d *" % n, ["node", "near"], WIDE_STARTS, (DONE,), lambda: [b"".join(map(start, range(n)))], b"end")
+    yield far("calls of %d tasks that wait at the first of 10,000 references which lead on *" % n,
+              lambda: [chain(10_000, True) + b"".join(call(task(case), part(name(0), 1)) for case in range(1, n + 1))])
+
+
 def forged(scale):
     n = 1_000 * scale
     yield far("tasks whose values are made of themselves, 8,000", lambda: [own_parts(8_000) + LOOK])
@@ -465,6 +480,7 @@ def attacks(binary, scale):
     yield from steps()
     yield from couriers()
     yield from forged(scale)
+    yield from wide(scale)
     yield from journals(binary)
     yield from bounded()
     yield from lists()

@@ -170,4 +170,5 @@ def main():
     sys.exit(reopen(binary, given.reopen) if given.reopen else kills(binary, given.kills, given.lives, given.seed))
 
 
-main()
+if __name__ == '__main__':
+    main()

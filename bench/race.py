@@ -1,5 +1,5 @@
 #!/usr/bin/env python3
-"""Times the store with hashes (crates/aw_flat/out/aw_flat, or the file that is given) beside the same work in plain Rust over
+"""Times the store with hashes (crates/table_equations/out/table_equations, or the file that is given) beside the same work in plain Rust over
 std's HashMap (bench/race, which it builds with cargo). Both have to write the same numbers. Each work runs five times, in turn;
 the least time and the largest memory are told, as a table in Markdown. Ends with 1 where numbers differ or a work takes longer
 than in plain Rust."""
@@ -43,7 +43,7 @@ def best(runs_of):
 
 
 def main():
-    proved = sys.argv[1] if len(sys.argv) > 1 else os.path.join(HERE, "..", "crates", "aw_flat", "out", "aw_flat")
+    proved = sys.argv[1] if len(sys.argv) > 1 else os.path.join(HERE, "..", "crates", "table_equations", "out", "table_equations")
     race = os.path.join(HERE, "race")
     subprocess.run(["cargo", "build", "--release", "--quiet"], cwd=race, check=True)
     plain = os.path.join(race, "target", "release", "race")

@@ -1,5 +1,5 @@
 #!/usr/bin/env python3
-"""What the table of calls on two stores has to write: reads the part `stores` of crates/aw_flat/stdin on standard input,
+"""What the table of calls on two stores has to write: reads the part `stores` of crates/table_equations/stdin on standard input,
 and knows nothing of the program. A store is a dict here; the answers that are counted are those of the dict."""
 
 import re

@@ -5,7 +5,7 @@
   trial.py --counts N        writes the counts of the turns instead: starts, choices, taken, messages, repeats
   trial.py --compare BIN N.. runs `BIN trial N` and `BIN replay` of the schedule, and compares both with the counts
 
-It draws as docs/MODEL.md says. To know which nodes are open and how many messages were sent it has workspaces of its own, which are
+It draws as docs/SCHEDULE.md says. To know which nodes are open and how many messages were sent it has workspaces of its own, which are
 written from docs/PROTOCOL.md and are no part of the program. Ends with 1 where something differs."""
 import bisect
 import subprocess

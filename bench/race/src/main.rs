@@ -1,4 +1,4 @@
-//! The part `works` of `crates/aw_flat` in plain Rust over std's HashMap, to be timed beside it: the same sizes, works and numbers.
+//! The part `works` of `crates/table_equations` in plain Rust over std's HashMap, to be timed beside it: the same sizes, works and numbers.
 //! A store as one would write it: names in a map and in a list, bodies by slots.
 
 use std::collections::HashMap;
