@@ -1,0 +1,2 @@
+" Specifications and schedules of aw.
+autocmd BufNewFile,BufRead *.aw setfiletype aw

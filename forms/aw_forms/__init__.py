@@ -1,0 +1,1 @@
+"""What the companions for form designers share: places in a text, its lines, what they declare, and words for faults."""
