@@ -19,7 +19,7 @@ HERE = Path(__file__).resolve().parent
 DOCS = HERE.parent / "docs"
 COMMANDS = ("check", "plain", "replay")
 STATUS_OF = {"bad specification ": 3, "bad types ": 15, "circular ": 4, "bad schedule ": 5}
-PAGE_OF = {"specification": "LANGUAGE.md", "schedule": "SCHEDULE.md", "tutorial": "TUTORIAL.md"}
+PAGE_OF = {"specification": "FAULTS.md", "schedule": "FAULTS.md", "tutorial": "TUTORIAL.md"}
 
 
 def status_for(output):
