@@ -63,6 +63,13 @@ def listens(port: int) -> bool:
     return any(line.split()[3] == "0A" and int(line.split()[1].split(":")[1], 16) == port for line in lines)
 
 
+def files_of(process: int) -> Iterator[str]:
+    """The files that a process has open; one that it closes meanwhile is left out."""
+    for descriptor in os.listdir("/proc/%d/fd" % process):
+        with contextlib.suppress(FileNotFoundError):
+            yield os.readlink("/proc/%d/fd/%s" % (process, descriptor))
+
+
 class Node:
     """The kept node of a role, in a folder of its own."""
 
@@ -134,7 +141,7 @@ class System:
     def post_works(self) -> bool:
         """Whether the post has read its words, and goes about its work."""
         assert self.post is not None and self.post.poll() is None, self.log()[-2000:]
-        return any(os.path.realpath(file).endswith("/places.lock") for file in Path("/proc/%d/fd" % self.post.pid).iterdir())
+        return any(file.endswith("/places.lock") for file in files_of(self.post.pid))
 
     def kill_post(self) -> None:
         """Kills the post, at whatever it is."""
