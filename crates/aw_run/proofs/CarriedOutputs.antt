@@ -21,11 +21,11 @@ use Rattle.aw_courier.specs.declared.carrying.Carried.TheVariants.{Quiet, Rounds
 use Rattle.aw_courier.specs.declared.carrying.CarryFault.{CarryFault}
 use Rattle.aw_courier.specs.declared.carrying.CarryFault.TheVariants as fault
 use Rattle.aw_spec.specs.Reading.{Spec}
-use Rattle.aw_run.specs.declared.reply.Reply.{Reply}
-use Rattle.aw_run.specs.declared.reply.Status.TheVariants.{Done, NoMemory}
+use Rattle.aw_front.specs.declared.reply.Reply.{Reply}
+use Rattle.aw_front.specs.declared.reply.Status.TheVariants.{Done, NoMemory}
 use Rattle.aw_run.specs.Devices.{wired}
-use Rattle.aw_run.specs.Output.{Writes, NoReplyOf}
-use Rattle.aw_run.specs.Replies.{Replies, reply, reply_with}
+use Rattle.aw_front.specs.Output.{Writes, NoReplyOf}
+use Rattle.aw_front.specs.Replies.{Replies, reply, reply_with}
 use Rattle.aw_run.specs.Carrying.{BreaksOffBy, CarriesFor, CarriesOver, CarriedMeans, StopsCourier, WasCarried, carried_line}
 
 grammar-same : (s : Spec) (g : Grammar) → s.declared ≡ declarations_of g → grammar_of g ≡ grammar_in s.declared

@@ -16,9 +16,10 @@ use Rattle.aw_grammar.proofs.Entries.{declared_words, declared_grammar}
 use Rattle.aw_modular.specs.Refusals.{IsPosition}
 use Rattle.aw_spec.specs.TypesFit.{IsOfSort}
 use Rattle.aw_run.specs.Checked.{TellsChecked}
-use Rattle.aw_run.specs.declared.reply.Status.TheVariants.{Done}
-use Rattle.aw_run.specs.Output.{Output, Writes, WritesChecked}
-use Rattle.aw_run.specs.Replies.{Replies, reply}
+use Rattle.aw_front.specs.declared.reply.Status.TheVariants.{Done}
+use Rattle.aw_front.specs.Output.{Output, Writes}
+use Rattle.aw_run.specs.Output.{WritesChecked}
+use Rattle.aw_front.specs.Replies.{Replies, reply}
 
 -- how many inherited values and results a sort has
 abbrev counts : Sort → ℕ × ℕ

@@ -6,12 +6,14 @@ use Rattle.std.specs.declared.result.Result.{Result}
 use Rattle.aw_run.specs.declared.words.Command.{Command}
 use Rattle.aw_run.specs.declared.words.Command.TheVariants.{Reads, Tries, Serves, Keeps, Carries}
 use Rattle.aw_run.specs.declared.words.Job.{Job}
-use Rattle.aw_run.specs.declared.reply.Reply.{Reply}
-use Rattle.aw_run.specs.declared.reply.Status.{Status}
-use Rattle.aw_run.specs.declared.reply.Status.TheVariants.{Done, WriteFault, BadReply}
+use Rattle.aw_front.specs.declared.reply.Reply.{Reply}
+use Rattle.aw_front.specs.declared.reply.Status.{Status}
+use Rattle.aw_front.specs.declared.reply.Status.TheVariants.{Done, WriteFault, BadReply}
 use Rattle.aw_run.specs.Words.{command_of, role_word}
-use Rattle.aw_run.specs.Output.{Output, Writes, PastInputLimit, BadSpecification, BadTypes, IsCircular, UnknownRole, BadSchedule, PastOutputLimit, NoReplyOf, IsOutputOf}
-use Rattle.aw_run.specs.Replies.{ForInput, Replies, Devices, Wired, around, wired_in, carries, WritesCarrying, EndsWith, IsDoneOrStopped, reply, reply_with, uses_wire, WritesSome, IsGood, Says, SaysAs, WritesServing, WritesKeeping}
+use Rattle.aw_front.specs.Output.{Output, Writes, PastInputLimit, BadSpecification, BadTypes, IsCircular, UnknownRole, BadSchedule, PastOutputLimit, NoReplyOf}
+use Rattle.aw_run.specs.Output.{IsOutputOf}
+use Rattle.aw_run.specs.Replies.{ForInput, Devices, Wired, around, wired_in, carries, WritesCarrying, EndsWith, IsDoneOrStopped, uses_wire, WritesSome, IsGood, Says, SaysAs, WritesServing, WritesKeeping}
+use Rattle.aw_front.specs.Replies.{Replies, reply, reply_with}
 use Rattle.aw_out.specs.declared.edge.Wire as wires
 use Rattle.aw_disk.specs.declared.edge.Disk as disks
 use Rattle.aw_run.specs.Serving.{IsServingOutputOf}

@@ -9,12 +9,12 @@ use Rattle.aw_check_text.proofs.OneTold.{one-found}
 use Rattle.aw_typed.specs.TypeFaults.{Fault as TypeFault, type_fault}
 use Rattle.aw_typed.specs.Typing.{types_of}
 use Rattle.aw_spec.specs.Reading.{Spec, Reading, Good, Faulty, specification}
-use Rattle.aw_run.specs.declared.source.TheConstants.{INPUT_LIMIT}
-use Rattle.aw_run.specs.declared.reply.Reply.{Reply}
-use Rattle.aw_run.specs.declared.reply.Status.TheVariants.{Done, Usage, BadSpec, Circular, BadSchedule as BadSched, TooLarge, TooLong, BadTypes as BadTyped, BadReply}
+use Rattle.aw_front.specs.declared.limit.TheConstants.{INPUT_LIMIT}
+use Rattle.aw_front.specs.declared.reply.Reply.{Reply}
+use Rattle.aw_front.specs.declared.reply.Status.TheVariants.{Done, Usage, BadSpec, Circular, BadSchedule as BadSched, TooLarge, TooLong, BadTypes as BadTyped, BadReply}
 use Rattle.aw_run.specs.Devices.{Devices, Wired}
-use Rattle.aw_run.specs.Output.{Output, Writes, PastInputLimit, BadSpecification, BadTypes, IsCircular, UnknownRole, BadSchedule, PastOutputLimit, NoReplyOf, ByFault, ByTypes, IfAccepted, IfTyped, BySpecification, ByInput, OfAccepted}
-use Rattle.aw_run.specs.Replies.{Replies, reply, reply_with}
+use Rattle.aw_front.specs.Output.{Output, Writes, PastInputLimit, BadSpecification, BadTypes, IsCircular, UnknownRole, BadSchedule, PastOutputLimit, NoReplyOf, ByFault, ByTypes, IfAccepted, IfTyped, BySpecification, ByInput, OfAccepted}
+use Rattle.aw_front.specs.Replies.{Replies, reply, reply_with}
 use Rattle.aw_run.specs.Serving.{session_lines, role_in, ByNumber, ServesRole, ServesNamed, IsServingOutputOf}
 use Rattle.aw_run.specs.Keeping.{KeepsRole, KeepsNamed, IsKeepingOutputOf}
 use Rattle.aw_run.specs.Carrying.{CarriesOver, IsCarryingOutputOf, carried_line}

@@ -8,10 +8,11 @@ use Rattle.aw_check_text.proofs.OneTold.{one-found}
 use Rattle.aw_typed.specs.TypeFaults.{Fault as TypeFault, type_fault}
 use Rattle.aw_typed.specs.Typing.{types_of}
 use Rattle.aw_spec.specs.Reading.{Spec, Reading, Good, Faulty, specification}
-use Rattle.aw_run.specs.declared.source.TheConstants.{INPUT_LIMIT}
+use Rattle.aw_front.specs.declared.limit.TheConstants.{INPUT_LIMIT}
 use Rattle.aw_run.specs.declared.words.Job.{Job}
 use Rattle.aw_run.specs.declared.words.Job.TheVariants.{Check, Tells}
-use Rattle.aw_run.specs.Output.{Output, Writes, PastInputLimit, ByFault, ByTypes, IfAccepted, TellsSpecification, TellsSchedule, MakesTyped, BySpecification, ByInput, IsOutputOf}
+use Rattle.aw_front.specs.Output.{Output, Writes, PastInputLimit, ByFault, ByTypes, IfAccepted, BySpecification, ByInput}
+use Rattle.aw_run.specs.Output.{TellsSpecification, TellsSchedule, MakesTyped, IsOutputOf}
 use Rattle.aw_run.specs.Laws.{HasOneOutput}
 use Rattle.aw_run.proofs.OneChecked.{one-checked}
 use Rattle.aw_run.proofs.Outputs.{makes_of}

@@ -1,6 +1,5 @@
 -- What an input leads to, by what its specification and its schedule spell.
-use Rattle.std.proofs.Common.{◌≡◌, ℕ, ◌+◌, ◌≤◌, ◌<◌, Bool, true, false, nat_lt, List, length, drop, MatchBool, refl, sym, ap, ◌∙◌, subst}
-use Rattle.std.proofs.lemmas.Bool.{lt-ltb, le-ltb}
+use Rattle.std.proofs.Common.{◌≡◌, ℕ, ◌+◌, ◌≤◌, ◌<◌, Bool, List, length, drop, sym, ap, ◌∙◌}
 use Rattle.aw_lex.specs.Lines.{lines_of}
 use Rattle.aw_term.specs.Rules as P
 use Rattle.aw_term.specs.Artifacts.{Words}
@@ -10,17 +9,18 @@ use Rattle.aw_grammar.specs.Declarations.{Declarations, grammar_in, words_in}
 use Rattle.aw_grammar.proofs.Entries.{declared_words, declared_grammar}
 use Rattle.aw_typed.specs.declared.data.Types.{Types}
 use Rattle.aw_typed.specs.Typing.{types_of}
-use Rattle.aw_spec.specs.Reading.{Spec, Reading, Good, Faulty, specification}
+use Rattle.aw_spec.specs.Reading.{Spec, Reading, specification}
 use Rattle.aw_sched.specs.Events.{Event}
 use Rattle.aw_sched.specs.declared.fault.SchedKind.{SchedKind}
 use Rattle.aw_sched.specs.KindNames.{kind_name as schedule_kind}
 use Rattle.aw_sched.specs.Schedules.{Events, FaultAt, read_lines}
-use Rattle.aw_run.specs.declared.source.TheConstants.{INPUT_LIMIT}
+use Rattle.aw_front.specs.declared.limit.TheConstants.{INPUT_LIMIT}
 use Rattle.aw_run.specs.declared.words.Telling.{Telling}
 use Rattle.aw_run.specs.declared.words.Job.{Job}
-use Rattle.aw_run.specs.Refusals.{at_line}
-use Rattle.aw_run.specs.Replies.{reply_with}
-use Rattle.aw_run.specs.Output.{Output, PastInputLimit, BadSchedule, told, within_limit, by_schedule, Makes, BySpecification, ByInput, IsOutputOf}
+use Rattle.aw_front.specs.Refusals.{at_line}
+use Rattle.aw_front.specs.Replies.{reply_with}
+use Rattle.aw_front.specs.Output.{Output, PastInputLimit, BadSchedule, BySpecification}
+use Rattle.aw_run.specs.Output.{told, within_limit, by_schedule, Makes, IsOutputOf}
 
 -- a good schedule
 pub schedule-good : (telling : Telling) (s : Spec) (g : Grammar) (before : ℕ) (loads : Bool) (schedule : List (List ℕ)) (events : List Event) (t : Types) → s.declared ≡ declarations_of g → s.types ≡ t → read_lines (types_of t) (declarations_of g) 1 schedule ≡ Events events →
@@ -37,19 +37,6 @@ pub schedule-bad : (telling : Telling) (s : Spec) (d : Declarations) (before : �
 schedule-bad telling s d before loads line kind schedule t same typed faulty =
     ap (λ r. reply_with (by_schedule telling s before loads r)) (ap (λ (u : Types). read_lines (types_of u) s.declared 1 schedule) typed ∙ ap (λ (e : Declarations). read_lines (types_of t) e 1 schedule) same ∙ faulty)
 
--- what a command makes of an input within its limit, of which the specification is read
-pub by-input-read : (makes : Spec → ℕ → Bool → Output → Type 0) (input : List ℕ) (reading : Reading) (output : Output) → length input ≤ INPUT_LIMIT → specification (lines_of input) ≡ reading → BySpecification makes reading output → ByInput makes input output
-unfolding ByInput
-by-input-read makes input reading output within is holds =
-    subst (λ b. MatchBool b (output ≡ PastInputLimit) (BySpecification makes (specification (lines_of input)) output)) (sym (le-ltb INPUT_LIMIT (length input) within))
-    (subst (λ (r : Reading). BySpecification makes r output) (sym is) holds)
-
--- and of one past its limit
-pub by-input-past : (makes : Spec → ℕ → Bool → Output → Type 0) (input : List ℕ) → INPUT_LIMIT < length input → ByInput makes input PastInputLimit
-unfolding ByInput
-by-input-past makes input lt =
-    subst (λ b. MatchBool b (PastInputLimit ≡ PastInputLimit) (BySpecification makes (specification (lines_of input)) PastInputLimit)) (sym (lt-ltb INPUT_LIMIT (length input) lt)) refl
-
 -- what a job makes of the specification of an input
 abbrev pub makes_of : Job → List ℕ → Spec → ℕ → Bool → Output → Type 0
 makes_of job input s taken loads = Makes job s taken loads (drop taken (lines_of input))
@@ -61,17 +48,3 @@ output-read job input reading output within is holds = by-input-read (makes_of j
 pub output-past : (job : Job) (input : List ℕ) → INPUT_LIMIT < length input → IsOutputOf job input PastInputLimit
 unfolding IsOutputOf
 output-past job input lt = by-input-past (makes_of job input) input lt
-
--- what is made for one command is made for another, where that is so of each good specification
-match-map : (test : Bool) (A B C : Type 0) → (B → C) → MatchBool test A B → MatchBool test A C
-match-map true A B C f x = x
-match-map false A B C f x = f x
-
-read-map : (P Q : Spec → ℕ → Bool → Output → Type 0) → ((s : Spec) (taken : ℕ) (loads : Bool) (output : Output) → P s taken loads output → Q s taken loads output) → (reading : Reading) (output : Output) → BySpecification P reading output → BySpecification Q reading output
-read-map P Q f (Good s taken loads) output holds = f s taken loads output holds
-read-map P Q f (Faulty line kind) output holds = holds
-
-pub by-input-map : (P Q : Spec → ℕ → Bool → Output → Type 0) → ((s : Spec) (taken : ℕ) (loads : Bool) (output : Output) → P s taken loads output → Q s taken loads output) → (input : List ℕ) (output : Output) → ByInput P input output → ByInput Q input output
-unfolding ByInput
-by-input-map P Q f input output =
-    match-map (nat_lt INPUT_LIMIT (length input)) (output ≡ PastInputLimit) (BySpecification P (specification (lines_of input)) output) (BySpecification Q (specification (lines_of input)) output) (read-map P Q f (specification (lines_of input)) output)

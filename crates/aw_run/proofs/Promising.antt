@@ -31,10 +31,10 @@ use Rattle.aw_replay.proofs.Events.{all_may_stand}
 use Rattle.aw_replay.proofs.Replays.{replay_headline, settling_ends}
 use Rattle.aw_run.specs.declared.words.Job.{Job}
 use Rattle.aw_run.specs.declared.words.Job.TheVariants.{Check, Tells}
-use Rattle.aw_run.specs.declared.reply.Reply.{Reply}
-use Rattle.aw_run.specs.declared.reply.Status.TheVariants.{Done}
+use Rattle.aw_front.specs.declared.reply.Reply.{Reply}
+use Rattle.aw_front.specs.declared.reply.Status.TheVariants.{Done}
 use Rattle.aw_run.specs.Promises.{Promises, OfRead, OfSchedule, OfReading, OfEvents, IfTells}
-use Rattle.aw_run.specs.Replies.{RefusesGrammar, RefusesTypes}
+use Rattle.aw_front.specs.Replies.{RefusesGrammar, RefusesTypes}
 use Rattle.aw_run.proofs.TypedChoices.{read_fit, plain_typed, replay_typed}
 
 -- what a fact about events is about

@@ -25,13 +25,14 @@ use Rattle.aw_replay.specs.declared.scheduled.Kept.TheVariants.{All}
 use Rattle.aw_replay.specs.declared.scheduled.ReplayFault.{ReplayFault}
 use Rattle.aw_replay.specs.declared.scheduled.ReplayFault.TheVariants as fault
 use Rattle.aw_replay.proofs.WhileRead.{all_kept}
-use Rattle.aw_run.specs.Output.{BadSchedule, PastOutputLimit, Writes, within_limit}
+use Rattle.aw_front.specs.Output.{BadSchedule, PastOutputLimit, Writes}
+use Rattle.aw_run.specs.Output.{within_limit}
 use Rattle.aw_run.specs.Promises.{Promises}
-use Rattle.aw_run.specs.Refusals.{at_line}
-use Rattle.aw_run.specs.Replies.{reply, reply_with}
+use Rattle.aw_front.specs.Refusals.{at_line}
+use Rattle.aw_front.specs.Replies.{reply, reply_with}
 use Rattle.aw_run.specs.Scheduled.{KeepsPromises, RepliesTo, TellsLeft, told_of}
-use Rattle.aw_run.specs.declared.reply.Reply.{Reply}
-use Rattle.aw_run.specs.declared.reply.Status.TheVariants.{Done, TooLarge}
+use Rattle.aw_front.specs.declared.reply.Reply.{Reply}
+use Rattle.aw_front.specs.declared.reply.Status.TheVariants.{Done, TooLarge}
 use Rattle.aw_run.specs.declared.words.Telling.{Telling}
 use Rattle.aw_run.specs.declared.words.Telling.TheVariants.{Replayed}
 use Rattle.aw_run.proofs.Outputs.{schedule-good, schedule-bad}

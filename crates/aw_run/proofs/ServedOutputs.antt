@@ -26,13 +26,13 @@ use Rattle.aw_typed.specs.Typing.{types_of}
 use Rattle.aw_typed.specs.declared.data.Typed.{Typed}
 use Rattle.aw_spec.specs.Reading.{Spec}
 use Rattle.aw_spec_writer.specs.SpecLines.{written}
-use Rattle.aw_run.specs.declared.reply.Reply.{Reply}
-use Rattle.aw_run.specs.declared.reply.Status.TheVariants.{Done, Usage, NoMemory}
+use Rattle.aw_front.specs.declared.reply.Reply.{Reply}
+use Rattle.aw_front.specs.declared.reply.Status.TheVariants.{Done, Usage, NoMemory}
 use Rattle.aw_run.specs.declared.reply.Stop.{Stop}
 use Rattle.aw_run.specs.declared.reply.Stop.TheVariants as stop
 use Rattle.aw_run.specs.Devices.{Devices, Wired}
-use Rattle.aw_run.specs.Output.{Output, Writes, UnknownRole}
-use Rattle.aw_run.specs.Replies.{Replies, reply}
+use Rattle.aw_front.specs.Output.{Output, Writes, UnknownRole}
+use Rattle.aw_front.specs.Replies.{Replies, reply}
 use Rattle.aw_run.specs.Serving.{rules_in, role_in, session_lines, ByNumber, ServesRole}
 use Rattle.aw_run.specs.Keeping.{EndsBy, KeepsRole, StopsRole}
 use Rattle.aw_run.specs.Statuses.{IsRefusal, status_of_stop, stop_of}

@@ -5,8 +5,8 @@ use Rattle.aw_run.specs.Devices.{Devices}
 use Rattle.aw_run.specs.Replies.{IsDoneOrStopped, IsGood, uses_disk, uses_wire}
 use Rattle.aw_run.specs.Statuses.{IsReply, IsStop, IsRefusal, IsJournalStop, status_of_stop}
 use Rattle.aw_run.specs.Words.{command_of}
-use Rattle.aw_run.specs.declared.reply.Status.{Status}
-use Rattle.aw_run.specs.declared.reply.Status.TheVariants.{Done, Usage, BadSpec, Circular, BadSchedule, TooLarge, ReadFault, WriteFault, NetFault, NoMemory, TooLong, BadTypes, DiskFault, BadJournal, JournalFull, BadReply}
+use Rattle.aw_front.specs.declared.reply.Status.{Status}
+use Rattle.aw_front.specs.declared.reply.Status.TheVariants.{Done, Usage, BadSpec, Circular, BadSchedule, TooLarge, ReadFault, WriteFault, NetFault, NoMemory, TooLong, BadTypes, DiskFault, BadJournal, JournalFull, BadReply}
 use Rattle.aw_run.specs.declared.reply.Stop.{Stop}
 use Rattle.aw_run.specs.declared.reply.Stop.TheVariants as stop
 

@@ -6,10 +6,10 @@ use Rattle.aw_out.specs.declared.report.TheConstants.{OUTPUT_LIMIT}
 use Rattle.aw_trial.specs.Counts.{trial}
 use Rattle.aw_trial.specs.Summaries.{summary_text}
 use Rattle.aw_trial.specs.declared.summary.Summary.{Summary}
-use Rattle.aw_run.specs.declared.reply.Reply.{Reply}
-use Rattle.aw_run.specs.declared.reply.Status.TheVariants.{Done, TooLarge}
-use Rattle.aw_run.specs.Output.{Writes, PastOutputLimit}
-use Rattle.aw_run.specs.Replies.{reply, reply_with}
+use Rattle.aw_front.specs.declared.reply.Reply.{Reply}
+use Rattle.aw_front.specs.declared.reply.Status.TheVariants.{Done, TooLarge}
+use Rattle.aw_front.specs.Output.{Writes, PastOutputLimit}
+use Rattle.aw_front.specs.Replies.{reply, reply_with}
 use Rattle.aw_run.specs.Trials.{trial_text, trial_output}
 
 chosen : (past : Bool) (text : List ℕ) → past ≡ false → reply Done text ≡ reply_with (if past then PastOutputLimit else Writes text)

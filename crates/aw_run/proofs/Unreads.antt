@@ -5,18 +5,20 @@ use Rattle.std.specs.declared.result.Result.{Result}
 use Rattle.aw_out.specs.declared.error.ReadError.{ReadError}
 use Rattle.aw_out.specs.declared.error.ReadError.TheVariants as fault
 use Rattle.aw_out.specs.Edge.{GivesSome}
-use Rattle.aw_run.specs.declared.source.TheConstants.{INPUT_LIMIT}
+use Rattle.aw_front.specs.declared.limit.TheConstants.{INPUT_LIMIT}
 use Rattle.aw_run.specs.declared.words.Job.{Job}
-use Rattle.aw_run.specs.declared.reply.Reply.{Reply}
+use Rattle.aw_front.specs.declared.reply.Reply.{Reply}
 use Rattle.aw_run.specs.declared.reply.Stop.{Stop}
 use Rattle.aw_run.specs.Devices.{Devices, Wired}
-use Rattle.aw_run.specs.Output.{Output, PastInputLimit, IsOutputOf}
+use Rattle.aw_front.specs.Output.{Output, PastInputLimit}
+use Rattle.aw_run.specs.Output.{IsOutputOf}
 use Rattle.aw_run.specs.Serving.{IsServingOutputOf}
 use Rattle.aw_run.specs.Unserved.{StopsServing}
 use Rattle.aw_run.specs.Keeping.{IsKeepingOutputOf, StopsKeeping}
 use Rattle.aw_run.specs.Carrying.{IsCarryingOutputOf, StopsCarrying}
 use Rattle.aw_run.specs.Statuses.{status_of_stop}
-use Rattle.aw_run.specs.Replies.{ForInput, Replies, reply_with}
+use Rattle.aw_run.specs.Replies.{ForInput}
+use Rattle.aw_front.specs.Replies.{Replies, reply_with}
 use Rattle.aw_run.specs.Promises.{RepliesKeeping}
 use Rattle.aw_run.specs.Unread.{unread_gives}
 use Rattle.aw_run.proofs.Outputs.{output-past}

@@ -9,11 +9,11 @@ use Rattle.aw_courier.specs.declared.carrying.Carried.TheVariants.{Quiet, Rounds
 use Rattle.aw_courier.specs.declared.carrying.CarryFault.{CarryFault}
 use Rattle.aw_courier.specs.declared.carrying.CarryFault.TheVariants as fault
 use Rattle.aw_spec.specs.Reading.{Spec}
-use Rattle.aw_run.specs.declared.reply.Status.{Status}
-use Rattle.aw_run.specs.declared.reply.Status.TheVariants.{NetFault, NoMemory, ReadFault}
+use Rattle.aw_front.specs.declared.reply.Status.{Status}
+use Rattle.aw_front.specs.declared.reply.Status.TheVariants.{NetFault, NoMemory, ReadFault}
 use Rattle.aw_run.specs.Devices.{Wired}
-use Rattle.aw_run.specs.Opening.{Opens}
-use Rattle.aw_run.specs.Output.{Output, Writes, NoReplyOf, OfAccepted}
+use Rattle.aw_front.specs.Opening.{Opens}
+use Rattle.aw_front.specs.Output.{Output, Writes, NoReplyOf, OfAccepted}
 
 -- `quiet` or `rounds spent`, and a newline
 abbrev pub carried_line : Carried → List ℕ

@@ -8,11 +8,11 @@ use Rattle.aw_kept_node.specs.declared.fault.KeptFault.{KeptFault}
 use Rattle.aw_kept_node.specs.declared.fault.KeptFault.TheVariants as fault
 use Rattle.aw_spec.specs.Reading.{Spec}
 use Rattle.aw_spec_writer.specs.SpecLines.{written}
-use Rattle.aw_run.specs.declared.reply.Status.{Status}
-use Rattle.aw_run.specs.declared.reply.Status.TheVariants.{NetFault, NoMemory, DiskFault, BadJournal, JournalFull, ReadFault}
+use Rattle.aw_front.specs.declared.reply.Status.{Status}
+use Rattle.aw_front.specs.declared.reply.Status.TheVariants.{NetFault, NoMemory, DiskFault, BadJournal, JournalFull, ReadFault}
 use Rattle.aw_run.specs.Devices.{Devices}
 use Rattle.aw_run.specs.Opening.{OpensRole}
-use Rattle.aw_run.specs.Output.{Output, Writes, OfAccepted}
+use Rattle.aw_front.specs.Output.{Output, Writes, OfAccepted}
 use Rattle.aw_run.specs.Serving.{rules_in, role_in, session_lines, ByNumber}
 
 -- So many sessions were served, or as many as came, from the site that the events of the journal make; each frame was answered at a moment of the disk

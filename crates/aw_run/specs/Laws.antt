@@ -10,8 +10,9 @@ use Rattle.aw_out.specs.declared.edge.Wire as wires
 use Rattle.aw_disk.specs.declared.edge.Disk as disks
 use Rattle.aw_run.specs.declared.words.Job.{Job}
 use Rattle.aw_run.specs.declared.words.Telling.TheVariants.{Undivided, Replayed}
-use Rattle.aw_run.specs.declared.reply.Reply.{Reply}
-use Rattle.aw_run.specs.Output.{Output, IsOutputOf, told}
+use Rattle.aw_front.specs.declared.reply.Reply.{Reply}
+use Rattle.aw_front.specs.Output.{Output}
+use Rattle.aw_run.specs.Output.{IsOutputOf, told}
 use Rattle.aw_run.specs.Words.{command_of}
 use Rattle.aw_run.specs.Replies.{around, Says, uses_wire, uses_disk}
 

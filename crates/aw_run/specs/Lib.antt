@@ -1,6 +1,5 @@
 pub mod Words
 pub mod Statuses
-pub mod Refusals
 pub mod Checked
 pub mod Output
 pub mod Devices
@@ -11,7 +10,6 @@ pub mod Carrying
 pub mod Trials
 pub mod OfInputs
 pub mod Replies
-pub mod Fronts
 pub mod Unread
 pub mod Unserved
 pub mod Promises

@@ -1,30 +1,8 @@
--- What is said of the input of a run: its reply, and the text that a job makes of it.
-use Rattle.std.specs.Prelude.{◌≡◌, ℕ, List, [], ◌++◌, Option, Some, None, codes}
+-- What holds of the input of a run, and the text that a job makes of it.
+use Rattle.std.specs.Prelude.{ℕ, List, Option, Some, None}
 use Rattle.aw_run.specs.declared.words.Job.{Job}
-use Rattle.aw_run.specs.declared.reply.Reply.{Reply}
-use Rattle.aw_run.specs.declared.reply.Status.{Status}
-use Rattle.aw_run.specs.declared.reply.Status.TheVariants.{Done, Usage, BadSpec, Circular, BadSchedule as BadSched, TooLarge, TooLong, BadTypes as BadTyped, BadReply}
-use Rattle.aw_run.specs.Output.{Output, Writes, PastInputLimit, BadSpecification, BadTypes, IsCircular, UnknownRole, BadSchedule, PastOutputLimit, NoReplyOf, IsOutputOf}
-
--- a status, and what is written with it
-abbrev pub reply : Status → List ℕ → Reply
-reply status text = record { status = status; text = text }
-
--- the reply of a command that has this output
-abbrev pub reply_with : Output → Reply
-reply_with (Writes text) = reply Done text
-reply_with PastInputLimit = reply TooLong []
-reply_with (BadSpecification why) = reply BadSpec (codes "bad specification " ++ (why ++ codes "\n"))
-reply_with (BadTypes why) = reply BadTyped (codes "bad types " ++ (why ++ codes "\n"))
-reply_with (IsCircular why) = reply Circular (codes "circular " ++ (why ++ codes "\n"))
-reply_with UnknownRole = reply Usage (codes "usage\n")
-reply_with (BadSchedule why) = reply BadSched (codes "bad schedule " ++ (why ++ codes "\n"))
-reply_with PastOutputLimit = reply TooLarge []
-reply_with (NoReplyOf role) = reply BadReply (codes "bad reply " ++ (role ++ codes "\n"))
-
--- the reply is that of an output with P
-abbrev pub Replies : (Output → Type 0) → Reply → Type 0
-Replies P said = (output : Output) × P output × (said ≡ reply_with output)
+use Rattle.aw_front.specs.Output.{Writes}
+use Rattle.aw_run.specs.Output.{IsOutputOf}
 
 -- where the source tells what is left, that input has P, and otherwise some input has
 abbrev pub ForInput : Option (List ℕ) → (List ℕ → Type 0) → Type 0

@@ -31,10 +31,11 @@ use Rattle.aw_replay.specs.Settling.{SettlingEnds}
 use Rattle.aw_replay.specs.ChoicesIn.{choices_in}
 use Rattle.aw_run.specs.Words.{command_of}
 use Rattle.aw_run.specs.Output.{IsOutputOf}
-use Rattle.aw_run.specs.OfInputs.{ForInput, Replies, WritesSome}
-use Rattle.aw_run.specs.declared.reply.Reply.{Reply}
-use Rattle.aw_run.specs.declared.reply.Status.{Status}
-use Rattle.aw_run.specs.declared.reply.Status.TheVariants.{Done}
+use Rattle.aw_run.specs.OfInputs.{ForInput, WritesSome}
+use Rattle.aw_front.specs.Replies.{Replies}
+use Rattle.aw_front.specs.declared.reply.Reply.{Reply}
+use Rattle.aw_front.specs.declared.reply.Status.{Status}
+use Rattle.aw_front.specs.declared.reply.Status.TheVariants.{Done}
 use Rattle.aw_run.specs.declared.words.Command.{Command}
 use Rattle.aw_run.specs.declared.words.Command.TheVariants.{Reads}
 use Rattle.aw_run.specs.declared.words.Job.{Job}

@@ -2,41 +2,22 @@
 use Rattle.std.specs.Prelude.{◌≡◌, ◌⊎◌, ℕ, List, Option, Some, None, codes, Bool, true, false}
 use Rattle.aw_out.specs.Edge.{Gets}
 use Rattle.aw_out.specs.Causes.{Rose}
-pub use Rattle.aw_run.specs.OfInputs.{ForInput, Replies, WritesSome, reply, reply_with}
+pub use Rattle.aw_run.specs.OfInputs.{ForInput, WritesSome}
+use Rattle.aw_front.specs.Replies.{Replies, reply, reply_with}
 pub use Rattle.aw_run.specs.Devices.{Devices, Wired, around, wired, wired_in}
-use Rattle.aw_grammar.specs.GrammarOf.{words_of}
-use Rattle.aw_accept.specs.declared.refused.Refused.{Refused}
-use Rattle.aw_accept.specs.declared.refused.Refused.TheVariants as refused
-use Rattle.aw_term.specs.Artifacts.{Words}
-use Rattle.aw_typed.specs.TypeFaults.{NoShape, NoCarry, InRule}
-use Rattle.aw_typed.specs.declared.data.TypeFault.{TypeFault}
-use Rattle.aw_typed.specs.declared.data.TypeFault.TheVariants as types
-use Rattle.aw_run.specs.Refusals.{types_text}
-use Rattle.aw_check_text.specs.Told.{circle_text}
 use Rattle.aw_run.specs.declared.words.Command.{Command}
 use Rattle.aw_run.specs.declared.words.Command.TheVariants.{Reads, Tries, Serves, Keeps, Carries}
-use Rattle.aw_run.specs.declared.reply.Reply.{Reply}
-use Rattle.aw_run.specs.declared.reply.Status.{Status}
-use Rattle.aw_run.specs.declared.reply.Status.TheVariants.{Done, Usage, NetFault, NoMemory, ReadFault, WriteFault, BadReply}
+use Rattle.aw_front.specs.declared.reply.Reply.{Reply}
+use Rattle.aw_front.specs.declared.reply.Status.{Status}
+use Rattle.aw_front.specs.declared.reply.Status.TheVariants.{Done, Usage, NetFault, NoMemory, ReadFault, WriteFault, BadReply}
 use Rattle.aw_run.specs.Words.{command_of, role_word}
-use Rattle.aw_run.specs.Output.{Writes, BadTypes, IsCircular, IsOutputOf}
+use Rattle.aw_front.specs.Output.{Writes}
+use Rattle.aw_run.specs.Output.{IsOutputOf}
 use Rattle.aw_run.specs.Serving.{IsServingOutputOf}
 use Rattle.aw_run.specs.Keeping.{IsKeepingOutputOf}
 use Rattle.aw_run.specs.Carrying.{IsCarryingOutputOf}
 use Rattle.aw_run.specs.Statuses.{IsJournalStop}
 use Rattle.aw_run.specs.Trials.{trial_output}
-
--- the reply to a grammar that was not accepted; want of memory has none
-abbrev pub RefusesGrammar : Refused → Reply → Type 0
-RefusesGrammar (refused.Circular grammar rule occ) said = said ≡ reply_with (IsCircular (circle_text (words_of grammar) (record { rule = rule; occ = occ })))
-RefusesGrammar refused.NoMemory said = ⊥
-
--- the reply to types with a fault; want of memory has none
-abbrev pub RefusesTypes : Words → TypeFault → Reply → Type 0
-RefusesTypes w (types.NoShape con) said = said ≡ reply_with (BadTypes (types_text w (NoShape con)))
-RefusesTypes w (types.NoCarry sort) said = said ≡ reply_with (BadTypes (types_text w (NoCarry sort)))
-RefusesTypes w (types.Rule rule place) said = said ≡ reply_with (BadTypes (types_text w (InRule rule place)))
-RefusesTypes w types.NoMemory said = ⊥
 
 -- What a run of these words, which spell this command or none, may say to this input.
 abbrev pub SaysAs : Option Command → List (List ℕ) → List ℕ → Devices → Reply → Type 0

@@ -15,8 +15,8 @@ use Rattle.aw_typed.specs.Typing.{types_of}
 use Rattle.aw_typed.specs.declared.data.Typed.{Typed}
 use Rattle.aw_run.specs.Output.{by_schedule, told}
 use Rattle.aw_run.specs.Promises.{OfSchedule, Promises}
-use Rattle.aw_run.specs.Replies.{reply_with}
-use Rattle.aw_run.specs.declared.reply.Reply.{Reply}
+use Rattle.aw_front.specs.Replies.{reply_with}
+use Rattle.aw_front.specs.declared.reply.Reply.{Reply}
 use Rattle.aw_run.specs.declared.words.Telling.{Telling}
 
 -- the reply to the schedule in these lines, behind any specification that declares this grammar, with these types

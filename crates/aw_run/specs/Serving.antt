@@ -13,7 +13,7 @@ use Rattle.aw_node.specs.TypedNodes.{Rules}
 use Rattle.aw_spec.specs.Reading.{Spec}
 use Rattle.aw_typed.specs.Typing.{types_of}
 use Rattle.aw_run.specs.Devices.{Wired}
-use Rattle.aw_run.specs.Output.{Output, Writes, UnknownRole, OfAccepted}
+use Rattle.aw_front.specs.Output.{Output, Writes, UnknownRole, OfAccepted}
 
 -- how a session ended
 abbrev pub how_name : How → List ℕ

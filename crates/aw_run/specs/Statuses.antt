@@ -1,30 +1,10 @@
 -- How a run can end, and what each end says of it.
-use Rattle.std.specs.Prelude.{ℕ}
 use Rattle.aw_kept_node.specs.declared.fault.KeptFault.{KeptFault}
 use Rattle.aw_kept_node.specs.declared.fault.KeptFault.TheVariants as fault
-use Rattle.aw_run.specs.declared.reply.Status.{Status}
-use Rattle.aw_run.specs.declared.reply.Status.TheVariants.{Done, Usage, BadSpec, Circular, BadSchedule, TooLarge, ReadFault, WriteFault, NetFault, NoMemory, TooLong, BadTypes, DiskFault, BadJournal, JournalFull, BadReply}
+use Rattle.aw_front.specs.declared.reply.Status.{Status}
+use Rattle.aw_front.specs.declared.reply.Status.TheVariants.{Usage, BadSpec, Circular, BadSchedule, TooLarge, ReadFault, WriteFault, NetFault, NoMemory, TooLong, BadTypes, DiskFault, BadJournal, JournalFull}
 use Rattle.aw_run.specs.declared.reply.Stop.{Stop}
 use Rattle.aw_run.specs.declared.reply.Stop.TheVariants as stop
-
--- the exit code
-abbrev pub code_of : Status → ℕ
-code_of Done = 0
-code_of Usage = 2
-code_of BadSpec = 3
-code_of Circular = 4
-code_of BadSchedule = 5
-code_of TooLarge = 6
-code_of ReadFault = 7
-code_of WriteFault = 8
-code_of NetFault = 9
-code_of NoMemory = 10
-code_of TooLong = 11
-code_of DiskFault = 12
-code_of BadJournal = 13
-code_of BadReply = 14
-code_of BadTypes = 15
-code_of JournalFull = 16
 
 -- what stopped a run, as how the run ended
 abbrev pub status_of_stop : Stop → Status

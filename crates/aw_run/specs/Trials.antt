@@ -3,7 +3,7 @@ use Rattle.std.specs.Prelude.{ℕ, List, nat_lt, if◌then◌else◌}
 use Rattle.aw_out.specs.declared.report.TheConstants.{OUTPUT_LIMIT}
 use Rattle.aw_trial.specs.Counts.{trial}
 use Rattle.aw_trial.specs.Summaries.{summary_text}
-use Rattle.aw_run.specs.Output.{Output, Writes, PastOutputLimit}
+use Rattle.aw_front.specs.Output.{Output, Writes, PastOutputLimit}
 
 -- the text of its summary
 unfoldable pub trial_text : ℕ → List ℕ

@@ -5,12 +5,12 @@ use Rattle.aw_node.specs.Serving.{Stops}
 use Rattle.aw_node.specs.declared.serving.ServeFault.{ServeFault}
 use Rattle.aw_node.specs.declared.serving.ServeFault.TheVariants as fault
 use Rattle.aw_spec.specs.Reading.{Spec}
-use Rattle.aw_run.specs.declared.reply.Status.{Status}
-use Rattle.aw_run.specs.declared.reply.Status.TheVariants.{NetFault, NoMemory}
+use Rattle.aw_front.specs.declared.reply.Status.{Status}
+use Rattle.aw_front.specs.declared.reply.Status.TheVariants.{NetFault, NoMemory}
 use Rattle.aw_run.specs.Carrying.{StopsUnwired}
 use Rattle.aw_run.specs.Devices.{Wired}
 use Rattle.aw_run.specs.Opening.{OpensRole}
-use Rattle.aw_run.specs.Output.{Output}
+use Rattle.aw_front.specs.Output.{Output}
 use Rattle.aw_run.specs.Serving.{rules_in, role_in, ServesRole}
 
 -- Sessions of the role were served from the site that holds nothing and sends loads, and this fault ended it.

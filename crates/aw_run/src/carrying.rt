@@ -6,15 +6,15 @@ ghost use Rattle.aw_out.specs.Causes.{Rose};
 ghost use Rattle.aw_out.specs.Edge.{IsUsedUp, GivesSome};
 ghost use Rattle.aw_run.specs.Devices.{wired};
 ghost use Rattle.aw_run.specs.Carrying.{CarriesOver, IsCarryingOutputOf, StopsCarrying, StopsCourier, carried_line};
-ghost use Rattle.aw_run.specs.Replies.{ForInput, Replies};
+ghost use Rattle.aw_run.specs.Replies.{ForInput};
+ghost use Rattle.aw_front.specs.Replies.{Replies};
 ghost use Rattle.aw_run.specs.Statuses.{IsReply, IsSilent, IsPastReading, IsRefusal, IsJournalStop, status_of_stop};
 
-use crate::front::{Front, front_of_input};
-use crate::refusals::bad_reply;
-use crate::reply::{Reply, Status, Stop};
-use crate::source::{INPUT_LIMIT, unread};
+use crate::reply::Stop;
+use crate::source::unread;
 use aw_accept::Accepted;
 use aw_courier::{Carried, CarryFault, carry};
+use aw_front::{Front, INPUT_LIMIT, Reply, Status, bad_reply, front_of_input};
 use aw_out::{Source, Wire, read_all};
 use std::alloc::Global;
 

@@ -3,11 +3,9 @@
 
 mod carrying;
 mod check;
-mod front;
 mod keeping;
 mod law;
 mod reading;
-mod refusals;
 mod reply;
 mod running;
 mod schedule;
@@ -17,7 +15,7 @@ mod source;
 mod trials;
 mod words;
 
+pub use aw_front::{Reply, Status};
 pub use law::{choices_are_told_undivided, outputs_are_one};
-pub use reply::{Reply, Status};
 pub use running::run;
 pub use words::{Command, Job, Telling, Word};

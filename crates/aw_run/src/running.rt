@@ -16,12 +16,12 @@ ghost use Rattle.aw_run.specs.Unserved.{StopsServing};
 use crate::carrying::carry_source;
 use crate::keeping::keep_source;
 use crate::reading::reply_to_source;
-use crate::reply::{Reply, Status, Stop};
+use crate::reply::Stop;
 use crate::serving::serve_source;
-use crate::source::INPUT_LIMIT;
 use crate::trials::tell_trial;
 use crate::words::{Command, Job, Telling, Word, role_word};
 use aw_disk::Disk;
+use aw_front::{INPUT_LIMIT, Reply, Status};
 use aw_out::{Sink, Source, Wire, write_all};
 use std::alloc::Global;
 

@@ -1,10 +1,11 @@
 //! The command that makes a trial.
 ghost use Rattle.std.specs.Prelude.{◌≡◌, ◌≢◌, [], IfOk, IfErr};
-ghost use Rattle.aw_run.specs.Replies.{reply_with};
+ghost use Rattle.aw_front.specs.Replies.{reply_with};
 ghost use Rattle.aw_run.specs.Statuses.{IsReply, IsSilent, IsJournalStop, status_of_stop};
 ghost use Rattle.aw_run.specs.Trials.{trial_output};
 
-use crate::reply::{Reply, Status, Stop};
+use crate::reply::Stop;
+use aw_front::{Reply, Status};
 use aw_out::PrintFault;
 use aw_trial::{summary_text, trial};
 use std::alloc::{AllocError, Global};

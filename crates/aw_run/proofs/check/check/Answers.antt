@@ -2,7 +2,7 @@ use Rattle.std.proofs.Common.{◌∙◌, refl}
 use Rattle.aw_spec.specs.Views.{spec_seen}
 use Rattle.aw_run.specs.Output.{TellsSpecification}
 use Rattle.aw_run.proofs.Checking.{positions, declared_too}
-use Rattle.aw_run.proofs.Verdicts.{accepts-grammar, refuses-grammar, reply-map}
+use Rattle.aw_front.proofs.Verdicts.{accepts-grammar, refuses-grammar, reply-map}
 use Rattle.aw_run.proofs.check.check.Goals as goal
 
 pub tell_asked-reply-requires-clause-relation : goal.tell_asked-reply-requires-clause-relation

@@ -3,11 +3,12 @@ use Rattle.aw_lex.specs.Lines.{lines_of}
 use Rattle.aw_spec.specs.Views.{spec_seen}
 use Rattle.aw_spec.specs.Reading.{Faulty, specification}
 use Rattle.aw_spec.specs.KindNames.{kind_name}
-use Rattle.aw_run.specs.Refusals.{at_line}
-use Rattle.aw_run.specs.Output.{Output, BadSpecification, Makes, IsOutputOf}
+use Rattle.aw_front.specs.Refusals.{at_line}
+use Rattle.aw_front.specs.Output.{Output, BadSpecification}
+use Rattle.aw_run.specs.Output.{Makes, IsOutputOf}
 use Rattle.aw_run.proofs.LineCounts.{lines-behind}
 use Rattle.aw_run.proofs.Outputs.{output-read}
-use Rattle.aw_run.proofs.Verdicts.{reply-map, reply-same, bad-line}
+use Rattle.aw_front.proofs.Verdicts.{reply-map, reply-same, bad-line}
 use Rattle.aw_run.proofs.Promising.{good-input}
 use Rattle.aw_run.specs.Promises.{Promises}
 use Rattle.std.proofs.lemmas.Result.{IfOk-weaker}

@@ -3,7 +3,7 @@ use Rattle.aw_lex.specs.Lines.{lines_of}
 use Rattle.aw_grammar.specs.GrammarOf.{words_of}
 use Rattle.aw_spec.specs.Views.{spec_seen}
 use Rattle.aw_run.specs.Output.{MakesTyped}
-use Rattle.aw_run.proofs.Verdicts.{refuses-types, types-hold}
+use Rattle.aw_front.proofs.Verdicts.{refuses-types, types-hold}
 use Rattle.aw_run.proofs.Promising.{refused-types}
 use Rattle.aw_run.proofs.reading.reply_to_specification.Goals as goal
 

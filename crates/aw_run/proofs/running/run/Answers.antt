@@ -1,5 +1,5 @@
 use Rattle.std.proofs.Common.{◌≡◌, ◌∙◌, sym, ap, subst, inl, inr, rules, Err}
-use Rattle.aw_run.specs.declared.reply.Status.TheVariants.{Done}
+use Rattle.aw_front.specs.declared.reply.Status.TheVariants.{Done}
 use Rattle.aw_out.specs.Edge.{Gets}
 use Rattle.aw_run.specs.Replies.{around, wired, ForInput}
 use Rattle.aw_run.specs.Keeping.{StopsKeeping}

@@ -2,7 +2,8 @@ use Rattle.std.proofs.Common.{◌∙◌, refl, sym}
 use Rattle.std.proofs.lemmas.Result.{IfOk-weaker}
 use Rattle.aw_lex.specs.Lines.{lines_of}
 use Rattle.aw_spec.specs.Views.{spec_seen}
-use Rattle.aw_run.proofs.Verdicts.{accepts-grammar, refuses-grammar, told-schedule}
+use Rattle.aw_front.proofs.Verdicts.{accepts-grammar, refuses-grammar}
+use Rattle.aw_run.proofs.Verdicts.{told-schedule}
 use Rattle.aw_run.proofs.Promising.{refused-grammar}
 use Rattle.aw_run.proofs.schedule.tell_schedule.Goals as goal
 

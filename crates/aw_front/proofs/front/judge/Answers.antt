@@ -1,5 +1,5 @@
-use Rattle.aw_run.proofs.FrontOutputs.{front-circular}
-use Rattle.aw_run.proofs.front.judge.Goals as goal
+use Rattle.aw_front.proofs.FrontOutputs.{front-circular}
+use Rattle.aw_front.proofs.front.judge.Goals as goal
 
 pub returns-in-Ok : goal.returns-in-Ok
 returns-in-Ok c = (c.in-Ok.ensures.accepted, c.in-Ok.ensures.sound)

@@ -5,12 +5,12 @@ ghost use Rattle.aw_typed.specs.Types.{AreFor};
 ghost use Rattle.aw_typed.specs.Typing.{types_of, IsMadeFor, NumbersInRange};
 ghost use Rattle.aw_spec.specs.Views.{spec_seen};
 ghost use Rattle.aw_spec_writer.specs.SpecLines.{written};
-ghost use Rattle.aw_run.specs.Fronts.{IsFrontOf, IsJudged, Nothing, ReadyOr};
-ghost use Rattle.aw_run.specs.Output.{IfAccepted, IfTyped};
+ghost use Rattle.aw_front.specs.Fronts.{IsFrontOf, IsJudged, Nothing, ReadyOr};
+ghost use Rattle.aw_front.specs.Output.{IfAccepted, IfTyped};
 
+use crate::limit::INPUT_LIMIT;
 use crate::refusals::{bad_specification, bad_types, not_accepted};
 use crate::reply::Reply;
-use crate::source::INPUT_LIMIT;
 use aw_accept::{Accepted, accept};
 use aw_base::Grammar;
 use aw_list::Text;

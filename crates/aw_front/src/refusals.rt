@@ -4,10 +4,10 @@ ghost use Rattle.aw_spec.specs.KindNames.{kind_name};
 ghost use Rattle.aw_grammar.specs.GrammarOf.{words_of};
 ghost use Rattle.aw_term.specs.Rules.{get};
 ghost use Rattle.aw_check_text.specs.Told.{circle_text};
-ghost use Rattle.aw_run.specs.Output.{BadSpecification, BadTypes, IsCircular, BadSchedule, NoReplyOf};
+ghost use Rattle.aw_front.specs.Output.{BadSpecification, BadTypes, IsCircular, BadSchedule, NoReplyOf};
 ghost use Rattle.aw_sched.specs.KindNames.{kind_name as schedule_kind};
-ghost use Rattle.aw_run.specs.Refusals.{at_line};
-ghost use Rattle.aw_run.specs.Replies.{reply_with, RefusesGrammar, RefusesTypes};
+ghost use Rattle.aw_front.specs.Refusals.{at_line};
+ghost use Rattle.aw_front.specs.Replies.{reply_with, RefusesGrammar, RefusesTypes};
 
 use crate::reply::{Reply, Status};
 use aw_accept::{Fault, Refused};

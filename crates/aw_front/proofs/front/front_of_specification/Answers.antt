@@ -1,8 +1,8 @@
 use Rattle.std.proofs.Common.{refl}
 use Rattle.std.proofs.lemmas.Result.{IfOk-weaker}
 use Rattle.aw_spec.specs.Views.{spec_seen}
-use Rattle.aw_run.proofs.FrontOutputs.{front-typed, front-untyped}
-use Rattle.aw_run.proofs.front.front_of_specification.Goals as goal
+use Rattle.aw_front.proofs.FrontOutputs.{front-typed, front-untyped}
+use Rattle.aw_front.proofs.front.front_of_specification.Goals as goal
 
 pub returns-in-Ok : goal.returns-in-Ok
 returns-in-Ok c = IfOk-weaker c.front_of_typed.result _ _ (λ front holds. front-typed front (spec_seen c.args.spec) c.args.writes c.args.spec.grammar refl c.in-Ok.ensures.none holds) c.front_of_typed.ensures

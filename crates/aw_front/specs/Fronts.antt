@@ -1,4 +1,4 @@
--- What a command that serves has of the front of an input: an accepted specification that stands ready, or why there is none.
+-- What a command has of the front of an input: an accepted specification that stands ready, or why there is none.
 use Rattle.std.specs.Prelude.{◌≡◌, ℕ, List, Bool, IsTrue, None}
 use Rattle.std.specs.declared.result.Result.{Result}
 use Rattle.std.specs.declared.result.Result.TheVariants.{Ok, Err}
@@ -11,13 +11,13 @@ use Rattle.aw_iograph.specs.Dependence.{IO, HasNoCircle}
 use Rattle.aw_typed.specs.Typing.{IsMadeFor}
 use Rattle.aw_spec.specs.Reading.{Spec}
 use Rattle.aw_spec_writer.specs.SpecLines.{written}
-use Rattle.aw_run.specs.declared.front.Front.{Front}
-use Rattle.aw_run.specs.declared.front.Front.TheVariants.{Ready, Refused}
-use Rattle.aw_run.specs.declared.front.Opened.{Opened}
-use Rattle.aw_run.specs.declared.reply.Reply.{Reply}
-use Rattle.aw_run.specs.Opening.{Opens}
-use Rattle.aw_run.specs.Output.{Output, IfAccepted, OfAccepted}
-use Rattle.aw_run.specs.Replies.{Replies}
+use Rattle.aw_front.specs.declared.front.Front.{Front}
+use Rattle.aw_front.specs.declared.front.Front.TheVariants.{Ready, Refused}
+use Rattle.aw_front.specs.declared.front.Opened.{Opened}
+use Rattle.aw_front.specs.declared.reply.Reply.{Reply}
+use Rattle.aw_front.specs.Opening.{Opens}
+use Rattle.aw_front.specs.Output.{Output, IfAccepted, OfAccepted}
+use Rattle.aw_front.specs.Replies.{Replies}
 
 -- What stands ready is made of the specification, which is accepted: its grammar, its types, and its text where that is asked for.
 pub record IsReady (s : Spec) (writes : Bool) (o : Opened) : Type 0 where

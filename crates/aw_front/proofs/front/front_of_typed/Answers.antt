@@ -1,7 +1,7 @@
 use Rattle.std.proofs.Common.{refl}
 use Rattle.aw_spec.specs.Views.{spec_seen}
-use Rattle.aw_run.proofs.FrontOutputs.{front-judged}
-use Rattle.aw_run.proofs.front.front_of_typed.Goals as goal
+use Rattle.aw_front.proofs.FrontOutputs.{front-judged}
+use Rattle.aw_front.proofs.front.front_of_typed.Goals as goal
 
 pub returns : goal.returns
 returns c =

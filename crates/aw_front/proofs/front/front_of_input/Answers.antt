@@ -3,8 +3,8 @@ use Rattle.std.proofs.lemmas.Result.{IfOk-weaker}
 use Rattle.aw_lex.specs.Lines.{lines_of}
 use Rattle.aw_spec.specs.Reading.{Faulty, specification}
 use Rattle.aw_spec.specs.Views.{spec_seen}
-use Rattle.aw_run.proofs.FrontOutputs.{front-faulty, front-good}
-use Rattle.aw_run.proofs.front.front_of_input.Goals as goal
+use Rattle.aw_front.proofs.FrontOutputs.{front-faulty, front-good}
+use Rattle.aw_front.proofs.front.front_of_input.Goals as goal
 
 pub returns-in-Ok : goal.returns-in-Ok
 returns-in-Ok c =
