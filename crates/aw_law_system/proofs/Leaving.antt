@@ -1,9 +1,8 @@
 -- What remains of a system is one world: its moves are the events that remain.
 use Rattle.std.specs.Prelude.{nat_eq, filter, slice_get, slice_set}
 use Rattle.std.proofs.Common.{◌≡◌, ℕ, ◌<◌, Bool, true, false, cond, List, [], ◌∷◌, ◌++◌, map, length, refl, sym, ap, ◌∙◌, subst, inl, inr, arith, eq-eqb}
-use Rattle.std.proofs.lemmas.Bool.{cases_lt}
 use Rattle.aw_list.specs.Members.{Member}
-use Rattle.aw_list.proofs.Members.{never, member_got, member_unmap}
+use Rattle.aw_list.proofs.Members.{never, member_got}
 use Rattle.aw_term.specs.Choices.{Choice}
 use Rattle.aw_term.specs.Rules.{Grammar, get, upto}
 use Rattle.aw_term.specs.Trees.{Never}
@@ -21,7 +20,7 @@ use Rattle.aw_law_nodes.specs.Crashes.{Kept, Past, Frail, new_kept, kept_at, sta
 use Rattle.aw_law_nodes.specs.Crashes as crashes
 use Rattle.aw_law_nodes.specs.Nodes.{ReadAs, received, chosen}
 use Rattle.aw_law_nodes.proofs.Following.{took-sites, delivered-sites}
-use Rattle.aw_law_nodes.proofs.ListParts.{get-short, map-get, map-map}
+use Rattle.aw_law_nodes.proofs.ListParts.{map-get, map-map}
 use Rattle.aw_law_nodes.proofs.Mail.{Given}
 use Rattle.aw_law_nodes.proofs.Served as served
 use Rattle.aw_law_nodes.proofs.OwnEvents.{start-kept}
@@ -175,29 +174,23 @@ module _ (g : Grammar) where
           let M = H.mirrors in
           let R = M.reached in
           let (fs, read, may, e) = subst (λ u. (fs : List Move) × ReadAs g (empty_world g loads) (remaining u) fs × Each (MayCome g) fs × (world_after g loads fs ≡ world_of u)) R.is (law loads R.events R.allowed) in
-          let own : (r : ℕ) → r < g.roles → own_of r (remaining w) ≡ (node_at s r).events =
-          λ r l. own-past r w.past (λ e i. (M.tidy.homes e i).0)
-          ∙ (ap (map (λ (e : Past). e.happening)) (M.tidy.parts r l) ∙ (names-numbered r 0 (kept_at w r).events ∙ ap (λ (k : Kept). k.events) (same-node g loads G law w s M H.sound r))) in (
+          let own : (r : ℕ) → own_of r (remaining w) ≡ (node_at s r).events =
+          λ r. own-past r w.past (λ e i. (M.tidy.homes e i).0)
+          ∙ (ap (map (λ (e : Past). e.happening)) (M.tidy.parts r) ∙ (names-numbered r 0 (kept_at w r).events ∙ ap (λ (k : Kept). k.events) (same-node g loads G law w s M H.sound r))) in
+          let same : (world_after g loads fs).taken ≡ choices_in (remaining w) = ap (λ (u : World). u.taken) e in (
             fs,
             record {
               may_come = may;
               events = come-events G loads (empty_world g loads) (served.reached-empty g G loads) (remaining w) fs read may
-                  (λ r l. subst (AllCome g (site_at (empty_world g loads) r)) (sym (own r l)) (subst (λ t. AllCome g t (node_at s r).events) (sym (nothing-yet r l)) (H.come r l)));
-              journals = λ r l. read-own (empty_world g loads) (remaining w) fs read r ∙ own r l;
+                  (λ r l. subst (AllCome g (site_at (empty_world g loads) r)) (sym (own r)) (subst (λ t. AllCome g t (node_at s r).events) (sym (nothing-yet r l)) (H.come r l)));
+              journals = λ r. read-own (empty_world g loads) (remaining w) fs read r ∙ own r;
               sites = ap (λ (u : World). u.sites) e ∙ ap (map (λ (k : Kept). k.site)) M.kept;
               taken = λ c.
-                  let same : (world_after g loads fs).taken ≡ choices_in (remaining w) = ap (λ (u : World). u.taken) e in (
-                    (λ i.
-                        let j = choice-in c (remaining w) (subst (Member c) same i) in
-                        let (d, o, q) = member_unmap (λ (e : Past). e.happening) (Chose c) w.past j in
-                        let (at, l) = M.tidy.homes d o in
-                        let l' : home g (node_of c) < g.roles = subst (λ h. role_of g h < g.roles) (sym q) (subst (λ a. a < g.roles) (sym at) l) in
-                        subst (Member (Chose c)) (own (home g (node_of c)) l') (Member-filter (λ (h : SiteEvent). nat_eq (role_of g h) (home g (node_of c))) (Chose c) (remaining w) j (eq-eqb (home g (node_of c)) (home g (node_of c)) refl))),
-                    (λ i. elim (cases_lt (home g (node_of c)) g.roles) [
-                      | inl l ↦ subst (Member c) (sym same) (choice-out c (remaining w)
-                          (Member-filtered (λ (h : SiteEvent). nat_eq (role_of g h) (home g (node_of c))) (Chose c) (remaining w) (subst (Member (Chose c)) (sym (own (home g (node_of c)) l)) i)).0)
-                      | inr l ↦ (let n = H.sound.nodes in never (subst (λ (k : Kept). Member (Chose c) k.events) (get-short (new_kept false (home g (node_of c))) s.kept (home g (node_of c)) (omega (arith, l, n))) i))
-                    ]),
+                  let a = home g (node_of c) in (
+                    (λ i. subst (Member (Chose c)) (own a)
+                        (Member-filter (λ (h : SiteEvent). nat_eq (role_of g h) a) (Chose c) (remaining w) (choice-in c (remaining w) (subst (Member c) same i)) (eq-eqb a a refl))),
+                    (λ i. subst (Member c) (sym same)
+                        (choice-out c (remaining w) (Member-filtered (λ (h : SiteEvent). nat_eq (role_of g h) a) (Chose c) (remaining w) (subst (Member (Chose c)) (sym (own a)) i)).0)),
                   );
             },
           )

@@ -5,6 +5,7 @@ pub mod Pasts
 pub mod Mirroring
 pub mod Coming
 pub mod Leaving
+pub mod Joining
 pub mod Feeding
 pub mod Turning
 pub mod Carrying

@@ -1,10 +1,11 @@
 -- The past of a world with crashes in which each event was one of its site: at each role it is the events that remain there.
 use Rattle.std.specs.Prelude.{not, nat_eq, filter, take, ◌⊎◌}
 use Rattle.std.proofs.Common.{◌≡◌, ℕ, zero, suc, ◌+◌, ◌<◌, ◌≤◌, Bool, true, false, cond, List, [], ◌∷◌, ◌++◌, map, length, Some, refl, sym, ap, ◌∙◌, subst, inl, inr, arith, eq-eqb, eqb-true}
+use Rattle.std.proofs.lemmas.Bool.{cases_lt}
 use Rattle.std.proofs.lemmas.List.{append-nil}
 use Rattle.aw_list.specs.Members.{Member}
 use Rattle.aw_list.proofs.Members.{never, member_split}
-use Rattle.aw_term.specs.Rules.{Grammar}
+use Rattle.aw_term.specs.Rules.{Grammar, upto}
 use Rattle.aw_term.specs.Trees.{Never}
 use Rattle.aw_law_sites.specs.Homes.{home}
 use Rattle.aw_law_sites.specs.SiteEvents.{SiteEvent, Chose, Got}
@@ -14,8 +15,8 @@ use Rattle.aw_law_worlds.proofs.Lists.{Member-filtered}
 use Rattle.aw_law_worlds.proofs.Places.{get-set, get-set_other, same_or_not}
 use Rattle.aw_law_nodes.specs.Crashes.{Kept, Posted, Past, Frail, new_kept, kept_at, start_at, kept_after, happen, is_dropped, back_kept, back_past, go_back}
 use Rattle.aw_law_nodes.proofs.Dropped.{drop-other, drop-early, drop-late}
-use Rattle.aw_law_nodes.proofs.ListParts.{filter-append}
-use Rattle.aw_law_nodes.proofs.OwnEvents.{start-kept}
+use Rattle.aw_law_nodes.proofs.ListParts.{filter-append, get-short}
+use Rattle.aw_law_nodes.proofs.OwnEvents.{empty-size, start-kept}
 
 -- the role at which something happens
 abbrev pub role_of : Grammar → SiteEvent → ℕ
@@ -33,7 +34,7 @@ numbered r i (h ∷ hs) = record { role = r; before = i; happening = h } ∷ num
 
 -- the past of each role is its events, and each event is of its own role
 pub record IsTidy (g : Grammar) (w : Frail) : Type 0 where
-  pub parts : (r : ℕ) → r < g.roles → of_past r w.past ≡ numbered r 0 (kept_at w r).events
+  pub parts : (r : ℕ) → of_past r w.past ≡ numbered r 0 (kept_at w r).events
   pub homes : (e : Past) → Member e w.past → (role_of g e.happening ≡ e.role) × (e.role < g.roles)
 
 numbered-more : (r i n : ℕ) (hs : List SiteEvent) (h : SiteEvent) → i + length hs ≡ n → numbered r i (hs ++ h ∷ []) ≡ numbered r i hs ++ record { role = r; before = n; happening = h } ∷ []
@@ -105,14 +106,20 @@ names-numbered r i (h ∷ hs) = ap (◌∷◌ h) (names-numbered r (suc i) hs)
 module _ (g : Grammar) where
   pub tidy-start : (loads : Bool) → IsTidy g (start_at g loads)
   tidy-start loads = record {
-    parts = λ r l. ap (λ (k : Kept). numbered r 0 k.events) (sym (start-kept g loads r l));
+    parts = λ r. ap (numbered r 0) (sym (no-events r));
     homes = λ e i. never i;
   }
+    where
+      no-events : (r : ℕ) → (kept_at (start_at g loads) r).events ≡ []
+      no-events r = elim (cases_lt r g.roles) [
+        | inl l ↦ ap (λ (k : Kept). k.events) (start-kept g loads r l)
+        | inr l ↦ (let n = empty-size loads 0 g.roles in ap (λ (k : Kept). k.events) (get-short (new_kept false r) (map (new_kept loads) (upto 0 g.roles)) r (omega (arith, n, l))))
+      ]
 
   -- one more event
   pub tidy-happen : (w : Frail) (r : ℕ) (h : SiteEvent) (x : Reaction) (ps : List Posted) → IsTidy g w → length w.kept ≡ g.roles → r < g.roles → role_of g h ≡ r → IsTidy g (happen w r h (Some x) ps)
   tidy-happen w r h x ps T n l at = record {
-    parts = λ a m. filter-append (λ (e : Past). nat_eq e.role a) w.past (new ∷ []) ∙ each a m (same_or_not r a);
+    parts = λ a. filter-append (λ (e : Past). nat_eq e.role a) w.past (new ∷ []) ∙ each a (same_or_not r a);
     homes = λ e i. elim (member_split e w.past (new ∷ []) i) [
       | inl j ↦ T.homes e j
       | inr j ↦ elim j [ inl p ↦ subst (λ (e : Past). (role_of g e.happening ≡ e.role) × (e.role < g.roles)) (sym p) (at, l) | inr z ↦ never z ]
@@ -130,22 +137,22 @@ module _ (g : Grammar) where
 
       here : of_past r w.past ++ of_past r (new ∷ []) ≡ numbered r 0 (kept_at v r).events
       here =
-          (λ i. T.parts r l i ++ one-here r new refl i)
+          (λ i. T.parts r i ++ one-here r new refl i)
           ∙ (sym (numbered-more r 0 (length (kept_at w r).events) (kept_at w r).events h (omega arith)) ∙ ap (λ (k : Kept). numbered r 0 k.events) (sym same))
 
-      there : (a : ℕ) → a < g.roles → (r ≡ a → Never) → of_past a w.past ++ of_past a (new ∷ []) ≡ numbered a 0 (kept_at v a).events
-      there a m d =
-          (λ i. T.parts a m i ++ one-there a new d i)
+      there : (a : ℕ) → (r ≡ a → Never) → of_past a w.past ++ of_past a (new ∷ []) ≡ numbered a 0 (kept_at v a).events
+      there a d =
+          (λ i. T.parts a i ++ one-there a new d i)
           ∙ (append-nil (numbered a 0 (kept_at w a).events) ∙ ap (λ (k : Kept). numbered a 0 k.events) (sym (get-set_other (new_kept false a) w.kept r a (kept_after (kept_at w r) h (Some x)) d)))
 
-      each : (a : ℕ) → a < g.roles → (r ≡ a) ⊎ (r ≡ a → Never) → of_past a w.past ++ of_past a (new ∷ []) ≡ numbered a 0 (kept_at v a).events
-      each a m (inl e) = subst (λ a. of_past a w.past ++ of_past a (new ∷ []) ≡ numbered a 0 (kept_at v a).events) e here
-      each a m (inr d) = there a m d
+      each : (a : ℕ) → (r ≡ a) ⊎ (r ≡ a → Never) → of_past a w.past ++ of_past a (new ∷ []) ≡ numbered a 0 (kept_at v a).events
+      each a (inl e) = subst (λ a. of_past a w.past ++ of_past a (new ∷ []) ≡ numbered a 0 (kept_at v a).events) e here
+      each a (inr d) = there a d
 
   -- a site goes back
   pub tidy-back : (loads : Bool) (w : Frail) (r n : ℕ) → IsTidy g w → length w.kept ≡ g.roles → r < g.roles → IsTidy g (go_back g loads r n w)
   tidy-back loads w r n T s l = record {
-    parts = λ a m. filter-swap (λ (e : Past). nat_eq e.role a) (λ (e : Past). not (is_dropped r n e.role e.before)) w.past ∙ (ap (back_past r n) (T.parts a m) ∙ each a (same_or_not r a));
+    parts = λ a. filter-swap (λ (e : Past). nat_eq e.role a) (λ (e : Past). not (is_dropped r n e.role e.before)) w.past ∙ (ap (back_past r n) (T.parts a) ∙ each a (same_or_not r a));
     homes = λ e i. T.homes e (Member-filtered (λ (e : Past). not (is_dropped r n e.role e.before)) e w.past i).0;
   }
     where

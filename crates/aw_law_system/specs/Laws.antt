@@ -1,17 +1,20 @@
 -- What holds of every system, whatever crashes and whenever messages are carried.
-use Rattle.std.specs.Prelude.{◌≡◌, ℕ, ◌<◌, Bool, List, [], ◌∷◌, ◌++◌, map}
+use Rattle.std.specs.Prelude.{◌≡◌, ℕ, Bool, true, List, [], ◌∷◌, ◌++◌, map}
 use Rattle.aw_list.specs.Members.{Member}
 use Rattle.aw_term.specs.Choices.{Choice, Taken}
 use Rattle.aw_term.specs.Rules.{Grammar}
 use Rattle.aw_term.specs.Trees.{Never}
 use Rattle.aw_term.specs.WellFormed.{Each}
+use Rattle.aw_typed.specs.Types.{Types}
+use Rattle.aw_typed.specs.TypeFaults.{arg_ok}
 use Rattle.aw_law_sites.specs.Homes.{home}
-use Rattle.aw_law_sites.specs.SiteEvents.{Chose, all_events}
+use Rattle.aw_law_sites.specs.SiteEvents.{SiteEvent, Chose, all_events}
 use Rattle.aw_law_sites.specs.Worlds.{World, empty_world, node_of, Reply, Answered, IsNew, Again, NoMessage, Move, step, MayCome, world_after}
 use Rattle.aw_law_nodes.specs.Couriers.{IsPrefix}
 use Rattle.aw_law_nodes.specs.Crashes.{Kept, FrailEvent, start_at, frail_run}
 use Rattle.aw_law_nodes.specs.Crashes as crashes
 use Rattle.aw_law_nodes.specs.Nodes.{Frame, Choose, Answers, handle}
+use Rattle.aw_law_journals.specs.Journals.{IsJoint}
 use Rattle.aw_law_system.specs.Systems.{Extent, System, node_at, Act, Asks, system_after, IsRun, IsWritten}
 
 -- the choice is among the events that remain at the home of its node
@@ -38,13 +41,23 @@ AreEvents g w (e ∷ es) = IsEvent (step g w e).reply × AreEvents g (step g w e
 pub record IsLeft (g : Grammar) (loads : Bool) (s : System) (fs : List Move) : Type 0 where
   pub may_come : Each (MayCome g) fs
   pub events : AreEvents g (empty_world g loads) fs
-  pub journals : (r : ℕ) → r < g.roles → all_events g (empty_world g loads) r fs ≡ (node_at s r).events
+  pub journals : (r : ℕ) → all_events g (empty_world g loads) r fs ≡ (node_at s r).events
   pub sites : (world_after g loads fs).sites ≡ map (λ (k : Kept). k.site) s.kept
   pub taken : AreRemaining g s (world_after g loads fs).taken
 
 -- whatever happened, what remains is one world
 abbrev pub SystemIsOneWorld : Grammar → Type 0
 SystemIsOneWorld g = (loads : Bool) (as_ : List Act) → IsRun g loads as_ → (fs : List Move) × IsLeft g loads (system_after g loads as_) fs
+
+-- the journals of all roles
+abbrev pub journals_of : System → List (List SiteEvent)
+journals_of s = map (λ (k : Kept). k.events) s.kept
+
+-- where each choice that remains fits the types, the journals of all roles have an order in which their events can have come
+abbrev pub JournalsAreJoint : Types → Grammar → Type 0
+JournalsAreJoint t g = (as_ : List Act) → IsRun g true as_ →
+    ((c : Choice) → Remains g (system_after g true as_) c → arg_ok t g c ≡ true) →
+    (fs : List Move) × IsLeft g true (system_after g true as_) fs × IsJoint t g (journals_of (system_after g true as_)) fs
 
 -- its nodes are those of a world with crashes in which no site that goes back loses an event that sent a delivered message
 abbrev pub CrashesAreAllowed : Grammar → Type 0

@@ -1,9 +1,10 @@
 //! The laws of a system, of every accepted grammar. They stand on what `aw_law_nodes` says of worlds with crashes.
 ghost use Rattle.aw_law_sites.specs.Laws.{IsAccepted};
-ghost use Rattle.aw_law_system.specs.Laws.{CrashesAreAllowed, SystemIsOneWorld, TakenRemains, WrittenStays};
+ghost use Rattle.aw_law_system.specs.Laws.{CrashesAreAllowed, JournalsAreJoint, SystemIsOneWorld, TakenRemains, WrittenStays};
 ghost use Rattle.aw_law_system.specs.Resting.{QuietIsAtRest};
 ghost use Rattle.aw_term.specs.Artifacts.{Words};
 ghost use Rattle.aw_term.specs.Rules.{Grammar};
+ghost use Rattle.aw_typed.specs.Types.{Types};
 
 use aw_law_nodes::laws::crash_laws;
 use aw_law_settling::laws::still_laws;
@@ -11,10 +12,12 @@ use aw_law_worlds::laws::{site_laws, world_laws};
 
 /// Whatever is asked of nodes, however far each reply gets, whoever carries messages late and again, and whenever a node crashes: the
 /// events that remain, each role's in their order, are those of one world, and the nodes have its sites (`world`). Its nodes are those of a world
-/// with crashes in which no site that goes back loses an event that sent a delivered message (`crashes`).
+/// with crashes in which no site that goes back loses an event that sent a delivered message (`crashes`). So the journals of all roles have
+/// an order in which their events can have come (`joint`), and where those of some machines have none, one was set back or changed.
 pub fn system_laws()
     ensures world { (words : Words) (g : Grammar) → IsAccepted words g → SystemIsOneWorld g }
     ensures crashes { (words : Words) (g : Grammar) → IsAccepted words g → CrashesAreAllowed g }
+    ensures joint { (words : Words) (t : Types) (g : Grammar) → IsAccepted words g → JournalsAreJoint t g }
 {
     world_laws();
     site_laws();
