@@ -83,7 +83,7 @@ line_written FreeLine h = tt
 line_written (RuleLine rule) h = (parts_written (side_by_side rule.patterns) h.patterns, parts_written (side_by_side rule.results) h.results, children_written rule.children h.children)
 line_written (ScheduleLine loads) h = tt
 
-line_again : (d : Draft) (l : Line) → IsSpelledLine l → read_line d (line_text l) ≡ in_order d l
+pub line_again : (d : Draft) (l : Line) → IsSpelledLine l → read_line d (line_text l) ≡ in_order d l
 line_again d l h =
     let bytes = line_text l in
     let said = (line_says l h).lexed [] in

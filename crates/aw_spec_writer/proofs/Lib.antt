@@ -1,3 +1,4 @@
+pub mod Behind
 pub mod Declaring
 pub mod Formed
 pub mod Leading

@@ -30,7 +30,7 @@ faces_lead s fine faces =
     (offers_lead d s.offers fine.sorts_differ faces.offers faces.offered_once)
     (uses_lead d s.offers s.uses fine.roles_differ fine.sorts_differ faces.uses faces.used_once)
 
-spec_leads : (s : Spec) → Fine s.declared → FacesFit s → TypesFit s → Between roles_stage rules_stage no_spec (spec_lines s) s
+pub spec_leads : (s : Spec) → Fine s.declared → FacesFit s → TypesFit s → Between roles_stage rules_stage no_spec (spec_lines s) s
 spec_leads s fine faces types =
     let d = s.declared in
     between_both roles_stage starts_stage offers_stage rules_stage no_spec (with_sorts d.roles d.cons d.sorts) s (declaration_lines d) (face_lines s ++ (typing_lines s ++ (free_lines s ++ rule_lines d))) (omega arith) (declared_lead d fine)

@@ -3,7 +3,7 @@ ghost use Rattle.std.specs.Prelude.{◌≡◌, IfOk, IfErr, length, false};
 ghost use Rattle.aw_spec.specs.declared.fault.SpecFault.TheVariants.{NoMemory};
 ghost use Rattle.aw_spec.specs.TypesFit.{TypesFit};
 ghost use Rattle.aw_spec.specs.Views.{spec_seen};
-ghost use Rattle.aw_spec_writer.specs.Laws.{ReadFits, WrittenIsRead};
+ghost use Rattle.aw_spec_writer.specs.Laws.{InFrontIsRead, ReadFits, WrittenIsRead};
 ghost use Rattle.aw_spec_writer.specs.SpecLines.{spec_lines};
 ghost use Rattle.aw_spec_writer.specs.Writable.{FacesFit};
 
@@ -14,6 +14,12 @@ use std::alloc::Global;
 /// The text of a specification that can be written is read as that specification.
 pub fn written_is_read()
     ensures { WrittenIsRead }
+{}
+
+/// The text of a specification that can be written is read alike with a line `schedule` and any text behind it, and the lines of
+/// that text are left.
+pub fn in_front_is_read()
+    ensures { InFrontIsRead }
 {}
 
 /// What was read can be written: the faces and the types of a specification that was read fit it.

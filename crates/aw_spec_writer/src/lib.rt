@@ -11,5 +11,5 @@ pub mod types;
 pub mod write;
 
 pub use again::{rules_again, same_rules};
-pub use law::{read_again, read_fits, written_is_read};
+pub use law::{in_front_is_read, read_again, read_fits, written_is_read};
 pub use write::write_spec;

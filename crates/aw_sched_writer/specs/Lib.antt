@@ -1,0 +1,3 @@
+pub mod EventTexts
+pub mod Moves
+pub mod Laws
