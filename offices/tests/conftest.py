@@ -63,6 +63,12 @@ def listens(port: int) -> bool:
     return any(line.split()[3] == "0A" and int(line.split()[1].split(":")[1], 16) == port for line in lines)
 
 
+def opened(path: Path) -> bool:
+    """Whether somebody listens at a socket of the file system, which is there a moment before; opens no session."""
+    lines = [line.split() for line in Path("/proc/net/unix").read_text(encoding="utf-8").splitlines()[1:]]
+    return any(words[3] == "00010000" and words[-1] == str(path) for words in lines)
+
+
 def files_of(process: int) -> Iterator[str]:
     """The files that a process has open; one that it closes meanwhile is left out."""
     for descriptor in os.listdir("/proc/%d/fd" % process):

@@ -12,7 +12,7 @@ from collections.abc import Callable, Iterator
 from pathlib import Path
 
 import pytest
-from conftest import CLAIM, CLINIC, LONG, OFFICES, System, until
+from conftest import CLAIM, CLINIC, LONG, OFFICES, System, opened, until
 
 import client
 from aw_offices import frames
@@ -30,7 +30,7 @@ class Guarded:
         with self.log.open("wb") as file:
             system.run("/usr/bin/python3", str(OFFICES / "aw_guard"), str(system.spec), "lab", *("%s=%s" % (who, self.path(name)) for name, who in DOORS.items()),
                        "--idle", "2", "--peers", "40", stderr=file)
-        until(lambda: all(self.path(name).exists() for name in DOORS), "the doors are not open")
+        until(lambda: all(opened(self.path(name)) for name in DOORS), "the doors are not open")
 
     def path(self, name: str) -> Path:
         """The socket of a door."""
@@ -158,7 +158,7 @@ def test_a_letter_of_another_role_does_not_pass(make: Make) -> None:
     log = system.folder / "guard.log"
     with log.open("wb") as file:
         system.run("/usr/bin/python3", str(OFFICES / "aw_guard"), str(system.spec), "payments", "letters:assessor=%s" % path, stderr=file)
-    until(path.exists, "the door is not open")
+    until(lambda: opened(path), "the door is not open")
     for text, passes in (("to payments tell claim#1/open_claim.1:r1 = denied(claim#1/open_claim.1:p1)", True),
                          ("to payments call claim#1/open_claim.2 (claim#1:p5, claim#1/open_claim.1:r1)", False),
                          ("to payments tell claim#1:p5 = account(claim#1:p6)", False),
@@ -335,7 +335,7 @@ def test_a_post_works_through_doors(make: Make) -> None:
     doors = {role: system.folder / (role + ".sock") for role in system.offices.roles}
     for role, path in doors.items():
         system.run("/usr/bin/python3", str(OFFICES / "aw_guard"), str(system.spec), role, "post=%s" % path)
-    until(lambda: all(path.exists() for path in doors.values()), "the doors are not open")
+    until(lambda: all(opened(path) for path in doors.values()), "the doors are not open")
     system.start_post(*(word for role, path in doors.items() for word in ("--office", "%s=%s" % (role, path))))
     for case in range(1, 20):
         system.choose("start visit %d" % case)
@@ -354,7 +354,7 @@ def test_letters_that_a_door_refuses_hold_up_no_others(make: Make) -> None:
     system.start()
     path = system.folder / "payments.sock"
     system.run("/usr/bin/python3", str(OFFICES / "aw_guard"), str(system.spec), "payments", "post:front=%s" % path, stderr=subprocess.DEVNULL)
-    until(path.exists, "the door is not open")
+    until(lambda: opened(path), "the door is not open")
     system.start_post("--office", "payments=%s" % path)
     for case in (1, 2, 3):
         system.choose("start claim %d" % case)
@@ -371,7 +371,7 @@ def test_a_sender_whose_letters_are_refused_holds_up_no_later_one(make: Make) ->
     system.start()
     path = system.folder / "front.sock"
     system.run("/usr/bin/python3", str(OFFICES / "aw_guard"), str(system.spec), "front", "post:payments=%s" % path, stderr=subprocess.DEVNULL)
-    until(path.exists, "the door is not open")
+    until(lambda: opened(path), "the door is not open")
     system.start_post("--office", "front=%s" % path)
     system.choose("start claim 1")
     system.choose("choose claim#1 open_claim {1, \"storm\", 2, \"DK50\"}")
@@ -395,7 +395,7 @@ def test_each_office_has_a_post_of_its_own(make: Make) -> None:
     doors = {(to, sender): system.folder / ("%s-%s.sock" % (to, sender)) for to in roles for sender in roles if to != sender}
     for to in roles:
         system.run("/usr/bin/python3", str(OFFICES / "aw_guard"), str(system.spec), to, *("letters:%s=%s" % (sender, doors[to, sender]) for sender in roles if sender != to))
-    until(lambda: all(path.exists() for path in doors.values()), "the doors are not open")
+    until(lambda: all(opened(path) for path in doors.values()), "the doors are not open")
     for role in roles:
         words = [word for to in roles if to != role for word in ("--office", "%s=%s" % (to, doors[to, role]))]
         with (system.folder / "post.log").open("ab") as log:

@@ -182,7 +182,8 @@ none-empty : (g : Grammar) (request : Request) (b : List ℕ) (h : Heard) → re
 none-empty g request [] h e c zs q = absurd (let n = reply-nothing g request in cc)
 none-empty g request (y ∷ b) h e c zs q = absurd cc
 
-all-heard : (w : Words) (g : Grammar) (fs : List Frame) (hs : List Heard) (bs : List (List ℕ)) (xs : List Response) → AreHeard g fs hs bs → Each (HasBytes g) xs → IsPrefix (joined bs) (joined (map (reply_bytes w) xs)) → IsPrefix hs (map hear xs)
+-- what is heard in bytes that begin those of the sites' replies
+pub all-heard : (w : Words) (g : Grammar) (fs : List Frame) (hs : List Heard) (bs : List (List ℕ)) (xs : List Response) → AreHeard g fs hs bs → Each (HasBytes g) xs → IsPrefix (joined bs) (joined (map (reply_bytes w) xs)) → IsPrefix hs (map hear xs)
 all-heard w g [] [] [] xs k has p = (map hear xs, refl)
 all-heard w g (f ∷ fs) (h ∷ hs) (b ∷ bs) [] k has (zs, q) = never (none-empty g (request_of f) b h k.0 (joined bs) zs q)
 all-heard w g (f ∷ fs) (h ∷ hs) (b ∷ bs) (x ∷ xs) k has (zs, q) =
@@ -198,18 +199,18 @@ all-heard w g (f ∷ fs) (h ∷ hs) [] xs k has p = absurd (elim k [ ])
 
 honest-heard : (w : Words) (g : Grammar) (ss : List Site) (vs : List Visit) → Each (IsHeard g) (map turn_of vs) → IsHonest w g ss vs → IsHonestInBytes g ss (map visit_of vs)
 honest-heard w g ss [] k h = tt
-honest-heard w g ss (v ∷ vs) k h = (
-  (λ has. all-heard w g v.turn.session.asked v.turn.session.heard v.turn.replies (all_replies g (sites_after g ss (choice_frames g (visit_of v))) (session_frames (visit_of v))) k.0 has h.0),
+honest-heard w g ss (v ∷ vs) k h = λ asked has. (
+  all-heard w g v.turn.session.asked v.turn.session.heard v.turn.replies (all_replies g (sites_after g ss (choice_frames g (visit_of v))) (session_frames (visit_of v))) k.0.0 has h.0,
   honest-heard w g (sites_after g (sites_after g ss (choice_frames g (visit_of v))) (session_frames (visit_of v))) vs k.1 h.1,
 )
 
 -- ---- the world
 
-map-append : {A B : Type 0} (f : A → B) (xs ys : List A) → map f (xs ++ ys) ≡ map f xs ++ map f ys
+pub map-append : {A B : Type 0} (f : A → B) (xs ys : List A) → map f (xs ++ ys) ≡ map f xs ++ map f ys
 map-append f [] ys = refl
 map-append f (x ∷ xs) ys = ap (λ zs. f x ∷ zs) (map-append f xs ys)
 
-flat-map : {A B : Type 0} (f : A → B) (xss : List (List A)) → map f (flat xss) ≡ flat (map (λ xs. map f xs) xss)
+pub flat-map : {A B : Type 0} (f : A → B) (xss : List (List A)) → map f (flat xss) ≡ flat (map (λ xs. map f xs) xss)
 flat-map f [] = refl
 flat-map f (xs ∷ xss) = map-append f xs (flat xss) ∙ ap (λ zs. map f xs ++ zs) (flat-map f xss)
 
@@ -247,8 +248,8 @@ quiet-over-honest w g law bytes sized before last call heard loads es ok moves r
     let sizes' = subst (λ ks. Each ChoicesSized ks) (visits-are rounds end) sizes in
     let known = each_append (HasRole g) (flat vss) vs (rounds-known g vss call'.each) (round-known g vs 0 g.roles (omega arith) call'.one) in
     let wire : IsHonestWire g (world_after g loads es).sites (flat vss ++ vs) =
-    bytes sized size loads es ok moves (flat vss ++ vs) (turns-as g vss vs call'.turns) known choices' sizes'
-    (subst (λ ks. IsHonestInBytes g (world_after g loads es).sites ks) (visits-are rounds end) (honest-heard w g (world_after g loads es).sites (flat rounds ++ end) heard' honest)) in
+    (bytes sized size loads es ok moves (flat vss ++ vs) (turns-as g vss vs call'.turns) known choices' sizes'
+    (subst (λ ks. IsHonestInBytes g (world_after g loads es).sites ks) (visits-are rounds end) (honest-heard w g (world_after g loads es).sites (flat rounds ++ end) heard' honest))).0 in
     subst (λ ks. (fs : List Move) × ReadAs g (world_after g loads es) (happenings (visit_frames g ks)) fs × Each (MayCome g) fs
     × ((world_after g loads (es ++ fs)).sites ≡ sites_after g (world_after g loads es).sites (visit_frames g ks))
     × world.IsQuiet (world_after g loads (es ++ fs))) (sym (visits-are rounds end))
@@ -270,8 +271,8 @@ bound-over-honest w g law bytes sized before call heard n all loads es ok moves 
     let none' = subst (λ ks. Each C.NoChoice ks) (flat-map visit_of rounds) none in
     let fit = none-ok g (flat vss) none' in
     let wire : IsHonestWire g (world_after g loads es).sites (flat vss) =
-    bytes sized size loads es ok moves (flat vss) (subst (λ ss. AreTurns size g (new_courier g) ss) (sym (flat-map C.session_of vss)) call'.turns) (rounds-known g vss call'.each) fit.0 fit.1
-    (subst (λ ks. IsHonestInBytes g (world_after g loads es).sites ks) (flat-map visit_of rounds) (honest-heard w g (world_after g loads es).sites (flat rounds) heard' honest)) in
+    (bytes sized size loads es ok moves (flat vss) (subst (λ ss. AreTurns size g (new_courier g) ss) (sym (flat-map C.session_of vss)) call'.turns) (rounds-known g vss call'.each) fit.0 fit.1
+    (subst (λ ks. IsHonestInBytes g (world_after g loads es).sites ks) (flat-map visit_of rounds) (honest-heard w g (world_after g loads es).sites (flat rounds) heard' honest))).0 in
     let few = law size loads es ok vss call' none' wire in
     let as_visits = length-mapped (λ vs. map visit_of vs) rounds in
     let as_turns = ap length (sym i) ∙ length-mapped (map turn_of) rounds in

@@ -37,7 +37,7 @@ turn-made {W'} g content is_open faults failed_openings c r u u1 v m moved d f o
       role = refl;
       asked = sym (ap (λ xs. requests size c r xs) (sym (append-nil h.heard)) ∙ h.order [] ∙ append-nil h.asked);
       fit = h.fit;
-      heard = h.are;
+      heard = (h.are, h.places);
       moved_is = h.moved_is;
       shows = subst (λ k. Shows g m k) h.now_is h.shows;
       told = follow-dialed (told_as turn) r (content u) (content u1) (content v) refl refl d h.talked.told;

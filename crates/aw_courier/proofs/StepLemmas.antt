@@ -1,5 +1,5 @@
 -- One step of a turn, by what the courier keeps.
-use Rattle.std.proofs.Common.{◌≡◌, ℕ, ◌+◌, ◌-◌, ◌<◌, ◌≤◌, Bool, true, false, ◌||◌, List, [], ◌∷◌, ◌++◌, length, Option, Some, None, refl, sym, ap, subst, ◌∙◌, arith, append-nil}
+use Rattle.std.proofs.Common.{◌≡◌, ℕ, ◌+◌, ◌-◌, ◌<◌, ◌≤◌, ◌^◌, Bool, true, false, ◌||◌, List, [], ◌∷◌, ◌++◌, length, Option, Some, None, refl, sym, ap, subst, ◌∙◌, arith, append-nil}
 use Rattle.std.specs.Prelude.{nat_le, ◌==◌, ◌&&◌, slice_index, slice_set, Ok}
 use Rattle.std.proofs.lemmas.Bool.{eqb-true, leb-true}
 use Rattle.std.proofs.lemmas.List.{set-get_or}
@@ -93,7 +93,7 @@ pushed-one {W'} g talks then c r room u v w m m' moved frame rest bytes h few e 
     let heard = push-heard g bytes k.sized in
     let long : size (Push a) ≡ length frame = ap length first.spelled in
     one-more g talks then c r u v w m m' (pushing r room) (pushing r (room - length frame)) moved true h (Push a) (Pushed heard.kind) bytes
-    (subst (λ t. talks v w bytes t false) (sym first.spelled) k.talked) heard.heard (heard.least, heard.most)
+    (subst (λ t. talks v w bytes t false) (sym first.spelled) k.talked) heard.heard tt (heard.least, heard.most)
     (subst (λ (q : Mailed). Shows g q (note r (Push a) (Pushed heard.kind) h.now)) (sym new) (shows-push g m h.now r rest a first.others (Pushed heard.kind) few h.shows first.waits first.behind))
     (λ ys. next-push r room h.now a first.others (Pushed heard.kind) ys first.waits (subst (λ n. n ≤ room) (sym long) fits)
     ∙ ap (λ n. Push a ∷ pushing r (room - n) (note r (Push a) (Pushed heard.kind) h.now) ys) long)
@@ -135,14 +135,15 @@ place-is g m now r s = ap (λ xs. slice_index xs r) s.places ∙ sym (get-is 0 n
 
 -- a message came, and waits
 pub pulled-one : {W' : Type 0} (g : Grammar) (talks : W' → W' → List ℕ → List ℕ → Bool → Type 0) → TalksThen talks → (c : Courier) (r room left : ℕ) (u v w : W') (m m' : Mailed) (moved : Bool) (letter : Letter) →
-    IsUnderway g talks c r u v m (pulling r room left) moved → r < g.roles → 0 < left → 13 ≤ room → IsPulled g (place_at m r) (talks v w) (Some letter) →
+    IsUnderway g talks c r u v m (pulling r room left) moved → r < g.roles → 0 < left → 13 ≤ room → place_at m r < 2 ^ 64 → IsPulled g (place_at m r) (talks v w) (Some letter) →
     m'.queues ≡ slice_set m.queues letter.to (queue_at m letter.to ++ letter.frame ∷ []) → m'.places ≡ slice_set m.places r (place_at m r + 1) →
     IsUnderway g talks c r u w m' (pulling r (room - 13) (left - 1)) true
-pulled-one {W'} g talks then c r room left u v w m m' moved letter h few some fits (bytes, a, t, e, k) qs ps =
+pulled-one {W'} g talks then c r room left u v w m m' moved letter h few some fits place (bytes, a, t, e, k) qs ps =
     let p = get 0 h.now.places r in
     let long : length letter.frame ≡ size (Push a) = ap length k.frame in
     one-more g talks then c r u v w m m' (pulling r room left) (pulling r (room - 13) (left - 1)) moved true h (Pull p) (Gave a) bytes
     (subst (λ n. talks v w bytes (spelled_frame (Pull n)) false) (place-is g m h.now r h.shows) t) e
+    (subst (λ n. n < 2 ^ 64) (place-is g m h.now r h.shows) place)
     (omega (arith, k.to, k.role), omega (arith, k.short, long))
     (shows-pull g m m' h.now r letter.to letter.frame a k.role h.shows k.to k.frame qs ps)
     (λ ys. next-pull g r room left h.now a ys (omega (arith, few, h.shows.all)) some fits)
@@ -150,11 +151,13 @@ pulled-one {W'} g talks then c r room left u v w m m' moved letter h few some fi
 
 -- there are no more
 pub pulled-none : {W' : Type 0} (g : Grammar) (talks : W' → W' → List ℕ → List ℕ → Bool → Type 0) → TalksThen talks → (c : Courier) (r room left : ℕ) (u v w : W') (m : Mailed) (moved : Bool) →
-    IsUnderway g talks c r u v m (pulling r room left) moved → 0 < left → 13 ≤ room → IsPulled g (place_at m r) (talks v w) None → IsUnderway g talks c r u w m ending moved
-pulled-none {W'} g talks then c r room left u v w m moved h some fits (bytes, t, e) =
+    IsUnderway g talks c r u v m (pulling r room left) moved → 0 < left → 13 ≤ room → place_at m r < 2 ^ 64 → IsPulled g (place_at m r) (talks v w) None →
+    IsUnderway g talks c r u w m ending moved
+pulled-none {W'} g talks then c r room left u v w m moved h some fits place (bytes, t, e) =
     let p = get 0 h.now.places r in
     one-more g talks then c r u v w m m (pulling r room left) ending moved moved h (Pull p) NoMore bytes
-    (subst (λ k. talks v w bytes (spelled_frame (Pull k)) false) (place-is g m h.now r h.shows) t) e tt h.shows
+    (subst (λ k. talks v w bytes (spelled_frame (Pull k)) false) (place-is g m h.now r h.shows) t) e
+    (subst (λ n. n < 2 ^ 64) (place-is g m h.now r h.shows) place) tt h.shows
     (λ ys. last-pull r room left h.now ys some fits)
     (or-false moved)
 

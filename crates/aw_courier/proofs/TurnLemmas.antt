@@ -5,6 +5,7 @@ use Rattle.std.proofs.lemmas.Bool.{le-leb, lt-leb, lt-ltb, eqb-true, eq-eqb}
 use Rattle.aw_out.specs.Wires.{Content}
 use Rattle.aw_term.specs.Rules.{Grammar, get}
 use Rattle.aw_term.specs.Trees.{Never}
+use Rattle.aw_term.proofs.Eaches.{each_push}
 use Rattle.aw_apply.specs.Messages.{Message}
 use Rattle.aw_law_worlds.proofs.Places.{get-set, length-set, same_or_not}
 use Rattle.aw_session.specs.Frames.{joined}
@@ -14,7 +15,7 @@ use Rattle.aw_law_nodes.specs.Couriers.{Heard, Gave, NoMore, Courier, for_role, 
 use Rattle.aw_law_nodes.proofs.ListParts.{filter-append}
 use Rattle.aw_law_nodes.proofs.Knowing.{rest-waits}
 use Rattle.aw_courier.specs.Asking.{is_net, WhyBroken, IsBrokenOff}
-use Rattle.aw_courier.specs.Frames.{size, spelled_frame, spelled_frames}
+use Rattle.aw_courier.specs.Frames.{size, spelled_frame, spelled_frames, PlaceFits}
 use Rattle.aw_courier.specs.Mails.{Mailed, Shows, pushed_frames, place_at, queue_at, with_queue}
 use Rattle.aw_courier.specs.Replies.{reply, request_of}
 use Rattle.aw_courier.specs.Turns.{IsUnderway, WhyStopped, BreaksOff, pushing, pulling}
@@ -36,6 +37,7 @@ at-first {W'} g talks c r u m t s = record {
   now = c;
   talked = t;
   are = tt;
+  places = tt;
   fit = tt;
   order = λ ys. refl;
   now_is = refl;
@@ -45,15 +47,16 @@ at-first {W'} g talks c r u m t s = record {
 
 -- one more request got its reply
 pub one-more : {W' : Type 0} (g : Grammar) (talks : W' → W' → List ℕ → List ℕ → Bool → Type 0) → TalksThen talks → (c : Courier) (r : ℕ) (u v w : W') (m m' : Mailed) (rest rest' : Courier → List Heard → List Frame) (moved moved' : Bool)
-    (h : IsUnderway g talks c r u v m rest moved) (f : Frame) (x : Heard) (b : List ℕ) → talks v w b (spelled_frame f) false → reply g (request_of f) b ≡ Ok (x, []) → IsReplyTo size g f x →
+    (h : IsUnderway g talks c r u v m rest moved) (f : Frame) (x : Heard) (b : List ℕ) → talks v w b (spelled_frame f) false → reply g (request_of f) b ≡ Ok (x, []) → PlaceFits f → IsReplyTo size g f x →
     Shows g m' (note r f x h.now) → ((ys : List Heard) → rest h.now (x ∷ ys) ≡ f ∷ rest' (note r f x h.now) ys) → moved' ≡ (moved || nat_lt 0 (move f x)) → IsUnderway g talks c r u w m' rest' moved'
-one-more {W'} g talks then c r u v w m m' rest rest' moved moved' h f x b t e fit s next more = record {
+one-more {W'} g talks then c r u v w m m' rest rest' moved moved' h f x b t e place fit s next more = record {
   asked = h.asked ++ f ∷ [];
   heard = h.heard ++ x ∷ [];
   replies = h.replies ++ b ∷ [];
   now = note r f x h.now;
   talked = rw (joined-one h.replies b, spelled-one h.asked f) (then u v w (joined h.replies) (spelled_frames h.asked) b (spelled_frame f) false h.talked t);
   are = heard-one g h.asked h.heard h.replies f x b h.are e;
+  places = each_push PlaceFits h.asked f h.places place;
   fit = replies-one g h.asked h.heard f x h.fit fit;
   order = λ ys. ap (λ xs. requests size c r xs) (append_assoc h.heard (x ∷ []) ys) ∙ h.order (x ∷ ys) ∙ ap (λ fs. h.asked ++ fs) (next ys) ∙ sym (append_assoc h.asked (f ∷ []) (rest' (note r f x h.now) ys));
   now_is = ap (λ d. note r f x d) h.now_is ∙ sym (noted-one g r h.asked h.heard f x c h.fit);
@@ -71,6 +74,7 @@ said-again {W'} g talks c r u v m m' rest rest' moved h e same = record {
   now = h.now;
   talked = h.talked;
   are = h.are;
+  places = h.places;
   fit = h.fit;
   order = λ ys. h.order ys ∙ ap (λ fs. h.asked ++ fs) (same ys);
   now_is = h.now_is;

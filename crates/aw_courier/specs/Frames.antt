@@ -1,5 +1,5 @@
 -- The requests of a courier as bytes.
-use Rattle.std.specs.Prelude.{ℕ, List, [], ◌∷◌, ◌++◌, length}
+use Rattle.std.specs.Prelude.{ℕ, ◌<◌, ◌^◌, List, [], ◌∷◌, ◌++◌, length}
 use Rattle.std.specs.Int.{w32, w64, to_be_bytes}
 use Rattle.aw_codec.specs.Choices.{spelled_choice}
 use Rattle.aw_msg.specs.Spelling.{spelled_message}
@@ -22,6 +22,13 @@ payload (Listed place) = to_be_bytes w64 place
 -- the kind, the length of the payload in four bytes, and the payload
 abbrev pub spelled_frame : Frame → List ℕ
 spelled_frame f = frame_kind f ∷ (to_be_bytes w32 (length (payload f)) ++ payload f)
+
+-- a place is one of those that eight bytes spell
+abbrev pub PlaceFits : Frame → Type 0
+PlaceFits (Push m) = Unit {0}
+PlaceFits (Choose c) = Unit {0}
+PlaceFits (Pull place) = place < 2 ^ 64
+PlaceFits (Listed place) = place < 2 ^ 64
 
 -- so many bytes a request has
 abbrev pub size : Frame → ℕ

@@ -4,6 +4,7 @@ use Rattle.aw_out.specs.Wires as W
 use Rattle.aw_out.specs.Wires.{Content, Both}
 use Rattle.aw_term.specs.Rules.{Grammar, get}
 use Rattle.aw_term.specs.Trees.{Never}
+use Rattle.aw_term.specs.WellFormed.{Each}
 use Rattle.aw_codec.specs.Reading.{Short}
 use Rattle.aw_session.specs.Frames.{joined}
 use Rattle.aw_session.specs.Sessions.{Follow}
@@ -11,7 +12,7 @@ use Rattle.aw_session.specs.Talking.{Counts}
 use Rattle.aw_law_nodes.specs.Nodes.{Frame}
 use Rattle.aw_law_nodes.specs.Couriers.{Heard, Session, Courier, for_role, pulls, pushes, requests, noted, after_session, AreReplies, moves, IsPrefix}
 use Rattle.aw_courier.specs.Asking.{is_net, IsNoReply}
-use Rattle.aw_courier.specs.Frames.{size, spelled_frames}
+use Rattle.aw_courier.specs.Frames.{size, spelled_frames, PlaceFits}
 use Rattle.aw_courier.specs.Mails.{Mailed, Shows}
 use Rattle.aw_courier.specs.Replies.{reply, request_of}
 use Rattle.aw_courier.specs.declared.broken.Broken.{Broken}
@@ -35,9 +36,9 @@ pub record Turn : Type 0 where
 abbrev pub session_of : Turn → Session
 session_of t = t.session
 
--- its replies were heard in these bytes
+-- its replies were heard in these bytes, and it pulled from places that eight bytes spell
 abbrev pub IsHeard : Grammar → Turn → Type 0
-IsHeard g t = AreHeard g t.session.asked t.session.heard t.replies
+IsHeard g t = AreHeard g t.session.asked t.session.heard t.replies × Each PlaceFits t.session.asked
 
 -- how a wire tells it: it was dialed, its requests were written and their replies read, and nothing else
 abbrev pub told_as : Turn → W.Session
@@ -66,6 +67,7 @@ pub record IsUnderway {W' : Type 0} (g : Grammar) (talks : W' → W' → List �
   pub now : Courier
   pub talked : talks u v (joined replies) (spelled_frames asked) false
   pub are : AreHeard g asked heard replies
+  pub places : Each PlaceFits asked
   pub fit : AreReplies size g asked heard
   pub order : (ys : List Heard) → requests size c r (heard ++ ys) ≡ asked ++ rest now ys
   pub now_is : now ≡ noted r asked heard c

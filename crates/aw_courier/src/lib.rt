@@ -7,7 +7,7 @@ pub mod carrying;
 mod mails;
 mod queue;
 mod replies;
-mod sizes;
+pub mod sizes;
 mod turns;
 
 pub use carrying::{Carried, CarryFault, carry};

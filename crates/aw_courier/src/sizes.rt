@@ -89,7 +89,7 @@ fn declared_rule(g: &Grammar, number: u16) -> Option<&Rule>
 }
 
 /// All rules.
-pub(crate) fn see_rules(g: &Grammar)
+pub fn see_rules(g: &Grammar)
     ensures { GrammarSized (grammar_of g.now) }
 {
     let mut number = 0;

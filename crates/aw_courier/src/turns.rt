@@ -1,5 +1,5 @@
 //! A turn at one role: what waits for it is pushed, and then its messages are pulled.
-ghost use Rattle.std.specs.Prelude.{◌≡◌, ◌<◌, [], ◌∷◌, length, true, IfOk, IfErr, IfSome, OnOk};
+ghost use Rattle.std.specs.Prelude.{◌≡◌, ◌<◌, ◌^◌, [], ◌∷◌, length, true, IfOk, IfErr, IfSome, OnOk};
 ghost use Rattle.aw_courier.specs.Asking.{IsBrokenOff as IsAskBroken};
 ghost use Rattle.aw_courier.specs.Frames.{spelled_frame};
 ghost use Rattle.aw_courier.specs.Mails.{Shows, Holds, SameSize};
@@ -69,6 +69,7 @@ fn pull<W: Wire>(
     roles: usize,
 ) -> Result<Option<Letter>, Broken>
     requires { W.is_open wire.old ≡ true }
+    ensures fits { place < 2 ^ 64 }
     ensures within { IfOk result (λ letter. IfSome letter (λ l. l.to < roles)) }
     ensures stays { OnOk result (W.is_open wire.new ≡ true) }
     ensures ok { (g : PlainGrammar) → g.roles ≡ roles → IfOk result (IsPulled g place (Talks W.content W.is_open W.faults W.failed_openings wire.old wire.new)) }

@@ -1,4 +1,4 @@
--- The replies that a courier gets at the sites of a world have bytes.
+-- What a courier pushes at the sites of a world has bytes, and so have the replies that it gets.
 use Rattle.std.specs.Prelude.{slice_get, ◌⊎◌, ◌&&◌, nat_eq, nat_le, nat_lt}
 use Rattle.std.proofs.Common.{◌≡◌, ℕ, suc, ◌-◌, Bool, true, false, List, [], ◌∷◌, map, length, Option, Some, None, refl, sym, ap, ◌∙◌, subst, inl, inr}
 use Rattle.std.proofs.lemmas.Bool.{eqb-true}
@@ -18,7 +18,7 @@ use Rattle.aw_law_worlds.specs.Laws.{MayCome, world_after}
 use Rattle.aw_law_worlds.proofs.Lists.{Member-filtered}
 use Rattle.aw_law_worlds.proofs.Places.{member-get}
 use Rattle.aw_law_nodes.specs.Couriers.{Heard, Gave, NoMore, Pushed, hear, Session, Courier, new_courier, for_role, turn_room, turn_messages, asks, after_reply, behind, pulls, pushes, requests, after_session, AreTurns, Visit, choice_frame, asked_at, choice_frames, session_frames, IsHonestWire, session_of, ChoicesOk, HasRole}
-use Rattle.aw_law_nodes.specs.Encodable.{MessagesAreEncodable, BytesAreHonest, HasBytes, IsHonestInBytes}
+use Rattle.aw_law_nodes.specs.Encodable.{IsEncodable, MessagesAreEncodable, BytesAreHonest, HasBytes, PushHasBytes, PushesHaveBytes, IsHonestInBytes}
 use Rattle.aw_law_nodes.specs.Nodes.{Frame, Push, Pull, Sends, received, at_place, sites_after, all_replies, happenings, ReadAs}
 use Rattle.aw_law_nodes.specs.Sizes.{MoveSized, ChoicesSized}
 use Rattle.aw_law_nodes.proofs.Ending.{IsGot, frames-got}
@@ -52,6 +52,28 @@ got-sized : (g : Grammar) (hs : List SiteEvent) → Each (IsGot g) hs → Each I
 got-sized g [] k = tt
 got-sized g (Got m ∷ hs) k = (tt, got-sized g hs k.1)
 got-sized g (Chose c ∷ hs) k = never k.0
+
+-- ---- the requests
+
+asks-bytes : (g : Grammar) (b : Bool) (f : Frame) (fs : List Frame) → PushHasBytes g f → Each (PushHasBytes g) fs → Each (PushHasBytes g) (asks b f fs)
+asks-bytes g true f fs a k = (a, k)
+asks-bytes g false f fs a k = tt
+
+after-bytes : (g : Grammar) (x : Heard) (fs : List Frame) → Each (PushHasBytes g) fs → Each (PushHasBytes g) (after_reply x fs)
+after-bytes g (Gave m) fs k = k
+after-bytes g NoMore fs k = tt
+after-bytes g (Pushed n) fs k = tt
+
+pulls-asked : (g : Grammar) (size : Frame → ℕ) (xs : List Heard) (room left p : ℕ) → Each (PushHasBytes g) (pulls size room left p xs)
+pulls-asked g size [] room left p = asks-bytes g (nat_lt 0 left && nat_le (size (Pull p)) room) (Pull p) [] tt tt
+pulls-asked g size (x ∷ xs) room left p =
+    let fs = pulls size (room - size (Pull p)) (left - 1) (suc p) xs in
+    asks-bytes g (nat_lt 0 left && nat_le (size (Pull p)) room) (Pull p) (after_reply x fs) tt (after-bytes g x fs (pulls-asked g size xs (room - size (Pull p)) (left - 1) (suc p)))
+
+pushes-asked : (g : Grammar) (size : Frame → ℕ) (ms : List Message) (room p : ℕ) (xs : List Heard) → ((m : Message) → Member m ms → IsEncodable g m) → Each (PushHasBytes g) (pushes size room ms p xs)
+pushes-asked g size [] room p xs f = pulls-asked g size xs room turn_messages p
+pushes-asked g size (m ∷ ms) room p xs f =
+    asks-bytes g (nat_le (size (Push m)) room) (Push m) (pushes size (room - size (Push m)) ms p (behind xs)) (f m (inl refl)) (pushes-asked g size ms (room - size (Push m)) p (behind xs) (λ n i. f n (inr i)))
 
 -- ---- the replies
 
@@ -138,25 +160,30 @@ module _ (g : Grammar) (G : Given g) (loads : Bool) (law : (es : List Move) → 
         (pushes-bytes (for_role s.role c.waiting) turn_room (get 0 c.places s.role) s.heard w R s.role
         (λ m i. let z = Member-filtered (λ (m : Message). nat_eq m.to s.role) m c.waiting i in ((K.waits m z.0).0, eqb-true m.to s.role z.1)))
 
+    asked-bytes : (w : World) → IsSized w → (c : Courier) → Knows g size w c → (s : Session) → s.asked ≡ requests size c s.role s.heard → Each (PushHasBytes g) s.asked
+    asked-bytes w R c K s q =
+        subst (λ fs. Each (PushHasBytes g) fs) (sym q)
+        (pushes-asked g size (for_role s.role c.waiting) turn_room (get 0 c.places s.role) s.heard
+        (λ m i. sent-bytes w R m (K.waits m (Member-filtered (λ (m : Message). nat_eq m.to s.role) m c.waiting i).0).0))
+
     honest-go : (w : World) → IsSized w → (c : Courier) → Knows g size w c → (vs : List Visit) → AreTurns size g c (map session_of vs) → Each (HasRole g) vs → Each (ChoicesOk g) vs → Each ChoicesSized vs
-        → IsHonestInBytes g w.sites vs → IsHonestWire g w.sites vs
-    honest-go w R c K [] t l k s h = tt
+        → IsHonestInBytes g w.sites vs → IsHonestWire g w.sites vs × Each (PushesHaveBytes g) vs
+    honest-go w R c K [] t l k s h = (tt, tt)
     honest-go w R c K (v ∷ vs) t l k s h =
         let A = choices-go g G loads w R.reached v k.0 in
         let As = read-sized g w (happenings (choice_frames g v)) (choices-sized g v.choices s.0) A.events A.read in
         let U = sized-run w R A.events A.ok As in
         let L = knows-on g size w (run g w A.events) (run-follows g w A.events) c K in
         let bytes = subst (λ ss. Each (HasBytes g) (all_replies g ss (session_frames v))) A.sites (session-bytes (run g w A.events) U c L v.session t.0) in
-        let heard = h.0 bytes in
+        let asked = asked-bytes (run g w A.events) U c L v.session t.0 in
+        let heard = h asked bytes in
         let B = session-go g size G loads (run g w A.events) U.reached c L v.session l.0 t.0 t.1
-        (subst (λ ss. v.session.heard ≡ map hear (all_replies g ss (session_frames v))) (sym A.sites) (read-whole g size (sites_after g w.sites (choice_frames g v)) v.session.role v.session.asked v.session.heard t.1 heard)) in
+        (subst (λ ss. v.session.heard ≡ map hear (all_replies g ss (session_frames v))) (sym A.sites) (read-whole g size (sites_after g w.sites (choice_frames g v)) v.session.role v.session.asked v.session.heard t.1 heard.0)) in
         let Bs = read-sized g (run g w A.events) (happenings (session_frames v)) (got-sized g (happenings (session_frames v)) (frames-got g size v.session.role v.session.asked v.session.heard t.1)) B.ran.events B.ran.read in
         let X = sized-run (run g w A.events) U B.ran.events B.ran.ok Bs in
-        let same : sites_after g (sites_after g w.sites (choice_frames g v)) (session_frames v) ≡ (run g (run g w A.events) B.ran.events).sites = ap (λ ss. sites_after g ss (session_frames v)) (sym A.sites) ∙ sym B.ran.sites in (
-          heard,
-          subst (λ ss. IsHonestWire g ss vs) (sym same)
-              (honest-go (run g (run g w A.events) B.ran.events) X (after_session c v.session) B.knows vs t.2 l.1 k.1 s.1 (subst (λ ss. IsHonestInBytes g ss vs) same h.1)),
-        )
+        let same : sites_after g (sites_after g w.sites (choice_frames g v)) (session_frames v) ≡ (run g (run g w A.events) B.ran.events).sites = ap (λ ss. sites_after g ss (session_frames v)) (sym A.sites) ∙ sym B.ran.sites in
+        let others = honest-go (run g (run g w A.events) B.ran.events) X (after_session c v.session) B.knows vs t.2 l.1 k.1 s.1 (subst (λ ss. IsHonestInBytes g ss vs) same heard.1) in
+        ((heard.0, subst (λ ss. IsHonestWire g ss vs) (sym same) others.0), (asked, others.1))
 
 -- what was heard of replies that have bytes is what they are
 pub bytes_are_honest : (g : Grammar) → Given g → MessagesAreEncodable g → BytesAreHonest g

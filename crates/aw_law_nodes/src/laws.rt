@@ -38,8 +38,8 @@ pub fn crash_laws()
 /// that it asked are those of one world, and that world is quiet (`quiet`). Where the bytes of the replies that it heard begin the
 /// bytes that the sites reply, so do the replies (`bytes`). Where no choice is made meanwhile it comes to an end, whatever the limits of
 /// a turn: the rounds in which something moves are at most twice as many as the bound on the messages of the world (`ends`). Where each
-/// choice has its sizes, each message of a world is one of the program (`encodable`), and so what is read in bytes begins what the sites
-/// reply wherever it does so once each of these replies has bytes (`honest`).
+/// choice has its sizes, each message of a world is one of the program (`encodable`), and so each message that is pushed has bytes, and what
+/// is read in bytes begins what the sites reply wherever it does so once each of these messages and replies has bytes (`honest`).
 pub fn courier_laws()
     ensures quiet { (words : Words) (g : Grammar) → IsAccepted words g → QuietMeansQuiet g }
     ensures bytes { BytesAreHeard }

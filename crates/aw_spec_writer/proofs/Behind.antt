@@ -60,9 +60,8 @@ in_front_is_read s w loads rest =
     let last : Draft = record { spec = s; stage = leads.0 } in
     let end = ScheduleLine loads in
     let lines : lines_of (written s ++ (line_text end ++ 10 ∷ rest)) ≡ map line_text ls ++ line_text end ∷ lines_of rest =
-        lines_in_front ls (line_text end ++ 10 ∷ rest) all ∙ ap (λ xs. map line_text ls ++ xs) (line_in_front end rest tt) in
-    let before : leads.0 ≤ end_stage = omega (arith, leads.1) in
-    (
+    lines_in_front ls (line_text end ++ 10 ∷ rest) all ∙ ap (λ xs. map line_text ls ++ xs) (line_in_front end rest tt) in
+    let before : leads.0 ≤ end_stage = omega (arith, leads.1) in (
       ap specification lines
           ∙ leads_on no_draft last 0 ls (line_text end ∷ lines_of rest) all leads.2
           ∙ end_read last (0 + length ls) loads (lines_of rest) before

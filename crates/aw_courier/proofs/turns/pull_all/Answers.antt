@@ -1,4 +1,4 @@
-use Rattle.std.proofs.Common.{sym, subst, ◌∙◌, arith}
+use Rattle.std.proofs.Common.{◌<◌, ◌^◌, sym, subst, ◌∙◌, arith}
 use Rattle.aw_session.proofs.Refusals.{err-passed}
 use Rattle.aw_session.proofs.TalkLemmas.{talks-then}
 use Rattle.aw_session.specs.Talking.{Talks}
@@ -20,6 +20,7 @@ pub returns-in_default-clause-ok : goal.returns-in_default-clause-ok
 returns-in_default-clause-ok g c p co u k =
     let h = c.pulling.invariant.underway p co u k in
     pulled-none p (Talks g.W.Wire.content g.W.Wire.is_open g.W.Wire.faults g.W.Wire.failed_openings) (talks-then g.W.Wire.content g.W.Wire.is_open g.W.Wire.faults g.W.Wire.failed_openings) co c.args.role c.pulling.room c.pulling.left u c.pulling.wire c.pull.new.wire c.pulling.mails c.pulling.moved h c.pulling-test.true c.if-room-ge-PULL.true
+    (subst (λ n. n < 2 ^ 64) c.place-place.ensures c.pull.ensures.fits)
     (subst (λ x. IsPulled p (place_at c.pulling.mails c.args.role) ((Talks g.W.Wire.content g.W.Wire.is_open g.W.Wire.faults g.W.Wire.failed_openings) c.pulling.wire c.pull.new.wire) x) c.in_default.is
     (rw c.place-place.ensures at (c.in_ok-letter.ensures.ok p (sym h.shows.many ∙ sym c.roles.ensures))))
 
@@ -43,6 +44,7 @@ pulling-preserved g c =
           let h = c.pulling.invariant.underway p co u k in
           pulled-one p (Talks g.W.Wire.content g.W.Wire.is_open g.W.Wire.faults g.W.Wire.failed_openings) (talks-then g.W.Wire.content g.W.Wire.is_open g.W.Wire.faults g.W.Wire.failed_openings) co c.args.role c.pulling.room c.pulling.left u c.pulling.wire c.pull.new.wire c.pulling.mails c.put.new.self c.pulling.moved c.in-Some.letter h
           (role-few p c.args.role c.pulling.mails h.now c.pulling.invariant.holds h.shows) c.pulling-test.true c.if-room-ge-PULL.true
+          (subst (λ n. n < 2 ^ 64) c.place-place.ensures c.pull.ensures.fits)
           (subst (λ x. IsPulled p (place_at c.pulling.mails c.args.role) ((Talks g.W.Wire.content g.W.Wire.is_open g.W.Wire.faults g.W.Wire.failed_openings) c.pulling.wire c.pull.new.wire) x) c.in-Some.is
           (rw c.place-place.ensures at (c.in_ok-letter.ensures.ok p (sym h.shows.many ∙ sym c.roles.ensures)))) queues c.in_ok-put.ensures.places;
       stays = c.in_ok-letter.ensures.stays;

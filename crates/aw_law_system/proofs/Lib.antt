@@ -1,0 +1,12 @@
+pub mod Acting
+pub mod Framing
+pub mod Staying
+pub mod Pasts
+pub mod Mirroring
+pub mod Coming
+pub mod Leaving
+pub mod Joining
+pub mod Feeding
+pub mod Turning
+pub mod Carrying
+pub mod Resting
