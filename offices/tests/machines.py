@@ -9,7 +9,7 @@ import subprocess
 from collections.abc import Iterator
 from pathlib import Path
 
-from conftest import until
+from systems import until
 
 LIBC = ctypes.CDLL(None, use_errno=True)
 NETWORK = 0x40000000

@@ -1,0 +1,185 @@
+"""The command `aw_desk_tty`: the desk in a terminal, by keys alone."""
+from __future__ import annotations
+
+from collections.abc import Callable
+
+from prompt_toolkit import PromptSession
+from prompt_toolkit.completion import WordCompleter
+from prompt_toolkit.validation import ValidationError, Validator
+from prompt_toolkit.document import Document
+
+from aw_forms.lines import RuleLine
+from aw_forms.program import Sorry
+
+from . import trees
+from .book import NotSaid
+from .desk import Desk
+from .fields import Field, fields_of
+from .main import opened, terminal_words
+from .pages import ordered, wanted
+from .tasks import Task
+from .wording import human, titled
+
+NAME = "aw_desk_tty"
+A_SCREEN = 20
+BEHIND = """
+A number chooses; an empty line goes back; `q` ends. `/words` shows the tasks with these words, `n` begins a case.
+The statuses are those of `aw_desk`.
+"""
+
+
+class Fits(Validator):
+    """Takes what a test has nothing to say about."""
+
+    def __init__(self, test: Callable[[str], str]) -> None:
+        self.test = test
+
+    def validate(self, document: Document) -> None:
+        """Refuses the rest with what the test says."""
+        fault = self.test(document.text)
+        if fault:
+            raise ValidationError(message=fault, cursor_position=len(document.text))
+
+
+class Back(Exception):
+    """An empty line: back to the list."""
+
+
+class Terminal:
+    """The desk in a terminal."""
+
+    def __init__(self, desk: Desk, clerk: str) -> None:
+        self.desk, self.clerk = desk, clerk
+        self.session: PromptSession[str] = PromptSession()
+        self.words, self.at = "", 0
+
+    def ask(self, words: str, test: Callable[[str], str] = lambda _: "", choices: list[str] | None = None, default: str = "") -> str:
+        """What is typed behind some words."""
+        completer = WordCompleter(choices, ignore_case=True) if choices else None
+        return self.session.prompt(words, validator=Fits(test), validate_while_typing=False, completer=completer, default=default)
+
+    def run(self) -> None:
+        """Shows the open tasks until `q` is typed."""
+        while True:
+            tasks = ordered(wanted(list(self.desk.open().values()), self.words, "", False, self.desk.wording.sort), "old")
+            self.screen(tasks)
+            said = self.ask("Number, n, + or -, /words, q: ").strip()
+            if said == "q":
+                return
+            try:
+                self.go(said, tasks)
+            except Back:
+                pass
+
+    def screen(self, tasks: list[Task]) -> None:
+        """Shows a screen of tasks."""
+        last = max((len(tasks) - 1) // A_SCREEN, 0)
+        self.at = min(self.at, last)
+        print("\n%s: %d open%s" % (titled(self.desk.role), len(tasks), " with “%s”" % self.words if self.words else ""))
+        for number, task in enumerate(tasks[self.at * A_SCREEN:(self.at + 1) * A_SCREEN], self.at * A_SCREEN + 1):
+            print("%4d  %s   %s" % (number, titled(self.desk.wording.task(task.name)), ", ".join(map(human, task.ready)) or "waits"))
+        if last:
+            print("      page %d of %d" % (self.at + 1, last + 1))
+
+    def go(self, said: str, tasks: list[Task]) -> None:
+        """Does what was typed at the list."""
+        if said == "n":
+            self.begin()
+        elif said in ("+", "-"):
+            self.at = max(self.at + (1 if said == "+" else -1), 0)
+        elif said.startswith("/"):
+            self.words, self.at = said[1:].strip(), 0
+        elif said.isdecimal() and 0 < int(said) <= len(tasks):
+            self.show(tasks[int(said) - 1])
+        elif said:
+            print("There is no task %s." % said)
+
+    def show(self, task: Task) -> None:
+        """Shows a task, and asks what to do."""
+        wording = self.desk.wording
+        print("\n%s" % titled(wording.task(task.name)))
+        print("\n".join(trees.lines(wording, [(wording.given(task.name, at), value) for at, value in enumerate(task.values()[1])])))
+        rules = [rule for rule in wording.rules(task.name) if not wording.state(task, rule)]
+        for rule in wording.rules(task.name):
+            why = wording.state(task, rule)
+            if why:
+                print("   -  %s: %s" % (titled(rule.name.text), why))
+        for number, rule in enumerate(rules, 1):
+            print("%4d  %s" % (number, titled(rule.name.text)))
+        if not rules:
+            raise Back
+        said = self.ask("What to do: ", lambda text: "" if not text or text.isdecimal() and 0 < int(text) <= len(rules) else "A number from 1 to %d, or an empty line." % len(rules))
+        if not said:
+            raise Back
+        self.do(task, rules[int(said) - 1])
+
+    def do(self, task: Task, rule: RuleLine) -> None:
+        """Asks for the fields of a rule, shows them, and sends them."""
+        wording = self.desk.wording
+        form: dict[str, str] = {}
+        while (field := missing(fields_of(wording, rule, form, True))) is not None:
+            self.fill(field, form)
+        entered = [field.value() for field in fields_of(wording, rule, form, True)]
+        print("\n%s: send this?" % titled(rule.name.text))
+        print("\n".join(trees.lines(wording, [(rule.params[at].text, value) for at, value in enumerate(entered)])) or "   (nothing is entered)")
+        if self.ask("yes or no: ", lambda text: "" if text.strip() in ("yes", "no", "") else "Type yes or no.", ["yes", "no"]).strip() != "yes":
+            print("Nothing was sent.")
+            raise Back
+        print(self.desk.choose(self.clerk, task, rule, entered).words)
+
+    def fill(self, field: Field, form: dict[str, str]) -> None:
+        """Asks for one field."""
+        form[field.key + ".seen"] = "1"
+        if field.options and not field.chosen:
+            words = {words: value for value, words in field.options}
+            said = self.ask("%s (%s): " % (field.label, ", ".join(list(words)[:12])), lambda text: "" if text.strip() in words or not text else "One of: %s." % ", ".join(words),
+                            list(words)).strip()
+            if not said:
+                raise Back
+            form[field.key + ".is"] = words[said]
+            return
+        form[field.key] = self.ask("%s: " % field.label, lambda text: number_fault(text) if field.is_number else "").replace("\\n", "\n")
+
+    def begin(self) -> None:
+        """Begins a case."""
+        sorts = self.desk.starts()
+        if not sorts:
+            print("No case begins at this desk.")
+            raise Back
+        sort = sorts[0] if len(sorts) == 1 else self.ask("Which (%s): " % ", ".join(map(human, sorts)), choices=sorts).strip().replace(" ", "_")
+        if sort not in sorts:
+            raise Back
+        number = self.ask("Number of the case: ", number_fault)
+        print(self.desk.start(self.clerk, sort, int(number)).words)
+
+
+def number_fault(text: str) -> str:
+    """What is wrong with a number."""
+    digits = text.strip()
+    return "" if digits.isascii() and digits.isdigit() and int(digits[:30]) < 1 << 64 and len(digits) <= 20 else "A whole number, please."
+
+
+def missing(fields: list[Field]) -> Field | None:
+    """The first field that is not whole."""
+    todo = list(fields)
+    while todo:
+        field = todo.pop(0)
+        if not field.is_whole and all(part.is_whole for part in field.parts):
+            return field
+        todo = field.parts + todo
+    return None
+
+
+def main(given: list[str]) -> int:
+    """Runs the desk in a terminal."""
+    words = terminal_words(NAME, given, BEHIND)
+    desk = opened(words, [])
+    try:
+        Terminal(desk, words.clerk).run()
+    except (EOFError, KeyboardInterrupt):
+        pass
+    except NotSaid as error:
+        raise Sorry("The journal can't be read: %s." % error, 66) from None
+    finally:
+        desk.close()
+    return 0

@@ -1,0 +1,78 @@
+"""Values as definition lists and as indented lines: each part with the name that the rules give it."""
+from __future__ import annotations
+
+from collections.abc import Iterator
+
+from markupsafe import Markup
+
+from .values import BLANK, MORE, TEXT, WORD, Value
+from .wording import Wording, human, titled
+
+DEEPEST = 40
+Labelled = tuple[str, Value]
+
+
+def labelled(wording: Wording, value: Value) -> list[Labelled]:
+    """The parts of a value with their labels."""
+    return [(wording.part(value.word, at), part) for at, part in enumerate(value.parts)]
+
+
+def visits(wording: Wording, values: list[Labelled]) -> Iterator[tuple[str, str, Value, int]]:
+    """Goes through values from left to right: `enter` each, and `leave` each that has parts."""
+    todo = [("enter", label, value, 0) for label, value in reversed(values)]
+    while todo:
+        way, label, value, depth = todo.pop()
+        if depth > DEEPEST:
+            value = Value(MORE, "…")
+        yield way, label, value, depth
+        if way == "enter" and value.parts:
+            todo.append(("leave", label, value, depth))
+            todo += [("enter", name, part, depth + 1) for name, part in reversed(labelled(wording, value))]
+
+
+def phrase(wording: Wording, value: Value) -> str:
+    """What is at the front of a value, in words."""
+    if value.kind == BLANK:
+        return wording.missing(value.word)
+    if value.kind == MORE:
+        return "… and more, which is not shown here"
+    return human(value.word) if value.kind == WORD else value.word or "(nothing)"
+
+
+def page(wording: Wording, values: list[Labelled]) -> Markup:
+    """Values as nested definition lists."""
+    found = [Markup('<dl class="values">')]
+    for way, label, value, _ in visits(wording, values):
+        if way == "leave":
+            found.append(Markup("</dl></dd></div>"))
+            continue
+        kind = value.kind if value.word or value.kind != TEXT else "nothing"
+        found.append(Markup('<div><dt>%s</dt><dd><span class="%s">') % (titled(label) or "Value", kind))
+        found += [Markup("<br>").join(phrase(wording, value).split("\n"))]
+        found.append(Markup("</span><dl>") if value.parts else Markup("</span></dd></div>"))
+    found.append(Markup("</dl>"))
+    return Markup("").join(found)
+
+
+def lines(wording: Wording, values: list[Labelled]) -> list[str]:
+    """Values as lines, what is within further to the right."""
+    found = []
+    for way, label, value, depth in visits(wording, values):
+        if way == "enter":
+            words = phrase(wording, value).split("\n")
+            pad = "  " * min(depth, 20)
+            found.append("%s%s: %s" % (pad, titled(label) or "Value", words[0]))
+            found += ["%s    %s" % (pad, more) for more in words[1:]]
+    return found
+
+
+def brief(wording: Wording, values: list[Labelled], most: int = 3) -> list[tuple[str, str, str]]:
+    """The first plain values in a few words, for a list of tasks: label, words, kind."""
+    found = []
+    for way, label, value, _ in visits(wording, values):
+        if way == "enter" and not value.parts:
+            words = phrase(wording, value) if value.kind != BLANK else "not there yet, from %s" % human(wording.owner(value.word)[0])
+            found.append((titled(label) or "Value", words if len(words) <= 60 else words[:57] + "…", value.kind))
+        if len(found) == most:
+            break
+    return found

@@ -1,0 +1,308 @@
+"""The pages over real offices: a claim by clicks, what must not be shown or sent, several clerks, and offices that are closed."""
+from __future__ import annotations
+
+import random
+import re
+import time
+from collections.abc import Callable
+from pathlib import Path
+
+import pytest
+from conftest import CLAIM_TEXT, TOP, TYPED, Company
+from systems import aw, until
+
+from aw_clerk.logins import line_of
+from aw_clerk.tasks import tasks_of
+from browsing import Browser
+
+Make = Callable[[str], Company]
+
+
+def settled(company: Company) -> None:
+    """Waits until every letter has come."""
+    until(lambda: not company.system.unsettled(), "the letters did not come: %s" % company.system.log()[-1000:])
+
+
+def good(browser: Browser) -> str:
+    """The words of the page, which has none of the faults that can be seen without a screen."""
+    page = browser.page
+    assert page is not None and page.faults() == [], (page and page.url, page and page.faults())
+    assert len(page.source.encode("utf-8", "surrogateescape")) < 50_000
+    return page.text()
+
+
+def test_a_claim_by_clicks(company: Make) -> None:
+    made = company(TYPED)
+    made.system.start_post()
+    front, assessor, payments = (made.open_desk(role) for role in made.roles)
+    front.get("/")
+    assert "Nothing is open." in good(front)
+    front.follow("Begin a case")
+    front.press("Begin claim", Number_of_the_case="501")
+    assert "Claim 501 has begun." in good(front)
+    front.follow("Open claim")
+    good(front)
+    front.press("Go on", Policy="88012", What="storm, roof", Asked="12000", Number="DK50 0040")
+    text = good(front)
+    assert "send this?" in text and "storm, roof" in text and "12000" in text
+    front.press("Send")
+    assert "It goes on at Assessor and Payments." in good(front)
+    made.system.lines += ["start claim 501", 'choose claim#501 open_claim {88012, "storm, roof", 12000, "DK50 0040"}']
+    settled(made)
+    payments.get("/")
+    assert "Waits for assessor" in good(payments) and "From front" in good(payments)
+    assessor.get("/")
+    assert "12000" in good(assessor) and "Can be done: Grant" in good(assessor)
+    assessor.follow("Assessment, claim 501")
+    assert "storm, roof" in good(assessor) and "Small claims: the assessor grants an amount without a survey." in good(assessor)
+    assessor.follow("Grant")
+    assessor.press("Go on", Amount="9000")
+    assessor.press("Change it")
+    assert 'value="9000"' in assessor.page.source
+    assessor.press("Go on", Amount="8000")
+    assessor.press("Send")
+    assert "Grant: done for assessment, claim 501." in good(assessor)
+    made.system.lines.append("choose claim#501/open_claim.1 grant {8000}")
+    settled(made)
+    payments.get("/")
+    payments.follow("Payment, claim 501")
+    text = good(payments)
+    assert "Only where verdict is denied; here it is granted." in text and "8000" in text
+    payments.follow("Pay")
+    payments.press("Send")
+    made.system.lines.append("choose claim#501/open_claim.2 pay")
+    settled(made)
+    front.get("/case/claim%23501")
+    text = good(front)
+    assert "Decided: Open claim, by front, today" in text and "8000" in text and "not there yet" not in text
+    front.follow("Decided")
+    assert 'Open claim{88012, "storm, roof", 12000, "DK50 0040"}'.replace(" ", "") in good(front).replace(" ", "")
+    for role in made.roles:
+        assert not made.log(role).replace("aw_desk: the desk of %s is at http://127.0.0.1:%d/\n" % (role, made.port(role)), "")
+
+
+def test_what_is_shown_is_what_the_book_says(company: Make) -> None:
+    """Drawn runs: each row of each page is one of the book's, and in the end the values are those of the undivided run."""
+    made, draw = company(CLAIM_TEXT), random.Random(3)
+    made.system.start_post()
+    desks = {role: made.open_desk(role) for role in made.roles}
+    for number in range(1, 31):
+        made.system.choose("start claim %d" % number)
+        made.system.choose('choose claim#%d open_claim {%d, "%s", %d, "DK50"}' % (number, number, draw.choice(["storm", "a \\"b\\" <i>", "æ"]), draw.randrange(99)))
+        for role in made.roles[1:]:
+            for task, rule in (line.split() for line in made.system.ready(role) if draw.random() < 0.3):
+                fields = {"grant": " {7}", "deny": ' {"no"}', "find_repairable": " {5}"}.get(rule, "")
+                made.system.choose("choose %s %s%s" % (task, rule, fields))
+        for role in made.roles:
+            compare(made, desks[role], role)
+    settled(made)
+    plain = tasks_of(aw("plain", made.system.text + "schedule 2\n" + "\n".join(made.system.lines) + "\n").split("\nartifacts ", 1)[1].split("\n")[1:-1])
+    for role in made.roles:
+        own = tasks_of(made.book("tasks", made.journal(role)))
+        assert own and all(plain[name].text == task.text and plain[name].rule == task.rule for name, task in own.items())
+
+
+def compare(made: Company, browser: Browser, role: str) -> None:
+    """The list of a desk beside what the book says, and one task of it."""
+    browser.get("/")
+    shown = re.findall(r'<h2><a href="/task/([^"]*)">', browser.page.source)
+    tasks = tasks_of(made.book("tasks", "--open", made.journal(role)))
+    assert [name.replace("%23", "#") for name in shown] == list(tasks)[:40], role
+    good(browser)
+    for name in list(tasks)[:3]:
+        page = browser.get("/task/" + name.replace("#", "%23"))
+        if tasks[name].ready == []:
+            assert "Nothing can be done here now." in page.text()
+        for rule in tasks[name].ready:
+            assert '/do/%s/%s"' % (rule, name.replace("#", "%23")) in page.source
+
+
+HOSTILE = ["<script>alert(1)</script>", "\"'&<>", "x" * 1024, "two\nlines", "\\n", "æøå 好", "{{7*7}}", "a%00b", "\u202e\u0085"]
+
+
+@pytest.mark.parametrize("text", HOSTILE)
+def test_any_text_comes_through(company: Make, text: str) -> None:
+    made = company(TYPED)
+    front = made.open_desk("front")
+    front.get("/begin")
+    front.press("Begin claim", Number_of_the_case="1")
+    front.follow("Open claim")
+    front.press("Go on", Policy="1", What=text, Asked="2", Number="n")
+    front.press("Send")
+    assert "Open claim: done for claim 1." in good(front)
+    row = tasks_of(made.book("tasks", made.journal("front")))["claim#1"]
+    assert row.values()[0][1].word == text
+    assert "<script>" not in front.page.source
+
+
+def test_what_no_text_may_have_is_told(company: Make) -> None:
+    made = company(TYPED)
+    front = made.open_desk("front")
+    front.get("/begin")
+    front.press("Begin claim")
+    front.follow("Open claim")
+    for what, words in (("tab\there", "a sign in it that no text may have"), ("ø" * 513, "This text has 1026 bytes")):
+        front.press("Go on", Policy="1", What=what, Asked="2", Number="n")
+        assert words in good(front) and front.page.status == 422
+    for number in ("", "-1", "1.5", "18446744073709551616", "9" * 100, "٣"):
+        front.press("Go on", Policy=number, What="w", Asked="2", Number="n")
+        assert front.page.status == 422 and ("whole number" in good(front) or "Enter a number" in good(front) or "too large" in good(front)), number
+    assert not [task for task in tasks_of(made.book("tasks", made.journal("front"))).values() if not task.is_open]
+
+
+def test_forged_posts_do_nothing(company: Make) -> None:
+    made = company(TYPED)
+    front = made.open_desk("front")
+    front.get("/")
+    for url in ("/begin/claim", "/do/open_claim/claim%231", "/claim/claim%231"):
+        for body in (b"", b"number=7", b"number=7&token=x", b"number=7&token=" + b"x" * 100):
+            assert front.ask("POST", url, body).status == 403
+    other = Browser(made.port("front"))
+    other.get("/begin")
+    token = next(control.value for form in other.page.forms for control in form.controls if control.name == "token")
+    assert front.ask("POST", "/begin/claim", ("number=7&token=" + token).encode()).status == 403, "a token of another session"
+    assert front.ask("POST", "/begin/claim", b"number=" + b"7" * (1 << 19)).status in (400, 403, 413)
+    assert front.ask("POST", "/begin/claim", b"\xff\xfe" * 100, "multipart/form-data; boundary=x").status == 403
+    assert not tasks_of(made.book("tasks", made.journal("front")))
+    assert "Traceback" not in made.log("front")
+
+
+def test_headers_and_paths(company: Make) -> None:
+    made = company(TYPED)
+    front = made.open_desk("front")
+    page = front.get("/")
+    assert "script" not in page.headers["content-security-policy"] and "default-src 'none'" in page.headers["content-security-policy"]
+    assert page.headers["x-content-type-options"] == "nosniff" and "httponly" in page.headers["set-cookie"].lower() and "samesite=strict" in page.headers["set-cookie"].lower()
+    for url in ("/task/", "/task/claim%23999", "/task/%3Cscript%3E", "/task/claim%231/../../etc/passwd", "/case/claim%231%20--redo", "/case/--help", "/case/claim%237", "/whole/claim%231", "/do/x/claim%231",
+                "/static/style.css", "/templates/base.html", "/%ff%fe", "/" + "a" * 60000):
+        assert front.get(url).status in (400, 404), url
+        assert "<script>" not in front.page.source
+    for query in ("page=99999999999999999999999", "page=-1", "page=x", "words=%00%ff", "sort=%3Cb%3E", "order=%27"):
+        assert front.get("/?" + query).status == 200 and good(front)
+    assert front.get("/decided?before=99999999999999999999").status == 200
+    assert "Traceback" not in made.log("front")
+
+
+def test_two_clerks(company: Make, tmp_path: Path) -> None:
+    made = company(TYPED)
+    logins = tmp_path / "logins"
+    logins.write_text(line_of("ada", "correct horse") + "\n" + line_of("bob", "battery staple") + "\n", encoding="utf-8")
+    ada = made.open_desk("front", "--logins", str(logins))
+    bob = Browser(made.port("front"))
+    assert "Sign in" in ada.get("/begin").text() and ada.get("/task/claim%231").url.startswith("/login")
+    for name, password in (("ada", "wrong"), ("eve", "correct horse"), ("", ""), ("ada", "")):
+        ada.get("/login")
+        assert ada.press("Sign in", Name=name, Password=password).status == 403
+    ada.get("/begin")
+    ada.press("Sign in", Name="ada", Password="correct horse")
+    assert ada.page.url == "/begin"
+    bob.get("/")
+    bob.press("Sign in", Name="bob", Password="battery staple")
+    ada.press("Begin claim", Number_of_the_case="1")
+    ada.press("Tell others that I am at it")
+    assert "ada is at it" in bob.get("/").text()
+    assert "ada has been at this task since" in bob.follow("Claim 1").text()
+    bob.follow("Open claim")
+    bob.press("Go on", Policy="1", What="w", Asked="2", Number="n")
+    ada.follow("Open claim")
+    ada.press("Go on", Policy="1", What="first", Asked="2", Number="n")
+    ada.press("Send")
+    bob.press("Send")
+    assert "Somebody has already decided this task. Nothing was changed." in good(bob)
+    assert "Decided: Open claim, by ada" in good(bob)
+    bob.press("Sign out")
+    assert "Sign in" in bob.get("/").text()
+    logins.write_text(line_of("bob", "battery staple") + "\n", encoding="utf-8")
+    time.sleep(0.01)
+    assert "Sign in" in ada.get("/").text(), "who is taken out of the file is out"
+
+
+def test_a_node_that_is_killed_while_a_form_is_open(company: Make) -> None:
+    made = company(TYPED)
+    front = made.open_desk("front")
+    front.get("/begin")
+    front.press("Begin claim", Number_of_the_case="1")
+    front.follow("Open claim")
+    front.press("Go on", Policy="1", What="w", Asked="2", Number="n")
+    made.system.nodes["front"].kill()
+    front.press("Send")
+    assert "The office is closed. Nothing was sent; try again later." in good(front)
+    assert "Open claim" in good(front), "the task is still shown"
+    made.system.nodes["front"].start()
+    front.follow("Open claim")
+    front.press("Go on", Policy="1", What="w", Asked="2", Number="n")
+    front.press("Send")
+    assert "Open claim: done for claim 1." in good(front)
+    assert "Traceback" not in made.log("front") and "7400" not in good(front)
+
+
+def test_the_desk_and_the_book_are_killed(company: Make) -> None:
+    """Nothing that was decided is lost; the desk's notes stay, and a book that ends is begun anew."""
+    made = company(TYPED)
+    front = made.open_desk("front")
+    for number in range(1, 6):
+        front.get("/begin")
+        front.press("Begin claim", Number_of_the_case=str(number))
+        assert "has begun" in good(front)
+        children = [int(path.name) for path in Path("/proc").glob("[0-9]*") if parent(path) == made.desks["front"].pid]
+        for child in children:
+            import os
+            os.kill(child, 9)
+        assert "%d open tasks" % number in front.get("/").text() or number == 1
+        made.desks["front"].kill()
+        made.desks["front"].wait()
+        front = made.open_desk("front")
+        assert "Begun" in front.get("/decided").text() and front.page.text().count("Begun") == number
+    front.get("/begin")
+    assert 'value="6"' in front.page.source
+
+
+def parent(path: Path) -> int:
+    """The parent of a process."""
+    try:
+        return int((path / "stat").read_text().rpartition(")")[2].split()[1])
+    except OSError:
+        return 0
+
+
+def test_four_thousand_open_tasks(company: Make) -> None:
+    made = company(TYPED)
+    session = made.system.session("front")
+    sort = made.system.names.number("sort", "claim")
+    for number in range(1, 4001):
+        assert session.ask(2, b"\0" + sort.to_bytes(2, "big") + number.to_bytes(8, "big"))[1] == b"taken"
+    session.peer.close()
+    front = made.open_desk("front")
+    assert "4000 open tasks" in front.get("/").text()
+    began = time.monotonic()
+    for url in ("/", "/?page=50", "/?words=claim+3999", "/?ready=1&order=new", "/task/claim%23777"):
+        front.get(url)
+        assert good(front)
+    assert time.monotonic() - began < 5 * 5.0, "a page takes a second at most on a machine of its own; five times that where it is shared"
+    assert front.get("/?words=claim%233999").text().count("Can be done") == 1
+
+
+def test_words_that_are_wrong(company: Make, tmp_path: Path) -> None:
+    import subprocess
+    made = company(TYPED)
+    desk, state = str(TOP / "desk" / "aw_desk"), str(tmp_path / "state")
+
+    def said(*words: str) -> tuple[int, str]:
+        done = subprocess.run(["/usr/bin/python3", desk, *words], capture_output=True, timeout=60, text=True)
+        assert "Traceback" not in done.stderr and done.stderr.count("\n") == 1, done.stderr
+        return done.returncode, done.stderr
+    spec, journal = str(made.system.spec), made.journal("front")
+    assert said()[0] == 2 and said(spec)[0] == 2 and said(spec, journal, state, "--listen", "x")[0] == 2
+    assert said(spec + "x", journal, state)[0] == 66
+    assert said(spec, journal + "x", state)[0] == 65
+    assert said(spec, spec, state)[0] == 65
+    assert said(spec, journal, "/proc/none/state")[0] == 73
+    assert said(spec, journal, state, "--listen", "0.0.0.0:8499")[0] == 2, "nobody unknown from outside"
+    assert said(spec, journal, state, "--logins", str(tmp_path / "none"))[0] == 66
+    (tmp_path / "logins").write_text("ada:password\n", encoding="utf-8")
+    assert said(spec, journal, state, "--logins", str(tmp_path / "logins"))[0] == 65
+    made.open_desk("front")
+    assert said(spec, journal, state, "--listen", "127.0.0.1:%d" % made.port("front"))[0] == 69
+    other = tmp_path / "other.aw"
+    other.write_text(CLAIM_TEXT.replace("rule deny", "rule refuse"), encoding="utf-8")
+    assert said(str(other), journal, state)[0] == 65

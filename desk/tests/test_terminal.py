@@ -1,0 +1,111 @@
+"""The desk in a terminal, by keys, under tmux."""
+from __future__ import annotations
+
+import secrets
+import shlex
+import shutil
+import subprocess
+from collections.abc import Callable, Iterator
+
+import pytest
+from conftest import TOP, TYPED, Company
+from systems import until
+
+from aw_clerk.tasks import tasks_of
+
+Make = Callable[[str], Company]
+
+
+class Screen:
+    """A terminal of 100 columns."""
+
+    def __init__(self, line: list[str]) -> None:
+        assert shutil.which("tmux"), "not run: tmux is missing; `ci/setup desk` installs it"
+        self.name = "aw" + secrets.token_hex(4)
+        self.tmux("new-session", "-d", "-x", "100", "-y", "40", "env LANG=C.UTF-8 LC_ALL=C.UTF-8 " + shlex.join(line) + "; echo ended $?; sleep 60")
+
+    def tmux(self, *words: str) -> str:
+        """Does something with the terminal."""
+        return subprocess.run(["tmux", "-L", self.name, "-f", "/dev/null", *words], capture_output=True, text=True, timeout=60, check=True).stdout
+
+    def shown(self) -> str:
+        """What is on the screen."""
+        return self.tmux("capture-pane", "-p")
+
+    def wait(self, words: str) -> None:
+        """Waits until some words are on the screen."""
+        until(lambda: words in self.shown(), "no %r" % words, 60)
+
+    def type(self, keys: str, then: str) -> None:
+        """Types a line, and waits for what comes."""
+        self.tmux("send-keys", "-l", keys)
+        self.tmux("send-keys", "Enter")
+        self.wait(then)
+
+    def end(self) -> None:
+        """Ends the terminal."""
+        subprocess.run(["tmux", "-L", self.name, "kill-server"], capture_output=True, timeout=60)
+
+
+@pytest.fixture
+def screens() -> Iterator[Callable[[list[str]], Screen]]:
+    made: list[Screen] = []
+
+    def one(line: list[str]) -> Screen:
+        made.append(Screen(line))
+        return made[-1]
+    yield one
+    for screen in made:
+        screen.end()
+
+
+def test_a_claim_by_keys(company: Make, screens: Callable[[list[str]], Screen]) -> None:
+    made = company(TYPED)
+    screen = screens(["/usr/bin/python3", str(TOP / "desk" / "aw_desk_tty"), str(made.system.spec), made.journal("front"), str(made.folder / "tty"), "--clerk", "ada"])
+    screen.wait("Front: 0 open")
+    screen.type("n", "Number of the case:")
+    screen.type("x", "A whole number, please.")
+    screen.tmux("send-keys", "BSpace")
+    screen.type("12", "Claim 12 has begun.")
+    screen.wait("Front: 1 open")
+    screen.type("1", "What to do:")
+    screen.type("1", "Policy:")
+    screen.type("88012", "What:")
+    screen.type('storm æøå "roof"', "Asked:")
+    screen.type("many", "A whole number, please.")
+    for _ in "many":
+        screen.tmux("send-keys", "BSpace")
+    screen.type("12000", "Number:")
+    screen.type("DK50 0040", "send this?")
+    screen.wait("yes or no:")
+    screen.type("yes", "Open claim: done for claim 12.")
+    row = tasks_of(made.book("tasks", made.journal("front")))["claim#12"]
+    assert [value.word for value in row.values()[0]] == ["88012", 'storm æøå "roof"', "12000", "DK50 0040"]
+    screen.wait("Front: 0 open")
+    screen.type("q", "ended 0")
+
+
+def test_nothing_is_sent_without_a_yes(company: Make, screens: Callable[[list[str]], Screen]) -> None:
+    made = company(TYPED)
+    made.system.choose("start claim 1")
+    screen = screens(["/usr/bin/python3", str(TOP / "desk" / "aw_desk_tty"), str(made.system.spec), made.journal("front"), str(made.folder / "tty")])
+    screen.wait("Front: 1 open")
+    screen.type("7", "There is no task 7.")
+    screen.type("1", "What to do:")
+    screen.type("1", "Policy:")
+    screen.type("1", "What:")
+    screen.type("w", "Asked:")
+    screen.type("2", "Number:")
+    screen.type("n", "yes or no:")
+    screen.type("no", "Nothing was sent.")
+    screen.type("1", "What to do:")
+    made.system.nodes["front"].kill()
+    screen.type("1", "Policy:")
+    screen.type("1", "What:")
+    screen.type("w", "Asked:")
+    screen.type("2", "Number:")
+    screen.type("n", "yes or no:")
+    screen.type("yes", "The office is closed. Nothing was sent")
+    screen.tmux("send-keys", "C-d")
+    screen.wait("ended 0")
+    assert tasks_of(made.book("tasks", made.journal("front")))["claim#1"].is_open
