@@ -20,6 +20,7 @@ use Rattle.aw_run.specs.declared.words.Job.{Job}
 use Rattle.aw_front.specs.Refusals.{at_line}
 use Rattle.aw_front.specs.Replies.{reply_with}
 use Rattle.aw_front.specs.Output.{Output, PastInputLimit, BadSchedule, BySpecification}
+use Rattle.aw_front.proofs.Inputs.{by-input-past, by-input-read}
 use Rattle.aw_run.specs.Output.{told, within_limit, by_schedule, Makes, IsOutputOf}
 
 -- a good schedule
