@@ -1,0 +1,3 @@
+pub mod OwnEquations
+pub mod OwnWords
+pub mod Once
