@@ -24,6 +24,7 @@ use Rattle.aw_law_sites.specs.Worlds.{World, empty_world, site_at, Move, Deliver
 use Rattle.aw_law_sites.proofs.AnyOrders.{Goes_on, any_order}
 use Rattle.aw_law_sites.proofs.Entering.{VariablesEnter, variables_enter}
 use Rattle.aw_law_sites.proofs.SameConfigs.{Fit, fit_of, keep, fit_empty, same_configuration}
+use Rattle.aw_law_worlds.specs.Laws.{HomesAreRoles}
 use Rattle.aw_law_worlds.specs.Mentioned.{IsMentioned}
 use Rattle.aw_law_worlds.specs.ReadRows.{IsPrinted}
 use Rattle.aw_law_worlds.proofs.HeldOrdering.{same_held}
@@ -35,6 +36,7 @@ use Rattle.aw_law_worlds.proofs.Settling.{run_both}
 use Rattle.aw_law_settling.specs.Still.{IsStill, StillBecomesQuiet, StillAnswers, StillWorklists, StillArtifacts}
 use Rattle.aw_law_learning.specs.Learning.{IsLedTo, inherited, own, further, OfficesLearnTheirOwn}
 use Rattle.aw_law_lateness.specs.Lateness.{LatenessLeavesNoTrace}
+use Rattle.aw_law_lateness.proofs.Taking.{choices-same}
 
 module _ (words : Words) (g : Grammar) (accepted : IsAccepted words g) where
   abbrev fit : IsGivenGrammar g
@@ -166,8 +168,8 @@ module _ (words : Words) (g : Grammar) (accepted : IsAccepted words g) where
       pub equations-same : (a : ℕ) (r : Ref) → find (site_at w a).equations r ≡ find (site_at v a).equations r
       equations-same a r = ap (λ (s : Site). find s.equations r) (sym (at-w a)) ∙ (quiet-equations a r ∙ ap (λ (s : Site). find s.equations r) (at-v a))
 
-    pub lateness_leaves_no_trace : StillAnswers g → StillWorklists g → StillArtifacts words g → LatenessLeavesNoTrace words g
-    lateness_leaves_no_trace answers worklists artifacts loads other es fs may might still rests same =
+    pub lateness_leaves_no_trace : HomesAreRoles g → StillAnswers g → StillWorklists g → StillArtifacts words g → LatenessLeavesNoTrace words g
+    lateness_leaves_no_trace homes answers worklists artifacts loads other es fs may might still rests same =
         let w = world_after g loads es in
         let v = world_after g other fs in
         let Q = quiet-of loads es may still in
@@ -180,6 +182,7 @@ module _ (words : Words) (g : Grammar) (accepted : IsAccepted words g) where
         let two : c2 ≡ d2 = same_configuration g fit enter ok w.taken v.taken same.0 same.1 c2 d2 e2 u2 in
         record {
           tasks = tasks-same loads other w v Q P same;
+          choices = choices-same g homes loads other es fs may might same;
           equations = equations-same loads other w v Q P same;
           answers = λ z. f still z ∙ (ap (λ c. answer g c z) one ∙ sym (h rests z));
           worklists = f2 still ∙ (ap (worklist g) two ∙ sym (h2 rests));

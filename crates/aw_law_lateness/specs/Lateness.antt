@@ -14,10 +14,11 @@ use Rattle.aw_law_worlds.specs.Laws.{own_items}
 use Rattle.aw_law_worlds.specs.ReadRows.{IsPrinted}
 use Rattle.aw_law_settling.specs.Still.{IsStill}
 
--- Each office holds the same tasks, in the same order, and knows the same of each reference; each choice is answered the same; and of all offices together
+-- Each office holds the same tasks, in the same order, took the same choices, and knows the same of each reference; each choice is answered the same; and of all offices together
 -- the worklists are the same, and the text that is printed.
 pub record SameOffices (words : Words) (g : Grammar) (w v : World) : Type 0 where
   pub tasks : (a : ℕ) → (site_at w a).held ≡ (site_at v a).held
+  pub choices : (a : ℕ) → SameChoices (site_at w a).choices (site_at v a).choices
   pub equations : (a : ℕ) (r : Ref) → find (site_at w a).equations r ≡ find (site_at v a).equations r
   pub answers : (x : Choice) →
       answer_to (choose g (site_at w (home g (node_of x))) x) ≡ answer_to (choose g (site_at v (home g (node_of x))) x)
