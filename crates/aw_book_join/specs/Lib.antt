@@ -1,0 +1,7 @@
+pub mod Handing
+pub mod Laws
+pub mod Lines
+pub mod Replicas
+pub mod Tasks
+pub mod Views
+pub mod Writing
