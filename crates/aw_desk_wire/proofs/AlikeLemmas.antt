@@ -58,7 +58,7 @@ module _
     asked-as role ds es ps fs xs r h = asked-of role ds es ps (slice_get ds role) fs xs refl r h
 
     -- sessions that are over
-    honest-as : (ds es : List D) (ps : List P) (xs : List Session) → AllAre R ds ps → AreHonest A ds es xs → (qs : List P) × AreHonest B ps qs xs × AllAre R es qs
+    pub honest-as : (ds es : List D) (ps : List P) (xs : List Session) → AllAre R ds ps → AreHonest A ds es xs → (qs : List P) × AreHonest B ps qs xs × AllAre R es qs
     honest-as ds es ps [] r h = (ps, refl, subst (λ (zs : List D). AllAre R zs ps) (sym h) r)
     honest-as ds es ps (x ∷ xs) r h =
         let one = h.1 in

@@ -25,7 +25,7 @@ module _
     one-more from ms es (y ∷ xs) x h k = (h.0, h.1, one-more h.0 ms es xs x h.2 k)
 
     -- the last session is over
-    ended-last : (ms es : List D) (kept : Stream) (over : List Session) (last : Option Session) → AreHonest answers ds ms over → LastIs answers ms es kept last →
+    pub ended-last : (ms es : List D) (kept : Stream) (over : List Session) (last : Option Session) → AreHonest answers ds ms over → LastIs answers ms es kept last →
         AreHonest answers ds es (over ++ option_to_list last)
     ended-last ms es kept over None h k = subst (λ (zs : List Session). AreHonest answers ds es zs) (sym (append-nil over)) (subst (λ (zs : List D). AreHonest answers ds zs over) (sym k) h)
     ended-last ms es kept over (Some c) h k =

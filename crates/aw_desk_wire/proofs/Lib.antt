@@ -6,3 +6,7 @@ pub mod AlikeLemmas
 pub mod OfficeLemmas
 pub mod ReadLemmas
 pub mod QuietLemmas
+pub mod SinceLemmas
+pub mod WorldLemmas
+pub mod SameLemmas
+pub mod SiteLemmas

@@ -1,7 +1,9 @@
 -- What an office does is what each site does that it shows.
 use Rattle.std.proofs.Common.{◌≡◌, ℕ, List, refl, ap, subst, ◌∙◌}
-use Rattle.aw_desk_wire.specs.Alike.{HonestAlike}
-use Rattle.aw_desk_wire.proofs.AlikeLemmas.{honest-alike}
+use Rattle.aw_desk_wire.specs.Alike.{AllAre, HonestAlike}
+use Rattle.aw_desk_wire.specs.Honest.{AreHonest}
+use Rattle.aw_out.specs.Wires.{Session}
+use Rattle.aw_desk_wire.proofs.AlikeLemmas.{honest-as, honest-alike}
 use Rattle.aw_grammar.specs.declared.grammar.Grammar.{Grammar}
 use Rattle.aw_msg.specs.Frames.{Frame}
 use Rattle.aw_node.specs.TypedNodes.{Rules, rules_of, handle, answers, AnswersAs}
@@ -27,3 +29,8 @@ module _
     -- offices answer as the sites that they show, and so does a wire over them
     pub offices-honest : HonestAlike (λ (o : O) (s : Site). shows o s × (rules_of (grammar o) (typed o) ≡ r)) A (answers r)
     offices-honest = honest-alike O Site (λ (o : O) (s : Site). shows o s × (rules_of (grammar o) (typed o) ≡ r)) A (answers r) office-sim
+
+    -- and so they do in some sessions
+    pub offices-over : (os us : List O) (ss : List Site) (xs : List Session) → AllAre (λ (o : O) (s : Site). shows o s × (rules_of (grammar o) (typed o) ≡ r)) os ss → AreHonest A os us xs →
+        (zs : List Site) × AreHonest (answers r) ss zs xs × AllAre (λ (o : O) (s : Site). shows o s × (rules_of (grammar o) (typed o) ≡ r)) us zs
+    offices-over = honest-as O Site (λ (o : O) (s : Site). shows o s × (rules_of (grammar o) (typed o) ≡ r)) A (answers r) office-sim

@@ -4,3 +4,5 @@ pub mod Honest
 pub mod Alike
 pub mod Shown
 pub mod Quiet
+pub mod Since
+pub mod OverSites

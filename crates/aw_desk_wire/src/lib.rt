@@ -5,11 +5,14 @@
 mod asking;
 mod call;
 mod calls;
+pub mod carrying;
 pub mod desk;
 pub mod law;
 pub mod office;
+pub mod traced;
 pub mod wire;
 
+pub use carrying::carry_between_sites;
 pub use desk::Desk;
 pub use law::{offices_are_honest, turns_are_honest};
 pub use office::{Office, SiteWire};

@@ -45,11 +45,9 @@ impl<'g> Office<'g> {
 }
 
 impl Desk for Office<'_> {
-    ghost use Rattle.aw_node.specs.TypedNodes.{rules_of, AnswersAs};
-    ghost use Rattle.aw_site.specs.Seen.{IsShown};
+    ghost use Rattle.aw_desk_wire.specs.Shown.{OfficeAnswers};
 
-    ghost answers = { λ o f x p. AnswersAs (rules_of o.site.space.accepted.now.grammar o.typed.now) f (IsShown ⟦<CellFacts as Facts>⟧ o.site) (IsShown ⟦<CellFacts as Facts>⟧ p.site) x
-        × (p.site.space.accepted.now.grammar ≡ o.site.space.accepted.now.grammar) × (p.typed.now ≡ o.typed.now) };
+    ghost answers = { OfficeAnswers };
 
     fn reply_to(&mut self, frame: &Frame) -> Result<Text, AllocError> {
         let accepted = self.site.accepted();

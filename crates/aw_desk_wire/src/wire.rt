@@ -76,6 +76,17 @@ impl<D: Desk> DeskWire<D> {
         self.calls.written(session)
     }
 
+    /// Ends the open session, if one is open.
+    pub(crate) fn close(&mut self)
+        ensures calls { self.new.calls ≡ closed self.old.calls }
+        ensures desks { self.new.desks.items ≡ self.old.desks.items }
+        ensures reader { self.new.reader ≡ self.old.reader }
+        ensures starved { self.new.starved ≡ self.old.starved }
+        ensures unopened { self.new.unopened ≡ self.old.unopened }
+    {
+        self.calls.close();
+    }
+
     /// Asks the whole frames that these bytes bring, and leaves the replies to read.
     fn answer(&mut self, bytes: &[u8]) -> Result<(), AllocError>
         requires open { self.old.calls.is_open ≡ true }
@@ -175,6 +186,7 @@ impl<D: Desk> Wire for DeskWire<D> {
         ensures honest { (ds : List D) → WasHonest D.answers ds self.old.desks.items self.old.reader self.old.calls → result ≢ Put.Failed →
             WasHonest D.answers ds self.new.desks.items self.new.reader self.new.calls }
         ensures open { self.new.calls.is_open ≡ true }
+        ensures some { is_some self.old.calls.last ≡ true }
         ensures count { FitsBytes result b.now }
         ensures content { WritesInSession result b.now (content_of self.old.calls) (content_of self.new.calls) }
         ensures never_falls { self.old.starved ≤ self.new.starved }
