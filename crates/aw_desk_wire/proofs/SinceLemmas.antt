@@ -52,12 +52,20 @@ module _
     -- a session was opened
     since-opened : (role : ℕ) (ds : List D) (kept new : Stream) (cs : Calls) → new ≡ record { bytes = []; failed = false } → HonestSince answers first passed ds kept cs → HonestSince answers first passed ds new (opened role cs)
     since-opened role ds kept new cs e (inl (o, p, same)) =
-        inr ([], p ∙ sym (append-nil passed), λ n. subst (λ (zs : List D). WasHonest answers first zs new (with_over [] (opened role cs))) (sym same)
-        (honest-opened D answers first role first kept new no_calls e (record { between = first; over = refl; last = refl })))
+        inr (
+          [],
+          p ∙ sym (append-nil passed),
+          λ n. subst (λ (zs : List D). WasHonest answers first zs new (with_over [] (opened role cs))) (sym same)
+              (honest-opened D answers first role first kept new no_calls e (record { between = first; over = refl; last = refl })),
+        )
     since-opened role ds kept new cs e (inr (xs, o, h)) =
         let last = option_to_list cs.last in (
-          inr (xs ++ last, ap (λ (zs : List Session). zs ++ last) o ∙ append_assoc passed xs last, λ n. honest-opened D answers first role ds kept new (with_over xs cs) e
-              (h (each_left (λ (x : Session). x.failed ≡ false) (xs ++ last) (fresh role true [] ∷ []) n)))
+        inr (
+          xs ++ last,
+          ap (λ (zs : List Session). zs ++ last) o ∙ append_assoc passed xs last,
+          λ n. honest-opened D answers first role ds kept new (with_over xs cs) e
+              (h (each_left (λ (x : Session). x.failed ≡ false) (xs ++ last) (fresh role true [] ∷ []) n)),
+        )
         )
 
     -- a role was dialed
@@ -88,10 +96,14 @@ module _
         HonestSince answers first passed es to new
     since-written ds es kept to bytes old new some is (inl (o, p, e)) w = absurd (let no : true ≡ false = sym is ∙ o in cc no)
     since-written ds es kept to bytes old new some is (inr (xs, o, h)) w =
-        inr (xs, ap (λ (cs : Calls). cs.over) w.told ∙ o, λ n.
-        let before = none-before (after_write bytes w.replies) (λ x. refl) xs old.last (subst (λ (cs : Calls). NoneFailed (xs ++ option_to_list cs.last)) w.told n) in
-        honest-written D answers first ds es kept to bytes (with_over xs old) (with_over xs new) some (h before)
-        (record { replies = w.replies; answered = w.answered; told = ap (λ (cs : Calls). with_over xs cs) w.told }))
+        inr (
+          xs,
+          ap (λ (cs : Calls). cs.over) w.told ∙ o,
+          λ n.
+              let before = none-before (after_write bytes w.replies) (λ x. refl) xs old.last (subst (λ (cs : Calls). NoneFailed (xs ++ option_to_list cs.last)) w.told n) in
+              honest-written D answers first ds es kept to bytes (with_over xs old) (with_over xs new) some (h before)
+              (record { replies = w.replies; answered = w.answered; told = ap (λ (cs : Calls). with_over xs cs) w.told }),
+        )
 
     -- a write failed in it
     since-failed : (ds es : List D) (kept to : Stream) (old new : Calls) → is_some old.last ≡ true → old.is_open ≡ true → HonestSince answers first passed ds kept old → new ≡ changed after_fault old → HonestSince answers first passed es to new
