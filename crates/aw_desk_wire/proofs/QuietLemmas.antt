@@ -9,7 +9,7 @@ use Rattle.aw_law_nodes.specs.Nodes.{Asked, handled, ask, sites_after}
 use Rattle.aw_law_nodes.proofs.ListParts.{get-within}
 use Rattle.aw_law_nodes.proofs.Runs.{sites-append}
 use Rattle.aw_courier.specs.Honest.{visit_of, IsHonest}
-use Rattle.aw_courier.specs.Turns.{Turn, told_as}
+use Rattle.aw_courier.specs.Turns.{Turn}
 use Rattle.aw_node.specs.TypedNodes.{Rules}
 use Rattle.aw_desk_wire.specs.Quiet.{alone, all_alone, TurnsAreHonest}
 use Rattle.aw_desk_wire.proofs.ReadLemmas.{turn-honest}

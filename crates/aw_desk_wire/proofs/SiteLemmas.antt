@@ -18,12 +18,11 @@ use Rattle.aw_law_nodes.proofs.ListParts.{cons-inj}
 use Rattle.aw_node.specs.TypedNodes.{Rules, rules_of, answers}
 use Rattle.aw_site.specs.Seen.{IsShown}
 use Rattle.aw_session.specs.Sessions.{Follow}
-use Rattle.aw_typed.specs.declared.data.Typed.{Typed}
 use Rattle.aw_out.specs.Wires as W
 use Rattle.aw_out.specs.Wires.{Content, Both}
-use Rattle.aw_courier.specs.Carrying.{sessions_of, IsQuiet, IsSpent}
+use Rattle.aw_courier.specs.Carrying.{sessions_of}
 use Rattle.aw_courier.specs.Frames.{size}
-use Rattle.aw_courier.specs.Honest.{Visit, turn_of, visit_of, IsHonest, QuietOverHonest, BoundOverHonest, MeansOverHonest, IsQuietWorld, IsSpentWorld}
+use Rattle.aw_courier.specs.Honest.{turn_of, visit_of, IsHonest, QuietOverHonest, BoundOverHonest, MeansOverHonest}
 use Rattle.aw_courier.specs.Turns.{Turn, told_as, IsHeard}
 use Rattle.aw_courier.specs.declared.carrying.Carried.{Carried}
 use Rattle.aw_courier.specs.declared.carrying.Carried.TheVariants.{Quiet, RoundsSpent}
@@ -31,7 +30,7 @@ use Rattle.aw_courier.specs.declared.carrying.CarryFault.{CarryFault}
 use Rattle.aw_courier.proofs.HonestLemmas.{map-append, flat-map}
 use Rattle.aw_desk_wire.specs.Alike.{AllAre}
 use Rattle.aw_desk_wire.specs.Honest.{AreHonest}
-use Rattle.aw_desk_wire.specs.OverSites.{IsQuietThen, IsSpentThen, IsQuietAtSites, IsSpentAtSites, MeansAtSites}
+use Rattle.aw_desk_wire.specs.OverSites.{IsQuietThen, IsSpentThen, MeansAtSites}
 use Rattle.aw_desk_wire.specs.Quiet.{alone, all_alone, WorldIsHonest}
 use Rattle.aw_desk_wire.specs.Shown.{ShowsBy, OfficeAnswers}
 use Rattle.aw_desk_wire.specs.Since.{NoneFailed}

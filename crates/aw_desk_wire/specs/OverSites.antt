@@ -1,5 +1,5 @@
 -- What a courier over the sites of a world leaves, where it answers that all is quiet, or that its rounds are spent.
-use Rattle.std.specs.Prelude.{◌≡◌, ℕ, ◌*◌, ◌≤◌, Bool, List, ◌++◌, map, Option}
+use Rattle.std.specs.Prelude.{ℕ, ◌*◌, ◌≤◌, Bool, List, ◌++◌, map, Option}
 use Rattle.aw_grammar.specs.GrammarOf.{grammar_of}
 use Rattle.aw_grammar.specs.declared.grammar.Grammar as declared
 use Rattle.aw_term.specs.WellFormed.{Each}

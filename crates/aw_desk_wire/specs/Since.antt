@@ -1,5 +1,5 @@
 -- The sessions of a wire over desks since a moment.
-use Rattle.std.specs.Prelude.{◌≡◌, ◌⊎◌, ℕ, List, ◌++◌, Bool, false, option_to_list}
+use Rattle.std.specs.Prelude.{◌≡◌, ◌⊎◌, ℕ, List, ◌++◌, false, option_to_list}
 use Rattle.aw_term.specs.WellFormed.{Each}
 use Rattle.aw_msg.specs.Frames.{Frame}
 use Rattle.aw_msg.specs.Streams.{Stream}
