@@ -1,11 +1,11 @@
 -- The workspace behind one event more.
-use Rattle.std.proofs.Common.{◌≡◌, ℕ, Bool, true, false, List, [], ◌∷◌, ◌++◌, Result, Ok, Err, refl, sym, ap, subst}
+use Rattle.std.proofs.Common.{◌≡◌, ℕ, Bool, true, false, List, [], ◌∷◌, ◌++◌, Result, Ok, Err, sym, subst}
 use Rattle.std.specs.Prelude.{IfOk, OnOk, OnErr}
 use Rattle.aw_cells.specs.contracts.cells.CellFactsFacts.TheImpl as cells
 use Rattle.aw_journal.specs.Events.{Event}
 use Rattle.aw_kept_node.specs.KeptEvents.{is_kept, frame_for, after_event, site_by, AreKept}
 use Rattle.aw_kept_node.proofs.KeptSites.{kept-push, by-push, no-news}
-use Rattle.aw_law_sites.specs.Sites.{Site, empty_site}
+use Rattle.aw_law_sites.specs.Sites.{empty_site}
 use Rattle.aw_node.specs.TypedNodes.{Rules}
 use Rattle.aw_site.specs.Seen.{IsShown}
 use Rattle.aw_book_join.specs.declared.replica.Replica.{Replica}

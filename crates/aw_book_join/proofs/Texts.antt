@@ -1,6 +1,6 @@
 -- The texts of held nodes, one behind the other.
-use Rattle.std.proofs.Common.{◌≡◌, ℕ, ◌+◌, ◌<◌, Bool, true, false, cond, List, [], ◌∷◌, ◌++◌, drop, refl, sym, ap, ◌∙◌, subst, append_assoc, inl, inr}
-use Rattle.std.specs.Prelude.{filter, flat_map, slice_get, Some}
+use Rattle.std.proofs.Common.{◌≡◌, ℕ, ◌+◌, Bool, true, false, cond, List, [], ◌∷◌, ◌++◌, drop, refl, sym, ap, ◌∙◌, subst, append_assoc}
+use Rattle.std.specs.Prelude.{filter, slice_get, Some}
 use Rattle.std.specs.List.{concat}
 use Rattle.aw_accept.specs.Acyclic.{Pairs}
 use Rattle.aw_grammar.specs.declared.grammar.Grammar.{Grammar}
@@ -11,7 +11,7 @@ use Rattle.aw_term.specs.Artifacts.{Words, row_text, artifact_text}
 use Rattle.aw_term.specs.Configs.{Row, Config}
 use Rattle.aw_term.specs.Held.{Held}
 use Rattle.aw_book_join.specs.declared.view.View.{View}
-use Rattle.aw_book_join.specs.Lines.{IsLine, Told, IsTold, room_limit}
+use Rattle.aw_book_join.specs.Lines.{IsLine, Told, IsTold}
 use Rattle.aw_book_join.specs.Tasks.{row_lines}
 use Rattle.aw_book_join.specs.Views.{is_asked}
 use Rattle.aw_world.proofs.Lines.{row_here}

@@ -1,4 +1,4 @@
-use Rattle.std.proofs.Common.{◌≡◌, sym, refl, ◌∙◌}
+use Rattle.std.proofs.Common.{sym, refl}
 use Rattle.aw_journal.specs.EventView.{event_of}
 use Rattle.aw_book_join.specs.Replicas.{rules_in, site_of}
 use Rattle.aw_book_join.proofs.Replicas.{follows-all, stays-all}
