@@ -1,9 +1,15 @@
 -- Calls that write nothing.
 use Rattle.std.specs.Prelude.{◌≡◌, ℕ, ◌≤◌, List, Bool}
 use Rattle.std.proofs.Common.{refl, ◌∙◌}
-use Rattle.aw_disk.specs.Disk.{Elapses}
-use Rattle.aw_journal.specs.Journal.{Quiet}
-use Rattle.aw_journal.proofs.Moments.{started, goes_on, runs_on}
+use Rattle.aw_disk.specs.Disk.{Elapses, LeavesOnly}
+use Rattle.aw_disk.specs.Moments.{started, goes_on, runs_on}
+
+-- Nothing was written, at most synced: the same is read, and a crash leaves nothing new, at any moment.
+pub record Quiet {D : Type 0} (tells : D → Bool) (seen : D → List ℕ) (may_leave : D → List ℕ → Type 0) (moment : D → ℕ) (left_since : D → ℕ → List ℕ → Type 0) (old new : D) : Type 0 where
+  pub told_same : tells new ≡ tells old
+  pub seen_same : seen new ≡ seen old
+  pub no_more : (c : List ℕ) → may_leave new c → may_leave old c
+  pub any_moment : LeavesOnly moment left_since old new (may_leave old)
 
 module _ {D : Type 0} (tells : D → Bool) (seen : D → List ℕ) (may_leave : D → List ℕ → Type 0) (moment : D → ℕ) (left_since : D → ℕ → List ℕ → Type 0) (counts_now : (d : D) (t : ℕ) (c : List ℕ) → t ≤ moment d → may_leave d c → left_since d t c)
     (only_now : (d : D) (c : List ℕ) → left_since d (moment d) c → may_leave d c) where
