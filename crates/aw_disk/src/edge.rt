@@ -2,6 +2,7 @@
 ghost use Rattle.std.specs.Prelude.{◌≡◌, ◌≤◌, ◌<◌, ◌+◌, ◌^◌, ℕ, List, Bool, IsTrue, length, take, ◌≢◌};
 ghost use Rattle.aw_out.specs.Causes.{Rose};
 ghost use Rattle.aw_out.specs.Edge.{FitsBuffer};
+ghost use Rattle.aw_disk.specs.Pages.{IsFile};
 ghost use Rattle.aw_disk.specs.Disk.{Torn, Cut, Follows, Only, Elapses, ReadsAt, written};
 
 use aw_out::Got;
@@ -43,6 +44,7 @@ pub trait Disk {
     /// How many bytes there are.
     fn size(&mut self) -> Size
         ensures size { (n : ℕ) → result ≡ Size.Bytes n → IsTrue (tells self.old) → n ≡ length (seen self.old) }
+        ensures file { (n : ℕ) → result ≡ Size.Bytes n → IsTrue (tells self.old) → IsFile (seen self.old) }
         ensures tells { tells self.new ≡ tells self.old }
         ensures seen { seen self.new ≡ seen self.old }
         ensures crash { (c : List ℕ) → may_leave self.new c → may_leave self.old c }

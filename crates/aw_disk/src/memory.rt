@@ -1,9 +1,10 @@
 //! A disk in memory, for tests: it tells its bytes, keeps a record of its calls, and fails where it is told to.
-ghost use Rattle.std.specs.Prelude.{◌≡◌, ◌≢◌, ◌≤◌, ◌<◌, ◌+◌, ◌^◌, ◌↔◌, [], ℕ, List, IsTrue, true, false, length, take, drop, IfOk, Contains};
+ghost use Rattle.std.specs.Prelude.{◌≡◌, ◌≢◌, ◌≤◌, ◌<◌, ◌+◌, ◌^◌, ◌↔◌, [], ℕ, List, IsTrue, true, false, length, min, take, drop, IfOk, Contains};
 ghost use Rattle.aw_out.specs.Causes.{Rose};
 ghost use Rattle.aw_out.specs.Edge.{FitsBuffer};
 ghost use Rattle.aw_disk.specs.Disk.{written, Torn, Cut, Follows, Only, ReadsAt};
 ghost use Rattle.aw_disk.specs.Record.{now, MayLeave, LeftSince, noted};
+ghost use Rattle.aw_disk.specs.Pages.{IsFile};
 ghost use Rattle.aw_disk.specs.Memory.{IsRefused, RefusesCall, Refuses, Idles, IsNoted};
 ghost use Rattle.aw_disk.specs.Record.Op.{Looked, Wrote, Shortened, Synced};
 ghost use Rattle.aw_disk.specs.RecordLaws.{reads, counts, no_other, TimePasses};
@@ -38,7 +39,7 @@ impl DiskCalls {
         })
     }
 
-    fn has(&self, number: usize) -> bool
+    pub(crate) fn has(&self, number: usize) -> bool
         ensures { IsTrue result ↔ Contains self.now number }
     {
         self.numbers.contains(&number)
@@ -101,15 +102,17 @@ fn refuse(past: &mut Record, fails: &DiskCalls, fits: bool, faults: &mut u64) ->
     false
 }
 
-/// Some of the bytes from a place on, as many as there is room for.
-fn copy_from(bytes: &[u8], at: usize, buf: &mut [u8]) -> usize
+/// Some of the bytes from a place on: so many at most, which have room.
+pub(crate) fn copy_from(bytes: &[u8], at: usize, buf: &mut [u8], most: usize) -> usize
     requires within { at < length bytes.now }
-    requires room { 0 < length buf.old }
+    requires some { 1 ≤ most }
+    requires room { most ≤ length buf.old }
+    ensures answer { result ≡ min (length (drop at bytes.now)) most }
     ensures count { (1 ≤ result) × (result ≤ length buf.new) × (at + result ≤ length bytes.now) }
     ensures bytes { take result buf.new ≡ take result (drop at bytes.now) }
 {
     let (_, left) = bytes.split_at(at);
-    let n = left.len().min(buf.len());
+    let n = left.len().min(most);
     buf[..n].copy_from_slice(&left[..n]);
     n
 }
@@ -135,6 +138,7 @@ impl Disk for MemDisk {
 
     fn size(&mut self) -> Size
         ensures size { (n : ℕ) → result ≡ Size.Bytes n → IsTrue true → n ≡ length (now self.old.past.start self.old.past.ops) }
+        ensures file { (n : ℕ) → result ≡ Size.Bytes n → IsTrue true → IsFile (now self.old.past.start self.old.past.ops) }
         ensures tells { true ≡ true }
         ensures seen { now self.new.past.start self.new.past.ops ≡ now self.old.past.start self.old.past.ops }
         ensures crash { (c : List ℕ) → MayLeave self.new.past.start self.new.past.ops c → MayLeave self.old.past.start self.old.past.ops c }
@@ -152,7 +156,8 @@ impl Disk for MemDisk {
             return Size::Failed;
         }
         self.past.look();
-        Size::Bytes(self.past.bytes().len() as u64)
+        let bytes = self.past.bytes();
+        Size::Bytes(bytes.len() as u64)
     }
 
     fn read_at(&mut self, at: u64, buf: &mut [u8]) -> Got
@@ -178,7 +183,8 @@ impl Disk for MemDisk {
         if at >= bytes.len() as u64 {
             return Got::End;
         }
-        Got::Read(copy_from(bytes, at as usize, buf))
+        let most = buf.len();
+        Got::Read(copy_from(bytes, at as usize, buf, most))
     }
 
     fn write_at(&mut self, at: u64, b: &[u8]) -> Did
