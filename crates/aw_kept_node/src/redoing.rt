@@ -1,5 +1,5 @@
 //! Doing the events of a journal again.
-ghost use Rattle.std.specs.Prelude.{◌≡◌, IfOk, IfErr, OnOk};
+ghost use Rattle.std.specs.Prelude.{◌≡◌, IfOk, IfErr, OnOk, OnErr};
 ghost use Rattle.aw_kept_node.specs.KeptEvents as kept;
 ghost use Rattle.aw_kept_node.specs.Redone.{HandlesEvent, Redoes, RedoesAll, StopsAt, StopsRedoing};
 ghost use Rattle.aw_grammar.specs.GrammarOf.{grammar_of};
@@ -34,7 +34,7 @@ fn frame_for(event: &NodeEvent) -> Result<Frame, AllocError>
     }
 }
 
-/// Asks for an event again.
+/// Asks for an event again. An error changes nothing.
 fn ask<P: Workspace>(
     g: &Accepted,
     t: &Typed,
@@ -46,13 +46,18 @@ fn ask<P: Workspace>(
     requires range { EventInRange (event_of event.now) }
     ensures grammar { P.grammar site.new ≡ P.grammar site.old }
     ensures answer { IfOk result (λ a. HandlesEvent (rules_of g.now.grammar t.now) (event_of event.now) (P.shows site.old) (P.shows site.new) (response_of (grammar_of g.now.grammar) a)) }
+    ensures err { (s : Site) → P.shows site.old s → OnErr result (P.shows site.new s) }
 {
     let frame = frame_for(event)?;
     handle(g, t, site, &frame)
 }
 
-/// Does an event again, and tells whether it was one: its choice was taken, or its message was new.
-fn redo<P: Workspace>(
+/// Does an event again, and tells whether it was one: its choice was taken, or its message was new. What was none changes nothing, and
+/// an error does not.
+///
+/// # Errors
+/// Where memory runs out.
+pub fn redo<P: Workspace>(
     g: &Accepted,
     t: &Typed,
     site: &mut P,
@@ -64,6 +69,7 @@ fn redo<P: Workspace>(
     ensures grammar { P.grammar site.new ≡ P.grammar site.old }
     ensures news { (s : Site) → P.shows site.old s → IfOk result (λ news. news ≡ kept.is_kept (rules_of g.now.grammar t.now) s (event_of event.now)) }
     ensures site { (s : Site) → P.shows site.old s → OnOk result (P.shows site.new (kept.after_event (rules_of g.now.grammar t.now) s (event_of event.now))) }
+    ensures err { (s : Site) → P.shows site.old s → OnErr result (P.shows site.new s) }
 {
     let answered = ask(g, t, site, event)?;
     let news = is_news(&answered);
