@@ -88,7 +88,7 @@ def test_what_is_shown_is_what_the_book_says(company: Make) -> None:
     desks = {role: made.open_desk(role) for role in made.roles}
     for number in range(1, 31):
         made.system.choose("start claim %d" % number)
-        made.system.choose('choose claim#%d open_claim {%d, "%s", %d, "DK50"}' % (number, number, draw.choice(["storm", "a \\"b\\" <i>", "æ"]), draw.randrange(99)))
+        made.system.choose('choose claim#%d open_claim {%d, "%s", %d, "DK50"}' % (number, number, draw.choice(['storm', 'a \\"b\\" <i>', 'æ']), draw.randrange(99)))
         for role in made.roles[1:]:
             for task, rule in (line.split() for line in made.system.ready(role) if draw.random() < 0.3):
                 fields = {"grant": " {7}", "deny": ' {"no"}', "find_repairable": " {5}"}.get(rule, "")
