@@ -11,3 +11,8 @@ pub mod Found
 pub mod Ends
 pub mod Heads
 pub mod Openings
+pub mod Readings
+pub mod Fronts
+pub mod RecordSteps
+pub mod Searches
+pub mod Beginnings

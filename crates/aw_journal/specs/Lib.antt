@@ -1,9 +1,14 @@
+pub mod Beginning
 pub mod Events
 pub mod EventView
 pub mod Format
+pub mod Fronts
 pub mod Journal
 pub mod Lengths
 pub mod Openings
 pub mod Opens
+pub mod Pieces
 pub mod Reading
+pub mod Records
 pub mod Scan
+pub mod Standing

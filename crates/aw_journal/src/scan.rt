@@ -133,7 +133,7 @@ fn payload_len(front: &[u8], gate: u64, size: u64) -> Option<usize>
     Some(n as usize)
 }
 
-fn number_in(long: &[u8]) -> u64
+pub(crate) fn number_in(long: &[u8]) -> u64
     requires { length long.now ≡ 8 }
     ensures value { result ≡ u64_in long.now }
     ensures bytes { u64_bytes result ≡ long.now }
