@@ -1,13 +1,16 @@
 -- A message of some cases is answered the same where only these are kept, and one of another case changes nothing of them.
-use Rattle.std.specs.Prelude.{filter, not, is_some, ◌&&◌}
+use Rattle.std.specs.Prelude.{filter, nat_eq, not, is_some, ◌&&◌, ◌||◌}
 use Rattle.std.proofs.Common.{◌≡◌, ℕ, Bool, true, false, cond, List, [], ◌∷◌, ◌++◌, map, Option, Some, None, refl, sym, ap, ◌∙◌, subst, inl, inr, append-nil}
+use Rattle.std.proofs.Math.Path.{fun_ext}
+use Rattle.std.proofs.lemmas.Bool.{and_parts}
 use Rattle.aw_list.specs.Members.{Member}
 use Rattle.aw_list.proofs.Members.{never, member_unmap}
 use Rattle.aw_term.specs.Choices.{Choice}
 use Rattle.aw_term.specs.Held.{Held, held_of}
-use Rattle.aw_term.specs.Names.{Ref}
+use Rattle.aw_term.specs.Names.{Ref, ref_eq}
 use Rattle.aw_term.specs.Rules.{Grammar}
 use Rattle.aw_term.specs.WellFormed.{Each}
+use Rattle.aw_term.proofs.RefTests.{ref_eq-true}
 use Rattle.aw_store.specs.Equations.{Body, Equation, Map, find, mentions}
 use Rattle.aw_apply.specs.Made.{Call}
 use Rattle.aw_apply.specs.Messages.{Kind, Calls, Asks, Tells, Message, Clash, Received, BadName, NotMine, Conflict, Repeat, New}
@@ -16,7 +19,7 @@ use Rattle.aw_law_sites.specs.Joint.{called_held}
 use Rattle.aw_law_sites.specs.Reacting.{add_held, react, receive, received_on}
 use Rattle.aw_law_sites.specs.Receiving.{add_all, add_on, all_held, call_clash, clash, clash_on, first_clash, is_mine, is_repeat}
 use Rattle.aw_law_sites.specs.SiteEvents.{SiteEvent, Chose, Got, after_choice, after_message, site_run, site_step}
-use Rattle.aw_law_sites.specs.Sites.{Site, Reaction, Watch, silently}
+use Rattle.aw_law_sites.specs.Sites.{Site, Reaction, silently}
 use Rattle.aw_law_sites.specs.Telling.{tell, tell_back}
 use Rattle.aw_law_sites.specs.ValidNames.{message_ok}
 use Rattle.aw_law_sites.specs.Choosing.{Chosen, No, Did, choose}
@@ -25,13 +28,26 @@ use Rattle.aw_law_worlds.proofs.Learning.{add-member}
 use Rattle.aw_law_nodes.proofs.Following.{cond-new, new-of}
 use Rattle.aw_law_nodes.proofs.KeptNodes.{events-append}
 use Rattle.aw_law_nodes.proofs.ListParts.{filter-append}
-use Rattle.aw_law_cases.specs.Cases.{Cases, of_node, of_ref, of_equation, of_held, of_watch, of_choice, of_kind, of_message, of_event, keep_site, AllOn, AreParted, AreOn, IsParted, IsOneSided, IsOneSidedEvent, AreInOrder, SiteKeepsCases}
+use Rattle.aw_law_cases.specs.Cases.{Cases, of_node, of_ref, of_equation, of_held, of_choice, of_kind, of_message, of_event, keep_site, AllOn, AreParted, AreOn, IsParted, IsOneSided, IsOneSidedEvent, AreInOrder, SiteKeepsCases}
 use Rattle.aw_law_cases.proofs.Keeping.{kept, find-kept, body-on, held-kept}
 use Rattle.aw_law_cases.proofs.Making.{both-refs}
-use Rattle.aw_law_cases.proofs.Sending.{keep_reaction, asking-kept, asking-other, insert-kept, insert-other, tell-kept, tell-on, up-inserted, watch-kept}
+use Rattle.aw_law_cases.proofs.Sending.{keep_reaction, asking-kept, asking-other, insert-kept, insert-other, tell-kept, tell-on, up-inserted, with-true}
 use Rattle.aw_law_cases.proofs.Choices.{mentions-on, keep_chosen, choose-kept, choose-unseen, choose-parted, IsUnseen}
 
+-- one who watches a reference of these cases, or of others
+watch-kept : (a b c : Bool) → (a ≡ true → c ≡ true) → (a || (b && c)) ≡ ((a || b) && c)
+watch-kept true b c f = sym (f refl)
+watch-kept false b c f = refl
+
+watch-other : (a b c : Bool) → (a ≡ true → c ≡ false) → ((a || b) && c) ≡ (b && c)
+watch-other true true c f = refl
+watch-other true false c f = f refl
+watch-other false b c f = refl
+
 module _ (C : Cases) where
+  same-case : (r x : Ref) (n m : ℕ) → (ref_eq r x && nat_eq n m) ≡ true → of_ref C r ≡ of_ref C x
+  same-case r x n m e = ap (of_ref C) (ref_eq-true r x (and_parts (ref_eq r x) (nat_eq n m) e).0)
+
   -- equations that are added
   add-kept-by : (k : Map) (e : Equation) (o : Option Body) → of_equation C e ≡ true → kept C (add_on o k e) ≡ add_on o (kept C k) e
   add-kept-by k e None i = filter-append (of_equation C) k (e ∷ []) ∙ ap (λ b. kept C k ++ cond b (e ∷ []) []) i
@@ -90,12 +106,11 @@ module _ (C : Cases) where
         ap (λ w. asking g w [] (c.inherited ++ all_mentions load)) (λ j. record (keep_site C s) { held = held j; equations = equations j })
         ∙ asking-kept C g v [] [] (c.inherited ++ all_mentions load) refl (both-refs C true c.inherited (all_mentions load) (subst (λ b. AllOn C b c.inherited) i one.0) (mentions-on C g true load load_on))
     react-kept (Asks r from) one i =
-        let v : Watch = record { reference = r; role = from } in
-        let watchers : filter (of_watch C) s.watchers ++ v ∷ [] ≡ filter (of_watch C) (s.watchers ++ v ∷ []) =
-        sym (filter-append (of_watch C) s.watchers (v ∷ []) ∙ ap (λ b. filter (of_watch C) s.watchers ++ cond b (v ∷ []) []) i) in
+        let watches : (react g (keep_site C s) (Asks r from)).site.watches ≡ (keep_site C (react g s (Asks r from)).site).watches =
+        fun_ext (λ x. fun_ext (λ role. watch-kept (ref_eq r x && nat_eq from role) (s.watches x role) (of_ref C x) (λ e. sym (same-case r x from role e) ∙ i))) in
         let sent = ap (λ o. tell_back g (keep_site C s) o r from) (find-kept C s.equations r i) ∙ told (find s.equations r) refl i in
         let outbox = ap (λ xs. filter (of_message C) s.outbox ++ xs) sent ∙ sym (filter-append (of_message C) s.outbox (tell_back g s (find s.equations r) r from)) in
-        λ j. record { site = record (keep_site C s) { watchers = watchers j; outbox = outbox j }; sent = sent j }
+        λ j. record { site = record (keep_site C s) { watches = watches j; outbox = outbox j }; sent = sent j }
       where
         told : (o : Option Body) → find s.equations r ≡ o → of_ref C r ≡ true → tell_back g (keep_site C s) o r from ≡ filter (of_message C) (tell_back g s o r from)
         told None e i = refl
@@ -120,12 +135,11 @@ module _ (C : Cases) where
         asking-other C g v [] (c.inherited ++ all_mentions load) refl (both-refs C false c.inherited (all_mentions load) (subst (λ b. AllOn C b c.inherited) i one.0) (mentions-on C g false load load_on))
         ∙ (λ j. silently (record (keep_site C s) { held = held j; equations = equations j }))
     react-other (Asks r from) one i =
-        let v : Watch = record { reference = r; role = from } in
-        let watchers : filter (of_watch C) (s.watchers ++ v ∷ []) ≡ filter (of_watch C) s.watchers =
-        filter-append (of_watch C) s.watchers (v ∷ []) ∙ (ap (λ b. filter (of_watch C) s.watchers ++ cond b (v ∷ []) []) i ∙ append-nil (filter (of_watch C) s.watchers)) in
+        let watches : (keep_site C (react g s (Asks r from)).site).watches ≡ (keep_site C s).watches =
+        fun_ext (λ x. fun_ext (λ role. watch-other (ref_eq r x && nat_eq from role) (s.watches x role) (of_ref C x) (λ e. sym (same-case r x from role e) ∙ i))) in
         let sent = told (find s.equations r) i in
         let outbox = filter-append (of_message C) s.outbox (tell_back g s (find s.equations r) r from) ∙ (ap (λ xs. filter (of_message C) s.outbox ++ xs) sent ∙ append-nil (filter (of_message C) s.outbox)) in
-        λ j. record { site = record (keep_site C s) { watchers = watchers j; outbox = outbox j }; sent = sent j }
+        λ j. record { site = record (keep_site C s) { watches = watches j; outbox = outbox j }; sent = sent j }
       where
         told : (o : Option Body) → of_ref C r ≡ false → filter (of_message C) (tell_back g s o r from) ≡ []
         told None i = refl
@@ -184,7 +198,7 @@ module _ (C : Cases) where
         let a = held-kept C s.held c.node i in
         let b = held-all-kept s.equations load (λ e m. (one.1 e m).0 ∙ i) in
         λ j. is_some (a j) && b j
-    repeat-same (Asks r from) one i = watch-kept C s.watchers r from i
+    repeat-same (Asks r from) one i = with-true (s.watches r from) (of_ref C r) i
     repeat-same (Tells e load) one i = held-all-kept s.equations (e ∷ load) (λ d m. (one d m).0 ∙ i)
 
   abbrev pub keep_received : Received Reaction → Received Reaction

@@ -1,30 +1,30 @@
 -- What a site asks, tells and calls of some cases it asks, tells and calls where only these are kept.
 use Rattle.std.specs.Prelude.{filter, nat_eq, not, ◌&&◌, ◌||◌, is_none}
-use Rattle.std.proofs.Common.{◌≡◌, ℕ, zero, suc, Bool, true, false, cond, List, [], ◌∷◌, ◌++◌, map, refl, sym, ap, ◌∙◌, subst, inl, inr, append-nil}
+use Rattle.std.proofs.Common.{◌≡◌, ℕ, Bool, true, false, cond, List, [], ◌∷◌, ◌++◌, map, refl, sym, ap, ◌∙◌, subst, inl, inr, append-nil}
+use Rattle.std.proofs.Math.Path.{fun_ext}
 use Rattle.aw_list.specs.Members.{Member}
 use Rattle.aw_list.proofs.Members.{never, member_unmap}
 use Rattle.aw_term.specs.Held.{Held, insert_all, mark}
 use Rattle.aw_term.specs.ByNode.{insert_by}
 use Rattle.aw_term.specs.Configs.{State}
-use Rattle.aw_term.specs.Names.{Node, Ref, node_eq, node_lt, ref_eq}
+use Rattle.aw_term.specs.Names.{Node, Ref, node_eq, node_lt}
 use Rattle.aw_term.specs.Rules.{Grammar}
 use Rattle.aw_term.specs.Trees.{Never}
 use Rattle.aw_term.proofs.NodeOrder.{node_order}
-use Rattle.aw_term.proofs.RefTests.{ref_eq-true}
 use Rattle.aw_name.specs.SameNodes.{node_is}
 use Rattle.aw_store.specs.Equations.{Equation, mentions}
 use Rattle.aw_apply.specs.Made.{Call}
 use Rattle.aw_apply.specs.Messages.{Calls, Tells, Message}
-use Rattle.aw_law_sites.specs.Asking.{asking, ask_message, is_wanted}
+use Rattle.aw_law_sites.specs.Asking.{asked_too, asking, ask_message, is_wanted}
 use Rattle.aw_law_sites.specs.Homes.{home}
 use Rattle.aw_law_sites.specs.InOrder.{has_ref, in_order}
-use Rattle.aw_law_sites.specs.Sites.{Site, Reaction, Watch, silently}
+use Rattle.aw_law_sites.specs.Sites.{Site, Reaction, silently}
 use Rattle.aw_law_sites.proofs.AnyOrders.{Member-insert_held}
-use Rattle.aw_law_sites.specs.Telling.{calls_out, has_watch, tell, tells, watchers_from}
-use Rattle.aw_law_worlds.proofs.Lists.{Member-filtered, Member-of_order}
+use Rattle.aw_law_sites.specs.Telling.{calls_out, tell, tells, watchers_from}
+use Rattle.aw_law_worlds.proofs.Lists.{Member-filtered, Member-of_order, has_ref-true}
 use Rattle.aw_law_worlds.proofs.SentLemmas.{out_case, tell_case}
 use Rattle.aw_law_nodes.proofs.ListParts.{filter-append, filter-all, filter-none}
-use Rattle.aw_law_cases.specs.Cases.{Cases, of_node, of_ref, of_equation, of_held, of_watch, of_message, keep_site, AllOn, AreInOrder, AreParted, AreOn, IsOneSided}
+use Rattle.aw_law_cases.specs.Cases.{Cases, of_node, of_ref, of_equation, of_held, of_message, keep_site, AllOn, AreInOrder, AreParted, AreOn, IsOneSided}
 use Rattle.aw_law_cases.proofs.Keeping.{find-kept}
 use Rattle.aw_law_cases.proofs.Making.{CallsOn, load-kept, load-on}
 
@@ -35,36 +35,30 @@ filter-same p q (x ∷ xs) f =
     let later = filter-same p q xs (λ y m. f y (inr m)) in
     λ i. cond (here i) (x ∷ later i) (later i)
 
+-- what holds of these cases, where the case is one of them
+pub with-true : (a b : Bool) → b ≡ true → (a && b) ≡ a
+with-true true b e = e
+with-true false b e = refl
+
+-- what is added is of these cases
+added-kept : (a b c : Bool) → (b ≡ true → c ≡ true) → ((a && c) || b) ≡ ((a || b) && c)
+added-kept true true true f = refl
+added-kept true true false f = let z = f refl in absurd cc
+added-kept true false true f = refl
+added-kept true false false f = refl
+added-kept false true c f = sym (f refl)
+added-kept false false c f = refl
+
+-- or of others
+added-other : (a b c : Bool) → (b ≡ true → c ≡ false) → ((a || b) && c) ≡ (a && c)
+added-other true b c f = refl
+added-other false true c f = f refl
+added-other false false c f = refl
+
 module _ (C : Cases) where
   -- what a reaction keeps
   abbrev pub keep_reaction : Reaction → Reaction
   keep_reaction x = record { site = keep_site C x.site; sent = filter (of_message C) x.sent }
-
-  has-at : (r s : Ref) (ss : List Ref) (b d : Bool) → of_ref C s ≡ b → ref_eq r s ≡ d → of_ref C r ≡ true → has_ref r (filter (of_ref C) ss) ≡ has_ref r ss → has_ref r (cond b (s ∷ filter (of_ref C) ss) (filter (of_ref C) ss)) ≡ (d || has_ref r ss)
-  has-at r s ss true d p q i e = λ j. q j || e j
-  has-at r s ss false true p q i e = let z : of_ref C s ≡ true = subst (λ r. of_ref C r ≡ true) (ref_eq-true r s q) i in let y : false ≡ true = sym p ∙ z in absurd cc
-  has-at r s ss false false p q i e = e
-
-  has-kept : (ss : List Ref) (r : Ref) → of_ref C r ≡ true → has_ref r (filter (of_ref C) ss) ≡ has_ref r ss
-  has-kept [] r i = refl
-  has-kept (s ∷ ss) r i = has-at r s ss (of_ref C s) (ref_eq r s) refl refl i (has-kept ss r i)
-
-  watch-at : (r : Ref) (n : ℕ) (v : Watch) (vs : List Watch) (b d : Bool) → of_watch C v ≡ b → ref_eq r v.reference ≡ d → of_ref C r ≡ true → has_watch r n (filter (of_watch C) vs) ≡ has_watch r n vs
-      → has_watch r n (cond b (v ∷ filter (of_watch C) vs) (filter (of_watch C) vs)) ≡ ((d && nat_eq n v.role) || has_watch r n vs)
-  watch-at r n v vs true d p q i e = λ j. (q j && nat_eq n v.role) || e j
-  watch-at r n v vs false true p q i e = let z : of_watch C v ≡ true = subst (λ r. of_ref C r ≡ true) (ref_eq-true r v.reference q) i in let y : false ≡ true = sym p ∙ z in absurd cc
-  watch-at r n v vs false false p q i e = e
-
-  pub watch-kept : (vs : List Watch) (r : Ref) (n : ℕ) → of_ref C r ≡ true → has_watch r n (filter (of_watch C) vs) ≡ has_watch r n vs
-  watch-kept [] r n i = refl
-  watch-kept (v ∷ vs) r n i = watch-at r n v vs (of_watch C v) (ref_eq r v.reference) refl refl i (watch-kept vs r n i)
-
-  watchers-kept : (vs : List Watch) (r : Ref) → of_ref C r ≡ true → (n k : ℕ) → watchers_from n k r (filter (of_watch C) vs) ≡ watchers_from n k r vs
-  watchers-kept vs r i zero k = refl
-  watchers-kept vs r i (suc n) k =
-      let here = watch-kept vs r k i in
-      let later = watchers-kept vs r i n (suc k) in
-      λ j. cond (here j) (k ∷ later j) (later j)
 
   -- held nodes, in order
   abbrev place : Held → Node
@@ -210,7 +204,7 @@ module _ (C : Cases) where
         filter-same (is_wanted g (keep_site C s)) (is_wanted g s) (in_order rs) (λ r m.
         let i = ordered-on true rs on r m in
         let a = find-kept C s.equations r i in
-        let b = has-kept s.asked r i in
+        let b = with-true (s.asked r) (of_ref C r) i in
         λ j. not (nat_eq (home g r.node) s.role) && (is_none (a j) && not (b j)))
 
     asks-on : (b : Bool) (rs : List Ref) → AllOn C b rs → (m : Message) → Member m (map (ask_message g s.role) rs) → of_message C m ≡ b
@@ -220,10 +214,10 @@ module _ (C : Cases) where
     asking-kept first rest rs e on =
         let wanted = filter (is_wanted g s) (in_order rs) in
         let w = wanted-kept rs on in
-        let all = filter-all (of_ref C) wanted (λ r m. wanted-on true rs on r m) in
         let asks = filter-all (of_message C) (map (ask_message g s.role) wanted) (λ m i. asks-on true wanted (wanted-on true rs on) m i) in
-        let a : filter (of_ref C) s.asked ++ filter (is_wanted g (keep_site C s)) (in_order rs) ≡ filter (of_ref C) (s.asked ++ wanted) =
-        ap (λ xs. filter (of_ref C) s.asked ++ xs) (w ∙ sym all) ∙ sym (filter-append (of_ref C) s.asked wanted) in
+        let a : (asking g (keep_site C s) rest rs).site.asked ≡ (keep_site C (asking g s first rs).site).asked =
+        ap (asked_too (keep_site C s).asked) w
+        ∙ fun_ext (λ r. added-kept (s.asked r) (has_ref r wanted) (of_ref C r) (λ h. wanted-on true rs on r (has_ref-true r wanted h))) in
         let q : rest ++ map (ask_message g s.role) (filter (is_wanted g (keep_site C s)) (in_order rs)) ≡ filter (of_message C) (first ++ map (ask_message g s.role) wanted) =
         (λ i. sym e i ++ map (ask_message g s.role) (w i)) ∙ (ap (λ xs. filter (of_message C) first ++ xs) (sym asks) ∙ sym (filter-append (of_message C) first (map (ask_message g s.role) wanted))) in
         let o = ap (λ xs. filter (of_message C) s.outbox ++ xs) q ∙ sym (filter-append (of_message C) s.outbox (first ++ map (ask_message g s.role) wanted)) in
@@ -232,9 +226,9 @@ module _ (C : Cases) where
     pub asking-other : (first : List Message) (rs : List Ref) → filter (of_message C) first ≡ [] → AllOn C false rs → keep_reaction (asking g s first rs) ≡ silently (keep_site C s)
     asking-other first rs e on =
         let wanted = filter (is_wanted g s) (in_order rs) in
-        let none = filter-none (of_ref C) wanted (λ r m. wanted-on false rs on r m) in
         let asks = filter-none (of_message C) (map (ask_message g s.role) wanted) (λ m i. asks-on false wanted (wanted-on false rs on) m i) in
-        let a : filter (of_ref C) (s.asked ++ wanted) ≡ filter (of_ref C) s.asked = filter-append (of_ref C) s.asked wanted ∙ (ap (λ xs. filter (of_ref C) s.asked ++ xs) none ∙ append-nil (filter (of_ref C) s.asked)) in
+        let a : (keep_site C (asking g s first rs).site).asked ≡ (keep_site C s).asked =
+        fun_ext (λ r. added-other (s.asked r) (has_ref r wanted) (of_ref C r) (λ h. wanted-on false rs on r (has_ref-true r wanted h))) in
         let q : filter (of_message C) (first ++ map (ask_message g s.role) wanted) ≡ [] = filter-append (of_message C) first (map (ask_message g s.role) wanted) ∙ (λ i. e i ++ asks i) in
         let o = filter-append (of_message C) s.outbox (first ++ map (ask_message g s.role) wanted) ∙ (ap (λ xs. filter (of_message C) s.outbox ++ xs) q ∙ append-nil (filter (of_message C) s.outbox)) in
         λ i. record { site = record (keep_site C s) { asked = a i; outbox = o i }; sent = q i }
@@ -256,7 +250,8 @@ module _ (C : Cases) where
       tells-kept (e ∷ es) on =
           let (i, f) = on e (inl refl) in
           let here = load-kept C g s p (e.left ∷ []) (mentions e.body) f in
-          let who = watchers-kept s.watchers e.left i 64 0 in
+          let same : (keep_site C s).watches e.left ≡ s.watches e.left = fun_ext (λ role. with-true (s.watches e.left role) (of_ref C e.left) i) in
+          let who = ap (watchers_from 64 0) same in
           let later = tells-kept es (λ d m. on d (inr m)) in
           λ j. map (λ to. record { to = to; kind = Tells e (here j) }) (who j) ++ later j
 

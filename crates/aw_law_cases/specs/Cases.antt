@@ -1,5 +1,5 @@
 -- Some of the cases: what is kept of a site and of its events where only these cases count.
-use Rattle.std.specs.Prelude.{◌≡◌, ℕ, Bool, false, List, [], ◌∷◌, filter}
+use Rattle.std.specs.Prelude.{◌≡◌, ℕ, Bool, false, ◌&&◌, List, [], ◌∷◌, filter}
 use Rattle.aw_list.specs.Members.{Member}
 use Rattle.aw_term.specs.Choices.{Choice}
 use Rattle.aw_term.specs.Held.{Held}
@@ -9,7 +9,7 @@ use Rattle.aw_term.specs.WellFormed.{Each}
 use Rattle.aw_store.specs.Equations.{Equation, mentions}
 use Rattle.aw_apply.specs.Messages.{Kind, Calls, Asks, Tells, Message}
 use Rattle.aw_law_sites.specs.SiteEvents.{SiteEvent, Chose, Got, site_run}
-use Rattle.aw_law_sites.specs.Sites.{Watch, Site}
+use Rattle.aw_law_sites.specs.Sites.{Site}
 use Rattle.aw_law_sites.specs.Worlds.{node_of}
 
 -- some of the cases, each by its start sort and its number
@@ -31,10 +31,6 @@ of_equation C e = of_ref C e.left
 -- a held node
 abbrev pub of_held : Cases → Held → Bool
 of_held C h = of_node C h.node
-
--- who watches a reference
-abbrev pub of_watch : Cases → Watch → Bool
-of_watch C v = of_ref C v.reference
 
 -- a choice to that of its node
 abbrev pub of_choice : Cases → Choice → Bool
@@ -63,8 +59,8 @@ keep_site C s = record {
   held = filter (of_held C) s.held;
   choices = filter (of_choice C) s.choices;
   equations = filter (of_equation C) s.equations;
-  asked = filter (of_ref C) s.asked;
-  watchers = filter (of_watch C) s.watchers;
+  asked = λ r. s.asked r && of_ref C r;
+  watches = λ r role. s.watches r role && of_ref C r;
   outbox = filter (of_message C) s.outbox;
 }
 

@@ -54,8 +54,8 @@ load-few g s seen rs = go s.loads
 
 tells-few : (g : Grammar) (s : Site) (es : List Equation) → AllFew (tells g s es)
 tells-few g s [] = λ m i. never i
-tells-few g s (e ∷ es) = few-both (map (tell g s e) (watchers_from 64 0 e.left s.watchers)) (tells g s es)
-    (λ m i. let (r, j, p) = member_unmap (tell g s e) m (watchers_from 64 0 e.left s.watchers) i in subst (λ (m : Message). FewLoad m.kind) (sym p) (load-few g s (e.left ∷ []) (mentions e.body)))
+tells-few g s (e ∷ es) = few-both (map (tell g s e) (watchers_from 64 0 (s.watches e.left))) (tells g s es)
+    (λ m i. let (r, j, p) = member_unmap (tell g s e) m (watchers_from 64 0 (s.watches e.left)) i in subst (λ (m : Message). FewLoad m.kind) (sym p) (load-few g s (e.left ∷ []) (mentions e.body)))
     (tells-few g s es)
 
 calls-few : (g : Grammar) (s : Site) (cs : List Call) → AllFew (calls_out g s cs)

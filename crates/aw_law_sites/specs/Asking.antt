@@ -1,5 +1,5 @@
 -- Asks: for each reference of another role that is mentioned, has no equation here and was not asked for, one question to its home.
-use Rattle.std.specs.Prelude.{ℕ, Bool, not, ◌&&◌, List, [], ◌∷◌, ◌++◌, map, nat_eq, filter, is_none}
+use Rattle.std.specs.Prelude.{ℕ, Bool, not, ◌&&◌, ◌||◌, List, [], ◌∷◌, ◌++◌, map, nat_eq, filter, is_none}
 use Rattle.aw_term.specs.Names.{Ref}
 use Rattle.aw_term.specs.Rules.{Grammar}
 use Rattle.aw_term.specs.Held.{Held}
@@ -21,15 +21,19 @@ all_inherited (h ∷ hs) = h.inherited ++ all_inherited hs
 
 -- another role's, without an equation here, and not asked for
 abbrev pub is_wanted : Grammar → Site → Ref → Bool
-is_wanted g s r = not (nat_eq (home g r.node) s.role) && (is_none (find s.equations r) && not (has_ref r s.asked))
+is_wanted g s r = not (nat_eq (home g r.node) s.role) && (is_none (find s.equations r) && not (s.asked r))
 
 -- the question of a role for a reference
 abbrev pub ask_message : Grammar → ℕ → Ref → Message
 ask_message g role r = record { to = home g r.node; kind = Asks r role }
+
+-- these references were asked for, too
+abbrev pub asked_too : (Ref → Bool) → List Ref → Ref → Bool
+asked_too asked rs r = asked r || has_ref r rs
 
 -- The site sends these messages, and then asks for what is wanted of these references, in their order.
 abbrev pub asking : Grammar → Site → List Message → List Ref → Reaction
 asking g s first rs =
     let wanted = filter (is_wanted g s) (in_order rs) in
     let sent = first ++ map (ask_message g s.role) wanted in
-    record { site = record s { asked = s.asked ++ wanted; outbox = s.outbox ++ sent }; sent = sent }
+    record { site = record s { asked = asked_too s.asked wanted; outbox = s.outbox ++ sent }; sent = sent }

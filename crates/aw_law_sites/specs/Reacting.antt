@@ -8,7 +8,7 @@ use Rattle.aw_apply.specs.Messages.{Kind, Calls, Asks, Tells, Message, Clash, Re
 use Rattle.aw_law_sites.specs.Joint.{called_held}
 use Rattle.aw_law_sites.specs.Sites.{Site, Reaction}
 use Rattle.aw_law_sites.specs.Asking.{all_mentions, asking}
-use Rattle.aw_law_sites.specs.Telling.{tell_back}
+use Rattle.aw_law_sites.specs.Telling.{tell_back, watches_too}
 use Rattle.aw_law_sites.specs.ValidNames.{message_ok}
 use Rattle.aw_law_sites.specs.Receiving.{is_mine, add_all, clash, is_repeat}
 
@@ -25,7 +25,7 @@ react g s (Calls c load) =
     asking g s' [] (c.inherited ++ all_mentions load)
 react g s (Asks r from) =
     let sent = tell_back g s (find s.equations r) r from in
-    record { site = record s { watchers = s.watchers ++ record { reference = r; role = from } ∷ []; outbox = s.outbox ++ sent }; sent = sent }
+    record { site = record s { watches = watches_too s.watches r from; outbox = s.outbox ++ sent }; sent = sent }
 react g s (Tells e load) = asking g (record s { equations = add_all s.equations (e ∷ load) }) [] (all_mentions (e ∷ load))
 
 -- what contradicts is told, then what is known already

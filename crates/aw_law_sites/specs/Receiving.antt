@@ -9,7 +9,6 @@ use Rattle.aw_apply.specs.Made.{Call}
 use Rattle.aw_apply.specs.Messages.{Kind, Calls, Asks, Tells, Message, OfNode, OfReference, Clash}
 use Rattle.aw_law_sites.specs.Homes.{home}
 use Rattle.aw_law_sites.specs.Sites.{Site}
-use Rattle.aw_law_sites.specs.Telling.{has_watch}
 
 -- no left side is of this role
 abbrev pub none_mine : Grammar → ℕ → List Equation → Bool
@@ -77,5 +76,5 @@ all_held k (e ∷ es) = is_some (find k e.left) && all_held k es
 -- nothing of it is new
 abbrev pub is_repeat : Site → Kind → Bool
 is_repeat s (Calls c load) = is_some (held_of c.node s.held) && all_held s.equations load
-is_repeat s (Asks r from) = has_watch r from s.watchers
+is_repeat s (Asks r from) = s.watches r from
 is_repeat s (Tells e load) = all_held s.equations (e ∷ load)

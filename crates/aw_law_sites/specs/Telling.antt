@@ -1,5 +1,5 @@
 -- Calls and tells, as a site sends them.
-use Rattle.std.specs.Prelude.{ℕ, zero, suc, Bool, false, ◌&&◌, ◌||◌, List, [], ◌∷◌, ◌++◌, map, Option, Some, None, nat_eq, if◌then◌else◌}
+use Rattle.std.specs.Prelude.{ℕ, zero, suc, Bool, ◌&&◌, ◌||◌, List, [], ◌∷◌, ◌++◌, map, Option, Some, None, nat_eq, if◌then◌else◌}
 use Rattle.aw_term.specs.Names.{Ref, ref_eq}
 use Rattle.aw_term.specs.Rules.{Grammar}
 use Rattle.aw_term.specs.Held.{Held}
@@ -8,18 +8,17 @@ use Rattle.aw_apply.specs.Made.{Call}
 use Rattle.aw_apply.specs.Messages.{Message, Calls, Tells}
 use Rattle.aw_law_sites.specs.Joint.{called_held}
 use Rattle.aw_law_sites.specs.Homes.{home}
-use Rattle.aw_law_sites.specs.Sites.{Watch, Site}
+use Rattle.aw_law_sites.specs.Sites.{Site}
 use Rattle.aw_law_sites.specs.Loads.{load_of}
 
--- whether this role asked for the reference
-abbrev pub has_watch : Ref → ℕ → List Watch → Bool
-has_watch r role [] = false
-has_watch r role (w ∷ ws) = (ref_eq r w.reference && nat_eq role w.role) || has_watch r role ws
+-- this role watches the reference, too
+abbrev pub watches_too : (Ref → ℕ → Bool) → Ref → ℕ → Ref → ℕ → Bool
+watches_too watches r role x b = (ref_eq r x && nat_eq role b) || watches x b
 
--- those of n roles from role i on that watch a reference
-abbrev pub watchers_from : ℕ → ℕ → Ref → List Watch → List ℕ
-watchers_from zero i r ws = []
-watchers_from (suc n) i r ws = if has_watch r i ws then i ∷ watchers_from n (suc i) r ws else watchers_from n (suc i) r ws
+-- those of n roles from role i on that watch
+abbrev pub watchers_from : ℕ → ℕ → (ℕ → Bool) → List ℕ
+watchers_from zero i watches = []
+watchers_from (suc n) i watches = if watches i then i ∷ watchers_from n (suc i) watches else watchers_from n (suc i) watches
 
 -- an equation for a role, with its load
 abbrev pub tell : Grammar → Site → Equation → ℕ → Message
@@ -28,7 +27,7 @@ tell g s e role = record { to = role; kind = Tells e (load_of g s (e.left ∷ []
 -- for each of these equations one to each watcher of its left side, in the order of roles; there are at most 64 roles
 abbrev pub tells : Grammar → Site → List Equation → List Message
 tells g s [] = []
-tells g s (e ∷ es) = map (tell g s e) (watchers_from 64 0 e.left s.watchers) ++ tells g s es
+tells g s (e ∷ es) = map (tell g s e) (watchers_from 64 0 (s.watches e.left)) ++ tells g s es
 
 -- a child for its home, with its load
 abbrev pub call_out : Grammar → Site → Call → Message

@@ -1,10 +1,10 @@
 -- A question that is new: what the site answers.
-use Rattle.std.specs.Prelude.{nat_eq, slice_get, ◌&&◌, ◌||◌, ◌⊎◌}
+use Rattle.std.specs.Prelude.{nat_eq, slice_get, ◌&&◌, ◌⊎◌}
 use Rattle.std.proofs.Common.{Bool, List, None, Option, Some, [], ap, cond, false, inl, inr, length, refl, subst, suc, sym, true, zero, ℕ, ◌++◌, ◌<◌, ◌∙◌, ◌∷◌, ◌≡◌}
-use Rattle.std.proofs.lemmas.Bool.{and_from, and_parts, eq-eqb, eqb-true}
+use Rattle.std.proofs.lemmas.Bool.{and_from, and_parts, eq-eqb, eqb-true, or_cases, or_left, or_right}
 use Rattle.std.proofs.lemmas.Option.{same_Some, slice_get_within}
 use Rattle.aw_list.specs.Members.{Member}
-use Rattle.aw_list.proofs.Members.{member_got, member_left, member_right, member_split, never}
+use Rattle.aw_list.proofs.Members.{member_got, never}
 use Rattle.aw_term.specs.Names.{Ref, ref_eq}
 use Rattle.aw_term.specs.Rules.{Grammar}
 use Rattle.aw_term.specs.Trees.{Never}
@@ -17,9 +17,9 @@ use Rattle.aw_law_sites.specs.Joint.{Joint}
 use Rattle.aw_law_sites.proofs.Lists.{each_of}
 use Rattle.aw_law_sites.specs.Homes.{home}
 use Rattle.aw_law_sites.specs.Loads.{Given, given_on, load_of, may_give, next_given, walk}
-use Rattle.aw_law_sites.specs.Sites.{Site, Watch}
-use Rattle.aw_law_sites.specs.Telling.{has_watch, tell, tell_back}
-use Rattle.aw_law_worlds.specs.Invariant.{IsBrought, sender, watch}
+use Rattle.aw_law_sites.specs.Sites.{Site}
+use Rattle.aw_law_sites.specs.Telling.{tell, tell_back, watches_too}
+use Rattle.aw_law_worlds.specs.Invariant.{IsBrought, sender}
 use Rattle.aw_law_worlds.proofs.Changes.{Change, NewSound}
 use Rattle.aw_law_worlds.proofs.Learning.{find-member}
 use Rattle.aw_law_worlds.proofs.Parts.{Apart, Carries, Effect, Inv, IsLight, IsTold, Kin, KindKin, Mark, Sends_own, Sound}
@@ -76,30 +76,6 @@ one-place (z ∷ M) l zero (suc k) n m e f p q = never (each_member (Apart z) M 
 one-place (z ∷ M) l (suc j) zero n m e f p q = never (each_member (Apart z) M n l.0 (member_got M j n e) (subst (λ (z : Message). Kin z n) (sym (same_Some _ _ f)) q))
 one-place (z ∷ M) l (suc j) (suc k) n m e f p q = ap suc (one-place M l.1 j k n m e f p q)
 
-or-true : (a b : Bool) → a ≡ true → (a || b) ≡ true
-or-true true b e = refl
-or-true false b e = absurd cc
-
-or-more : (a b : Bool) → b ≡ true → (a || b) ≡ true
-or-more true b e = refl
-or-more false b e = e
-
-pub has_watch-member : (r : Ref) (n : ℕ) (ws : List Watch) → Member (watch r n) ws → has_watch r n ws ≡ true
-has_watch-member r n [] m = never m
-has_watch-member r n (w ∷ ws) (inl e) = or-true _ (has_watch r n ws) (subst (λ (w : Watch). (ref_eq r w.reference && nat_eq n w.role) ≡ true) e (and_from _ _ (ref_eq-self r) (eq-eqb n n refl)))
-has_watch-member r n (w ∷ ws) (inr m) = or-more _ (has_watch r n ws) (has_watch-member r n ws m)
-
-has_cases : (b : Bool) (r : Ref) (n : ℕ) (w : Watch) (ws : List Watch) → (b ≡ true → watch r n ≡ w) → (has_watch r n ws ≡ true → Member (watch r n) ws) → (b || has_watch r n ws) ≡ true → Member (watch r n) (w ∷ ws)
-has_cases true r n w ws f g e = inl (f refl)
-has_cases false r n w ws f g e = inr (g e)
-
-pub has_watch-true : (r : Ref) (n : ℕ) (ws : List Watch) → has_watch r n ws ≡ true → Member (watch r n) ws
-has_watch-true r n [] e = absurd cc
-has_watch-true r n (w ∷ ws) e =
-    has_cases (ref_eq r w.reference && nat_eq n w.role) r n w ws
-    (λ t. let (p, q) = and_parts _ _ t in let u = ref_eq-true r w.reference p in let v = eqb-true n w.role q in λ i. record { reference = u i; role = v i })
-    (has_watch-true r n ws) e
-
 back-told : (g : Grammar) (s : Site) (o : Option Body) (r : Ref) (from : ℕ) (b : Body) → o ≡ Some b → IsTold (record { left = r; body = b }) from (tell_back g s o r from)
 back-told g s None r from b e = absurd cc
 back-told g s (Some c) r from b e =
@@ -117,31 +93,31 @@ back-apart g s (Some b) r from = (tt, tt)
 
 module _ (g : Grammar) (loads : Bool) (S : ℕ → Site) (M : List Message) (D : ℕ → Type 0) (x : Joint) (I : Inv g loads S M D x) where
   -- without loads, what is brought is told
-  light_told : (m : Message) (k : Kind) (e : Equation) → IsLight k → Sound g S x m.to k → Member e (carried k) → Member (watch e.left m.to) (S (home g e.left.node)).watchers
+  light_told : (m : Message) (k : Kind) (e : Equation) → IsLight k → Sound g S x m.to k → Member e (carried k) → ((S (home g e.left.node)).watches e.left m.to ≡ true)
   light_told m (Calls c load) e l s i = never (subst (Member e) l i)
   light_told m (Asks r b) e l s i = never i
-  light_told m (Tells f load) e l s (inl p) = subst (λ (e : Equation). Member (watch e.left m.to) (S (home g e.left.node)).watchers) (sym p) s.0
+  light_told m (Tells f load) e l s (inl p) = subst (λ (e : Equation). ((S (home g e.left.node)).watches e.left m.to ≡ true)) (sym p) s.0
   light_told m (Tells f load) e l s (inr i) = never (subst (Member e) l i)
 
-  pub brought_told : loads ≡ false → (b : ℕ) (r : Ref) (c : Body) → IsBrought D M b r c → Member (watch r b) (S (home g r.node)).watchers
+  pub brought_told : loads ≡ false → (b : ℕ) (r : Ref) (c : Body) → IsBrought D M b r c → ((S (home g r.node)).watches r b ≡ true)
   brought_told f b r c (k, m, e, d, t, i) =
       let mm = member_got M k m e in
-      subst (λ b. Member (watch r b) (S (home g r.node)).watchers) t (light_told m m.kind (record { left = r; body = c }) (I.light f m mm) (I.sound m mm) i)
+      subst (λ b. ((S (home g r.node)).watches r b ≡ true)) t (light_told m m.kind (record { left = r; body = c }) (I.light f m mm) (I.sound m mm) i)
 
-  kin_told : (m : Message) (k : Kind) (e : Equation) (load : List Equation) (to : ℕ) → m.to ≡ to → KindKin k (Tells e load) → Sound g S x m.to k → Member (watch e.left to) (S (home g e.left.node)).watchers
+  kin_told : (m : Message) (k : Kind) (e : Equation) (load : List Equation) (to : ℕ) → m.to ≡ to → KindKin k (Tells e load) → Sound g S x m.to k → ((S (home g e.left.node)).watches e.left to ≡ true)
   kin_told m (Calls c l) e load to t z s = never z
   kin_told m (Asks r b) e load to t z s = never z
-  kin_told m (Tells f l) e load to t z s = subst (λ b. Member (watch e.left b) (S (home g e.left.node)).watchers) t (subst (λ (r : Ref). Member (watch r m.to) (S (home g r.node)).watchers) z s.0)
+  kin_told m (Tells f l) e load to t z s = subst (λ b. ((S (home g e.left.node)).watches e.left b ≡ true)) t (subst (λ (r : Ref). ((S (home g r.node)).watches r m.to ≡ true)) z s.0)
 
   -- a Tell that was sent is for a watcher
-  pub sent_told : (m n : Message) (e : Equation) (load : List Equation) (to : ℕ) → Member m M → n ≡ record { to = to; kind = Tells e load } → Kin m n → Member (watch e.left to) (S (home g e.left.node)).watchers
+  pub sent_told : (m n : Message) (e : Equation) (load : List Equation) (to : ℕ) → Member m M → n ≡ record { to = to; kind = Tells e load } → Kin m n → ((S (home g e.left.node)).watches e.left to ≡ true)
   sent_told m n e load to i p k =
       let k' = subst (λ n. Kin m n) p k in
       kin_told m m.kind e load to k'.0 k'.1 (I.sound m i)
 
-  module _ (a k : ℕ) (m : Message) (at : slice_get M k ≡ Some m) (to : m.to ≡ a) (within : a < g.roles) (r : Ref) (from : ℕ) (is : m.kind ≡ Asks r from) (not_yet : has_watch r from (S a).watchers ≡ false) where
+  module _ (a k : ℕ) (m : Message) (at : slice_get M k ≡ Some m) (to : m.to ≡ a) (within : a < g.roles) (r : Ref) (from : ℕ) (is : m.kind ≡ Asks r from) (not_yet : (S a).watches r from ≡ false) where
     abbrev pub s' : Site
-    s' = record (S a) { watchers = (S a).watchers ++ record { reference = r; role = from } ∷ []; outbox = (S a).outbox ++ tell_back g (S a) (find (S a).equations r) r from }
+    s' = record (S a) { watches = watches_too (S a).watches r from; outbox = (S a).outbox ++ tell_back g (S a) (find (S a).equations r) r from }
 
     abbrev pub sent : List Message
     sent = tell_back g (S a) (find (S a).equations r) r from
@@ -155,22 +131,28 @@ module _ (g : Grammar) (loads : Bool) (S : ℕ → Site) (M : List Message) (D :
     elsewhere : from ≡ a → Never
     elsewhere e = about.1 (to ∙ sym e)
 
-    no_watch : Member (watch r from) (S (home g r.node)).watchers → Never
-    no_watch i = let z = has_watch-member r from (S a).watchers (subst (λ b. Member (watch r from) (S b).watchers) here i) in absurd cc
+    no_watch : ((S (home g r.node)).watches r from ≡ true) → Never
+    no_watch i = let z = subst (λ b. ((S b).watches r from ≡ true)) here i in absurd cc
 
     new_case : (n : Message) → Member n sent → (b : Body) × (find (S a).equations r ≡ Some b) × (n ≡ tell g (S a) (record { left = r; body = b }) from)
     new_case n i = back-case g (S a) (find (S a).equations r) r from n i
 
-    watch_cases : (v : Watch) → Member v s'.watchers → Member v (S a).watchers ⊎ (v ≡ watch r from)
-    watch_cases v i = elim (member_split v (S a).watchers (watch r from ∷ []) i) [ inl o ↦ inl o | inr n ↦ elim n [ inl p ↦ inr p | inr z ↦ never z ] ]
+    watch_cases : (q : Ref) (to : ℕ) → (s'.watches q to ≡ true) → ((S a).watches q to ≡ true) ⊎ ((q ≡ r) × (to ≡ from))
+    watch_cases q to i = elim (or_cases (ref_eq r q && nat_eq from to) ((S a).watches q to) i) [
+      | inl e ↦ inr (let (p, z) = and_parts _ _ e in (sym (ref_eq-true r q p), sym (eqb-true from to z)))
+      | inr o ↦ inl o
+    ]
+
+    now_watching : s'.watches r from ≡ true
+    now_watching = or_left _ ((S a).watches r from) (and_from _ _ (ref_eq-self r) (eq-eqb from from refl))
 
     back_kind : (j : ℕ) (n : Message) (q : Kind) → n.kind ≡ q → slice_get M j ≡ Some n → n.to ≡ a → Mark loads s' q → Mark loads (S a) q ⊎ (j ≡ k)
     back_kind j n (Calls c l) e f t i = inl i
     back_kind j n (Tells e' l) e f t i = inl i
     back_kind j n (Asks r' b') e f t i =
-        elim (watch_cases (watch r' b') i) [
+        elim (watch_cases r' b' i) [
           | inl o ↦ inl o
-          | inr p ↦ (let u = ap (λ (v : Watch). v.reference) p in let v = ap (λ (v : Watch). v.role) p in
+          | inr p ↦ (let (u, v) = p in
               inr (one-place M I.apart j k n m f at
               (t ∙ sym to, subst (λ k. KindKin k m.kind) (sym e) (subst (λ k. KindKin (Asks r' b') k) (sym is) (u, v)))
               (to ∙ sym t, subst (λ k. KindKin m.kind k) (sym e) (subst (λ k. KindKin k (Asks r' b')) (sym is) (sym u, sym v)))))
@@ -196,18 +178,18 @@ module _ (g : Grammar) (loads : Bool) (S : ℕ → Site) (M : List Message) (D :
       settled = I.settled a;
       asked_kept = λ r n. n;
       asked = λ r n. inl n;
-      watched_kept = λ v n. member_left v (S a).watchers (watch r from ∷ []) n;
-      watched = λ v n. elim (watch_cases v n) [ inl o ↦ inl o | inr p ↦ inr (subst (λ (v : Watch). (home g v.reference.node ≡ a) × Member v.reference (S v.role).asked) (sym p) (here, about.2)) ];
-      tells = λ v b n f. elim (watch_cases v n) [
-        | inl o ↦ inl (I.tells a v b o f)
-        | inr p ↦ inr (subst (λ (v : Watch). find (S a).equations v.reference ≡ Some b → IsTold (record { left = v.reference; body = b }) v.role sent) (sym p) (back-told g (S a) (find (S a).equations r) r from b) f)
+      watched_kept = λ q to n. or_right _ ((S a).watches q to) n;
+      watched = λ q to n. elim (watch_cases q to n) [ inl o ↦ inl o | inr p ↦ inr (ap (λ q. home g q.node) p.0 ∙ here, (λ i. (S (p.1 i)).asked (p.0 i)) ∙ about.2) ];
+      tells = λ q to b n f. elim (watch_cases q to n) [
+        | inl o ↦ inl (I.tells a q to b o f)
+        | inr p ↦ inr (subst (λ q. IsTold (record { left = q; body = b }) to sent) (sym p.0) (subst (λ to. IsTold (record { left = r; body = b }) to sent) (sym p.1) (back-told g (S a) (find (S a).equations r) r from b (ap (find (S a).equations) (sym p.0) ∙ f))))
       ];
       foreign = λ r b f. inr (inl f);
       away = λ n i e. let (b, f, p) = new_case n i in elsewhere (sym (ap (λ (m : Message). m.to) p) ∙ e);
       sound = λ n i. let (b, f, p) = new_case n i in
           subst (λ (n : Message). NewSound g loads a s' x n.to n.kind) (sym p) (
             here,
-            member_right (watch r from) (S a).watchers (watch r from ∷ []) (inl refl),
+            now_watching,
             carries-own g (S a) x a from (I.roles a) elsewhere (I.parts a) (record { left = r; body = b } ∷ load_of g (S a) (r ∷ []) (mentions b))
                 (λ e j. elim j [
                   | inl q ↦ subst (λ (e : Equation). (find (S a).equations e.left ≡ Some e.body) × (home g e.left.node ≡ (S a).role)) (sym q) (f, here ∙ sym (I.roles a))
@@ -225,6 +207,6 @@ module _ (g : Grammar) (loads : Bool) (S : ℕ → Site) (M : List Message) (D :
       apart = back-apart g (S a) (find (S a).equations r) r from;
       now_before = λ j e. subst (λ j. j < length M) (sym e) (slice_get_within M k m at);
       now_effect = λ j n e q. let p : m ≡ n = same_Some _ _ (sym at ∙ (ap (slice_get M) (sym e) ∙ q)) in
-          (ap (λ (m : Message). m.to) (sym p) ∙ to, subst (λ k. Effect s' k) (sym is ∙ ap (λ (m : Message). m.kind) p) (member_right (watch r from) (S a).watchers (watch r from ∷ []) (inl refl)));
+          (ap (λ (m : Message). m.to) (sym p) ∙ to, subst (λ k. Effect s' k) (sym is ∙ ap (λ (m : Message). m.kind) p) (now_watching));
       back = λ j n f t i. back_kind j n n.kind refl f t i;
     }

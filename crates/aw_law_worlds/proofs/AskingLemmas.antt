@@ -1,9 +1,9 @@
 -- What a site asks for.
-use Rattle.std.specs.Prelude.{filter, is_none, nat_eq, not, ◌&&◌, ◌||◌, ◌⊎◌}
+use Rattle.std.specs.Prelude.{filter, is_none, nat_eq, not, ◌&&◌, ◌⊎◌}
 use Rattle.std.proofs.Common.{Bool, List, None, Option, Some, [], ap, false, inl, inr, map, refl, subst, sym, true, ℕ, ◌++◌, ◌∙◌, ◌∷◌, ◌≡◌}
-use Rattle.std.proofs.lemmas.Bool.{and_parts, eq-eqb, eqb-true, not-true}
+use Rattle.std.proofs.lemmas.Bool.{and_parts, eq-eqb, eqb-true, not-true, or_cases, or_left, or_right}
 use Rattle.aw_list.specs.Members.{Member}
-use Rattle.aw_list.proofs.Members.{member_left, member_map, member_right, member_split, member_unmap, never}
+use Rattle.aw_list.proofs.Members.{member_map, member_right, member_unmap, never}
 use Rattle.aw_term.specs.Names.{Ref, ref_eq}
 use Rattle.aw_term.specs.Rules.{Grammar}
 use Rattle.aw_term.specs.Trees.{Never}
@@ -16,24 +16,15 @@ use Rattle.aw_law_sites.specs.Asking.{ask_message, asking, is_wanted}
 use Rattle.aw_law_sites.specs.Homes.{home}
 use Rattle.aw_law_sites.specs.InOrder.{has_ref, in_order}
 use Rattle.aw_law_sites.specs.Sites.{Site}
-use Rattle.aw_law_worlds.specs.Invariant.{watch}
 use Rattle.aw_law_worlds.specs.Mentioned.{IsMentioned}
 use Rattle.aw_law_worlds.proofs.Changes.{NewSound}
 use Rattle.aw_law_worlds.proofs.Lists.{Later-filter, Later-mapped, Member-filter, Member-filtered, Member-in_order, Member-of_order, has_ref-true, once}
 use Rattle.aw_law_worlds.proofs.Parts.{Apart, Inv, Kin, KindKin, Mark, Settled, Sound}
 
-has_more : (b c : Bool) → c ≡ true → (b || c) ≡ true
-has_more true c e = refl
-has_more false c e = e
-
-has_here : (b c : Bool) → b ≡ true → (b || c) ≡ true
-has_here true c e = refl
-has_here false c e = absurd cc
-
 pub has_ref-member : (r : Ref) (ss : List Ref) → Member r ss → has_ref r ss ≡ true
 has_ref-member r [] m = never m
-has_ref-member r (s ∷ ss) (inl e) = has_here (ref_eq r s) (has_ref r ss) (subst (λ s. ref_eq r s ≡ true) e (ref_eq-self r))
-has_ref-member r (s ∷ ss) (inr m) = has_more (ref_eq r s) (has_ref r ss) (has_ref-member r ss m)
+has_ref-member r (s ∷ ss) (inl e) = or_left (ref_eq r s) (has_ref r ss) (subst (λ s. ref_eq r s ≡ true) e (ref_eq-self r))
+has_ref-member r (s ∷ ss) (inr m) = or_right (ref_eq r s) (has_ref r ss) (has_ref-member r ss m)
 
 wanted_cases : (a b d : Bool) → (not a && (b && not d) ≡ true) ⊎ ((a ≡ true) ⊎ ((b ≡ false) ⊎ (d ≡ true)))
 wanted_cases true b d = inr (inl refl)
@@ -56,14 +47,20 @@ module _ (g : Grammar) (loads : Bool) (S : ℕ → Site) (M : List Message) (D :
   abbrev pub asks : List Message
   asks = map (ask_message g s.role) wanted
 
-  pub want : (r : Ref) → Member r wanted → Member r rs × (home g r.node ≡ a → Never) × (Member r (S a).asked → Never)
+  same_asked : (r : Ref) → s.asked r ≡ (S a).asked r
+  same_asked r = ap (λ f. f r) ea
+
+  now_asked : (first : List Message) (r : Ref) → Member r wanted → (asking g s first rs).site.asked r ≡ true
+  now_asked first r m = or_right (s.asked r) (has_ref r wanted) (has_ref-member r wanted m)
+
+  pub want : (r : Ref) → Member r wanted → Member r rs × (home g r.node ≡ a → Never) × (((S a).asked r ≡ true) → Never)
   want r m =
       let (p, q) = Member-filtered (is_wanted g s) r (in_order rs) m in
       let (u, v) = and_parts (not (nat_eq (home g r.node) s.role)) _ q in
       let (w, z) = and_parts (is_none (find s.equations r)) _ v in (
         Member-of_order r rs p,
         (λ e. let f = not-true _ u in let h = eq-eqb (home g r.node) s.role (e ∙ sym er) in absurd cc),
-        (λ n. let f = not-true _ z in let h = has_ref-member r s.asked (subst (Member r) (sym ea) n) in absurd cc),
+        (λ n. let f = not-true _ z in let h = same_asked r ∙ n in absurd cc),
       )
 
   pub ask_case : (m : Message) → Member m asks → (r : Ref) × Member r wanted × (m ≡ ask_message g a r)
@@ -76,39 +73,40 @@ module _ (g : Grammar) (loads : Bool) (S : ℕ → Site) (M : List Message) (D :
   asks_sound y first m i =
       let (r, mr, q) = ask_case m i in
       subst (λ (m : Message). NewSound g loads a (asking g s first rs).site y m.to m.kind) (sym q)
-      (refl, (want r mr).1, refl, member_right r s.asked wanted mr)
+      (refl, (want r mr).1, refl, now_asked first r mr)
 
   pub asks_no_mark : (m : Message) → Member m asks → Mark loads (S m.to) m.kind → Never
   asks_no_mark m i =
       let (r, mr, q) = ask_case m i in
-      subst (λ (m : Message). Mark loads (S m.to) m.kind → Never) (sym q) (λ w. (want r mr).2 (I.watched (home g r.node) (watch r a) w).1)
+      subst (λ (m : Message). Mark loads (S m.to) m.kind → Never) (sym q) (λ w. (want r mr).2 (I.watched (home g r.node) r a w).1)
 
   pub asks_not_sent : (m n : Message) → Member m M → Member n asks → Apart m n
   asks_not_sent m n i j =
       let (r, mr, q) = ask_case n j in
-      subst (λ n. Apart m n) (sym q) (λ k. (want r mr).2 (subst (λ k. Sound g S x m.to k → Member r (S a).asked) (sym (kin_ask m r a (home g r.node) k)) (λ z. z.2) (I.sound m i)))
+      subst (λ n. Apart m n) (sym q) (λ k. (want r mr).2 (subst (λ k. Sound g S x m.to k → ((S a).asked r ≡ true)) (sym (kin_ask m r a (home g r.node) k)) (λ z. z.2) (I.sound m i)))
 
   pub asks_apart : Later Apart asks
   asks_apart = Later-mapped (λ a b. a ≡ b → Never) Apart (ask_message g s.role) (λ a b n k. n k.1.0) wanted (Later-filter (λ a b. a ≡ b → Never) (is_wanted g s) (in_order rs) (once rs))
 
-  pub asked_cases : (first : List Message) (r : Ref) → Member r (asking g s first rs).site.asked → Member r (S a).asked ⊎ (Member (ask_message g a r) (first ++ asks) × Member r rs)
-  asked_cases first r m = elim (member_split r s.asked wanted m) [
-    | inl o ↦ inl (subst (Member r) ea o)
-    | inr n ↦ inr (member_right (ask_message g a r) first asks (subst (λ b. Member (ask_message g b r) asks) er (member_map (ask_message g s.role) r wanted n)), (want r n).0)
+  pub asked_cases : (first : List Message) (r : Ref) → ((asking g s first rs).site.asked r ≡ true) → ((S a).asked r ≡ true) ⊎ (Member (ask_message g a r) (first ++ asks) × Member r rs)
+  asked_cases first r m = elim (or_cases (s.asked r) (has_ref r wanted) m) [
+    | inl o ↦ inl (sym (same_asked r) ∙ o)
+    | inr i ↦ (let n = has_ref-true r wanted i in
+        inr (member_right (ask_message g a r) first asks (subst (λ b. Member (ask_message g b r) asks) er (member_map (ask_message g s.role) r wanted n)), (want r n).0))
   ]
 
-  pub asked_more : (first : List Message) (r : Ref) → Member r (S a).asked → Member r (asking g s first rs).site.asked
-  asked_more first r m = member_left r s.asked wanted (subst (Member r) (sym ea) m)
+  pub asked_more : (first : List Message) (r : Ref) → ((S a).asked r ≡ true) → ((asking g s first rs).site.asked r ≡ true)
+  asked_more first r m = or_left (s.asked r) (has_ref r wanted) (same_asked r ∙ m)
 
   pub asking_settles : (first : List Message) (r : Ref) → Member r rs → Settled g (asking g s first rs).site r
   asking_settles first r m =
-      elim (wanted_cases (nat_eq (home g r.node) s.role) (is_none (find s.equations r)) (has_ref r s.asked)) [
-        | inl e ↦ inr (inl (member_right r s.asked wanted (Member-filter (is_wanted g s) r (in_order rs) (Member-in_order r rs m) e)))
+      elim (wanted_cases (nat_eq (home g r.node) s.role) (is_none (find s.equations r)) (s.asked r)) [
+        | inl e ↦ inr (inl (now_asked first r (Member-filter (is_wanted g s) r (in_order rs) (Member-in_order r rs m) e)))
         | inr z ↦ elim z [
           | inl e ↦ inl (eqb-true (home g r.node) s.role e)
           | inr y ↦ elim y [
             | inl e ↦ inr (inr (some_of' (find s.equations r) e))
-            | inr e ↦ inr (inl (member_left r s.asked wanted (has_ref-true r s.asked e)))
+            | inr e ↦ inr (inl (or_left (s.asked r) (has_ref r wanted) e))
           ]
         ]
       ]

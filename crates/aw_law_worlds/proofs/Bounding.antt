@@ -20,7 +20,6 @@ use Rattle.aw_law_sites.proofs.Lists.{each_of}
 use Rattle.aw_law_sites.specs.Bounds.{bound, child_results, created, is_called, part_lefts, part_on}
 use Rattle.aw_law_sites.specs.Homes.{has_steps, home, parent}
 use Rattle.aw_law_sites.specs.Worlds.{IsQuiet, World, deliver, settle, site_at, undelivered, count_set}
-use Rattle.aw_law_worlds.specs.Invariant.{watch}
 use Rattle.aw_law_worlds.specs.Mentioned.{IsCreated, IsPartSlot}
 use Rattle.aw_law_worlds.proofs.Counting.{count_all}
 use Rattle.aw_law_worlds.proofs.Delivering.{has-end, not-eq, parent-below}
@@ -136,7 +135,7 @@ module _ (words : Words) (g : Grammar) (accepted : IsAccepted words g) (loads : 
       (not-eq (home g (parent h.node)) (home g h.node) (λ q. n (ap (home g) (sym (parent-below p r k)) ∙ (ap (λ nd. home g (parent nd)) (sym e) ∙ (q ∙ sym t)))))
 
   module _ (w : World) (x : Joint) (W : Good w x) where
-    asked-created : (a : ℕ) (r : Ref) → Member r (site_at w a).asked → Member r (created g x)
+    asked-created : (a : ℕ) (r : Ref) → ((site_at w a).asked r ≡ true) → Member r (created g x)
     asked-created a r m = created-there g x r (W.valid.1 r (W.inv.asked a r m).1)
 
     key-possible : (to : ℕ) (k : Kind) → Sound g (site_at w) x to k → Member (key_on to k) (possible x)
@@ -152,7 +151,7 @@ module _ (words : Words) (g : Grammar) (accepted : IsAccepted words g) (loads : 
         (subst (λ to. Member (AskKey to r b) (each_role (λ r b. AskKey (home g r.node) r b) (created g x) g.roles)) (sym t)
         (each_role-member (λ r b. AskKey (home g r.node) r b) (created g x) g.roles r b (asked-created b r m) (W.inv.range b r m))))
     key-possible to (Tells e load) (v, cs) =
-        let m = (W.inv.watched (home g e.left.node) (watch e.left to) v).1 in
+        let m = (W.inv.watched (home g e.left.node) e.left to v).1 in
         member_right (TellKey to e.left) (map (λ (h : Held). CallKey (home g h.node) h.node) (filter (is_called g) x.held)) _
         (member_right (TellKey to e.left) (each_role (λ r b. AskKey (home g r.node) r b) (created g x) g.roles) (each_role (λ r b. TellKey b r) (created g x) g.roles)
         (each_role-member (λ r b. TellKey b r) (created g x) g.roles e.left to (asked-created to e.left m) (W.inv.range to e.left m)))

@@ -1,6 +1,6 @@
 -- One site changes and the others stay: the invariant is kept.
 use Rattle.std.specs.Prelude.{slice_get, ◌⊎◌}
-use Rattle.std.proofs.Common.{Bool, List, Some, [], arith, false, inl, inr, length, refl, subst, suc, sym, zero, ℕ, ◌++◌, ◌<◌, ◌∙◌, ◌∷◌, ◌≡◌, ◌≤◌}
+use Rattle.std.proofs.Common.{Bool, List, Some, [], arith, false, inl, inr, length, refl, subst, suc, sym, zero, ℕ, ◌++◌, ◌<◌, ◌∙◌, ◌∷◌, ◌≡◌, ◌≤◌, true}
 use Rattle.aw_list.specs.Members.{Member}
 use Rattle.aw_list.proofs.Members.{member_got, member_left, member_right, member_split, never}
 use Rattle.aw_term.specs.Configs.{Done}
@@ -15,9 +15,9 @@ use Rattle.aw_apply.specs.Messages.{Asks, Calls, Kind, Message, Tells}
 use Rattle.aw_law_sites.specs.Joint.{Joint, called_held}
 use Rattle.aw_law_sites.specs.Asking.{ask_message}
 use Rattle.aw_law_sites.specs.Homes.{home}
-use Rattle.aw_law_sites.specs.Sites.{Site, Watch}
+use Rattle.aw_law_sites.specs.Sites.{Site}
 use Rattle.aw_law_worlds.specs.Laws.{StaysIn}
-use Rattle.aw_law_worlds.specs.Invariant.{IsBrought, sender, watch}
+use Rattle.aw_law_worlds.specs.Invariant.{IsBrought, sender}
 use Rattle.aw_law_worlds.specs.Mentioned.{IsMentioned}
 use Rattle.aw_law_worlds.proofs.Lists.{each_by, later_both}
 use Rattle.aw_law_worlds.proofs.Parts.{Apart, Carries, Effect, HeldBefore, HoldsAll, Inv, IsCalled, IsLight, IsTold, Is_held, Mark, Sends_own, Settled, Sound}
@@ -54,8 +54,8 @@ module _ (g : Grammar) (loads : Bool) where
   -- what a message that role a sends is about
   abbrev pub NewSound : ℕ → Site → Joint → ℕ → Kind → Type 0
   NewSound a s x to (Calls c load) = (to ≡ home g c.node) × ((p : Node) × (r : ℕ) × (k : ℕ) × (c.node ≡ below p r k) × (home g p ≡ to → Never)) × Member (called_held c) x.held × Carries g x to load
-  NewSound a s x to (Asks r b) = (to ≡ home g r.node) × (to ≡ b → Never) × (b ≡ a) × Member r s.asked
-  NewSound a s x to (Tells e load) = (home g e.left.node ≡ a) × Member (watch e.left to) s.watchers × Carries g x to (e ∷ load)
+  NewSound a s x to (Asks r b) = (to ≡ home g r.node) × (to ≡ b → Never) × (b ≡ a) × (s.asked r ≡ true)
+  NewSound a s x to (Tells e load) = (home g e.left.node ≡ a) × (s.watches e.left to ≡ true) × Carries g x to (e ∷ load)
 
   pub record Change (S : ℕ → Site) (M : List Message) (x : Joint) (a : ℕ) (s : Site) (sent : List Message) (y : Joint) (now : ℕ → Type 0) : Type 0 where
     pub role : s.role ≡ a
@@ -74,11 +74,11 @@ module _ (g : Grammar) (loads : Bool) where
     pub inherited_kept : (h : Held) → Member h x.held → (h' : Held) × Member h' y.held × (h'.inherited ≡ h.inherited)
     pub called : (h : Held) → Member h y.held → ((home g h.node ≡ a) × Member h s.held) ⊎ (IsCalled g h sent ⊎ (Member h x.held × (Member h (S a).held → Member h s.held)))
     pub settled : (r : Ref) → IsMentioned r s.equations s.held → Settled g s r
-    pub asked_kept : (r : Ref) → Member r (S a).asked → Member r s.asked
-    pub asked : (r : Ref) → Member r s.asked → Member r (S a).asked ⊎ (Member (ask_message g a r) sent × IsMentioned r y.equations y.held)
-    pub watched_kept : (v : Watch) → Member v (S a).watchers → Member v s.watchers
-    pub watched : (v : Watch) → Member v s.watchers → Member v (S a).watchers ⊎ ((home g v.reference.node ≡ a) × Member v.reference (S v.role).asked)
-    pub tells : (v : Watch) (b : Body) → Member v s.watchers → find s.equations v.reference ≡ Some b → IsTold (record { left = v.reference; body = b }) v.role M ⊎ IsTold (record { left = v.reference; body = b }) v.role sent
+    pub asked_kept : (r : Ref) → ((S a).asked r ≡ true) → (s.asked r ≡ true)
+    pub asked : (r : Ref) → (s.asked r ≡ true) → ((S a).asked r ≡ true) ⊎ (Member (ask_message g a r) sent × IsMentioned r y.equations y.held)
+    pub watched_kept : (r : Ref) (to : ℕ) → ((S a).watches r to ≡ true) → (s.watches r to ≡ true)
+    pub watched : (r : Ref) (to : ℕ) → (s.watches r to ≡ true) → ((S a).watches r to ≡ true) ⊎ ((home g r.node ≡ a) × ((S to).asked r ≡ true))
+    pub tells : (r : Ref) (to : ℕ) (b : Body) → (s.watches r to ≡ true) → find s.equations r ≡ Some b → IsTold (record { left = r; body = b }) to M ⊎ IsTold (record { left = r; body = b }) to sent
     pub foreign : (r : Ref) (b : Body) → find s.equations r ≡ Some b → (home g r.node ≡ a) ⊎ ((find (S a).equations r ≡ Some b) ⊎ IsBrought now M a r b)
     pub away : (m : Message) → Member m sent → m.to ≡ a → Never
     pub sound : (m : Message) → Member m sent → NewSound a s y m.to m.kind
@@ -102,11 +102,11 @@ module _ (g : Grammar) (loads : Bool) where
     find_on : (b : ℕ) (r : Ref) (c : Body) → find (S b).equations r ≡ Some c → find (S' b).equations r ≡ Some c
     find_on b r c = by_role (λ b s. find (S b).equations r ≡ Some c → find s.equations r ≡ Some c) (C.find_kept r c) (λ b n e. e) b
 
-    asked_on : (b : ℕ) (r : Ref) → Member r (S b).asked → Member r (S' b).asked
-    asked_on b r = by_role (λ b s. Member r (S b).asked → Member r s.asked) (C.asked_kept r) (λ b n e. e) b
+    asked_on : (b : ℕ) (r : Ref) → ((S b).asked r ≡ true) → ((S' b).asked r ≡ true)
+    asked_on b r = by_role (λ b s. ((S b).asked r ≡ true) → (s.asked r ≡ true)) (C.asked_kept r) (λ b n e. e) b
 
-    watch_on : (b : ℕ) (v : Watch) → Member v (S b).watchers → Member v (S' b).watchers
-    watch_on b v = by_role (λ b s. Member v (S b).watchers → Member v s.watchers) (C.watched_kept v) (λ b n e. e) b
+    watch_on : (b : ℕ) (r : Ref) (to : ℕ) → ((S b).watches r to ≡ true) → ((S' b).watches r to ≡ true)
+    watch_on b r to = by_role (λ b s. ((S b).watches r to ≡ true) → (s.watches r to ≡ true)) (C.watched_kept r to) (λ b n e. e) b
 
     is_held_kept : (c : Call) → Is_held c (S a).held → Is_held c (S' a).held
     is_held_kept c (h, m, n, so, i) = let (h', m', n', so', i') = C.held_kept h m in (h', m', n' ∙ n, so' ∙ so, i' ∙ i)
@@ -119,7 +119,7 @@ module _ (g : Grammar) (loads : Bool) where
 
     effect_on : (b : ℕ) (k : Kind) → Effect (S b) k → Effect (S' b) k
     effect_on b (Calls c load) (h, l) = (is_held_on b c h, all_on b load l)
-    effect_on b (Asks r i) m = watch_on b (watch r i) m
+    effect_on b (Asks r i) m = watch_on b r i m
     effect_on b (Tells e load) l = all_on b (e ∷ load) l
 
     mention_on : (r : Ref) → IsMentioned r x.equations x.held → IsMentioned r y.equations y.held
@@ -134,12 +134,12 @@ module _ (g : Grammar) (loads : Bool) where
         (e, p, elim (C.call_kept c m) [ inl z ↦ inl z | inr z ↦ inr (subst (λ b. Is_held c (S' b).held) (sym z.0 ∙ sym e) z.1) ], carries_on to load cs)
     sound_on to (Calls c load) (e, p, inr h, cs) = (e, p, inr (is_held_on to c h), carries_on to load cs)
     sound_on to (Asks r b) (e, n, m) = (e, n, asked_on b r m)
-    sound_on to (Tells e load) (w, cs) = (watch_on (home g e.left.node) (watch e.left to) w, carries_on to (e ∷ load) cs)
+    sound_on to (Tells e load) (w, cs) = (watch_on (home g e.left.node) e.left to w, carries_on to (e ∷ load) cs)
 
     sound_new : (to : ℕ) (k : Kind) → NewSound a (S' a) y to k → Sound g S' y to k
     sound_new to (Calls c load) (e, p, m, cs) = (e, p, inl m, cs)
-    sound_new to (Asks r b) (e, n, ba, m) = (e, n, subst (λ b. Member r (S' b).asked) (sym ba) m)
-    sound_new to (Tells e load) (h, w, cs) = (subst (λ b. Member (watch e.left to) (S' b).watchers) (sym h) w, cs)
+    sound_new to (Asks r b) (e, n, ba, m) = (e, n, subst (λ b. ((S' b).asked r ≡ true)) (sym ba) m)
+    sound_new to (Tells e load) (h, w, cs) = (subst (λ b. ((S' b).watches e.left to ≡ true)) (sym h) w, cs)
 
     called_left : (h : Held) → IsCalled g h M → IsCalled g h (M ++ sent)
     called_left h (l, m) = (l, member_left _ M sent m)
@@ -192,16 +192,16 @@ module _ (g : Grammar) (loads : Bool) where
         ]
       ];
       settled = by_role (λ b s. (r : Ref) → IsMentioned r s.equations s.held → Settled g s r) C.settled (λ b n. I.settled b);
-      asked = by_role (λ b s. (r : Ref) → Member r s.asked → Member (ask_message g b r) (M ++ sent) × IsMentioned r y.equations y.held)
+      asked = by_role (λ b s. (r : Ref) → (s.asked r ≡ true) → Member (ask_message g b r) (M ++ sent) × IsMentioned r y.equations y.held)
           (λ r m. elim (C.asked r m) [ inl o ↦ (let (p, q) = I.asked a r o in (member_left _ M sent p, mention_on r q)) | inr n ↦ (member_right _ M sent n.0, n.1) ])
           (λ b n r m. let (p, q) = I.asked b r m in (member_left _ M sent p, mention_on r q));
-      range = by_role (λ b s. (r : Ref) → Member r s.asked → b < g.roles) (λ r m. C.within) (λ b n. I.range b);
-      watched = by_role (λ b s. (v : Watch) → Member v s.watchers → (home g v.reference.node ≡ b) × Member v.reference (S' v.role).asked)
-          (λ v m. elim (C.watched v m) [ inl o ↦ (let (p, q) = I.watched a v o in (p, asked_on v.role v.reference q)) | inr n ↦ (n.0, asked_on v.role v.reference n.1) ])
-          (λ b n v m. let (p, q) = I.watched b v m in (p, asked_on v.role v.reference q));
-      tells = by_role (λ b s. (v : Watch) (c : Body) → Member v s.watchers → find s.equations v.reference ≡ Some c → IsTold (record { left = v.reference; body = c }) v.role (M ++ sent))
-          (λ v c m e. elim (C.tells v c m e) [ inl o ↦ told-left _ v.role M sent o | inr n ↦ told-right _ v.role M sent n ])
-          (λ b n v c m e. told-left _ v.role M sent (I.tells b v c m e));
+      range = by_role (λ b s. (r : Ref) → (s.asked r ≡ true) → b < g.roles) (λ r m. C.within) (λ b n. I.range b);
+      watched = by_role (λ b s. (r : Ref) (to : ℕ) → (s.watches r to ≡ true) → (home g r.node ≡ b) × ((S' to).asked r ≡ true))
+          (λ r to m. elim (C.watched r to m) [ inl o ↦ (let (p, q) = I.watched a r to o in (p, asked_on to r q)) | inr n ↦ (n.0, asked_on to r n.1) ])
+          (λ b n r to m. let (p, q) = I.watched b r to m in (p, asked_on to r q));
+      tells = by_role (λ b s. (r : Ref) (to : ℕ) (c : Body) → (s.watches r to ≡ true) → find s.equations r ≡ Some c → IsTold (record { left = r; body = c }) to (M ++ sent))
+          (λ r to c m e. elim (C.tells r to c m e) [ inl o ↦ told-left _ to M sent o | inr n ↦ told-right _ to M sent n ])
+          (λ b n r to c m e. told-left _ to M sent (I.tells b r to c m e));
       foreign = by_role (λ b s. (r : Ref) (c : Body) → find s.equations r ≡ Some c → (home g r.node ≡ b) ⊎ IsBrought D' (M ++ sent) b r c)
           (λ r c e. elim (C.foreign r c e) [
             | inl h ↦ inl h

@@ -27,7 +27,7 @@ use Rattle.aw_law_sites.specs.Sites.{Reaction, Site}
 use Rattle.aw_law_sites.specs.ValidNames.{body_ok, call_ok, equation_ok, equations_ok, names_ok, origin_ok, refs_ok}
 use Rattle.aw_law_worlds.specs.Invariant.{IsValid}
 use Rattle.aw_law_worlds.specs.Mentioned.{IsMentioned}
-use Rattle.aw_law_worlds.proofs.Answering.{has_watch-member, answering, has_watch-true, one-place}
+use Rattle.aw_law_worlds.proofs.Answering.{answering, one-place}
 use Rattle.aw_law_worlds.proofs.Changes.{Change}
 use Rattle.aw_law_worlds.proofs.HeldOrdering.{insert-ordered}
 use Rattle.aw_law_worlds.proofs.Learning.{Keyed, add-holds, add-kept, add-member, find-member, learned, member-found, mentions-of, of-mentions}
@@ -228,7 +228,7 @@ module _ (g : Grammar) (loads : Bool) (S : ℕ → Site) (M : List Message) (D :
   repeat-effect (Calls c load) (t, p, z, cs) e =
       let (u, v) = and_parts _ _ e in
       (is-held c (held_of c.node (S a).held) refl u z, held-holds x.equations keyed (S a).equations sub load (known load cs) v)
-  repeat-effect (Asks r from) z e = has_watch-true r from (S a).watchers e
+  repeat-effect (Asks r from) z e = e
   repeat-effect (Tells q load) (w, cs) e = held-holds x.equations keyed (S a).equations sub (q ∷ load) (known (q ∷ load) cs) e
 
   -- what is new was not delivered
@@ -354,7 +354,7 @@ module _ (g : Grammar) (loads : Bool) (S : ℕ → Site) (M : List Message) (D :
 
   known-repeat : (q : Kind) → Effect (S a) q → is_repeat (S a) q ≡ true
   known-repeat (Calls c load) f = effect-repeat c load f
-  known-repeat (Asks r from) f = has_watch-member r from (S a).watchers f
+  known-repeat (Asks r from) f = f
   known-repeat (Tells e load) f = holds-held (S a).equations (e ∷ load) f
 
   -- what a delivered message has left makes it a repeat

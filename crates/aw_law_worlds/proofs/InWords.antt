@@ -20,7 +20,7 @@ use Rattle.aw_law_sites.specs.Asking.{ask_message}
 use Rattle.aw_law_sites.specs.Homes.{home}
 use Rattle.aw_law_sites.specs.Sites.{Site}
 use Rattle.aw_law_sites.specs.Worlds.{World, site_at}
-use Rattle.aw_law_worlds.specs.Invariant.{IsInvariant, calls_at, IsSent, IsSentOnce, equation, sender, tell_message, watch}
+use Rattle.aw_law_worlds.specs.Invariant.{IsInvariant, calls_at, IsSent, IsSentOnce, equation, sender, tell_message}
 use Rattle.aw_law_worlds.proofs.Answering.{brought_told, one-place}
 use Rattle.aw_law_worlds.proofs.Learning.{find-member}
 use Rattle.aw_law_worlds.proofs.Parts.{Effect, Kin, KindKin, Sound}
@@ -92,7 +92,7 @@ module _ (words : Words) (g : Grammar) (accepted : IsAccepted words g) (loads : 
         | inl i ↦ inr i
         | inr i ↦ elim (W.inv.foreign a r i.0 i.1) [
           | inl h ↦ inl h
-          | inr q ↦ inr (W.inv.watched (home g r.node) (watch r a) (brought_told g loads (site_at w) w.messages _ x W.inv lf a r i.0 q)).1
+          | inr q ↦ inr (W.inv.watched (home g r.node) r a (brought_told g loads (site_at w) w.messages _ x W.inv lf a r i.0 q)).1
         ]
       ]
     ];
@@ -100,10 +100,10 @@ module _ (words : Words) (g : Grammar) (accepted : IsAccepted words g) (loads : 
         let (k, e) = member-get w.messages (ask_message g a r) (W.inv.asked a r m).0 in
         let (p, q) = W.inv.effect k (ask_message g a r) e in
         (k, only w x W (ask_message g a r) k e, p, q);
-    one_tell = λ a v b m f.
-        let (l, i) = W.inv.tells a v b m f in
+    one_tell = λ a r to b m f.
+        let (l, i) = W.inv.tells a r to b m f in
         let (k, e) = member-get w.messages _ i in
-        (k, l, e, λ j d other p q. one-place w.messages W.inv.apart j k (tell_message v.role d other) (tell_message v.role (equation v.reference b) l) q e (refl, p) (refl, sym p));
+        (k, l, e, λ j d other p q. one-place w.messages W.inv.apart j k (tell_message to d other) (tell_message to (equation r b) l) q e (refl, p) (refl, sym p));
     told = λ k role e l q.
         let s = W.inv.sound (tell_message role e l) (member_got w.messages k (tell_message role e l) q) in
         (s.0, W.inv.homes e.left e.body (W.keyed e (carried_known w x role (Tells e l) s e (inl refl))));

@@ -151,13 +151,13 @@ module _ (g : Grammar) (loads : Bool) (S : ℕ → Site) (M : List Message) (D :
       ]);
       asked_kept = asked_more g loads S M D x I a s1 rs (I.roles a) refl [];
       asked = λ r n. elim (asked_cases g loads S M D x I a s1 rs (I.roles a) refl [] r n) [ inl o ↦ inl o | inr o ↦ inr (o.0, rs_mentioned r o.1) ];
-      watched_kept = λ v n. n;
-      watched = λ v n. inl n;
-      tells = λ v b n f.
-          let (h, q) = I.watched a v n in
-          inl (I.tells a v b n (subst (λ c. find (S c).equations v.reference ≡ Some b) h
-          (I.homes v.reference b (elim (find-cases v.reference b f) [
-            | inl o ↦ keyed _ (I.parts a _ (find-member _ v.reference b o))
+      watched_kept = λ r to n. n;
+      watched = λ r to n. inl n;
+      tells = λ r to b n f.
+          let (h, q) = I.watched a r to n in
+          inl (I.tells a r to b n (subst (λ c. find (S c).equations r ≡ Some b) h
+          (I.homes r b (elim (find-cases r b f) [
+            | inl o ↦ keyed _ (I.parts a _ (find-member _ r b o))
             | inr o ↦ keyed _ (each_member (λ (e : Equation). Member e x.equations × (home g e.left.node ≡ a → Never)) es _ carries o).0
           ]))));
       foreign = λ r b f. elim (find-cases r b f) [ inl o ↦ inr (inl o) | inr o ↦ inr (inr (k, m, at, refl, to, brings _ o)) ];

@@ -13,8 +13,8 @@ use Rattle.aw_apply.specs.Messages.{Asks, Calls, Kind, Message, Tells, carried}
 use Rattle.aw_law_sites.specs.Joint.{Joint, called_held}
 use Rattle.aw_law_sites.specs.Asking.{ask_message}
 use Rattle.aw_law_sites.specs.Homes.{home}
-use Rattle.aw_law_sites.specs.Sites.{Site, Watch}
-use Rattle.aw_law_worlds.specs.Invariant.{IsBrought, sender, watch}
+use Rattle.aw_law_sites.specs.Sites.{Site}
+use Rattle.aw_law_worlds.specs.Invariant.{IsBrought, sender}
 use Rattle.aw_law_worlds.specs.Mentioned.{IsMentioned}
 
 abbrev pub KindKin : Kind → Kind → Type 0
@@ -32,7 +32,7 @@ Apart m n = Kin m n → Never
 
 -- a reference that needs no further asking
 abbrev pub Settled : Grammar → Site → Ref → Type 0
-Settled g s r = (home g r.node ≡ s.role) ⊎ (Member r s.asked ⊎ ((b : Body) × (find s.equations r ≡ Some b)))
+Settled g s r = (home g r.node ≡ s.role) ⊎ ((s.asked r ≡ true) ⊎ ((b : Body) × (find s.equations r ≡ Some b)))
 
 abbrev pub Is_held : Call → List Held → Type 0
 Is_held c hs = (h : Held) × Member h hs × (h.node ≡ c.node) × (h.sort ≡ c.sort) × (h.inherited ≡ c.inherited)
@@ -43,13 +43,13 @@ HoldsAll k es = Each (λ (e : Equation). find k e.left ≡ Some e.body) es
 -- what a delivered message has left at its site
 abbrev pub Effect : Site → Kind → Type 0
 Effect s (Calls c load) = Is_held c s.held × HoldsAll s.equations load
-Effect s (Asks r b) = Member (watch r b) s.watchers
+Effect s (Asks r b) = (s.watches r b ≡ true)
 Effect s (Tells e load) = HoldsAll s.equations (e ∷ load)
 
 -- what is found at its site only after it was delivered; with loads an equation may come before its Tell
 abbrev pub Mark : Bool → Site → Kind → Type 0
 Mark loads s (Calls c load) = (h : Held) × Member h s.held × (h.node ≡ c.node)
-Mark loads s (Asks r b) = Member (watch r b) s.watchers
+Mark loads s (Asks r b) = (s.watches r b ≡ true)
 Mark loads s (Tells e load) = (loads ≡ false) × ((b : Body) × (find s.equations e.left ≡ Some b))
 
 abbrev pub IsLight : Kind → Type 0
@@ -65,8 +65,8 @@ Carries g x to es = Each (λ (e : Equation). Member e x.equations × (home g e.l
 abbrev pub Sound : Grammar → (ℕ → Site) → Joint → ℕ → Kind → Type 0
 Sound g S x to (Calls c load) =
     (to ≡ home g c.node) × ((p : Node) × (r : ℕ) × (k : ℕ) × (c.node ≡ below p r k) × (home g p ≡ to → Never)) × (Member (called_held c) x.held ⊎ Is_held c (S to).held) × Carries g x to load
-Sound g S x to (Asks r b) = (to ≡ home g r.node) × (to ≡ b → Never) × Member r (S b).asked
-Sound g S x to (Tells e load) = Member (watch e.left to) (S (home g e.left.node)).watchers × Carries g x to (e ∷ load)
+Sound g S x to (Asks r b) = (to ≡ home g r.node) × (to ≡ b → Never) × ((S b).asked r ≡ true)
+Sound g S x to (Tells e load) = ((S (home g e.left.node)).watches e.left to ≡ true) × Carries g x to (e ∷ load)
 
 abbrev pub Sends_own : Grammar → Kind → Type 0
 Sends_own g k = Each (λ (e : Equation). home g e.left.node ≡ sender g k) (carried k)
@@ -96,11 +96,11 @@ pub record Inv (g : Grammar) (loads : Bool) (S : ℕ → Site) (M : List Message
   -- what is mentioned is settled
   pub settled : (a : ℕ) (r : Ref) → IsMentioned r (S a).equations (S a).held → Settled g (S a) r
   -- what is asked for
-  pub asked : (a : ℕ) (r : Ref) → Member r (S a).asked → Member (ask_message g a r) M × IsMentioned r x.equations x.held
-  pub range : (a : ℕ) (r : Ref) → Member r (S a).asked → a < g.roles
-  pub watched : (a : ℕ) (v : Watch) → Member v (S a).watchers → (home g v.reference.node ≡ a) × Member v.reference (S v.role).asked
+  pub asked : (a : ℕ) (r : Ref) → ((S a).asked r ≡ true) → Member (ask_message g a r) M × IsMentioned r x.equations x.held
+  pub range : (a : ℕ) (r : Ref) → ((S a).asked r ≡ true) → a < g.roles
+  pub watched : (a : ℕ) (r : Ref) (to : ℕ) → ((S a).watches r to ≡ true) → (home g r.node ≡ a) × ((S to).asked r ≡ true)
   -- what is told
-  pub tells : (a : ℕ) (v : Watch) (b : Body) → Member v (S a).watchers → find (S a).equations v.reference ≡ Some b → IsTold (record { left = v.reference; body = b }) v.role M
+  pub tells : (a : ℕ) (r : Ref) (to : ℕ) (b : Body) → ((S a).watches r to ≡ true) → find (S a).equations r ≡ Some b → IsTold (record { left = r; body = b }) to M
   -- equations of other roles
   pub foreign : (a : ℕ) (r : Ref) (b : Body) → find (S a).equations r ≡ Some b → (home g r.node ≡ a) ⊎ IsBrought D M a r b
   -- every message

@@ -32,7 +32,6 @@ use Rattle.aw_law_sites.specs.Choosing.{answer_to, choose, choose_on, outcome}
 use Rattle.aw_law_sites.specs.Homes.{home}
 use Rattle.aw_law_sites.specs.Sites.{Site}
 use Rattle.aw_law_sites.specs.Worlds.{IsQuiet, World, first_false, node_of, site_at}
-use Rattle.aw_law_worlds.specs.Invariant.{watch}
 use Rattle.aw_law_worlds.proofs.Delivering.{held_of-none}
 use Rattle.aw_law_worlds.proofs.Parts.{Sound}
 use Rattle.aw_law_worlds.proofs.Quieting.{agrees, at_home}
@@ -144,7 +143,7 @@ module _ (words : Words) (g : Grammar) (accepted : IsAccepted words g) (loads : 
   none_sent m (Calls c l) (t, (p, r, i, e, n), z, cs) = n (home_zero words g accepted one_role p ∙ (sym (home_zero words g accepted one_role c.node) ∙ sym t))
   none_sent m (Asks r b) (t, n, i) = let l = W.inv.range b r i in let z : 0 ≡ b = omega (arith, l, one_role) in n (t ∙ (home_zero words g accepted one_role r.node ∙ z))
   none_sent m (Tells e l) (v, cs) =
-      let i = (W.inv.watched (home g e.left.node) (watch e.left m.to) v).1 in
+      let i = (W.inv.watched (home g e.left.node) e.left m.to v).1 in
       let b = W.inv.range m.to e.left i in
       let z : 0 ≡ m.to = omega (arith, b, one_role) in
       cs.0.1 (home_zero words g accepted one_role e.left.node ∙ z)

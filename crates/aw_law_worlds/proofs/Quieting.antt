@@ -34,7 +34,6 @@ use Rattle.aw_law_sites.proofs.SameConfigs.{fit_of, row_for}
 use Rattle.aw_law_sites.specs.Homes.{home}
 use Rattle.aw_law_sites.specs.Sites.{Site}
 use Rattle.aw_law_sites.specs.Worlds.{IsQuiet, World, first_false, gather, site_at}
-use Rattle.aw_law_worlds.specs.Invariant.{watch}
 use Rattle.aw_law_worlds.specs.Mentioned.{IsMentioned}
 use Rattle.aw_law_worlds.proofs.HeldOrdering.{gather-member, gather-ordered, gather-there, same_held}
 use Rattle.aw_law_worlds.proofs.Learning.{find-member}
@@ -125,7 +124,7 @@ module _ (words : Words) (g : Grammar) (accepted : IsAccepted words g) (loads : 
           | inl h ↦ subst (λ a. find (S a).equations r ≡ Some b) (h ∙ W.inv.roles a) (W.inv.homes r b f)
           | inr z ↦ elim z [
             | inl i ↦ (let v = done _ (W.inv.asked a r i).0 in
-                let (l, j) = W.inv.tells (home g r.node) (watch r a) b v (W.inv.homes r b f) in
+                let (l, j) = W.inv.tells (home g r.node) r a b v (W.inv.homes r b f) in
                 (done _ j).0)
             | inr i ↦ (let p = knows a r i.0 i.1 in i.1 ∙ (sym p ∙ f))
           ]

@@ -24,9 +24,9 @@ use Rattle.aw_law_sites.proofs.SameConfigs.{Fit, fit_empty, fit_of, keep}
 use Rattle.aw_law_sites.specs.Choosing.{choose_on, outcome}
 use Rattle.aw_law_sites.specs.Homes.{home}
 use Rattle.aw_law_sites.specs.Reacting.{react, receive}
-use Rattle.aw_law_sites.specs.Sites.{Reaction, Site, Watch, empty_site}
+use Rattle.aw_law_sites.specs.Sites.{Reaction, Site, empty_site}
 use Rattle.aw_law_sites.specs.Worlds.{Chooses, Delivers, Move, Stepped, World, chosen_at, deliver, deliver_on, empty_world, mark_delivered, node_of, received_at, run, site_at, step, with_site}
-use Rattle.aw_law_worlds.specs.Invariant.{IsValid, watch}
+use Rattle.aw_law_worlds.specs.Invariant.{IsValid}
 use Rattle.aw_law_worlds.specs.Laws.{MayCome, StaysIn}
 use Rattle.aw_law_worlds.specs.Mentioned.{IsMentioned, IsRooted}
 use Rattle.aw_law_worlds.proofs.Changes.{Change, Grows, get-append, grown, kept}
@@ -202,7 +202,7 @@ module _ (words : Words) (g : Grammar) (accepted : IsAccepted words g) (loads : 
       subst (λ b. b < g.roles) (sym s.0) (homes.within r.node (valid-ref r (mention-ok g x W.valid.0 r (W.inv.asked b r s.2).1)))
   to-within w x W m (Tells d l) i e =
       let s = subst (λ q. Sound g (site_at w) x m.to q) e (W.inv.sound m i) in
-      W.inv.range m.to d.left (W.inv.watched (home g d.left.node) (watch d.left m.to) s.0).1
+      W.inv.range m.to d.left (W.inv.watched (home g d.left.node) d.left m.to s.0).1
 
   deliver-on : (w : World) (x : Joint) → IsWorld w x → (k : ℕ) (m : Message) → slice_get w.messages k ≡ Some m → IsWorld (received_at w k m.to (receive g (site_at w m.to) m)).world x × Grows (site_at w) (site_at (received_at w k m.to (receive g (site_at w m.to) m)).world)
   deliver-on w x W k m at =
@@ -309,10 +309,10 @@ module _ (words : Words) (g : Grammar) (accepted : IsAccepted words g) (loads : 
       held = λ a h m. never (by_empty (λ a s. (h : Held) → Member h s.held → Never) (λ a b q h m. m) a h m);
       called = λ h m. never m;
       settled = λ a r m. never (by_empty (λ a s. (r : Ref) → IsMentioned r s.equations s.held → Never) (λ a b q r m. elim m [ inl z ↦ z.1 | inr z ↦ z.1 ]) a r m);
-      asked = λ a r m. never (by_empty (λ a s. (r : Ref) → Member r s.asked → Never) (λ a b q r m. m) a r m);
-      range = λ a r m. never (by_empty (λ a s. (r : Ref) → Member r s.asked → Never) (λ a b q r m. m) a r m);
-      watched = λ a v m. never (by_empty (λ a s. (v : Watch) → Member v s.watchers → Never) (λ a b q v m. m) a v m);
-      tells = λ a v b m f. never (by_empty (λ a s. (v : Watch) → Member v s.watchers → Never) (λ a b q v m. m) a v m);
+      asked = λ a r m. never (by_empty (λ a s. (r : Ref) → (s.asked r ≡ true) → Never) (λ a b q r m. absurd cc) a r m);
+      range = λ a r m. never (by_empty (λ a s. (r : Ref) → (s.asked r ≡ true) → Never) (λ a b q r m. absurd cc) a r m);
+      watched = λ a r to m. never (by_empty (λ a s. (r : Ref) (to : ℕ) → (s.watches r to ≡ true) → Never) (λ a b q r to m. absurd cc) a r to m);
+      tells = λ a r to b m f. never (by_empty (λ a s. (r : Ref) (to : ℕ) → (s.watches r to ≡ true) → Never) (λ a b q r to m. absurd cc) a r to m);
       foreign = λ a r b f. never (by_empty (λ a s. find s.equations r ≡ Some b → Never) (λ a c q f. absurd cc) a f);
       sound = λ m i. never i;
       effect = λ k m e. absurd cc;

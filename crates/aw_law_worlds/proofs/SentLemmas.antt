@@ -17,10 +17,8 @@ use Rattle.aw_apply.specs.Messages.{Message}
 use Rattle.aw_law_sites.specs.Joint.{called_held}
 use Rattle.aw_law_sites.proofs.Lists.{each_of}
 use Rattle.aw_law_sites.specs.Homes.{home}
-use Rattle.aw_law_sites.specs.Sites.{Site, Watch}
-use Rattle.aw_law_sites.specs.Telling.{call_out, calls_in, calls_out, has_watch, tell, tells, watchers_from}
-use Rattle.aw_law_worlds.specs.Invariant.{watch}
-use Rattle.aw_law_worlds.proofs.Answering.{has_watch-member, has_watch-true}
+use Rattle.aw_law_sites.specs.Sites.{Site}
+use Rattle.aw_law_sites.specs.Telling.{call_out, calls_in, calls_out, tell, tells, watchers_from}
 use Rattle.aw_law_worlds.proofs.Lists.{Later-mapped, later_both}
 use Rattle.aw_law_worlds.proofs.Parts.{Apart, Kin}
 
@@ -58,14 +56,14 @@ module _ (g : Grammar) (s : Site) where
   out_apart [] l = tt
   out_apart (c ∷ cs) l = apart_step (nat_eq (home g c.node) s.role) c cs l.0 (out_apart cs l.1)
 
-  from_cases : (t : Bool) (i j : ℕ) (r : Ref) (ws : List Watch) (zs : List ℕ) → has_watch r i ws ≡ t → (Member j zs → (suc i ≤ j) × (has_watch r j ws ≡ true)) → Member j (cond t (i ∷ zs) zs) → (i ≤ j) × (has_watch r j ws ≡ true)
-  from_cases true i j r ws zs e f (inl p) = (omega (arith, p), subst (λ j. has_watch r j ws ≡ true) (sym p) e)
-  from_cases true i j r ws zs e f (inr m) = let (a, b) = f m in (omega (arith, a), b)
-  from_cases false i j r ws zs e f m = let (a, b) = f m in (omega (arith, a), b)
+  from_cases : (t : Bool) (i j : ℕ) (ws : ℕ → Bool) (zs : List ℕ) → ws i ≡ t → (Member j zs → (suc i ≤ j) × (ws j ≡ true)) → Member j (cond t (i ∷ zs) zs) → (i ≤ j) × (ws j ≡ true)
+  from_cases true i j ws zs e f (inl p) = (omega (arith, p), subst (λ j. ws j ≡ true) (sym p) e)
+  from_cases true i j ws zs e f (inr m) = let (a, b) = f m in (omega (arith, a), b)
+  from_cases false i j ws zs e f m = let (a, b) = f m in (omega (arith, a), b)
 
-  from_case : (n i j : ℕ) (r : Ref) (ws : List Watch) → Member j (watchers_from n i r ws) → (i ≤ j) × (has_watch r j ws ≡ true)
-  from_case zero i j r ws m = never m
-  from_case (suc n) i j r ws m = from_cases (has_watch r i ws) i j r ws (watchers_from n (suc i) r ws) refl (from_case n (suc i) j r ws) m
+  from_case : (n i j : ℕ) (ws : ℕ → Bool) → Member j (watchers_from n i ws) → (i ≤ j) × (ws j ≡ true)
+  from_case zero i j ws m = never m
+  from_case (suc n) i j ws m = from_cases (ws i) i j ws (watchers_from n (suc i) ws) refl (from_case n (suc i) j ws) m
 
   skip_cases : (t : Bool) (i j : ℕ) (zs : List ℕ) → (i ≡ j → t ≡ true) → (i ≡ j) ⊎ Member j zs → Member j (cond t (i ∷ zs) zs)
   skip_cases true i j zs f (inl e) = inl (sym e)
@@ -76,44 +74,44 @@ module _ (g : Grammar) (s : Site) where
   le_cases : (i j : ℕ) → i ≤ j → (i ≡ j) ⊎ (suc i ≤ j)
   le_cases i j l = elim (cases_lt i j) [ inl a ↦ inr a | inr a ↦ inl (omega (arith, a, l)) ]
 
-  from_has : (n i j : ℕ) (r : Ref) (ws : List Watch) → i ≤ j → j < i + n → has_watch r j ws ≡ true → Member j (watchers_from n i r ws)
-  from_has zero i j r ws a b h = absurd (omega (arith, a, b))
-  from_has (suc n) i j r ws a b h =
-      skip_cases (has_watch r i ws) i j (watchers_from n (suc i) r ws) (λ e. subst (λ i. has_watch r i ws ≡ true) (sym e) h)
-      (elim (le_cases i j a) [ inl e ↦ inl e | inr l ↦ inr (from_has n (suc i) j r ws l (omega (arith, b)) h) ])
+  from_has : (n i j : ℕ) (ws : ℕ → Bool) → i ≤ j → j < i + n → ws j ≡ true → Member j (watchers_from n i ws)
+  from_has zero i j ws a b h = absurd (omega (arith, a, b))
+  from_has (suc n) i j ws a b h =
+      skip_cases (ws i) i j (watchers_from n (suc i) ws) (λ e. subst (λ i. ws i ≡ true) (sym e) h)
+      (elim (le_cases i j a) [ inl e ↦ inl e | inr l ↦ inr (from_has n (suc i) j ws l (omega (arith, b)) h) ])
 
   differ_cases : (t : Bool) (i : ℕ) (zs : List ℕ) → ((j : ℕ) → Member j zs → suc i ≤ j) → Later (λ (a b : ℕ). a ≡ b → Never) zs → Later (λ (a b : ℕ). a ≡ b → Never) (cond t (i ∷ zs) zs)
   differ_cases true i zs f l = (each_of (λ b. i ≡ b → Never) zs (λ b m e. let z = f b m in absurd (omega (arith, z, e))), l)
   differ_cases false i zs f l = l
 
-  from_differ : (n i : ℕ) (r : Ref) (ws : List Watch) → Later (λ (a b : ℕ). a ≡ b → Never) (watchers_from n i r ws)
-  from_differ zero i r ws = tt
-  from_differ (suc n) i r ws = differ_cases (has_watch r i ws) i (watchers_from n (suc i) r ws) (λ j m. (from_case n (suc i) j r ws m).0) (from_differ n (suc i) r ws)
+  from_differ : (n i : ℕ) (ws : ℕ → Bool) → Later (λ (a b : ℕ). a ≡ b → Never) (watchers_from n i ws)
+  from_differ zero i ws = tt
+  from_differ (suc n) i ws = differ_cases (ws i) i (watchers_from n (suc i) ws) (λ j m. (from_case n (suc i) j ws m).0) (from_differ n (suc i) ws)
 
-  pub tell_case : (es : List Equation) (m : Message) → Member m (tells g s es) → (e : Equation) × Member e es × (n : ℕ) × Member (watch e.left n) s.watchers × (m ≡ tell g s e n)
+  pub tell_case : (es : List Equation) (m : Message) → Member m (tells g s es) → (e : Equation) × Member e es × (n : ℕ) × (s.watches e.left n ≡ true) × (m ≡ tell g s e n)
   tell_case [] m i = never i
-  tell_case (e ∷ es) m i = elim (member_split m (map (tell g s e) (watchers_from 64 0 e.left s.watchers)) (tells g s es) i) [
-    | inl a ↦ (let (n, j, p) = member_unmap (tell g s e) m (watchers_from 64 0 e.left s.watchers) a in
-        (e, inl refl, n, has_watch-true e.left n s.watchers (from_case 64 0 n e.left s.watchers j).1, p))
+  tell_case (e ∷ es) m i = elim (member_split m (map (tell g s e) (watchers_from 64 0 (s.watches e.left))) (tells g s es) i) [
+    | inl a ↦ (let (n, j, p) = member_unmap (tell g s e) m (watchers_from 64 0 (s.watches e.left)) a in
+        (e, inl refl, n, (from_case 64 0 n (s.watches e.left) j).1, p))
     | inr a ↦ (let (d, j, n, w, p) = tell_case es m a in (d, inr j, n, w, p))
   ]
 
-  pub tell_has : (es : List Equation) (e : Equation) (n : ℕ) → Member e es → Member (watch e.left n) s.watchers → n < 64 → Member (tell g s e n) (tells g s es)
+  pub tell_has : (es : List Equation) (e : Equation) (n : ℕ) → Member e es → (s.watches e.left n ≡ true) → n < 64 → Member (tell g s e n) (tells g s es)
   tell_has [] e n i w l = never i
   tell_has (d ∷ es) e n (inl p) w l =
       subst (λ d. Member (tell g s e n) (tells g s (d ∷ es))) p
-      (member_left (tell g s e n) (map (tell g s e) (watchers_from 64 0 e.left s.watchers)) (tells g s es)
-      (member_map (tell g s e) n (watchers_from 64 0 e.left s.watchers) (from_has 64 0 n e.left s.watchers (omega arith) (omega (arith, l)) (has_watch-member e.left n s.watchers w))))
-  tell_has (d ∷ es) e n (inr i) w l = member_right (tell g s e n) (map (tell g s d) (watchers_from 64 0 d.left s.watchers)) (tells g s es) (tell_has es e n i w l)
+      (member_left (tell g s e n) (map (tell g s e) (watchers_from 64 0 (s.watches e.left))) (tells g s es)
+      (member_map (tell g s e) n (watchers_from 64 0 (s.watches e.left)) (from_has 64 0 n (s.watches e.left) (omega arith) (omega (arith, l)) w)))
+  tell_has (d ∷ es) e n (inr i) w l = member_right (tell g s e n) (map (tell g s d) (watchers_from 64 0 (s.watches d.left))) (tells g s es) (tell_has es e n i w l)
 
   pub tells_apart : (es : List Equation) → Later (λ (e f : Equation). e.left ≡ f.left → Never) es → Later Apart (tells g s es)
   tells_apart [] l = tt
   tells_apart (e ∷ es) l =
-      later_both Apart (map (tell g s e) (watchers_from 64 0 e.left s.watchers)) (tells g s es)
-      (Later-mapped (λ (a b : ℕ). a ≡ b → Never) Apart (tell g s e) (λ a b n k. n k.0) (watchers_from 64 0 e.left s.watchers) (from_differ 64 0 e.left s.watchers))
+      later_both Apart (map (tell g s e) (watchers_from 64 0 (s.watches e.left))) (tells g s es)
+      (Later-mapped (λ (a b : ℕ). a ≡ b → Never) Apart (tell g s e) (λ a b n k. n k.0) (watchers_from 64 0 (s.watches e.left)) (from_differ 64 0 (s.watches e.left)))
       (tells_apart es l.1)
       (λ m n i j k.
-      let (a, ia, p) = member_unmap (tell g s e) m (watchers_from 64 0 e.left s.watchers) i in
+      let (a, ia, p) = member_unmap (tell g s e) m (watchers_from 64 0 (s.watches e.left)) i in
       let (f, jf, b, w, q) = tell_case es n j in
       each_member (λ (f : Equation). e.left ≡ f.left → Never) es f l.0 jf
       (subst (λ (m : Message). Kin m n → e.left ≡ f.left) (sym p) (subst (λ (n : Message). Kin (tell g s e a) n → e.left ≡ f.left) (sym q) (λ k. k.1)) k))

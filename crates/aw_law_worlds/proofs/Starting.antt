@@ -101,9 +101,9 @@ module _ (g : Grammar) (fit : IsGivenGrammar g) (enter : VariablesEnter g) (ok :
       ]);
       asked_kept = λ r n. n;
       asked = λ r n. inl n;
-      watched_kept = λ v n. n;
-      watched = λ v n. inl n;
-      tells = λ v b n f. inl (I.tells a v b n f);
+      watched_kept = λ r to n. n;
+      watched = λ r to n. inl n;
+      tells = λ r to b n f. inl (I.tells a r to b n f);
       foreign = λ r b f. inr (inl f);
       away = λ m i. never i;
       sound = λ m i. never i;

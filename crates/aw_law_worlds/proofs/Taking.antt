@@ -35,7 +35,7 @@ use Rattle.aw_law_sites.specs.Homes.{home, parent}
 use Rattle.aw_law_sites.specs.Loads.{load_of}
 use Rattle.aw_law_sites.specs.Sites.{Site}
 use Rattle.aw_law_sites.specs.Telling.{call_out, calls_in, calls_out, tell, tells}
-use Rattle.aw_law_worlds.specs.Invariant.{sender, watch}
+use Rattle.aw_law_worlds.specs.Invariant.{sender}
 use Rattle.aw_law_worlds.proofs.Answering.{carries-own, load-none, load-own, own-sent}
 use Rattle.aw_law_worlds.proofs.AskingLemmas.{ask_case, asked_cases, asked_more, asks, asks_apart, asks_away, asks_no_mark, asks_not_sent, asks_sound, settles}
 use Rattle.aw_law_worlds.proofs.Changes.{Change, NewSound}
@@ -180,7 +180,7 @@ module _ (g : Grammar) (fit : IsGivenGrammar g) (enter : VariablesEnter g) (ok :
     the_node : (d : Held) → Member d x.held → n ≡ d.node → Member d (S a).held
     the_node d i e = subst (λ (h : Held). Member h (S a).held) (one T.held d in_whole i (T.node ∙ e)) T.is_held
 
-    sent_cases : (m : Message) → Member m (first ++ ask) → ((c : Call) × Member c mk.calls × (home g c.node ≡ a → Never) × (m ≡ call_out g s1 c)) ⊎ (((e : Equation) × Member e mk.equations × (b : ℕ) × Member (watch e.left b) (S a).watchers × (m ≡ tell g s1 e b)) ⊎ Member m ask)
+    sent_cases : (m : Message) → Member m (first ++ ask) → ((c : Call) × Member c mk.calls × (home g c.node ≡ a → Never) × (m ≡ call_out g s1 c)) ⊎ (((e : Equation) × Member e mk.equations × (b : ℕ) × ((S a).watches e.left b ≡ true) × (m ≡ tell g s1 e b)) ⊎ Member m ask)
     sent_cases m i = elim (member_split m first ask i) [
       | inl o ↦ elim (member_split m (calls_out g s1 mk.calls) (tells g s1 mk.equations) o) [
         | inl u ↦ (let (c, j, q, p) = out_case g s1 mk.calls m u in inl (c, j, (λ w. q (w ∙ sym (I.roles a))), p))
@@ -190,9 +190,9 @@ module _ (g : Grammar) (fit : IsGivenGrammar g) (enter : VariablesEnter g) (ok :
     ]
 
     -- who watches a reference of this role is another role
-    watcher_away : (r : Ref) (b : ℕ) → home g r.node ≡ a → Member (watch r b) (S a).watchers → b ≡ a → Never
+    watcher_away : (r : Ref) (b : ℕ) → home g r.node ≡ a → ((S a).watches r b ≡ true) → b ≡ a → Never
     watcher_away r b h w e =
-        let (p, q) = I.watched a (watch r b) w in
+        let (p, q) = I.watched a r b w in
         (I.sound _ (I.asked b r q).0).1 (h ∙ sym e)
 
     home_left : (e : Equation) → Member e mk.equations → home g e.left.node ≡ a
@@ -292,16 +292,16 @@ module _ (g : Grammar) (fit : IsGivenGrammar g) (enter : VariablesEnter g) (ok :
           ],
         )
       ];
-      watched_kept = λ v i. i;
-      watched = λ v i. inl i;
-      tells = λ v b i f. elim (option_cases (S a).equations mk.equations v.reference b (find (S a).equations v.reference) refl f) [
-        | inl o ↦ inl (I.tells a v b i o)
-        | inr o ↦ (let z = find-member mk.equations v.reference b o in
-            let l = I.range v.role v.reference (I.watched a v i).1 in
+      watched_kept = λ r to i. i;
+      watched = λ r to i. inl i;
+      tells = λ r to b i f. elim (option_cases (S a).equations mk.equations r b (find (S a).equations r) refl f) [
+        | inl o ↦ inl (I.tells a r to b i o)
+        | inr o ↦ (let z = find-member mk.equations r b o in
+            let l = I.range to r (I.watched a r to i).1 in
             inr (
-              load_of g s1 (v.reference ∷ []) (mentions b),
+              load_of g s1 (r ∷ []) (mentions b),
               member_left _ first ask (member_right _ (calls_out g s1 mk.calls) (tells g s1 mk.equations)
-                  (tell_has g s1 mk.equations (record { left = v.reference; body = b }) v.role z i (omega (arith, l, roles.few)))),
+                  (tell_has g s1 mk.equations (record { left = r; body = b }) to z i (omega (arith, l, roles.few)))),
             ))
       ];
       foreign = λ r b f. elim (option_cases (S a).equations mk.equations r b (find (S a).equations r) refl f) [

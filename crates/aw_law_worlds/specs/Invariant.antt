@@ -10,7 +10,6 @@ use Rattle.aw_apply.specs.Made.{Call}
 use Rattle.aw_apply.specs.Messages.{Kind, Calls, Asks, Tells, Message, carried}
 use Rattle.aw_law_sites.specs.Joint.{Joint, empty_joint, joint_run}
 use Rattle.aw_law_sites.specs.Homes.{home, parent}
-use Rattle.aw_law_sites.specs.Sites.{Watch}
 use Rattle.aw_law_sites.specs.Asking.{ask_message}
 use Rattle.aw_law_sites.specs.ValidNames.{call_ok, equation_ok}
 use Rattle.aw_law_sites.specs.Worlds.{World, site_at}
@@ -27,10 +26,6 @@ IsSent w m k = slice_get w.messages k ≡ Some m
 -- it was sent with this number, and with no other
 abbrev pub IsSentOnce : World → Message → ℕ → Type 0
 IsSentOnce w m k = IsSent w m k × ((j : ℕ) → IsSent w m j → j ≡ k)
-
--- this role asked for the reference
-abbrev pub watch : Ref → ℕ → Watch
-watch r role = record { reference = r; role = role }
 
 -- the reference has this body
 abbrev pub equation : Ref → Body → Equation
@@ -88,19 +83,19 @@ pub record IsInvariant (g : Grammar) (loads : Bool) (w : World) (x : Joint) : Ty
   pub rooted : IsRooted g x
   -- each mentioned reference of another role was asked for, or its equation is held at the site that mentions it; without loads it was asked for
   pub asked : (a : ℕ) (r : Ref) → IsMentioned r (site_at w a).equations (site_at w a).held
-      → (home g r.node ≡ a) ⊎ (Member r (site_at w a).asked ⊎ ((b : Body) × (find (site_at w a).equations r ≡ Some b)))
+      → (home g r.node ≡ a) ⊎ (((site_at w a).asked r ≡ true) ⊎ ((b : Body) × (find (site_at w a).equations r ≡ Some b)))
   pub asked_all : loads ≡ false → (a : ℕ) (r : Ref) → IsMentioned r (site_at w a).equations (site_at w a).held →
-      (home g r.node ≡ a) ⊎ Member r (site_at w a).asked
+      (home g r.node ≡ a) ⊎ ((site_at w a).asked r ≡ true)
   -- for each reference that was asked for there is one question, and it was delivered exactly where the asker is a watcher
-  pub one_ask : (a : ℕ) (r : Ref) → Member r (site_at w a).asked → (k : ℕ) × IsSentOnce w (ask_message g a r) k
-      × (IsDelivered w k → Member (watch r a) (site_at w (home g r.node)).watchers)
-      × (Member (watch r a) (site_at w (home g r.node)).watchers → IsDelivered w k)
+  pub one_ask : (a : ℕ) (r : Ref) → ((site_at w a).asked r ≡ true) → (k : ℕ) × IsSentOnce w (ask_message g a r) k
+      × (IsDelivered w k → ((site_at w (home g r.node)).watches r a ≡ true))
+      × (((site_at w (home g r.node)).watches r a ≡ true) → IsDelivered w k)
   -- for each watcher whose equation is at its home there is one tell, and no other tell was sent
-  pub one_tell : (a : ℕ) (v : Watch) (b : Body) → Member v (site_at w a).watchers → find (site_at w a).equations v.reference ≡ Some b
-      → (k : ℕ) × (load : List Equation) × IsSent w (tell_message v.role (equation v.reference b) load) k
-      × ((j : ℕ) (e : Equation) (other : List Equation) → e.left ≡ v.reference → IsSent w (tell_message v.role e other) j → j ≡ k)
+  pub one_tell : (a : ℕ) (r : Ref) (to : ℕ) (b : Body) → ((site_at w a).watches r to ≡ true) → find (site_at w a).equations r ≡ Some b
+      → (k : ℕ) × (load : List Equation) × IsSent w (tell_message to (equation r b) load) k
+      × ((j : ℕ) (e : Equation) (other : List Equation) → e.left ≡ r → IsSent w (tell_message to e other) j → j ≡ k)
   pub told : (k : ℕ) (role : ℕ) (e : Equation) (load : List Equation) → IsSent w (tell_message role e load) k
-      → Member (watch e.left role) (site_at w (home g e.left.node)).watchers × (find (site_at w (home g e.left.node)).equations e.left ≡ Some e.body)
+      → ((site_at w (home g e.left.node)).watches e.left role ≡ true) × (find (site_at w (home g e.left.node)).equations e.left ≡ Some e.body)
   -- an equation of another role is held exactly where a message that carries it was delivered
   pub brought : (a : ℕ) (r : Ref) (b : Body) → (home g r.node ≡ a → Never)
       → (find (site_at w a).equations r ≡ Some b → IsBrought (IsDelivered w) w.messages a r b)

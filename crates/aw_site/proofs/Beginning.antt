@@ -23,7 +23,7 @@ new_shown f space subs outbox loads role same nodes choices equations asked watc
     flag = refl;
     holds = λ i. space_of (grammar_of space.accepted.now.grammar) (sym nodes i) (sym choices i) (sym equations i);
     asked = λ r. sym (asked r);
-    watchers = λ r role l. sym (ap (λ b. has_bit b role) (watched r) ∙ ap (λ x. nat_eq x 1) (bit_at-zero role));
+    watchers = λ r role. sym (ap (λ b. has_bit b role) (watched r) ∙ ap (λ x. nat_eq x 1) (bit_at-zero role));
   };
   sent = ap (map (message_of (grammar_of space.accepted.now.grammar))) (sym sent);
 }

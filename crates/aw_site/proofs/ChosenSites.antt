@@ -27,6 +27,7 @@ use Rattle.aw_node_list.specs.HeldView as view
 use Rattle.aw_node_list.specs.HeldView.{all_of, sort_or}
 use Rattle.aw_law_sites.specs.Joint.{by_rule, by_state, by_held, by_root, outcome_in}
 use Rattle.aw_msg.specs.MessageView.{sort_or_zero}
+use Rattle.aw_law_sites.specs.Asking.{asked_too}
 use Rattle.aw_law_sites.specs.Choosing.{Chosen, No, Did, answer_to, outcome, choose_on, choose}
 use Rattle.aw_law_sites.specs.SiteEvents.{after_choice}
 use Rattle.aw_law_sites.specs.Sites.{Site}
@@ -41,6 +42,7 @@ use Rattle.aw_site.specs.Doing.{doing, IsPlanned}
 use Rattle.aw_site.specs.Plans.{wanted_of, asks_for, made_mentions, told}
 use Rattle.aw_site.specs.Shown.{space_in}
 use Rattle.aw_site.specs.Views.{child_call}
+use Rattle.aw_site.proofs.Noting.{asked_none}
 
 -- ---- the answer
 
@@ -96,8 +98,8 @@ asks_after g s c x = wanted_of g (worked g s c x) (made_mentions g (worked g s c
 abbrev pub sends_after : Grammar → Site → Choice → Outcome Ref Ref → List Message
 sends_after g s c x = told g (worked g s c x) (making c x).equations (making c x).calls ++ asks_for g (worked g s c x) (asks_after g s c x)
 
-still : (s : Site) → s ≡ record s { asked = s.asked ++ []; outbox = s.outbox ++ [] }
-still s = λ i. record s { asked = sym (append-nil s.asked) i; outbox = sym (append-nil s.outbox) i }
+still : (s : Site) → s ≡ record s { asked = asked_too s.asked []; outbox = s.outbox ++ [] }
+still s = λ i. record s { asked = asked_none s.asked i; outbox = sym (append-nil s.outbox) i }
 
 still_doing : (s t : Site) → s ≡ t → record { site = s; sent = [] } ≡ doing t [] []
 still_doing s t e = (λ i. record { site = (e ∙ still t) i; sent = [] })

@@ -19,7 +19,7 @@ use Rattle.aw_msg.specs.declared.message.Message.{Message}
 use Rattle.aw_msg.specs.declared.message.MsgKind.{MsgKind}
 use Rattle.aw_msg.specs.declared.message.MsgKind.TheVariants as msg
 use Rattle.aw_msg.specs.MessageView.{message_of, content_of}
-use Rattle.aw_law_sites.specs.Asking.{all_mentions}
+use Rattle.aw_law_sites.specs.Asking.{all_mentions, asked_too}
 use Rattle.aw_law_sites.specs.Receiving.{is_mine, clash}
 use Rattle.aw_law_sites.specs.Reacting.{react, receive}
 use Rattle.aw_law_sites.specs.SiteEvents.{after_message}
@@ -47,6 +47,7 @@ use Rattle.aw_site.specs.Senders.{SendsAs}
 use Rattle.aw_site.specs.Walks.{listed}
 use Rattle.aw_site.specs.Views.{clash_of}
 use Rattle.aw_site.proofs.Clashing.{find_added}
+use Rattle.aw_site.proofs.Noting.{asked_none}
 use Rattle.aw_site.proofs.Receptions.{call_may_come, tell_may_come, bad_name, not_mine, in_conflict, known_already, new_here}
 
 -- ---- a sender
@@ -86,7 +87,7 @@ pub planned_answer : (g other : Grammar) (s : Site) (r : Ref) (from : ℕ) (p : 
 planned_answer g other s r from p m e w l v =
     let told = subst (λ (y : Grammar). listed (option_map (message_of y) m) ≡ tell_back y s (find s.equations r) r from) e v in
     let sent : map (message_of g) p.sent.items ≡ tell_back g s (find s.equations r) r from = ap (map (message_of g)) l ∙ listed_map g m ∙ told in
-    let asked : s.asked ≡ s.asked ++ p.wanted.items = sym (append-nil s.asked) ∙ (λ i. s.asked ++ sym w i) in
+    let asked : s.asked ≡ asked_too s.asked p.wanted.items = asked_none s.asked ∙ (λ i. asked_too s.asked (sym w i)) in
     (λ i. record { site = record (watching s r from) { asked = asked i; outbox = s.outbox ++ tell_back g s (find s.equations r) r from }; sent = tell_back g s (find s.equations r) r from })
     ∙ (λ i. doing (watching s r from) p.wanted.items (sym sent i))
 

@@ -1,6 +1,7 @@
 -- What a plain site holds, by the site of the program that shows it.
-use Rattle.std.proofs.Common.{◌≡◌, ℕ, Bool, true, List, [], ◌++◌, map, Option, option_map, length, ap, sym, ◌∙◌, subst}
+use Rattle.std.proofs.Common.{◌≡◌, ℕ, Bool, true, List, ◌++◌, map, Option, option_map, length, ap, sym, ◌∙◌, subst}
 use Rattle.std.proofs.lemmas.Bool.{and_parts}
+use Rattle.std.proofs.Math.Path.{fun_ext}
 use Rattle.std.proofs.lemmas.List.{length-map, map-append}
 use Rattle.aw_term.specs.Rules.{Grammar}
 use Rattle.aw_node_list.specs.declared.held.Held.{Held as Node}
@@ -9,11 +10,13 @@ use Rattle.aw_grammar.specs.GrammarOf.{grammar_of}
 use Rattle.aw_node_list.specs.HeldView.{all_of}
 use Rattle.aw_store.specs.declared.facts.Facts.{Ghosts}
 use Rattle.aw_subs.specs.declared.subs.Subs.{Subs}
+use Rattle.aw_subs.specs.Noted.{watches_in}
 use Rattle.aw_msg.specs.declared.message.Message.{Message}
 use Rattle.aw_msg.specs.declared.message.MsgKind.{MsgKind}
 use Rattle.aw_msg.specs.MessageView.{message_of, plain_kind}
+use Rattle.aw_law_sites.specs.Asking.{asked_too}
 use Rattle.aw_law_sites.specs.Receiving.{is_mine, clash, is_repeat}
-use Rattle.aw_law_sites.specs.Sites.{Watch, Site, Reaction}
+use Rattle.aw_law_sites.specs.Sites.{Site, Reaction}
 use Rattle.aw_law_sites.specs.ValidNames.{message_ok}
 use Rattle.aw_space.specs.declared.space.Space.{Space}
 use Rattle.aw_space.specs.Spaces as S
@@ -21,7 +24,7 @@ use Rattle.aw_space.specs.SpaceView.{space_of}
 use Rattle.aw_space.specs.Seen.{space_seen}
 use Rattle.aw_site.specs.declared.plan.Plan.{Plan}
 use Rattle.aw_site.specs.Doing.{doing_planned, IsPlanned}
-use Rattle.aw_site_repeat.specs.Holders.{holder, IsOfRole, ShowsAsked, ShowsWatchers}
+use Rattle.aw_site_repeat.specs.Holders.{holder, nobody, IsOfRole, ShowsAsked, ShowsWatchers}
 use Rattle.aw_site_repeat.specs.Views.{kind_of}
 use Rattle.aw_site.specs.Shown.{space_in, HoldsAs, Shows}
 use Rattle.aw_site.specs.Views.{clash_of}
@@ -48,17 +51,18 @@ module _ {F : Type 0} (f : Ghosts F) (space : Space F f) (subs : Subs) (loads : 
   mine_by m other role b e r v = sym (v ∙ (λ i. is_mine (grammar_of (e i)) ((r ∙ sym h.role) i) (message_of (grammar_of (e i)) m)))
 
   pub clash_by : (kind lent : MsgKind) (nodes : List Node) (facts : F) (o : Option Clash) → lent ≡ kind → nodes ≡ space.held.items → facts ≡ space.facts
-      → ((gr : Grammar) → option_map clash_of o ≡ clash (holder (all_of gr nodes) (f.map facts) []) (kind_of gr lent)) → clash s (kind_of (grammar_of g) kind) ≡ option_map clash_of o
+      → ((gr : Grammar) → option_map clash_of o ≡ clash (holder (all_of gr nodes) (f.map facts) nobody) (kind_of gr lent)) → clash s (kind_of (grammar_of g) kind) ≡ option_map clash_of o
   clash_by kind lent nodes facts o k n e v =
       sym (v (grammar_of g)
-      ∙ (λ i. clash (holder (all_of (grammar_of g) (n i)) (f.map (e i)) []) (kind_of (grammar_of g) (k i)))
-      ∙ clash_same s (all_of (grammar_of g) space.held.items) (f.map space.facts) [] (kind_of (grammar_of g) kind) held_by equations_by)
+      ∙ (λ i. clash (holder (all_of (grammar_of g) (n i)) (f.map (e i)) nobody) (kind_of (grammar_of g) (k i)))
+      ∙ clash_same s (all_of (grammar_of g) space.held.items) (f.map space.facts) nobody (kind_of (grammar_of g) kind) held_by equations_by)
 
   pub repeat_by : (kind lent : MsgKind) (nodes : List Node) (facts : F) (b : Bool) → lent ≡ kind → nodes ≡ space.held.items → facts ≡ space.facts
-      → ((gr : Grammar) (ws : List Watch) → ShowsWatchers subs ws → b ≡ is_repeat (holder (all_of gr nodes) (f.map facts) ws) (kind_of gr lent)) → is_repeat s (kind_of (grammar_of g) kind) ≡ b
+      → ((gr : Grammar) → b ≡ is_repeat (holder (all_of gr nodes) (f.map facts) (watches_in subs)) (kind_of gr lent)) → is_repeat s (kind_of (grammar_of g) kind) ≡ b
   repeat_by kind lent nodes facts b k n e v =
-      sym (v (grammar_of g) s.watchers h.watchers
-      ∙ (λ i. is_repeat (holder (all_of (grammar_of g) (n i)) (f.map (e i)) s.watchers) (kind_of (grammar_of g) (k i)))
+      let watched : watches_in subs ≡ s.watches = fun_ext (λ r. fun_ext (λ role. sym (h.watchers r role))) in
+      sym (v (grammar_of g)
+      ∙ (λ i. is_repeat (holder (all_of (grammar_of g) (n i)) (f.map (e i)) (watched i)) (kind_of (grammar_of g) (k i)))
       ∙ repeat_same s (all_of (grammar_of g) space.held.items) (f.map space.facts) (kind_of (grammar_of g) kind) held_by equations_by)
 
 -- a question in a valid message is of a role
@@ -89,7 +93,7 @@ outbox_planned g p old room new r n =
 
 -- the site that did all else is shown, and then what was planned is done
 pub shown_planned : {F : Type 0} (f : Ghosts F) (space : Space F f) (subs : Subs) (loads : Bool) (g : program.Grammar) (t : Site) (x : Reaction) (p : Plan) (old room new : List Message)
-    → g ≡ space.accepted.now.grammar → t.role ≡ space.role → t.loads ≡ loads → space_in t ≡ space_seen f space → ShowsAsked subs (t.asked ++ p.wanted.items) → ShowsWatchers subs t.watchers
+    → g ≡ space.accepted.now.grammar → t.role ≡ space.role → t.loads ≡ loads → space_in t ≡ space_seen f space → ShowsAsked subs (asked_too t.asked p.wanted.items) → ShowsWatchers subs t.watches
     → t.outbox ≡ map (message_of (grammar_of g)) old → room ≡ old → new ≡ room ++ p.sent.items → IsPlanned (grammar_of g) t x p → Shows f space subs new loads x.site
 shown_planned f space subs loads g t x p old room new same role flag holds asked watchers outbox r n e =
     let done : Shows f space subs new loads (doing_planned (grammar_of g) t p).site = record {

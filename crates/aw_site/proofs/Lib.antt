@@ -14,6 +14,7 @@ pub mod ChosenSites
 pub mod RefusedChoices
 pub mod Receptions
 pub mod Holding
+pub mod Unchanged
 pub mod Coming
 pub mod Beginning
 pub mod SentNames

@@ -4,6 +4,7 @@ use Rattle.std.specs.Prelude.{◌&&◌, not, nat_lt, is_some}
 use Rattle.std.proofs.lemmas.Bool.{and_parts, ltb-true}
 use Rattle.std.proofs.Math.Logic.{∥∥₁_elim}
 use Rattle.std.specs.Coded.{le_prop}
+use Rattle.aw_term.specs.Names.{Ref}
 use Rattle.aw_term.specs.Rules.{Grammar}
 use Rattle.aw_term.specs.Held.{Held, held_of}
 use Rattle.aw_grammar.specs.declared.grammar.Grammar as program
@@ -16,7 +17,7 @@ use Rattle.aw_msg.specs.declared.message.MsgKind.TheVariants as msg
 use Rattle.aw_msg.specs.MessageView.{plain_kind}
 use Rattle.aw_law_sites.specs.Receiving.{is_mine, about_ok, clash, is_repeat, first_clash, call_clash, all_held}
 use Rattle.aw_law_sites.specs.Reacting.{received_on, receive, react}
-use Rattle.aw_law_sites.specs.Sites.{Watch, Site}
+use Rattle.aw_law_sites.specs.Sites.{Site}
 use Rattle.aw_law_sites.specs.ValidNames.{message_ok, names_ok, origin_ok}
 use Rattle.aw_space.specs.Placings.{MayBeCalled, MayBeLearnt}
 use Rattle.aw_site_repeat.specs.Holders.{holder, IsOfRole}
@@ -46,12 +47,12 @@ new_here g s m h = answered_as g s m true true false None h.ok h.mine h.free h.n
 
 -- ---- tests by nodes, equations and watchers alone
 
-pub clash_same : (s : Site) (hs : List Held) (k : Map) (ws : List Watch) (kind : Kind) → s.held ≡ hs → s.equations ≡ k → clash (holder hs k ws) kind ≡ clash s kind
+pub clash_same : (s : Site) (hs : List Held) (k : Map) (ws : Ref → ℕ → Bool) (kind : Kind) → s.held ≡ hs → s.equations ≡ k → clash (holder hs k ws) kind ≡ clash s kind
 clash_same s hs k ws (Calls c load) e f = λ i. call_clash (held_of c.node (sym e i)) c (first_clash (sym f i) load)
 clash_same s hs k ws (Asks r from) e f = refl
 clash_same s hs k ws (Tells x load) e f = λ i. first_clash (sym f i) (x ∷ load)
 
-pub repeat_same : (s : Site) (hs : List Held) (k : Map) (kind : Kind) → s.held ≡ hs → s.equations ≡ k → is_repeat (holder hs k s.watchers) kind ≡ is_repeat s kind
+pub repeat_same : (s : Site) (hs : List Held) (k : Map) (kind : Kind) → s.held ≡ hs → s.equations ≡ k → is_repeat (holder hs k s.watches) kind ≡ is_repeat s kind
 repeat_same s hs k (Calls c load) e f = λ i. is_some (held_of c.node (sym e i)) && all_held (sym f i) load
 repeat_same s hs k (Asks r from) e f = refl
 repeat_same s hs k (Tells x load) e f = λ i. all_held (sym f i) (x ∷ load)

@@ -3,6 +3,7 @@ use Rattle.std.proofs.Common.{◌≡◌, ◌≢◌, ℕ, zero, suc, ◌+◌, ◌
 use Rattle.std.specs.Int.{bit_at, bit_not, trailing_zeros}
 use Rattle.std.specs.Prelude.{◌*◌, ◌%◌, ◌^◌, bit_and}
 use Rattle.std.proofs.lemmas.Bool.{eqb-true, both_ways}
+use Rattle.std.proofs.Math.Path.{fun_ext}
 use Rattle.std.proofs.lemmas.List.{append-nil, map-append}
 use Rattle.std.proofs.lemmas.Nat.{and_le_l}
 use Rattle.std.proofs.lemmas.Nat.Bits.{bit_at-zero, bit_at-trailing_zeros, bit_at_clear_same, bit_at_clear_other}
@@ -12,10 +13,11 @@ use Rattle.aw_store.specs.Equations.{Equation}
 use Rattle.aw_apply.specs.Made.{Call}
 use Rattle.aw_apply.specs.Messages.{Message}
 use Rattle.aw_law_sites.specs.Homes.{home}
-use Rattle.aw_law_sites.specs.Sites.{Watch, Site}
-use Rattle.aw_law_sites.specs.Telling.{has_watch, watchers_from, tell, tells, call_out, calls_out}
-use Rattle.aw_subs.specs.Entries.{has_bit}
-use Rattle.aw_site_repeat.specs.Holders.{AreWatchers}
+use Rattle.aw_law_sites.specs.Sites.{Site}
+use Rattle.aw_law_sites.specs.Telling.{watchers_from, tell, tells, call_out, calls_out}
+use Rattle.aw_subs.specs.declared.subs.Subs.{Subs}
+use Rattle.aw_subs.specs.Entries.{has_bit, watchers}
+use Rattle.aw_site_repeat.specs.Holders.{ShowsWatchers}
 
 -- one item further, where what a list makes is what its first makes before what the rest makes
 pub pushed_more : {A M : Type 0} (F : List A → List M) → ((x : A) (xs : List A) → F (x ∷ xs) ≡ F (x ∷ []) ++ F xs) → (before after whole : List M) (rest xs : List A) (x : A)
@@ -39,58 +41,51 @@ calls_split g s c cs = split_cases (nat_eq (home g c.node) s.role) (call_out g s
 
 -- ---- the roles that watch, by their bits
 
--- the places from i on, n of them, at which p holds
-abbrev pub places : (ℕ → Bool) → ℕ → ℕ → List ℕ
-places p zero i = []
-places p (suc n) i = cond (p i) (i ∷ places p n (suc i)) (places p n (suc i))
-
 -- the same places
-same_places : (p q : ℕ → Bool) (n i : ℕ) → ((j : ℕ) → i ≤ j → j < i + n → p j ≡ q j) → places p n i ≡ places q n i
+same_places : (p q : ℕ → Bool) (n i : ℕ) → ((j : ℕ) → i ≤ j → j < i + n → p j ≡ q j) → watchers_from n i p ≡ watchers_from n i q
 same_places p q zero i same = refl
 same_places p q (suc n) i same =
     let here : p i ≡ q i = same i (omega arith) (omega arith) in
-    let rest : places p n (suc i) ≡ places q n (suc i) = same_places p q n (suc i) (λ j a b. same j (omega (arith, a)) (omega (arith, b))) in
+    let rest : watchers_from n (suc i) p ≡ watchers_from n (suc i) q = same_places p q n (suc i) (λ j a b. same j (omega (arith, a)) (omega (arith, b))) in
     λ k. cond (here k) (i ∷ rest k) (rest k)
 
-watching_places : (n i : ℕ) (r : Ref) (ws : List Watch) → watchers_from n i r ws ≡ places (λ j. has_watch r j ws) n i
-watching_places zero i r ws = refl
-watching_places (suc n) i r ws = ap (λ is. cond (has_watch r i ws) (i ∷ is) is) (watching_places n (suc i) r ws)
-
 -- no place
-no_places : (p : ℕ → Bool) (n i : ℕ) → ((j : ℕ) → p j ≡ false) → places p n i ≡ []
+no_places : (p : ℕ → Bool) (n i : ℕ) → ((j : ℕ) → p j ≡ false) → watchers_from n i p ≡ []
 no_places p zero i none = refl
-no_places p (suc n) i none = ap (λ b. cond b (i ∷ places p n (suc i)) (places p n (suc i))) (none i) ∙ no_places p n (suc i) none
+no_places p (suc n) i none = ap (λ b. cond b (i ∷ watchers_from n (suc i) p) (watchers_from n (suc i) p)) (none i) ∙ no_places p n (suc i) none
 
 -- the first place, and then those of a test that holds at the others alone
 first_place : (p q : ℕ → Bool) (k n i : ℕ) → i ≤ k → k < i + n → p k ≡ true → q k ≡ false → ((j : ℕ) → j < k → p j ≡ false) → ((j : ℕ) → j < i + n → j ≢ k → q j ≡ p j)
-    → places p n i ≡ k ∷ places q n i
+    → watchers_from n i p ≡ k ∷ watchers_from n i q
 first_place p q k zero i l m here gone before same = absurd (omega (arith, l, m))
 first_place p q k (suc n) i l m here gone before same =
     cases (λ less. first_place p q k n (suc i) (omega (arith, less)) (omega (arith, m)) here gone before (λ j b o. same j (omega (arith, b)) o)) (nat_eq i k) refl
   where
-    cases : (i < k → places p n (suc i) ≡ k ∷ places q n (suc i)) → (b : Bool) → nat_eq i k ≡ b → places p (suc n) i ≡ k ∷ places q (suc n) i
+    cases : (i < k → watchers_from n (suc i) p ≡ k ∷ watchers_from n (suc i) q) → (b : Bool) → nat_eq i k ≡ b → watchers_from (suc n) i p ≡ k ∷ watchers_from (suc n) i q
     cases next true e =
         let at : i ≡ k = eqb-true i k e in
-        let later : places p n (suc i) ≡ places q n (suc i) = same_places p q n (suc i) (λ j a b. sym (same j (omega (arith, b)) (λ s. absurd (omega (arith, a, at, s))))) in
-        ap (λ b. cond b (i ∷ places p n (suc i)) (places p n (suc i))) (ap p at ∙ here)
+        let later : watchers_from n (suc i) p ≡ watchers_from n (suc i) q = same_places p q n (suc i) (λ j a b. sym (same j (omega (arith, b)) (λ s. absurd (omega (arith, a, at, s))))) in
+        ap (λ b. cond b (i ∷ watchers_from n (suc i) p) (watchers_from n (suc i) p)) (ap p at ∙ here)
         ∙ (λ x. at x ∷ later x)
-        ∙ ap (λ b. k ∷ cond b (i ∷ places q n (suc i)) (places q n (suc i))) (sym (ap q at ∙ gone))
+        ∙ ap (λ b. k ∷ cond b (i ∷ watchers_from n (suc i) q) (watchers_from n (suc i) q)) (sym (ap q at ∙ gone))
     cases next false e =
         let other : i ≢ k = λ s. both_ways (nat_eq i k) e (ap (nat_eq i) (sym s) ∙ eq-eqb i i refl) in
         let less : i < k = omega (arith, l, other) in
         let off : p i ≡ false = before i less in
         let still : q i ≡ false = same i (omega arith) other ∙ off in
-        ap (λ b. cond b (i ∷ places p n (suc i)) (places p n (suc i))) off
+        ap (λ b. cond b (i ∷ watchers_from n (suc i) p) (watchers_from n (suc i) p)) off
         ∙ next less
-        ∙ ap (λ b. k ∷ cond b (i ∷ places q n (suc i)) (places q n (suc i))) (sym still)
+        ∙ ap (λ b. k ∷ cond b (i ∷ watchers_from n (suc i) q) (watchers_from n (suc i) q)) (sym still)
 
 -- these roles, by their bits
 abbrev pub roles_of : ℕ → List ℕ
-roles_of roles = places (has_bit roles) 64 0
+roles_of roles = watchers_from 64 0 (has_bit roles)
 
 -- those whose bit is 1 watch
-pub watchers_are : (roles : ℕ) (r : Ref) (ws : List Watch) → AreWatchers roles r ws → watchers_from 64 0 r ws ≡ roles_of roles
-watchers_are roles r ws watch = watching_places 64 0 r ws ∙ same_places (λ j. has_watch r j ws) (has_bit roles) 64 0 (λ j a b. watch j b)
+pub watchers_are : (subs : Subs) (s : Site) (r : Ref) (roles : ℕ) → roles ≡ watchers subs.subs r → ShowsWatchers subs s.watches → roles_of roles ≡ watchers_from 64 0 (s.watches r)
+watchers_are subs s r roles e watch =
+    let same : has_bit roles ≡ s.watches r = fun_ext (λ role. ap (λ b. has_bit b role) e ∙ sym (watch r role)) in
+    ap (watchers_from 64 0) same
 
 -- where no bit is 1
 pub no_roles : roles_of 0 ≡ []
@@ -139,10 +134,10 @@ one_more : {M : Type 0} (xs ys : List M) → xs ++ ys ≡ (xs ++ []) ++ ys
 one_more xs zs = ap (λ ys. ys ++ zs) (sym (append-nil xs))
 
 pub tells_split : (g : Grammar) (s : Site) (e : Equation) (es : List Equation) → tells g s (e ∷ es) ≡ tells g s (e ∷ []) ++ tells g s es
-tells_split g s e es = one_more (map (tell g s e) (watchers_from 64 0 e.left s.watchers)) (tells g s es)
+tells_split g s e es = one_more (map (tell g s e) (watchers_from 64 0 (s.watches e.left))) (tells g s es)
 
-pub tells_one : (g : Grammar) (s : Site) (e : Equation) (before after : List Message) → after ≡ before ++ map (tell g s e) (watchers_from 64 0 e.left s.watchers) → after ≡ before ++ tells g s (e ∷ [])
-tells_one g s e before after p = p ∙ ap (λ ys. before ++ ys) (sym (append-nil (map (tell g s e) (watchers_from 64 0 e.left s.watchers))))
+pub tells_one : (g : Grammar) (s : Site) (e : Equation) (before after : List Message) → after ≡ before ++ map (tell g s e) (watchers_from 64 0 (s.watches e.left)) → after ≡ before ++ tells g s (e ∷ [])
+tells_one g s e before after p = p ∙ ap (λ ys. before ++ ys) (sym (append-nil (map (tell g s e) (watchers_from 64 0 (s.watches e.left)))))
 
 pub push_map : {A M : Type 0} (f : A → M) (xs ys : List A) (m : A) (z : M) → ys ≡ xs ++ m ∷ [] → f m ≡ z → map f ys ≡ map f xs ++ z ∷ []
 push_map f xs ys m z e q = ap (map f) e ∙ map-append f xs (m ∷ []) ∙ ap (λ y. map f xs ++ y ∷ []) q

@@ -148,7 +148,7 @@ module _ (g : Grammar) (s : Site) (ok : equations_ok g s.equations ≡ true) whe
   tells_valid [] all = refl
   tells_valid (e ∷ es) all =
       let (x, y) = and_parts (equation_ok g e) _ all in
-      sendable_append g (map (tell g s e) (watchers_from 64 0 e.left s.watchers)) (tells g s es) (told_valid e (watchers_from 64 0 e.left s.watchers) x) (tells_valid es y)
+      sendable_append g (map (tell g s e) (watchers_from 64 0 (s.watches e.left))) (tells g s es) (told_valid e (watchers_from 64 0 (s.watches e.left)) x) (tells_valid es y)
 
   out_cases : (b : Bool) (c : Call) (ms : List Message) → call_ok g c ≡ true → all_sendable g ms ≡ true → all_sendable g (cond b ms (call_out g s c ∷ ms)) ≡ true
   out_cases true c ms here all = all

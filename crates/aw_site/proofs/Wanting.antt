@@ -15,7 +15,7 @@ use Rattle.aw_apply.specs.Made.{Call}
 use Rattle.aw_law_sites.specs.Joint.{called_held}
 use Rattle.aw_law_sites.specs.Asking.{all_mentions, all_inherited, is_wanted}
 use Rattle.aw_law_sites.specs.Homes.{home}
-use Rattle.aw_law_sites.specs.InOrder.{has_ref, insert_ref, in_order}
+use Rattle.aw_law_sites.specs.InOrder.{insert_ref, in_order}
 use Rattle.aw_law_sites.specs.Sites.{Site}
 use Rattle.aw_law_sites.specs.Telling.{calls_in}
 use Rattle.aw_law_sites.specs.ValidNames.{refs_ok}
@@ -53,17 +53,17 @@ inherited_split g role c cs = in_cond (nat_eq (home g c.node) role)
 
 -- a reference of another role is wanted where it is not known here
 pub wanted_other : (g : Grammar) (s : Site) (r : Ref) (role : ℕ) (b : Bool) → s.role ≡ role → nat_eq (home g r.node) role ≡ false
-    → b ≡ (is_none (find s.equations r) && not (has_ref r s.asked)) → is_wanted g s r ≡ b
+    → b ≡ (is_none (find s.equations r) && not (s.asked r)) → is_wanted g s r ≡ b
 wanted_other g s r role b same other e =
-    ap (λ n. not (nat_eq (home g r.node) n) && (is_none (find s.equations r) && not (has_ref r s.asked))) same
-    ∙ ap (λ x. not x && (is_none (find s.equations r) && not (has_ref r s.asked))) other
+    ap (λ n. not (nat_eq (home g r.node) n) && (is_none (find s.equations r) && not (s.asked r))) same
+    ∙ ap (λ x. not x && (is_none (find s.equations r) && not (s.asked r))) other
     ∙ sym e
 
 -- a reference of this role is not
 pub wanted_own : (g : Grammar) (s : Site) (r : Ref) (role : ℕ) → s.role ≡ role → nat_eq (home g r.node) role ≡ true → is_wanted g s r ≡ false
 wanted_own g s r role same own =
-    ap (λ n. not (nat_eq (home g r.node) n) && (is_none (find s.equations r) && not (has_ref r s.asked))) same
-    ∙ ap (λ x. not x && (is_none (find s.equations r) && not (has_ref r s.asked))) own
+    ap (λ n. not (nat_eq (home g r.node) n) && (is_none (find s.equations r) && not (s.asked r))) same
+    ∙ ap (λ x. not x && (is_none (find s.equations r) && not (s.asked r))) own
 
 module _ {F : Type 0} (f : Ghosts F) (sender : Sender F f) (subs : Subs) where
   -- nothing is put

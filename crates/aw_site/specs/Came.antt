@@ -1,5 +1,5 @@
 -- What a site does where a call, if there is one, and equations came, something of which is new, and where a role asks.
-use Rattle.std.specs.Prelude.{ℕ, List, [], ◌∷◌, ◌++◌, Option, None, Some}
+use Rattle.std.specs.Prelude.{ℕ, List, [], ◌++◌, Option, None, Some}
 use Rattle.aw_term.specs.Names.{Ref}
 use Rattle.aw_term.specs.Rules.{Grammar}
 use Rattle.aw_store.specs.Equations.{Equation}
@@ -7,6 +7,7 @@ use Rattle.aw_apply.specs.Made.{Call}
 use Rattle.aw_law_sites.specs.Asking.{all_mentions, asking}
 use Rattle.aw_law_sites.specs.Receiving.{add_all}
 use Rattle.aw_law_sites.specs.Sites.{Site, Reaction}
+use Rattle.aw_law_sites.specs.Telling.{watches_too}
 use Rattle.aw_space.specs.Spaces.{with_call}
 
 -- the references of a call, if there is one
@@ -24,4 +25,4 @@ came g s c es = asking g (holding s c es) [] (inherited_by c ++ all_mentions es)
 
 -- the role watches the reference, too
 abbrev pub watching : Site → Ref → ℕ → Site
-watching s r from = record s { watchers = s.watchers ++ record { reference = r; role = from } ∷ [] }
+watching s r from = record s { watches = watches_too s.watches r from }

@@ -4,12 +4,13 @@ use Rattle.aw_term.specs.Names.{Ref}
 use Rattle.aw_term.specs.Rules.{Grammar}
 use Rattle.aw_apply.specs.Messages.{Message}
 use Rattle.aw_msg.specs.MessageView.{message_of}
+use Rattle.aw_law_sites.specs.Asking.{asked_too}
 use Rattle.aw_law_sites.specs.Sites.{Site, Reaction}
 use Rattle.aw_site.specs.declared.plan.Plan.{Plan}
 
 -- the site asks for these references, and sends these messages
 abbrev pub doing : Site → List Ref → List Message → Reaction
-doing s asked sent = record { site = record s { asked = s.asked ++ asked; outbox = s.outbox ++ sent }; sent = sent }
+doing s asked sent = record { site = record s { asked = asked_too s.asked asked; outbox = s.outbox ++ sent }; sent = sent }
 
 -- it does so as planned
 abbrev pub doing_planned : Grammar → Site → Plan → Reaction

@@ -20,7 +20,7 @@ pub record HoldsAs {F : Type 0} (f : Ghosts F) (space : Space F f) (subs : Subs)
   pub flag : s.loads ≡ loads
   pub holds : space_in s ≡ space_seen f space
   pub asked : ShowsAsked subs s.asked
-  pub watchers : ShowsWatchers subs s.watchers
+  pub watchers : ShowsWatchers subs s.watches
 
 -- all that, and all messages that it sent
 pub record Shows {F : Type 0} (f : Ghosts F) (space : Space F f) (subs : Subs) (outbox : List Message) (loads : Bool) (s : P.Site) : Type 0 where

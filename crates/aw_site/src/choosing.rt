@@ -1,5 +1,5 @@
 //! A choice at a site, over the parts of the site.
-ghost use Rattle.std.specs.Prelude.{◌≡◌, ◌+◌, ◌++◌, ◌≤◌, List, true, All, IfOk, OnOk, OnErr, length, map as list_map, vec_len, vec_capacity};
+ghost use Rattle.std.specs.Prelude.{◌≡◌, ℕ, ◌+◌, ◌++◌, ◌≤◌, Bool, true, All, IfOk, OnOk, OnErr, length, map as list_map, vec_len, vec_capacity};
 ghost use Rattle.aw_term.specs.Names.{Ref as RefName};
 ghost use Rattle.aw_choice.specs.ChoiceView.{choice_of, answer_of};
 ghost use Rattle.aw_grammar.specs.GrammarOf.{grammar_of};
@@ -8,7 +8,6 @@ ghost use Rattle.aw_msg.specs.MessageView.{message_of};
 ghost use Rattle.aw_law_sites.specs.Choosing.{answer_to, choose as plain_choose};
 ghost use Rattle.aw_law_sites.specs.SiteEvents.{after_choice};
 ghost use Rattle.aw_law_sites.specs.Sites as P;
-ghost use Rattle.aw_law_sites.specs.Sites.{Watch};
 ghost use Rattle.aw_law_sites.specs.Worlds.{node_of};
 ghost use Rattle.aw_space.specs.Keeping.{KeepsFacts, KeepsNodesBut};
 ghost use Rattle.aw_space.specs.Outcomes.{IsOutcome};
@@ -93,8 +92,8 @@ fn prepare_with_room<'g, F: Facts>(
     ensures outbox { outbox.new.items ≡ outbox.old.items }
     ensures copy { IfOk result (λ p. copy.new.items ≡ copy.old.items ++ p.plan.sent.items) }
     ensures err_copy { OnErr result (copy.new.items ≡ copy.old.items) }
-    ensures asked { (asked : List RefName) → ShowsAsked subs.old asked → ShowsAsked subs.new asked }
-    ensures watchers { (ws : List Watch) → ShowsWatchers subs.old ws → ShowsWatchers subs.new ws }
+    ensures asked { (asked : RefName → Bool) → ShowsAsked subs.old asked → ShowsAsked subs.new asked }
+    ensures watchers { (ws : RefName → ℕ → Bool) → ShowsWatchers subs.old ws → ShowsWatchers subs.new ws }
     ensures room { IfOk result (λ p. vec_len outbox.new + vec_len p.plan.sent ≤ vec_capacity outbox.new) }
     ensures ready { IfOk result (λ p. All (λ x. is_ready subs.new.subs x ≡ true) p.plan.wanted.items) }
     ensures short { IfOk result (λ p. all_short p.plan.sent.items ≡ true) }

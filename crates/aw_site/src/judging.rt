@@ -1,5 +1,5 @@
 //! What a site makes of a message: the first of five answers that holds.
-ghost use Rattle.std.specs.Prelude.{◌≡◌, ◌<◌, Bool, ◌++◌, [], IfOk, OnOk, option_map, map as list_map};
+ghost use Rattle.std.specs.Prelude.{◌≡◌, ◌<◌, Bool, ◌++◌, IfOk, OnOk, option_map, map as list_map};
 ghost use Rattle.aw_grammar.specs.GrammarOf.{grammar_of};
 ghost use Rattle.aw_node_list.specs.InOrder.{IsInOrder};
 ghost use Rattle.aw_node_list.specs.HeldView.{all_of};
@@ -8,7 +8,7 @@ ghost use Rattle.aw_apply.specs.Messages.{carried};
 ghost use Rattle.aw_msg.specs.MessageView.{message_of};
 ghost use Rattle.aw_law_sites.specs.Receiving.{clash as plain_clash};
 ghost use Rattle.aw_law_sites.specs.Sites as P;
-ghost use Rattle.aw_site_repeat.specs.Holders.{holder};
+ghost use Rattle.aw_site_repeat.specs.Holders.{holder, nobody};
 ghost use Rattle.aw_site_repeat.specs.Views.{kind_of};
 ghost use Rattle.aw_site.specs.Judged.{Carries, Judges, Sees, answered};
 ghost use Rattle.aw_site.specs.Shown.{HoldsAs};
@@ -86,7 +86,7 @@ fn clash<F: Facts>(
 ) -> Result<Option<Clash>, AllocError>
     requires ordered { IsInOrder held.now.items }
     requires carried { (g : T.Grammar) → list_map equation_of es.now ≡ carried (kind_of g kind.now) }
-    ensures { IfOk result (λ c. (g : T.Grammar) → option_map clash_of c ≡ plain_clash (holder (all_of g held.now.items) (F.map facts.now) []) (kind_of g kind.now)) }
+    ensures { IfOk result (λ c. (g : T.Grammar) → option_map clash_of c ≡ plain_clash (holder (all_of g held.now.items) (F.map facts.now) nobody) (kind_of g kind.now)) }
 {
     match kind {
         MsgKind::Call {

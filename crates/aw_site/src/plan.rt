@@ -58,7 +58,7 @@ impl<'a, F: Facts> Sender<'a, F> {
         ensures wanted { OnOk result ((s : P.Site) → SendsAs ⟦<F as Facts>⟧ self.now s → ShowsAsked subs.now s.asked →
             wanted.new.items ≡ wanted_of (grammar_of self.now.grammar.now) s (made_mentions (grammar_of self.now.grammar.now) s
             (list_map equation_of made.now.equations) (list_map (child_call (grammar_of self.now.grammar.now)) made.now.children))) }
-        ensures sent { OnOk result ((s : P.Site) → SendsAs ⟦<F as Facts>⟧ self.now s → ShowsWatchers subs.now s.watchers →
+        ensures sent { OnOk result ((s : P.Site) → SendsAs ⟦<F as Facts>⟧ self.now s → ShowsWatchers subs.now s.watches →
             list_map (message_of (grammar_of self.now.grammar.now)) sent.new.items ≡ told (grammar_of self.now.grammar.now) s (list_map equation_of made.now.equations)
             (list_map (child_call (grammar_of self.now.grammar.now)) made.now.children)) }
     {
@@ -77,7 +77,7 @@ impl<'a, F: Facts> Sender<'a, F> {
         ensures wanted { IfOk result (λ p. (s : P.Site) → SendsAs ⟦<F as Facts>⟧ self.now s → ShowsAsked subs.now s.asked →
             p.wanted.items ≡ wanted_of (grammar_of self.now.grammar.now) s (made_mentions (grammar_of self.now.grammar.now) s
             (list_map equation_of made.now.equations) (list_map (child_call (grammar_of self.now.grammar.now)) made.now.children))) }
-        ensures sent { IfOk result (λ p. (s : P.Site) → SendsAs ⟦<F as Facts>⟧ self.now s → ShowsWatchers subs.now s.watchers →
+        ensures sent { IfOk result (λ p. (s : P.Site) → SendsAs ⟦<F as Facts>⟧ self.now s → ShowsWatchers subs.now s.watches →
             list_map (message_of (grammar_of self.now.grammar.now)) p.sent.items ≡ told (grammar_of self.now.grammar.now) s (list_map equation_of made.now.equations)
             (list_map (child_call (grammar_of self.now.grammar.now)) made.now.children) ++ asks_for (grammar_of self.now.grammar.now) s p.wanted.items) }
     {

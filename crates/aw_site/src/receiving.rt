@@ -1,5 +1,5 @@
 //! A message at a site, over the parts of the site.
-ghost use Rattle.std.specs.Prelude.{◌≡◌, ◌+◌, ◌++◌, ◌<◌, ◌≤◌, List, [], None, true, All, IfOk, OnOk, OnErr, length, map as list_map, vec_len, vec_capacity};
+ghost use Rattle.std.specs.Prelude.{◌≡◌, ℕ, ◌+◌, ◌++◌, ◌<◌, ◌≤◌, Bool, [], None, true, All, IfOk, OnOk, OnErr, length, map as list_map, vec_len, vec_capacity};
 ghost use Rattle.std.specs.Option.{option_copied};
 ghost use Rattle.aw_term.specs.Names.{Ref as RefName};
 ghost use Rattle.aw_grammar.specs.GrammarOf.{grammar_of};
@@ -9,7 +9,6 @@ ghost use Rattle.aw_msg.specs.MessageView.{message_of};
 ghost use Rattle.aw_law_sites.specs.Reacting.{receive as plain_receive, react as plain_react};
 ghost use Rattle.aw_law_sites.specs.SiteEvents.{after_message};
 ghost use Rattle.aw_law_sites.specs.Sites as P;
-ghost use Rattle.aw_law_sites.specs.Sites.{Watch};
 ghost use Rattle.aw_space.specs.Keeping.{KeepsFacts, KeepsNodes};
 ghost use Rattle.aw_space.specs.Placings.{MayBeCalledIf, MayBeLearnt, called_by};
 ghost use Rattle.aw_space.specs.Seen.{space_seen};
@@ -180,8 +179,8 @@ fn plan_with_room<'g, F: Facts>(
     ensures outbox { outbox.new.items ≡ outbox.old.items }
     ensures copy { IfOk result (λ p. copy.new.items ≡ copy.old.items ++ p.sent.items) }
     ensures err_copy { OnErr result (copy.new.items ≡ copy.old.items) }
-    ensures asked { (asked : List RefName) → ShowsAsked subs.old asked → ShowsAsked subs.new asked }
-    ensures watchers { (ws : List Watch) → ShowsWatchers subs.old ws → ShowsWatchers subs.new ws }
+    ensures asked { (asked : RefName → Bool) → ShowsAsked subs.old asked → ShowsAsked subs.new asked }
+    ensures watchers { (ws : RefName → ℕ → Bool) → ShowsWatchers subs.old ws → ShowsWatchers subs.new ws }
     ensures room { IfOk result (λ p. vec_len outbox.new + vec_len p.sent ≤ vec_capacity outbox.new) }
     ensures ready { IfOk result (λ p. All (λ x. is_ready subs.new.subs x ≡ true) p.wanted.items) }
     ensures short { IfOk result (λ p. all_short p.sent.items ≡ true) }

@@ -1,8 +1,8 @@
 //! What a site sends is made, and copied, before anything of the site changes, and memory is taken for it; then it is noted, and nothing can
 //! be refused.
-ghost use Rattle.std.specs.Prelude.{◌≡◌, ◌+◌, ◌++◌, ◌∷◌, [], ◌≤◌, ◌<◌, List, true, All, OnOk, OnErr, length, take, vec_len, vec_capacity};
+ghost use Rattle.std.specs.Prelude.{◌≡◌, ℕ, ◌+◌, ◌++◌, ◌∷◌, [], ◌≤◌, ◌<◌, Bool, true, All, OnOk, OnErr, length, take, vec_len, vec_capacity};
 ghost use Rattle.aw_term.specs.Names.{Ref as RefName};
-ghost use Rattle.aw_law_sites.specs.Sites.{Watch};
+ghost use Rattle.aw_law_sites.specs.Asking.{asked_too};
 ghost use Rattle.aw_subs.specs.Entries.{is_ready};
 ghost use Rattle.aw_site_repeat.specs.Holders.{ShowsAsked, ShowsWatchers};
 ghost use Rattle.aw_site.specs.Sendable.{all_short};
@@ -40,8 +40,8 @@ fn push_all_sent(outbox: &mut Vec<Message>, sent: Vec<Message>)
 /// Notes that a reference was asked for, which is ready.
 fn ask_ready(subs: &mut Subs, r: &Ref)
     requires { is_ready subs.old.subs r.now ≡ true }
-    ensures asked { (asked : List RefName) → ShowsAsked subs.old asked → ShowsAsked subs.new (asked ++ r.now ∷ []) }
-    ensures watchers { (ws : List Watch) → ShowsWatchers subs.old ws → ShowsWatchers subs.new ws }
+    ensures asked { (asked : RefName → Bool) → ShowsAsked subs.old asked → ShowsAsked subs.new (asked_too asked (r.now ∷ [])) }
+    ensures watchers { (ws : RefName → ℕ → Bool) → ShowsWatchers subs.old ws → ShowsWatchers subs.new ws }
     ensures ready { (x : RefName) → is_ready subs.old.subs x ≡ true → is_ready subs.new.subs x ≡ true }
 {
     match subs.ask(r) {
@@ -53,8 +53,8 @@ fn ask_ready(subs: &mut Subs, r: &Ref)
 /// Notes that references were asked for, which are ready.
 fn ask_all(subs: &mut Subs, wanted: &[Ref])
     requires { All (λ x. is_ready subs.old.subs x ≡ true) wanted.now }
-    ensures asked { (asked : List RefName) → ShowsAsked subs.old asked → ShowsAsked subs.new (asked ++ wanted.now) }
-    ensures watchers { (ws : List Watch) → ShowsWatchers subs.old ws → ShowsWatchers subs.new ws }
+    ensures asked { (asked : RefName → Bool) → ShowsAsked subs.old asked → ShowsAsked subs.new (asked_too asked wanted.now) }
+    ensures watchers { (ws : RefName → ℕ → Bool) → ShowsWatchers subs.old ws → ShowsWatchers subs.new ws }
 {
     for r in wanted {
         ask_ready(subs, r);
@@ -99,8 +99,8 @@ pub fn make_room(
     ensures outbox { outbox.new.items ≡ outbox.old.items }
     ensures copy { OnOk result (copy.new.items ≡ copy.old.items ++ plan.now.sent.items) }
     ensures err_copy { OnErr result (copy.new.items ≡ copy.old.items) }
-    ensures asked { (asked : List RefName) → ShowsAsked subs.old asked → ShowsAsked subs.new asked }
-    ensures watchers { (ws : List Watch) → ShowsWatchers subs.old ws → ShowsWatchers subs.new ws }
+    ensures asked { (asked : RefName → Bool) → ShowsAsked subs.old asked → ShowsAsked subs.new asked }
+    ensures watchers { (ws : RefName → ℕ → Bool) → ShowsWatchers subs.old ws → ShowsWatchers subs.new ws }
     ensures room { OnOk result (vec_len outbox.new + vec_len plan.now.sent ≤ vec_capacity outbox.new) }
     ensures ready { OnOk result (All (λ x. is_ready subs.new.subs x ≡ true) plan.now.wanted.items) }
     ensures short { OnOk result (all_short plan.now.sent.items ≡ true) }
@@ -116,8 +116,8 @@ pub fn carry_out(plan: Plan, subs: &mut Subs, outbox: &mut Vec<Message>)
     requires room { vec_len outbox.old + vec_len plan.sent ≤ vec_capacity outbox.old }
     requires ready { All (λ x. is_ready subs.old.subs x ≡ true) plan.wanted.items }
     ensures outbox { outbox.new.items ≡ outbox.old.items ++ plan.sent.items }
-    ensures asked { (asked : List RefName) → ShowsAsked subs.old asked → ShowsAsked subs.new (asked ++ plan.wanted.items) }
-    ensures watchers { (ws : List Watch) → ShowsWatchers subs.old ws → ShowsWatchers subs.new ws }
+    ensures asked { (asked : RefName → Bool) → ShowsAsked subs.old asked → ShowsAsked subs.new (asked_too asked plan.wanted.items) }
+    ensures watchers { (ws : RefName → ℕ → Bool) → ShowsWatchers subs.old ws → ShowsWatchers subs.new ws }
 {
     let Plan { sent, wanted } = plan;
     push_all_sent(outbox, sent);

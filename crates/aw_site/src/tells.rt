@@ -9,7 +9,8 @@ ghost use Rattle.aw_law_sites.specs.Loads.{load_of};
 ghost use Rattle.aw_law_sites.specs.Sites as P;
 ghost use Rattle.aw_law_sites.specs.Telling.{watchers_from, tell, tells, tell_back};
 ghost use Rattle.aw_law_sites.specs.ValidNames.{body_ok, equation_ok, equations_ok};
-ghost use Rattle.aw_site_repeat.specs.Holders.{AreWatchers, ShowsWatchers};
+ghost use Rattle.aw_subs.specs.Entries.{has_bit};
+ghost use Rattle.aw_site_repeat.specs.Holders.{ShowsWatchers};
 ghost use Rattle.aw_site.specs.Senders.{SendsAs};
 ghost use Rattle.aw_site.specs.Walks.{listed};
 
@@ -63,9 +64,9 @@ impl<'a, F: Facts> Sender<'a, F> {
         e: &Equation,
     ) -> Result<(), AllocError>
         requires { equation_ok (grammar_of self.now.grammar.now) (equation_of e.now) ≡ true }
-        ensures { OnOk result ((s : P.Site) → SendsAs ⟦<F as Facts>⟧ self.now s → AreWatchers watchers e.now.left s.watchers →
+        ensures { OnOk result ((s : P.Site) → SendsAs ⟦<F as Facts>⟧ self.now s →
             list_map (message_of (grammar_of self.now.grammar.now)) sent.new.items ≡ list_map (message_of (grammar_of self.now.grammar.now)) sent.old.items
-            ++ list_map (tell (grammar_of self.now.grammar.now) s (equation_of e.now)) (watchers_from 64 0 e.now.left s.watchers)) }
+            ++ list_map (tell (grammar_of self.now.grammar.now) s (equation_of e.now)) (watchers_from 64 0 (has_bit watchers))) }
     {
         let mut rest = watchers;
         'telling: while rest != 0 {
@@ -84,7 +85,7 @@ impl<'a, F: Facts> Sender<'a, F> {
         es: &[Equation],
     ) -> Result<(), AllocError>
         requires { equations_ok (grammar_of self.now.grammar.now) (list_map equation_of es.now) ≡ true }
-        ensures { OnOk result ((s : P.Site) → SendsAs ⟦<F as Facts>⟧ self.now s → ShowsWatchers subs.now s.watchers →
+        ensures { OnOk result ((s : P.Site) → SendsAs ⟦<F as Facts>⟧ self.now s → ShowsWatchers subs.now s.watches →
             list_map (message_of (grammar_of self.now.grammar.now)) sent.new.items ≡ list_map (message_of (grammar_of self.now.grammar.now)) sent.old.items
             ++ tells (grammar_of self.now.grammar.now) s (list_map equation_of es.now)) }
     {

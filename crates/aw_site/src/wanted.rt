@@ -7,7 +7,7 @@ ghost use Rattle.aw_store.specs.EquationView.{body_of, equation_of};
 ghost use Rattle.aw_msg.specs.MessageView.{message_of};
 ghost use Rattle.aw_law_sites.specs.Asking.{all_mentions, all_inherited, ask_message};
 ghost use Rattle.aw_law_sites.specs.Homes.{home};
-ghost use Rattle.aw_law_sites.specs.InOrder.{has_ref, insert_ref};
+ghost use Rattle.aw_law_sites.specs.InOrder.{insert_ref};
 ghost use Rattle.aw_law_sites.specs.Sites as P;
 ghost use Rattle.aw_law_sites.specs.Telling.{calls_in};
 ghost use Rattle.aw_law_sites.specs.ValidNames.{body_ok, refs_ok, equations_ok, call_ok};
@@ -47,7 +47,7 @@ fn place_of(refs: &[Ref], r: &Ref) -> Option<usize>
 impl<'a, F: Facts> Sender<'a, F> {
     /// Whether a reference has no equation here, and was not asked for.
     fn is_unknown(&self, subs: &Subs, r: &Ref) -> bool
-        ensures { (s : P.Site) → SendsAs ⟦<F as Facts>⟧ self.now s → ShowsAsked subs.now s.asked → result ≡ (is_none (find s.equations r.now) && not (has_ref r.now s.asked)) }
+        ensures { (s : P.Site) → SendsAs ⟦<F as Facts>⟧ self.now s → ShowsAsked subs.now s.asked → result ≡ (is_none (find s.equations r.now) && not (s.asked r.now)) }
     {
         !has_equation_in_both(self.facts, self.more, r) && !subs.has_asked(r)
     }

@@ -1,15 +1,15 @@
 //! Whether nothing of a message is new.
-ghost use Rattle.std.specs.Prelude.{◌≡◌, ◌<◌, is_some, List, map as list_map};
+ghost use Rattle.std.specs.Prelude.{◌≡◌, ◌<◌, is_some, map as list_map};
 ghost use Rattle.aw_term.specs.Held.{held_of};
 ghost use Rattle.aw_term.specs.Rules as T;
 ghost use Rattle.aw_node_list.specs.InOrder.{IsInOrder};
 ghost use Rattle.aw_node_list.specs.HeldView.{all_of};
 ghost use Rattle.aw_store.specs.EquationView.{equation_of};
 ghost use Rattle.aw_subs.specs.Entries.{has_bit, watches};
+ghost use Rattle.aw_subs.specs.Noted.{watches_in};
 ghost use Rattle.aw_msg.specs.MessageView.{plain_kind};
 ghost use Rattle.aw_law_sites.specs.Receiving.{all_held, is_repeat};
-ghost use Rattle.aw_law_sites.specs.Sites.{Watch};
-ghost use Rattle.aw_site_repeat.specs.Holders.{holder, ShowsWatchers, IsOfRole};
+ghost use Rattle.aw_site_repeat.specs.Holders.{holder, IsOfRole};
 ghost use Rattle.aw_site_repeat.specs.Views.{kind_of};
 
 use crate::finding::has_equation;
@@ -59,7 +59,7 @@ fn is_watched_by(subs: &Subs, r: &Ref, role: u16) -> bool
 pub fn is_repeat<F: Facts>(facts: &F, held: &Holding, subs: &Subs, kind: &MsgKind) -> bool
     requires ordered { IsInOrder held.now.items }
     requires role { IsOfRole (plain_kind kind.now) }
-    ensures { (g : T.Grammar) (ws : List Watch) → ShowsWatchers subs.now ws → result ≡ is_repeat (holder (all_of g held.now.items) (F.map facts.now) ws) (kind_of g kind.now) }
+    ensures { (g : T.Grammar) → result ≡ is_repeat (holder (all_of g held.now.items) (F.map facts.now) (watches_in subs.now)) (kind_of g kind.now) }
 {
     match kind {
         MsgKind::Call { node, load, .. } => {

@@ -24,15 +24,13 @@ use Rattle.aw_base.specs.ChoiceFits.{choice_ok, args_ok, ref_ok}
 use Rattle.aw_iograph.specs.Occurrences.{pattern_entries}
 use Rattle.aw_store.specs.Adding.{AreNew}
 use Rattle.aw_store.specs.Equations.{Is, Equation, Map, find}
-use Rattle.aw_store.specs.NamedRefs.{all_named, Grows}
-use Rattle.aw_store.proofs.NameLemmas.{all_named-grown}
 use Rattle.aw_apply.specs.Made.{Call, Making, made}
 use Rattle.aw_apply.specs.MadeView.{as_child}
 use Rattle.aw_apply.proofs.MadeCalls.{IsBelow, made-below, made-differ, made-sorts}
 use Rattle.aw_apply.proofs.Numbering.{Lies, made-apart, made-new}
 use Rattle.aw_node_list.specs.declared.held.Held.{Held}
 use Rattle.aw_node_list.specs.HeldView.{sort_or}
-use Rattle.aw_node_list.specs.InOrder.{IsInOrder, place_in, insert_all_in, done_at, Lacks, LackEach}
+use Rattle.aw_node_list.specs.InOrder.{place_in, insert_all_in, done_at, Lacks, LackEach}
 use Rattle.aw_node_list.proofs.InOrderLemmas.{Up, up_of}
 use Rattle.aw_node_list.proofs.HeldViews.{held_here}
 use Rattle.aw_law_sites.specs.Homes.{has_steps, parent}
@@ -42,12 +40,13 @@ use Rattle.aw_law_worlds.proofs.GuardBinds.{all_bound, all_many}
 use Rattle.aw_law_worlds.proofs.Learning.{find-member}
 use Rattle.aw_law_worlds.proofs.Sorts.{some_sort}
 use Rattle.aw_space.specs.Children.{own_children, are_named}
-use Rattle.aw_space.specs.Sound.{is_own, all_own, is_done, is_rooted, all_rooted, all_inherited, IsSound}
+use Rattle.aw_space.specs.Sound.{is_own, all_own, is_done, is_rooted, all_rooted, AreHome, IsSound}
 use Rattle.aw_space.specs.Spaces.{is_home, develop_space, space_on, space_after}
 use Rattle.aw_space.specs.SpaceView.{space_of}
+use Rattle.aw_space.specs.Taken.{Belong}
 use Rattle.aw_space.specs.Valid.{is_of_sort, done_fits, held_fits, all_fit, IsValid}
 use Rattle.aw_space.proofs.Freshness.{free_pending}
-use Rattle.aw_space.proofs.KeptSound.{named_all_inserted, inherited_done, own_all_inserted, own_done, done_here, done_kept, done_all_inserted, all_done_kept, all_done_append, all_done_new, all_rooted_more, rooted_all_inserted, rooted_done, rooted_below}
+use Rattle.aw_space.proofs.KeptSound.{own_all_inserted, own_done, done_here, done_kept, done_all_inserted, all_done_kept, all_done_append, all_done_new, all_rooted_more, rooted_all_inserted, rooted_done, rooted_below}
 use Rattle.aw_space.proofs.KeptValid.{fit_all_inserted, fit_done, refs_here, valid_append}
 use Rattle.aw_space.proofs.MadeNames.{each_ref, each_valid, kid_valid, made_valid}
 use Rattle.aw_space.proofs.OwnChildren.{named_each, own_each, own_differ, lack_each, all_own_each, all_rooted_each, all_fit_each}
@@ -209,14 +208,11 @@ module _ (gr : Grammar) (role : ℕ) (hs : List Held) (k : Map) (names : List Re
     lefts : Each (λ (e : Equation). e.left.node ≡ n) mk.equations
     lefts = let (z, a) = made-apart n r rule args t.rule.bound in each_map _ _ mk.equations (λ (e : Equation) (l : Lies n 1 z 1 (1 + length rule.results) e). l.0) a.lie
 
-    pub sound_after : (names' : List Ref) → IsInOrder after → Grows names names' → all_named names' (all_inherited own) ≡ true → IsSound g role after (k ++ mk.equations) names'
-    sound_after names' ordered grows named = record {
-      ordered = ordered;
+    home_after : AreHome g role after (k ++ mk.equations)
+    home_after = record {
       own = own_all_inserted g role own (done_at c t.at hs) own_is (own_done g role c t.at hs sound.own);
       done = all_done_append g role after k mk.equations (all_done_kept g role hs after k more sound.done) (all_done_new g role after n mk.equations done_now lefts);
       rooted = rooted_all_inserted g role after own (done_at c t.at hs) own_rooted (rooted_done g role after c t.at hs (all_rooted_more g role hs after hs more sound.rooted));
-      named = named_all_inserted names' own (done_at c t.at hs) named
-          (ap (all_named names') (inherited_done c t.at hs) ∙ all_named-grown names names' (all_inherited hs) grows sound.named);
     }
 
     fits_done : (c : Choice) → choice_of c ≡ Q.Develop n r args → done_fits g t.held.node (Some c) ≡ true
@@ -230,11 +226,14 @@ module _ (gr : Grammar) (role : ℕ) (hs : List Held) (k : Map) (names : List Re
         (and_from _ _ (ap (λ o. is_of_sort o (sort_of g t.held.node)) rules ∙ ap (λ x. is_of_sort (Some rule) (sort_of g x)) t.node ∙ ap (is_of_sort (Some rule)) sorted ∙ eq-eqb rule.sort rule.sort refl)
         (ap (args_ok g) fits ∙ fit))
 
-    pub valid_after : IsValid g after (k ++ mk.equations)
+    valid_after : IsValid g after (k ++ mk.equations)
     valid_after = record {
       nodes = fit_all_inserted g own (done_at c t.at hs) own_fit (fit_done g c t.at hs t.held t.there (fits_done c is) valid.nodes);
       equations = valid_append g k mk.equations valid.equations new_valid;
     }
+
+    pub belong_after : Belong g role after (k ++ mk.equations)
+    belong_after = record { home = home_after; valid = valid_after }
 
     pub space_after_rule : (cs : List Choice) → space_of g after (cs ++ c ∷ []) (k ++ mk.equations) ≡ space_after g role (space_of g hs cs k) (Q.Develop n r args)
     space_after_rule cs =

@@ -10,12 +10,13 @@ use Rattle.aw_node_list.specs.declared.held.Held.{Held}
 use Rattle.aw_node_list.specs.HeldView.{all_of}
 use Rattle.aw_node_list.specs.Row.{Row}
 use Rattle.aw_node_list.specs.InOrder.{place_in}
+use Rattle.aw_node_list.proofs.HeldViews.{held_nowhere}
 use Rattle.aw_law_sites.specs.Receiving.{add_on}
 use Rattle.aw_law_sites.specs.ValidNames.{takes_as, refs_ok}
 use Rattle.aw_law_sites.specs.Worklists.{site_worklist}
 use Rattle.aw_standing.specs.Items.{waiting_on}
 use Rattle.aw_space.specs.Children.{open_child, own_children}
-use Rattle.aw_space.specs.Costs.{rules_of, call_cost, learning_cost, taking_cost}
+use Rattle.aw_space.specs.Costs.{rules_of, call_cost, call_cost_on, learning_cost, taking_cost}
 use Rattle.aw_space.specs.Missing.{missing_on, missing_node, with_node, inherited_by}
 use Rattle.aw_space.specs.Openings.{IsOpenable, held_in}
 use Rattle.aw_space.specs.Placings.{MayBeCalled, MayBeCalledIf, placed_call}
@@ -36,13 +37,13 @@ pub turns_are : (g : Grammar) (s : Space) (es : List Equation) → turns_cost g 
 turns_are g s [] = refl
 turns_are g s (e ∷ es) = ap (λ n. waiting_on e.left (site_worklist g s.equations s.held) + n) (turns_are g (record s { equations = add_on (find s.equations e.left) s.equations e }) es)
 
-node_cost : (g : Grammar) (p : Placing) (o : Option ℕ) → rules_if g (missing_on o p) ≤ call_cost g (Some (placed_call g p))
-node_cost g p None = omega (arith, ap (rules_of g) (sort_or-zero (sort_of g p.node)))
-node_cost g p (Some i) = omega arith
+node_cost : (g : Grammar) (p : Placing) (hs : List Held) (o : Option ℕ) → place_in p.node hs ≡ o → rules_if g (missing_on o p) ≤ call_cost g (all_of g hs) (Some (placed_call g p))
+node_cost g p hs None e = omega (arith, ap (rules_of g) (sort_or-zero (sort_of g p.node)), ap (λ x. call_cost_on g x (placed_call g p)) (held_nowhere g p.node hs e))
+node_cost g p hs (Some i) e = omega arith
 
-missing_cost : (g : Grammar) (p : Option Placing) (hs : List Held) → rules_if g (missing_node p hs) ≤ call_cost g (option_map (placed_call g) p)
+missing_cost : (g : Grammar) (p : Option Placing) (hs : List Held) → rules_if g (missing_node p hs) ≤ call_cost g (all_of g hs) (option_map (placed_call g) p)
 missing_cost g None hs = omega arith
-missing_cost g (Some p) hs = node_cost g p (place_in p.node hs)
+missing_cost g (Some p) hs = node_cost g p hs (place_in p.node hs) refl
 
 pub taking_costs : (g : Grammar) (p : Option Placing) (hs : List Held) (s : Space) (es : List Equation) → s.held ≡ all_of g hs → taken_cost g (missing_node p hs) hs s.equations es ≤ taking_cost g (option_map (placed_call g) p) es s
 taking_costs g p hs s es is =
@@ -50,6 +51,7 @@ taking_costs g p hs s es is =
     omega (
       arith,
       missing_cost g p hs,
+      ap (λ ks. call_cost g ks (option_map (placed_call g) p)) is,
       ap (λ ks. turns_cost g ks s.equations es) view,
       turns_are g (record s { held = with_call (option_map (placed_call g) p) s.held }) es,
     )

@@ -25,4 +25,7 @@ pub mod Waking
 pub mod Listing
 pub mod Openings
 pub mod Costing
+pub mod CalledAlone
 pub mod Beginning
+pub mod Stills
+pub mod Arriving

@@ -26,6 +26,7 @@ use Rattle.aw_law_sites.specs.Telling.{calls_in}
 use Rattle.aw_space.specs.Spaces.{develop_space}
 use Rattle.aw_space.specs.SpaceView.{space_of}
 use Rattle.aw_space.specs.Children.{own_children}
+use Rattle.aw_space.specs.Openings.{opened}
 use Rattle.aw_space.proofs.OwnChildren.{own_view}
 
 -- the choices with one more
@@ -44,10 +45,6 @@ developed g role hs cs k (Develop n r' args') r args at h m up here e sorts =
     ∙ ap (insert_all (calls_in g role m.calls)) (view_marked g (Develop n r' args') (Done r args) hs at h up here state) in
     let choices = choices_pushed cs (Develop n r' args') (P.Develop h.node r args) e in
     λ i. record { held = held i; choices = choices i; equations = k ++ m.equations }
-
--- the node of a new case
-abbrev pub opened : ℕ → ℕ → Held
-opened s l = record { node = root s l; inherited = []; done = None }
 
 -- the space after a start
 pub begun : (g : Grammar) (hs : List Held) (cs : List Choice) (k : Map) (c : Choice) (s l : ℕ) → is_start (slice_get g.sorts s) ≡ true → choice_of c ≡ P.Start s l →

@@ -12,7 +12,7 @@ use Rattle.aw_node_list.specs.InOrder.{IsInOrder}
 use Rattle.aw_law_sites.specs.Receiving.{add_all}
 use Rattle.aw_space.specs.Keeping.{KeepsFacts, KeepsNodes}
 use Rattle.aw_space.specs.Missing.{missing_node, with_node, inherited_by}
-use Rattle.aw_space.specs.Placings.{MayBeCalledIf, MayBeLearnt, placed_call}
+use Rattle.aw_space.specs.Placings.{MayBeCalledIf, MayBeLearnt, called_by, placed_call}
 use Rattle.aw_space.specs.Sound.{IsSound}
 use Rattle.aw_space.specs.Spaces.{taken_in}
 use Rattle.aw_space.specs.SpaceView.{space_of}
@@ -31,34 +31,29 @@ sound_told g role hs k names es may sound = record {
   named = sound.named;
 }
 
-module _ {E : Type 0} (g : Grammar) (role : ℕ) (hs ks : List Held) (k l : Map) (p : Option Placing) (es : List Equation) (o : Result (Unit {0}) E) where
-  pub taken_sound : (names names' : List Ref) → OnOk o (ks ≡ with_node (missing_node p hs) hs) → OnErr o (ks ≡ hs) → OnOk o (l ≡ add_all k es) → OnErr o (l ≡ k) → OnOk o (all_named names' (inherited_by (missing_node p hs)) ≡ true) →
-      IsInOrder ks → Grows names names' → MayBeCalledIf g role (option_map (placed_call g) p) → MayBeLearnt g role es → IsSound g role hs k names → IsSound g role ks l names'
-  taken_sound names names' e e' f f' named ordered grows call may sound = go o e e' f f' named
-    where
-      go : (o : Result (Unit {0}) E) → OnOk o (ks ≡ with_node (missing_node p hs) hs) → OnErr o (ks ≡ hs) → OnOk o (l ≡ add_all k es) → OnErr o (l ≡ k) → OnOk o (all_named names' (inherited_by (missing_node p hs)) ≡ true) → IsSound g role ks l names'
-      go (Ok x) e e' f f' named =
-          subst (λ m. IsSound g role ks m names') (sym f) (subst (λ xs. IsSound g role xs (add_all k es) names') (sym e)
-          (sound_told g role (with_node (missing_node p hs) hs) k names' es may (sound_missing g role p hs k names names' call sound (subst IsInOrder e ordered) grows named)))
-      go (Err x) e e' f f' named = subst (λ m. IsSound g role ks m names') (sym f') (grown_sound g role hs ks k names names' sound grows e')
+module _ (g : Grammar) (role : ℕ) (hs ks : List Held) (k l : Map) (p : Option Placing) (es : List Equation) (held : ks ≡ with_node (missing_node p hs) hs) (told : l ≡ add_all k es)
+    (call : MayBeCalledIf g role (called_by g p)) (may : MayBeLearnt g role es) where
+  pub taken_sound : (names more : List Ref) → all_named more (inherited_by (missing_node p hs)) ≡ true → IsInOrder ks → Grows names more → IsSound g role hs k names → IsSound g role ks l more
+  taken_sound names more named ordered grows sound =
+      subst (λ m. IsSound g role ks m more) (sym told) (subst (λ xs. IsSound g role xs (add_all k es) more) (sym held)
+      (sound_told g role (with_node (missing_node p hs) hs) k more es may (sound_missing g role p hs k names more call sound (subst IsInOrder held ordered) grows named)))
 
-  pub taken_valid : OnOk o (ks ≡ with_node (missing_node p hs) hs) → OnErr o (ks ≡ hs) → OnOk o (l ≡ add_all k es) → OnErr o (l ≡ k) → MayBeCalledIf g role (option_map (placed_call g) p) → MayBeLearnt g role es → IsValid g hs k → IsValid g ks l
-  taken_valid e e' f f' call may valid = go o e e' f f'
-    where
-      go : (o : Result (Unit {0}) E) → OnOk o (ks ≡ with_node (missing_node p hs) hs) → OnErr o (ks ≡ hs) → OnOk o (l ≡ add_all k es) → OnErr o (l ≡ k) → IsValid g ks l
-      go (Ok x) e e' f f' =
-          let put = valid_missing g role p hs k call valid in
-          subst (λ m. IsValid g ks m) (sym f) (subst (λ xs. IsValid g xs (add_all k es)) (sym e) (record { nodes = put.nodes; equations = told_valid g k es may.ok put.equations }))
-      go (Err x) e e' f f' = subst (λ m. IsValid g ks m) (sym f') (subst (λ xs. IsValid g xs k) (sym e') valid)
+  pub taken_valid : IsValid g hs k → IsValid g ks l
+  taken_valid valid =
+      let put = valid_missing g role p hs k call valid in
+      subst (λ m. IsValid g ks m) (sym told) (subst (λ xs. IsValid g xs (add_all k es)) (sym held) (record { nodes = put.nodes; equations = told_valid g k es may.ok put.equations }))
 
-  -- it is the plain one, by a grammar that is the same
-  pub taken_space : (g' : Grammar) (cs : List Choice) → g ≡ g' → OnOk o (ks ≡ with_node (missing_node p hs) hs) → OnOk o (l ≡ add_all k es) → OnOk o (space_of g ks cs l ≡ taken_in (option_map (placed_call g') p) es (space_of g hs cs k))
-  taken_space g' cs same e f = go o e f
+module _ {E : Type 0} (g : Grammar) (hs ks : List Held) (k l : Map) (p : Option Placing) (es : List Equation) (o : Result (Unit {0}) E) where
+  -- it is the plain one, by grammars that are the same
+  pub taken_space : (asked new : Grammar) (cs ds : List Choice) → g ≡ asked → new ≡ g → ds ≡ cs → OnOk o (ks ≡ with_node (missing_node p hs) hs) → OnOk o (l ≡ add_all k es) →
+      OnOk o (space_of new ks ds l ≡ taken_in (called_by asked p) es (space_of g hs cs k))
+  taken_space asked new cs ds same still kept e f = go o e f
     where
-      go : (o : Result (Unit {0}) E) → OnOk o (ks ≡ with_node (missing_node p hs) hs) → OnOk o (l ≡ add_all k es) → OnOk o (space_of g ks cs l ≡ taken_in (option_map (placed_call g') p) es (space_of g hs cs k))
+      go : (o : Result (Unit {0}) E) → OnOk o (ks ≡ with_node (missing_node p hs) hs) → OnOk o (l ≡ add_all k es) → OnOk o (space_of new ks ds l ≡ taken_in (called_by asked p) es (space_of g hs cs k))
       go (Ok x) e f =
           let held = ap (all_of g) e ∙ view_missing g p hs in
-          (λ i. record { held = held i; choices = (space_of g hs cs k).choices; equations = f i }) ∙ (λ i. taken_in (option_map (placed_call (same i)) p) es (space_of g hs cs k))
+          (λ i. space_of (still i) ks (kept i) l) ∙ (λ i. record { held = held i; choices = (space_of g hs cs k).choices; equations = f i })
+          ∙ (λ i. taken_in (called_by (same i) p) es (space_of g hs cs k))
       go (Err x) e f = tt
 
   pub taken_facts : OnOk o (l ≡ add_all k es) → OnErr o (l ≡ k) → KeepsFacts k l

@@ -4,7 +4,7 @@ use Rattle.aw_term.specs.Names.{Ref}
 use Rattle.aw_term.specs.Rules.{Rule, Grammar}
 use Rattle.aw_term.specs.Choices.{Choice, Start, Develop, Outcome, Starts, Takes}
 use Rattle.aw_term.specs.Artifacts.{Item}
-use Rattle.aw_term.specs.Held.{Held}
+use Rattle.aw_term.specs.Held.{Held, held_of}
 use Rattle.aw_store.specs.Equations.{Equation, find}
 use Rattle.aw_apply.specs.Made.{Call, made}
 use Rattle.aw_law_sites.specs.Joint.{root_held}
@@ -37,10 +37,15 @@ choice_cost g role s c =
     let x = outcome g s c in
     1 + (rules_at g (added g role c x) + waiting_on_lefts (making c x).equations (worklist g s))
 
--- a call, if there is one: the guards of its node
-abbrev pub call_cost : Grammar → Option Call → ℕ
-call_cost g None = 0
-call_cost g (Some c) = rules_of g c.sort
+-- a call: the guards of its node, which may be held already
+abbrev pub call_cost_on : Grammar → Option Held → Call → ℕ
+call_cost_on g None c = rules_of g c.sort
+call_cost_on g (Some h) c = 0
+
+-- a call, if there is one, where these nodes are held
+abbrev pub call_cost : Grammar → List Held → Option Call → ℕ
+call_cost g hs None = 0
+call_cost g hs (Some c) = call_cost_on g (held_of c.node hs) c
 
 -- equations in turn: the guards that wait for each of them then
 abbrev pub learning_cost : Grammar → Space → List Equation → ℕ
@@ -49,4 +54,4 @@ learning_cost g s (e ∷ es) = waiting_on e.left (worklist g s) + learning_cost 
 
 -- a call, if there is one, and then equations in turn
 abbrev pub taking_cost : Grammar → Option Call → List Equation → Space → ℕ
-taking_cost g c es s = call_cost g c + learning_cost g (record s { held = with_call c s.held }) es
+taking_cost g c es s = call_cost g s.held c + learning_cost g (record s { held = with_call c s.held }) es

@@ -13,3 +13,6 @@ pub mod Missing
 pub mod Openings
 pub mod Waking
 pub mod TakenIn
+pub mod Taken
+pub mod InSpace
+pub mod Placed

@@ -1,11 +1,14 @@
 -- Nodes that are to be held, each with what is kept of it.
-use Rattle.std.specs.Prelude.{◌≡◌, ℕ, true, List, None, sum_by, vec_len}
-use Rattle.aw_term.specs.Names.{Ref}
+use Rattle.std.specs.Prelude.{◌≡◌, ◌≤◌, ℕ, true, All, List, [], None, length, sum_by, vec_len}
+use Rattle.aw_term.specs.Names.{Ref, root}
 use Rattle.aw_term.specs.Rules.{Grammar, sort_of}
+use Rattle.aw_node_list.specs.Row.{Row}
 use Rattle.aw_node_list.specs.declared.held.Held.{Held}
 use Rattle.aw_law_sites.specs.ValidNames.{takes_as}
+use Rattle.aw_standing.specs.KeptStates.{HasRoom}
 use Rattle.aw_standing.specs.Records.{IsFit, IsOf}
 use Rattle.aw_standing.specs.Tested.{IsFresh}
+use Rattle.aw_standing.specs.declared.kept.Kept.{Kept}
 use Rattle.aw_space.specs.declared.opening.Opening.{Opening}
 
 -- The node is open and goes by its name; what is kept is of this node, and none of its rules waits yet.
@@ -31,3 +34,13 @@ all_tests os = sum_by tests_of os
 pub record IsOpenable (g : Grammar) (h : Held) : Type 0 where
   pub takes : takes_as g (sort_of g h.node) h.inherited ≡ true
   pub done : h.done ≡ None
+
+-- What is to be kept of each of these nodes is ready, and there is room for all of them.
+pub record AreReady (g : Grammar) (names : List Ref) (held : Row) (kept : Kept) (os : List Opening) : Type 0 where
+  pub ready : All (IsReady g names) os
+  pub place : length os ≤ held.room
+  pub room : HasRoom kept (length os) (all_tests os)
+
+-- the node of a new case
+abbrev pub opened : ℕ → ℕ → Held
+opened s l = record { node = root s l; inherited = []; done = None }

@@ -43,6 +43,12 @@ abbrev pub all_inherited : List Held → List Ref
 all_inherited [] = []
 all_inherited (h ∷ hs) = h.inherited ++ all_inherited hs
 
+-- The nodes are this role's; its equations are of developed nodes; and no node was added before its parent was developed, where that is this role's.
+pub record AreHome (g : Grammar) (role : ℕ) (hs : List Held) (k : Map) : Type 0 where
+  pub own : all_own g role hs ≡ true
+  pub done : all_done g role hs k ≡ true
+  pub rooted : all_rooted g role hs hs ≡ true
+
 -- The nodes are in order and this role's; its equations are of developed nodes; no node was added before its parent was developed, where that is
 -- this role's; and the store has a name for each inherited reference.
 pub record IsSound (g : Grammar) (role : ℕ) (hs : List Held) (k : Map) (names : List Ref) : Type 0 where

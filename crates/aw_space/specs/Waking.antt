@@ -26,7 +26,8 @@ IsKnown k r = is_some (find k r) ≡ true
 
 -- no more rules than this wait for a reference that has an equation
 abbrev pub IsBound : Map → List Ref → Kept → (Ref → ℕ) → Type 0
-IsBound k names kept most = (slot : ℕ) (r : Ref) → slice_get names slot ≡ Some r → is_some (body_at k names slot) ≡ true → waiting_at slot kept.work.waiting ≤ most r
+IsBound k names kept most =
+    (slot : ℕ) (r : Ref) → slice_get names slot ≡ Some r → is_some (body_at k names slot) ≡ true → waiting_at slot kept.work.waiting ≤ most r
 
 -- for each of these equations in turn, how many items of the worklist wait for it then
 abbrev pub turns_cost : Grammar → List Held → Map → List Equation → ℕ

@@ -152,11 +152,13 @@ fn wake<F: Facts, L: Ledger>(
     requires fits { IsFitKept (grammar_of grammar.now) (F.names facts.now) kept.old }
     requires known { is_some (find (F.map facts.now) left.now) ≡ true }
     ensures fits { IsFitKept (grammar_of grammar.now) (F.names facts.now) kept.new }
-    ensures kept { (hs : List HeldValue) (late : List RefName) → IsKeptBut (grammar_of grammar.now) hs (F.map facts.now) (F.names facts.now) (left.now ∷ late) kept.old →
+    ensures kept { (hs : List HeldValue) (late : List RefName) →
+        IsKeptBut (grammar_of grammar.now) hs (F.map facts.now) (F.names facts.now) (left.now ∷ late) kept.old →
         IsKeptBut (grammar_of grammar.now) hs (F.map facts.now) (F.names facts.now) late kept.new }
     ensures room { (n w : ℕ) → HasRoom kept.old n w → HasRoom kept.new n w }
     ensures steps { (most : RefName → ℕ) → IsBound (F.map facts.now) (F.names facts.now) kept.old most → steps.new ≤ steps.old + most left.now }
-    ensures fewer { (most : RefName → ℕ) → IsBound (F.map facts.now) (F.names facts.now) kept.old most → IsBound (F.map facts.now) (F.names facts.now) kept.new most }
+    ensures fewer { (most : RefName → ℕ) → IsBound (F.map facts.now) (F.names facts.now) kept.old most →
+        IsBound (F.map facts.now) (F.names facts.now) kept.new most }
 {
     match facts.slot_of(left) {
         Some(slot) => kept.learn(slot, grammar, facts, steps),

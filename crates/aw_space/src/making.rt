@@ -1,66 +1,18 @@
 //! Making ready what a step needs, before anything changes.
-ghost use Rattle.std.specs.Prelude.{◌≡◌, ◌<◌, ◌≤◌, ◌+◌, ◌++◌, ◌∷◌, [], List, All, IfOk, OnOk, length, map as list_map, vec_len};
-ghost use Rattle.aw_term.specs.Names.{Ref as RefName};
-ghost use Rattle.aw_term.specs.Rules.{Grammar as PlainGrammar};
+ghost use Rattle.std.specs.Prelude.{◌≡◌, ◌≤◌, ◌+◌, ◌++◌, ◌∷◌, [], Some, true, All, IfOk, OnOk, length, map as list_map};
 ghost use Rattle.aw_grammar.specs.GrammarOf.{grammar_of};
-ghost use Rattle.aw_node_list.specs.declared.held.Held.{Held as HeldValue};
-ghost use Rattle.aw_store.specs.Equations.{Map};
-ghost use Rattle.aw_store.specs.NamedRefs.{Grows};
-ghost use Rattle.aw_standing.specs.KeptStates.{HasRoom, IsKept, IsKeptBut};
+ghost use Rattle.aw_store.specs.EquationView.{equation_of};
+ghost use Rattle.aw_store.specs.NamedRefs.{Grows, has_names};
+ghost use Rattle.aw_store.specs.StoreView.{all_few};
+ghost use Rattle.aw_standing.specs.KeptStates.{HasRoom};
 ghost use Rattle.aw_space.specs.Openings.{IsOpenable, IsReady, all_tests, held_in, tests_of};
 
 use crate::opening::{Opening, ready};
+use crate::space::Space;
 use aw_grammar::Grammar;
-use aw_node_list::{Held, Holding};
-use aw_standing::Kept;
-use aw_store::Facts;
+use aw_node_list::Held;
+use aw_store::{Equations, Facts};
 use std::alloc::{AllocError, Global};
-
-/// Room for so many nodes, whose rules may wait so many times. What is held and kept stays as it is.
-fn make_place(
-    held: &mut Holding,
-    kept: &mut Kept,
-    nodes: usize,
-    waits: usize,
-) -> Result<(), AllocError>
-    ensures place { OnOk result (nodes ≤ held.new.room) }
-    ensures room { OnOk result (HasRoom kept.new nodes waits) }
-    ensures held { held.new.items ≡ held.old.items }
-    ensures kept { (g : PlainGrammar) (hs : List HeldValue) (k : Map) (names late : List RefName) → IsKeptBut g hs k names late kept.old → IsKeptBut g hs k names late kept.new }
-{
-    held.reserve(nodes)?;
-    kept.reserve(nodes, waits)?;
-    Ok(())
-}
-
-/// What is to be kept of an open node, and room for it. An error changes nothing but the names of the store.
-pub fn make_ready<F: Facts>(
-    grammar: &Grammar,
-    facts: &mut F,
-    held: &mut Holding,
-    kept: &mut Kept,
-    node: Held,
-) -> Result<Opening, AllocError>
-    requires node { IsOpenable (grammar_of grammar.now) node }
-    requires stands { IsKept (grammar_of grammar.now) held.old.items (F.map facts.old) (F.names facts.old) kept.old }
-    ensures node { IfOk result (λ o. o.held ≡ node) }
-    ensures ready { IfOk result (λ o. IsReady (grammar_of grammar.now) (F.names facts.new) o) }
-    ensures place { OnOk result (0 < held.new.room) }
-    ensures room { IfOk result (λ o. HasRoom kept.new 1 (tests_of o)) }
-    ensures held { held.new.items ≡ held.old.items }
-    ensures map { F.map facts.new ≡ F.map facts.old }
-    ensures names { Grows (F.names facts.old) (F.names facts.new) }
-    ensures stands { IsKept (grammar_of grammar.now) held.new.items (F.map facts.new) (F.names facts.new) kept.new }
-{
-    let new = ready(held.allocator(), grammar, facts, node)?;
-    match make_place(held, kept, 1, new.entry.rule_count()) {
-        Ok(()) => Ok(new),
-        Err(error) => {
-            drop(new);
-            Err(error)
-        }
-    }
-}
 
 /// Adds what is to be kept of an open node. An error may have named some of its references.
 fn push_ready<F: Facts>(
@@ -145,43 +97,95 @@ fn count_tests(more: &[Opening]) -> Result<usize, AllocError>
     Ok(total)
 }
 
-/// Room for these open nodes and for what is to be kept of them. What is held and kept stays as it is.
-fn make_places(held: &mut Holding, kept: &mut Kept, more: &[Opening]) -> Result<(), AllocError>
-    ensures place { OnOk result (length more.now ≤ held.new.room) }
-    ensures room { OnOk result (HasRoom kept.new (length more.now) (all_tests more.now)) }
-    ensures held { held.new.items ≡ held.old.items }
-    ensures kept { (g : PlainGrammar) (hs : List HeldValue) (k : Map) (names late : List RefName) → IsKeptBut g hs k names late kept.old → IsKeptBut g hs k names late kept.new }
-{
-    let waits = count_tests(more)?;
-    make_place(held, kept, more.len(), waits)?;
-    Ok(())
-}
+impl<'g, F: Facts> Space<'g, F> {
+    ghost use Rattle.aw_space.specs.InSpace.{AreReadyIn, AreSureIn, IsNamedIn, IsReadyIn, IsStill};
+    ghost use Rattle.aw_space.specs.Seen.{grammar_in};
 
-/// What is to be kept of each of these open nodes, and room for them. An error changes nothing but the names of the store.
-pub fn make_all_ready<F: Facts>(
-    grammar: &Grammar,
-    facts: &mut F,
-    held: &mut Holding,
-    kept: &mut Kept,
-    own: Vec<Held>,
-) -> Result<Vec<Opening>, AllocError>
-    requires own { All (IsOpenable (grammar_of grammar.now)) own.items }
-    requires stands { IsKept (grammar_of grammar.now) held.old.items (F.map facts.old) (F.names facts.old) kept.old }
-    ensures own { IfOk result (λ more. list_map held_in more.items ≡ own.items) }
-    ensures ready { IfOk result (λ more. All (IsReady (grammar_of grammar.now) (F.names facts.new)) more.items) }
-    ensures place { IfOk result (λ more. vec_len more ≤ held.new.room) }
-    ensures room { IfOk result (λ more. HasRoom kept.new (vec_len more) (all_tests more.items)) }
-    ensures held { held.new.items ≡ held.old.items }
-    ensures map { F.map facts.new ≡ F.map facts.old }
-    ensures names { Grows (F.names facts.old) (F.names facts.new) }
-    ensures stands { IsKept (grammar_of grammar.now) held.new.items (F.map facts.new) (F.names facts.new) kept.new }
-{
-    let more = all_ready(held.allocator(), grammar, facts, own)?;
-    match make_places(held, kept, more.as_slice()) {
-        Ok(()) => Ok(more),
-        Err(error) => {
-            drop(more);
-            Err(error)
+    /// Room for so many nodes, whose rules may wait so many times.
+    fn make_place(&mut self, nodes: usize, waits: usize) -> Result<(), AllocError>
+        ensures place { OnOk result (nodes ≤ self.new.held.room) }
+        ensures room { OnOk result (HasRoom self.new.kept nodes waits) }
+        ensures still { IsStill ⟦<F as Facts>⟧ self.old self.new }
+    {
+        self.held.reserve(nodes)?;
+        self.kept.reserve(nodes, waits)
+    }
+
+    /// Room for these open nodes and for what is to be kept of them.
+    fn make_places(&mut self, more: &[Opening]) -> Result<(), AllocError>
+        ensures place { OnOk result (length more.now ≤ self.new.held.room) }
+        ensures room { OnOk result (HasRoom self.new.kept (length more.now) (all_tests more.now)) }
+        ensures still { IsStill ⟦<F as Facts>⟧ self.old self.new }
+    {
+        let waits = count_tests(more)?;
+        self.make_place(more.len(), waits)
+    }
+
+    /// Room for these equations, whose references are named. An error may have named some.
+    pub(crate) fn make_known(&mut self, es: &Equations) -> Result<(), AllocError>
+        requires { all_few (list_map equation_of es.now) ≡ true }
+        ensures sure { OnOk result (AreSureIn ⟦<F as Facts>⟧ self.new es.now) }
+        ensures named { OnOk result (has_names (F.names self.new.facts) (list_map equation_of es.now) ≡ true) }
+        ensures held { self.new.held ≡ self.old.held }
+        ensures kept { self.new.kept ≡ self.old.kept }
+        ensures still { IsStill ⟦<F as Facts>⟧ self.old self.new }
+    {
+        self.facts.reserve(es)
+    }
+
+    /// What is to be kept of an open node. An error may have named some of its references.
+    fn record_of(&mut self, node: Held) -> Result<Opening, AllocError>
+        requires { IsOpenable (grammar_in ⟦<F as Facts>⟧ self.old) node }
+        ensures node { IfOk result (λ o. o.held ≡ node) }
+        ensures ready { IfOk result (λ o. IsNamedIn ⟦<F as Facts>⟧ self.new o) }
+        ensures still { IsStill ⟦<F as Facts>⟧ self.old self.new }
+    {
+        let grammar = self.accepted.grammar();
+        ready(self.held.allocator(), grammar, &mut self.facts, node)
+    }
+
+    /// What is to be kept of each of these open nodes. An error may have named some of their references.
+    fn records_of(&mut self, own: Vec<Held>) -> Result<Vec<Opening>, AllocError>
+        requires { All (IsOpenable (grammar_in ⟦<F as Facts>⟧ self.old)) own.items }
+        ensures items { IfOk result (λ more. list_map held_in more.items ≡ own.items) }
+        ensures ready { IfOk result (λ more. All (IsNamedIn ⟦<F as Facts>⟧ self.new) more.items) }
+        ensures still { IsStill ⟦<F as Facts>⟧ self.old self.new }
+    {
+        let grammar = self.accepted.grammar();
+        all_ready(self.held.allocator(), grammar, &mut self.facts, own)
+    }
+
+    /// What is to be kept of an open node, and room for it. An error changes nothing but the names of the store.
+    pub(crate) fn make_ready(&mut self, node: Held) -> Result<Opening, AllocError>
+        requires { IsOpenable (grammar_in ⟦<F as Facts>⟧ self.old) node }
+        ensures node { IfOk result (λ o. o.held ≡ node) }
+        ensures ready { IfOk result (λ o. IsReadyIn ⟦<F as Facts>⟧ self.new (Some o)) }
+        ensures still { IsStill ⟦<F as Facts>⟧ self.old self.new }
+    {
+        let new = self.record_of(node)?;
+        match self.make_place(1, new.entry.rule_count()) {
+            Ok(()) => Ok(new),
+            Err(error) => {
+                drop(new);
+                Err(error)
+            }
+        }
+    }
+
+    /// What is to be kept of each of these open nodes, and room for them. An error changes nothing but the names of the store.
+    pub(crate) fn make_all_ready(&mut self, own: Vec<Held>) -> Result<Vec<Opening>, AllocError>
+        requires { All (IsOpenable (grammar_in ⟦<F as Facts>⟧ self.old)) own.items }
+        ensures own { IfOk result (λ more. list_map held_in more.items ≡ own.items) }
+        ensures ready { IfOk result (λ more. AreReadyIn ⟦<F as Facts>⟧ self.new more.items) }
+        ensures still { IsStill ⟦<F as Facts>⟧ self.old self.new }
+    {
+        let more = self.records_of(own)?;
+        match self.make_places(more.as_slice()) {
+            Ok(()) => Ok(more),
+            Err(error) => {
+                drop(more);
+                Err(error)
+            }
         }
     }
 }

@@ -1,5 +1,5 @@
 //! Nodes that are to be held, open: first what is kept of them is made, and later they are put among the held ones.
-ghost use Rattle.std.specs.Prelude.{◌≡◌, ◌<◌, ◌≤◌, ◌+◌, ℕ, All, None, true, IfOk, map as list_map, vec_len};
+ghost use Rattle.std.specs.Prelude.{◌≡◌, ◌<◌, ◌≤◌, ◌+◌, ℕ, All, None, true, IfOk, length, map as list_map};
 ghost use Rattle.aw_term.specs.Rules.{sort_of};
 ghost use Rattle.aw_grammar.specs.GrammarOf.{grammar_of};
 ghost use Rattle.aw_store.specs.NamedRefs.{Grows};
@@ -81,8 +81,8 @@ pub fn put_all_open<F: Facts, L: Ledger>(
     requires lacks { LackEach (list_map held_in more.items) held.old.items }
     requires ready { All (IsReady (grammar_of grammar.now) (F.names facts.now)) more.items }
     requires stands { IsKept (grammar_of grammar.now) held.old.items (F.map facts.now) (F.names facts.now) kept.old }
-    requires place { vec_len more ≤ held.old.room }
-    requires room { HasRoom kept.old (vec_len more) (all_tests more.items) }
+    requires place { length more.items ≤ held.old.room }
+    requires room { HasRoom kept.old (length more.items) (all_tests more.items) }
     ensures items { held.new.items ≡ insert_all_in (list_map held_in more.items) held.old.items }
     ensures ordered { IsInOrder held.new.items }
     ensures stands { IsKept (grammar_of grammar.now) held.new.items (F.map facts.now) (F.names facts.now) kept.new }

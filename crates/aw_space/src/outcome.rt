@@ -1,33 +1,24 @@
 //! What a choice leads to at a space.
 ghost use Rattle.std.specs.Prelude.{◌≡◌, ◌↔◌, ◌≤◌, ◌+◌, [], true, IsTrue, IfOk, OnOk, OnErr, map};
-ghost use Rattle.aw_term.specs.Choices.{answer_of as plain_answer, Develop, Outcome as PlainOutcome, Taken};
+ghost use Rattle.aw_term.specs.Choices.{Develop, Outcome as PlainOutcome, Taken};
 ghost use Rattle.aw_term.specs.Names.{Ref};
 ghost use Rattle.aw_term.specs.Views.{ground_of};
 ghost use Rattle.aw_choice.specs.ChoiceView.{answer_of, choice_of};
 ghost use Rattle.aw_grammar.specs.GrammarOf.{grammar_of};
 ghost use Rattle.aw_base.specs.ChoiceFits.{choice_ok};
-ghost use Rattle.aw_node_list.specs.HeldView.{all_of};
-ghost use Rattle.aw_law_sites.specs.Joint.{outcome_in};
-ghost use Rattle.aw_space.specs.Sound.{IsSound};
-ghost use Rattle.aw_law_sites.specs.Worlds.{node_of};
-ghost use Rattle.aw_standing.specs.KeptStates.{IsKept};
-ghost use Rattle.aw_space.specs.Outcomes.{IsMade, IsOutcome};
-ghost use Rattle.aw_space.specs.Spaces.{is_home, space_after};
-ghost use Rattle.aw_space.specs.SpaceView.{choice_cost_in, space_of};
-ghost use Rattle.aw_space.specs.Valid.{IsValid};
+ghost use Rattle.aw_space.specs.Outcomes.{IsOutcome};
+ghost use Rattle.aw_space.specs.Spaces.{space_after};
 ghost use Rattle.aw_space.specs.Weighing.{HasRoomFor, IsRefused, Weighs};
 
-use crate::starting::{root, take_start};
-use crate::taking::take_rule;
-use crate::weighing::weigh;
+use crate::space::Space;
+use crate::starting::root;
 use aw_apply::{Made, MadeChild, Steps, Weighed, made};
 use aw_base::Grounds;
 use aw_choice::{Answer, Choice};
 use aw_grammar::Grammar;
 use aw_list::Items;
 use aw_name::{Node, copy_node};
-use aw_node_list::{Holding, find_from, find_held};
-use aw_standing::Kept;
+use aw_node_list::{find_from, find_held};
 use aw_store::{Facts, copy_equations};
 use std::alloc::{AllocError, Global};
 use std::sync::ledger::Ledger;
@@ -104,7 +95,6 @@ impl Outcome {
 
 /// What a rule that was weighed so leads to, and what it makes.
 fn outcome_of(
-    alloc: Global,
     grammar: &Grammar,
     node: &Node,
     rule: u16,
@@ -114,9 +104,11 @@ fn outcome_of(
 ) -> Result<Outcome, AllocError>
     requires room { HasRoomFor grammar.now rule node.now weighed }
     requires ok { choice_ok (grammar_of grammar.now) (Develop node.now rule (map ground_of args.now)) ≡ true }
-    ensures outcome { (x : PlainOutcome Ref Ref) → Weighs (grammar_of grammar.now) rule weighed x → IfOk result (λ o. IsOutcome o (Develop node.now rule (map ground_of args.now)) x) }
+    ensures outcome { (x : PlainOutcome Ref Ref) → Weighs (grammar_of grammar.now) rule weighed x →
+        IfOk result (λ o. IsOutcome o (Develop node.now rule (map ground_of args.now)) x) }
     ensures untested { IfOk result (λ o. (answer_of o.answer ≡ Taken → ⊥) → IsRefused weighed) }
 {
+    let alloc = args.allocator();
     match weighed {
         Weighed::Refused(answer) => Ok(Outcome::plainly(alloc, answer)),
         Weighed::Takes(bound) => Ok(Outcome {
@@ -127,112 +119,78 @@ fn outcome_of(
     }
 }
 
-/// What a rule on a node leads to, and what it makes. It changes nothing.
-fn foresee_rule<F: Facts, L: Ledger>(
-    alloc: Global,
-    grammar: &Grammar,
-    role: u16,
-    held: &Holding,
-    facts: &F,
-    kept: &Kept,
-    node: &Node,
-    rule: u16,
-    args: &Grounds,
-    steps: &mut Steps<L>,
-) -> Result<Outcome, AllocError>
-    requires sound { IsSound (grammar_of grammar.now) role held.now.items (F.map facts.now) (F.names facts.now) }
-    requires stands { IsKept (grammar_of grammar.now) held.now.items (F.map facts.now) (F.names facts.now) kept.now }
-    requires ok { choice_ok (grammar_of grammar.now) (Develop node.now rule (map ground_of args.now)) ≡ true }
-    ensures outcome { IfOk result (λ o. IsOutcome o (Develop node.now rule (map ground_of args.now))
-        (outcome_in (all_of (grammar_of grammar.now) held.now.items) (F.map facts.now) (grammar_of grammar.now) (Develop node.now rule (map ground_of args.now)))) }
-    ensures steps { steps.new ≤ steps.old + 1 }
-    ensures untested { IfOk result (λ o. (answer_of o.answer ≡ Taken → ⊥) → steps.new ≡ steps.old) }
-{
-    let found = find_held(held, node);
-    let weighed = weigh(
-        alloc, grammar, role, held, facts, kept, found, node, rule, args, steps,
-    )?;
-    let place = found.unwrap_or(0);
-    outcome_of(alloc, grammar, node, rule, args, place, weighed)
-}
+impl<'g, F: Facts> Space<'g, F> {
+    ghost use Rattle.aw_space.specs.InSpace.{IsChosen, IsForeseen};
+    ghost use Rattle.aw_space.specs.Seen.{choice_cost_at, grammar_in, space_seen, IsUnchanged};
 
-/// What a choice leads to, and what it makes. It changes nothing. How a rule stands is kept, so that a choice which is not taken
-/// tests no guard.
-pub fn foresee<F: Facts, L: Ledger>(
-    alloc: Global,
-    grammar: &Grammar,
-    role: u16,
-    held: &Holding,
-    facts: &F,
-    kept: &Kept,
-    choice: &Choice,
-    steps: &mut Steps<L>,
-) -> Result<Outcome, AllocError>
-    requires sound { IsSound (grammar_of grammar.now) role held.now.items (F.map facts.now) (F.names facts.now) }
-    requires stands { IsKept (grammar_of grammar.now) held.now.items (F.map facts.now) (F.names facts.now) kept.now }
-    requires ok { choice_ok (grammar_of grammar.now) (choice_of choice.now) ≡ true }
-    ensures outcome { IfOk result (λ o. IsOutcome o (choice_of choice.now)
-        (outcome_in (all_of (grammar_of grammar.now) held.now.items) (F.map facts.now) (grammar_of grammar.now) (choice_of choice.now))) }
-    ensures steps { steps.new ≤ steps.old + 1 }
-    ensures untested { IfOk result (λ o. (answer_of o.answer ≡ Taken → ⊥) → steps.new ≡ steps.old) }
-{
-    match choice {
-        Choice::Start { sort, case } => {
-            let answer = match find_held(held, &root(alloc, *sort, *case)) {
-                Some(_) => Answer::Known,
-                None => Answer::Taken,
-            };
-            Ok(Outcome::plainly(alloc, answer))
-        }
-        Choice::Develop { node, rule, args } => foresee_rule(
-            alloc, grammar, role, held, facts, kept, node, *rule, args, steps,
-        ),
+    /// What a rule on a node leads to, and what it makes. It changes nothing.
+    fn foresee_rule<L: Ledger>(
+        &self,
+        node: &Node,
+        rule: u16,
+        args: &Grounds,
+        steps: &mut Steps<L>,
+    ) -> Result<Outcome, AllocError>
+        requires { choice_ok (grammar_in ⟦<F as Facts>⟧ self.now) (Develop node.now rule (map ground_of args.now)) ≡ true }
+        ensures outcome { IfOk result (IsForeseen ⟦<F as Facts>⟧ self.now (Develop node.now rule (map ground_of args.now))) }
+        ensures steps { steps.new ≤ steps.old + 1 }
+        ensures untested { IfOk result (λ o. (answer_of o.answer ≡ Taken → ⊥) → steps.new ≡ steps.old) }
+    {
+        let found = find_held(&self.held, node);
+        let weighed = self.weigh(found, node, rule, args, steps)?;
+        let place = found.unwrap_or(0);
+        outcome_of(self.accepted.grammar(), node, rule, args, place, weighed)
     }
-}
 
-/// Carries out a choice that is foreseen to be taken. The place is where its node may be, and any is as right. All memory is taken first, so an error changes nothing but the
-/// names of the store. With the guard that was tested to foresee it, no more are tested than the choice costs.
-pub fn carry_out<F: Facts, L: Ledger>(
-    grammar: &Grammar,
-    role: u16,
-    held: &mut Holding,
-    choices: &mut Vec<Choice>,
-    facts: &mut F,
-    kept: &mut Kept,
-    choice: &Choice,
-    place: usize,
-    made: Made,
-    steps: &mut Steps<L>,
-) -> Result<(), AllocError>
-    requires sound { IsSound (grammar_of grammar.now) role held.old.items (F.map facts.old) (F.names facts.old) }
-    requires valid { IsValid (grammar_of grammar.now) held.old.items (F.map facts.old) }
-    requires ok { choice_ok (grammar_of grammar.now) (choice_of choice.now) ≡ true }
-    requires here { is_home (grammar_of grammar.now) role (node_of (choice_of choice.now)) ≡ true }
-    requires taken { plain_answer (outcome_in (all_of (grammar_of grammar.now) held.old.items) (F.map facts.old) (grammar_of grammar.now) (choice_of choice.now)) ≡ Taken }
-    requires made { IsMade made (choice_of choice.now)
-        (outcome_in (all_of (grammar_of grammar.now) held.old.items) (F.map facts.old) (grammar_of grammar.now) (choice_of choice.now)) }
-    requires stands { IsKept (grammar_of grammar.now) held.old.items (F.map facts.old) (F.names facts.old) kept.old }
-    ensures space { OnOk result (space_of (grammar_of grammar.now) held.new.items choices.new.items (F.map facts.new)
-        ≡ space_after (grammar_of grammar.now) role (space_of (grammar_of grammar.now) held.old.items choices.old.items (F.map facts.old)) (choice_of choice.now)) }
-    ensures sound { IsSound (grammar_of grammar.now) role held.new.items (F.map facts.new) (F.names facts.new) }
-    ensures valid { IsValid (grammar_of grammar.now) held.new.items (F.map facts.new) }
-    ensures err_held { OnErr result (held.new.items ≡ held.old.items) }
-    ensures err_choices { OnErr result (choices.new.items ≡ choices.old.items) }
-    ensures err_map { OnErr result (F.map facts.new ≡ F.map facts.old) }
-    ensures stands { IsKept (grammar_of grammar.now) held.new.items (F.map facts.new) (F.names facts.new) kept.new }
-    ensures steps { steps.new + 1 ≤ steps.old + choice_cost_in (grammar_of grammar.now) role held.old.items choices.old.items (F.map facts.old) (choice_of choice.now) }
-{
-    match choice {
-        Choice::Start { sort, case } => {
-            take_start(
-                grammar, held, choices, facts, kept, choice, *sort, *case, steps,
-            )
+    /// What a choice leads to, and what it makes. It changes nothing. How a rule stands is kept, so that a choice which is not
+    /// taken tests no guard.
+    pub(crate) fn foresee_choice<L: Ledger>(
+        &self,
+        choice: &Choice,
+        steps: &mut Steps<L>,
+    ) -> Result<Outcome, AllocError>
+        requires { choice_ok (grammar_in ⟦<F as Facts>⟧ self.now) (choice_of choice.now) ≡ true }
+        ensures outcome { IfOk result (IsForeseen ⟦<F as Facts>⟧ self.now (choice_of choice.now)) }
+        ensures steps { steps.new ≤ steps.old + 1 }
+        ensures untested { IfOk result (λ o. (answer_of o.answer ≡ Taken → ⊥) → steps.new ≡ steps.old) }
+    {
+        match choice {
+            Choice::Start { sort, case } => {
+                let alloc = self.held.allocator();
+                let answer = match find_held(&self.held, &root(alloc, *sort, *case)) {
+                    Some(_) => Answer::Known,
+                    None => Answer::Taken,
+                };
+                Ok(Outcome::plainly(alloc, answer))
+            }
+            Choice::Develop { node, rule, args } => self.foresee_rule(node, *rule, args, steps),
         }
-        Choice::Develop { node, .. } => match find_from(held, node, place) {
-            Some(at) => take_rule(
-                grammar, role, held, choices, facts, kept, at, choice, made, steps,
-            ),
-            None => unreachable!(),
-        },
+    }
+
+    /// Carries out a choice that is foreseen to be taken. The place is where its node may be, and any is as right. All memory is
+    /// taken first, so an error changes nothing but the names of the store. With the guard that was tested to foresee it, no more
+    /// are tested than the choice costs.
+    pub(crate) fn carry_out<L: Ledger>(
+        &mut self,
+        choice: &Choice,
+        place: usize,
+        made: Made,
+        steps: &mut Steps<L>,
+    ) -> Result<(), AllocError>
+        requires { IsChosen ⟦<F as Facts>⟧ self.old (choice_of choice.now) made }
+        ensures grammar { self.new.accepted.now.grammar ≡ self.old.accepted.now.grammar }
+        ensures role { self.new.role ≡ self.old.role }
+        ensures space { OnOk result (space_seen ⟦<F as Facts>⟧ self.new
+            ≡ space_after (grammar_in ⟦<F as Facts>⟧ self.old) self.old.role (space_seen ⟦<F as Facts>⟧ self.old) (choice_of choice.now)) }
+        ensures err { OnErr result (IsUnchanged ⟦<F as Facts>⟧ self.old self.new) }
+        ensures steps { steps.new + 1 ≤ steps.old + choice_cost_at ⟦<F as Facts>⟧ (grammar_in ⟦<F as Facts>⟧ self.old) self.old (choice_of choice.now) }
+    {
+        match choice {
+            Choice::Start { sort, case } => self.take_start(choice, *sort, *case, steps),
+            Choice::Develop { node, .. } => match find_from(&self.held, node, place) {
+                Some(at) => self.take_rule(at, choice, made, steps),
+                None => unreachable!(),
+            },
+        }
     }
 }

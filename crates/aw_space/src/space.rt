@@ -14,9 +14,8 @@ ghost use Rattle.aw_space.specs.Sound.{IsSound};
 ghost use Rattle.aw_space.specs.Valid.{IsValid};
 
 use crate::learning::learn;
-use crate::outcome::{Outcome, carry_out, foresee};
+use crate::outcome::Outcome;
 use crate::placing::Placing;
-use crate::taking_in::take_in;
 use aw_accept::Accepted;
 use aw_apply::{Made, Steps};
 use aw_choice::{Answer, Choice, Worklist};
@@ -108,20 +107,12 @@ impl<'g, F: Facts> Space<'g, F> {
         requires grammar { g.now.grammar ≡ self.now.accepted.now.grammar }
         requires ok { choice_ok (grammar_of g.now.grammar) (choice_of choice.now) ≡ true }
         requires here { is_home (grammar_of g.now.grammar) self.now.role (node_of (choice_of choice.now)) ≡ true }
-        ensures outcome { IfOk result (λ o. IsOutcome o (choice_of choice.now) (outcome (grammar_of g.now.grammar) (space_seen ⟦<F as Facts>⟧ self.now) (choice_of choice.now))) }
+        ensures outcome { IfOk result (λ o. IsOutcome o (choice_of choice.now)
+            (outcome (grammar_of g.now.grammar) (space_seen ⟦<F as Facts>⟧ self.now) (choice_of choice.now))) }
         ensures steps { steps.new ≤ steps.old + 1 }
         ensures untested { IfOk result (λ o. (answer_of o.answer ≡ Taken → ⊥) → steps.new ≡ steps.old) }
     {
-        foresee(
-            self.held.allocator(),
-            g.grammar(),
-            self.role,
-            &self.held,
-            &self.facts,
-            &self.kept,
-            choice,
-            steps,
-        )
+        self.foresee_choice(choice, steps)
     }
 
     /// Answers a choice, and takes it where the answer is `Taken`. A refused choice and an error change neither nodes,
@@ -137,8 +128,10 @@ impl<'g, F: Facts> Space<'g, F> {
         requires here { is_home (grammar_of g.now.grammar) self.old.role (node_of (choice_of choice.now)) ≡ true }
         ensures grammar { self.new.accepted.now.grammar ≡ self.old.accepted.now.grammar }
         ensures role { self.new.role ≡ self.old.role }
-        ensures outcome { IfOk result (λ o. IsOutcome o (choice_of choice.now) (outcome (grammar_of g.now.grammar) (space_seen ⟦<F as Facts>⟧ self.old) (choice_of choice.now))) }
-        ensures space { OnOk result (space_seen ⟦<F as Facts>⟧ self.new ≡ space_after (grammar_of g.now.grammar) self.old.role (space_seen ⟦<F as Facts>⟧ self.old) (choice_of choice.now)) }
+        ensures outcome { IfOk result (λ o. IsOutcome o (choice_of choice.now)
+            (outcome (grammar_of g.now.grammar) (space_seen ⟦<F as Facts>⟧ self.old) (choice_of choice.now))) }
+        ensures space { OnOk result (space_seen ⟦<F as Facts>⟧ self.new
+            ≡ space_after (grammar_of g.now.grammar) self.old.role (space_seen ⟦<F as Facts>⟧ self.old) (choice_of choice.now)) }
         ensures refused { IfOk result (λ o. (answer_of o.answer ≡ Taken → ⊥) → IsUnchanged ⟦<F as Facts>⟧ self.old self.new) }
         ensures err { OnErr result (IsUnchanged ⟦<F as Facts>⟧ self.old self.new) }
         ensures facts { KeepsFacts (F.map self.old.facts) (F.map self.new.facts) }
@@ -162,15 +155,18 @@ impl<'g, F: Facts> Space<'g, F> {
         requires grammar { g.now.grammar ≡ self.old.accepted.now.grammar }
         requires ok { choice_ok (grammar_of g.now.grammar) (choice_of choice.now) ≡ true }
         requires here { is_home (grammar_of g.now.grammar) self.old.role (node_of (choice_of choice.now)) ≡ true }
-        requires foreseen { IsOutcome foreseen.now (choice_of choice.now) (outcome (grammar_of g.now.grammar) (space_seen ⟦<F as Facts>⟧ self.old) (choice_of choice.now)) }
+        requires foreseen { IsOutcome foreseen.now (choice_of choice.now)
+            (outcome (grammar_of g.now.grammar) (space_seen ⟦<F as Facts>⟧ self.old) (choice_of choice.now)) }
         ensures grammar { self.new.accepted.now.grammar ≡ self.old.accepted.now.grammar }
         ensures role { self.new.role ≡ self.old.role }
-        ensures space { OnOk result (space_seen ⟦<F as Facts>⟧ self.new ≡ space_after (grammar_of g.now.grammar) self.old.role (space_seen ⟦<F as Facts>⟧ self.old) (choice_of choice.now)) }
+        ensures space { OnOk result (space_seen ⟦<F as Facts>⟧ self.new
+            ≡ space_after (grammar_of g.now.grammar) self.old.role (space_seen ⟦<F as Facts>⟧ self.old) (choice_of choice.now)) }
         ensures refused { (answer_of foreseen.now.answer ≡ Taken → ⊥) → IsUnchanged ⟦<F as Facts>⟧ self.old self.new }
         ensures err { OnErr result (IsUnchanged ⟦<F as Facts>⟧ self.old self.new) }
         ensures facts { KeepsFacts (F.map self.old.facts) (F.map self.new.facts) }
         ensures nodes { KeepsNodesBut (node_of (choice_of choice.now)) (space_seen ⟦<F as Facts>⟧ self.old).held (space_seen ⟦<F as Facts>⟧ self.new).held }
-        ensures steps { answer_of foreseen.now.answer ≡ Taken → steps.new + 1 ≤ steps.old + choice_cost_at ⟦<F as Facts>⟧ (grammar_of g.now.grammar) self.old (choice_of choice.now) }
+        ensures steps { answer_of foreseen.now.answer ≡ Taken →
+            steps.new + 1 ≤ steps.old + choice_cost_at ⟦<F as Facts>⟧ (grammar_of g.now.grammar) self.old (choice_of choice.now) }
         ensures untested { (answer_of foreseen.now.answer ≡ Taken → ⊥) → steps.new ≡ steps.old }
     {
         if !foreseen.is_taken() {
@@ -193,16 +189,19 @@ impl<'g, F: Facts> Space<'g, F> {
         requires grammar { g.now.grammar ≡ self.old.accepted.now.grammar }
         requires ok { choice_ok (grammar_of g.now.grammar) (choice_of choice.now) ≡ true }
         requires here { is_home (grammar_of g.now.grammar) self.old.role (node_of (choice_of choice.now)) ≡ true }
-        requires foreseen { IsOutcome foreseen (choice_of choice.now) (outcome (grammar_of g.now.grammar) (space_seen ⟦<F as Facts>⟧ self.old) (choice_of choice.now)) }
+        requires foreseen { IsOutcome foreseen (choice_of choice.now)
+            (outcome (grammar_of g.now.grammar) (space_seen ⟦<F as Facts>⟧ self.old) (choice_of choice.now)) }
         ensures grammar { self.new.accepted.now.grammar ≡ self.old.accepted.now.grammar }
         ensures role { self.new.role ≡ self.old.role }
         ensures answer { IfOk result (λ answer. answer ≡ foreseen.answer) }
-        ensures space { OnOk result (space_seen ⟦<F as Facts>⟧ self.new ≡ space_after (grammar_of g.now.grammar) self.old.role (space_seen ⟦<F as Facts>⟧ self.old) (choice_of choice.now)) }
+        ensures space { OnOk result (space_seen ⟦<F as Facts>⟧ self.new
+            ≡ space_after (grammar_of g.now.grammar) self.old.role (space_seen ⟦<F as Facts>⟧ self.old) (choice_of choice.now)) }
         ensures refused { (answer_of foreseen.answer ≡ Taken → ⊥) → IsUnchanged ⟦<F as Facts>⟧ self.old self.new }
         ensures err { OnErr result (IsUnchanged ⟦<F as Facts>⟧ self.old self.new) }
         ensures facts { KeepsFacts (F.map self.old.facts) (F.map self.new.facts) }
         ensures nodes { KeepsNodesBut (node_of (choice_of choice.now)) (space_seen ⟦<F as Facts>⟧ self.old).held (space_seen ⟦<F as Facts>⟧ self.new).held }
-        ensures steps { answer_of foreseen.answer ≡ Taken → steps.new + 1 ≤ steps.old + choice_cost_at ⟦<F as Facts>⟧ (grammar_of g.now.grammar) self.old (choice_of choice.now) }
+        ensures steps { answer_of foreseen.answer ≡ Taken →
+            steps.new + 1 ≤ steps.old + choice_cost_at ⟦<F as Facts>⟧ (grammar_of g.now.grammar) self.old (choice_of choice.now) }
         ensures untested { (answer_of foreseen.answer ≡ Taken → ⊥) → steps.new ≡ steps.old }
     {
         if !foreseen.is_taken() {
@@ -234,22 +233,12 @@ impl<'g, F: Facts> Space<'g, F> {
         requires made { IsMade made (choice_of choice.now) (outcome (grammar_of g.now.grammar) (space_seen ⟦<F as Facts>⟧ self.old) (choice_of choice.now)) }
         ensures grammar { self.new.accepted.now.grammar ≡ self.old.accepted.now.grammar }
         ensures role { self.new.role ≡ self.old.role }
-        ensures space { OnOk result (space_seen ⟦<F as Facts>⟧ self.new ≡ space_after (grammar_of g.now.grammar) self.old.role (space_seen ⟦<F as Facts>⟧ self.old) (choice_of choice.now)) }
+        ensures space { OnOk result (space_seen ⟦<F as Facts>⟧ self.new
+            ≡ space_after (grammar_of g.now.grammar) self.old.role (space_seen ⟦<F as Facts>⟧ self.old) (choice_of choice.now)) }
         ensures err { OnErr result (IsUnchanged ⟦<F as Facts>⟧ self.old self.new) }
         ensures steps { steps.new + 1 ≤ steps.old + choice_cost_at ⟦<F as Facts>⟧ (grammar_of g.now.grammar) self.old (choice_of choice.now) }
     {
-        carry_out(
-            g.grammar(),
-            self.role,
-            &mut self.held,
-            &mut self.choices,
-            &mut self.facts,
-            &mut self.kept,
-            choice,
-            place,
-            made,
-            steps,
-        )
+        self.carry_out(choice, place, made, steps)
     }
 
     /// Takes in an equation of another role, where its left side has none. A conflict and an error change neither nodes,
@@ -287,24 +276,18 @@ impl<'g, F: Facts> Space<'g, F> {
         requires grammar { g.now.grammar ≡ self.old.accepted.now.grammar }
         requires call { MayBeCalledIf (grammar_of g.now.grammar) self.old.role (called_by (grammar_of g.now.grammar) (option_copied call)) }
         requires ok { MayBeLearnt (grammar_of g.now.grammar) self.old.role (list_map equation_of es) }
-        requires free { clash_with (called_by (grammar_of g.now.grammar) (option_copied call)) (list_map equation_of es) (space_seen ⟦<F as Facts>⟧ self.old) ≡ None }
+        requires free { clash_with (called_by (grammar_of g.now.grammar) (option_copied call)) (list_map equation_of es)
+            (space_seen ⟦<F as Facts>⟧ self.old) ≡ None }
         ensures grammar { self.new.accepted.now.grammar ≡ self.old.accepted.now.grammar }
         ensures role { self.new.role ≡ self.old.role }
         ensures space { OnOk result (TakesIn ⟦<F as Facts>⟧ (grammar_of g.now.grammar) (option_copied call.entry) (list_map equation_of es) self.old self.new) }
         ensures err { OnErr result (IsUnchanged ⟦<F as Facts>⟧ self.old self.new) }
         ensures facts { KeepsFacts (F.map self.old.facts) (F.map self.new.facts) }
         ensures nodes { KeepsNodes (space_seen ⟦<F as Facts>⟧ self.old).held (space_seen ⟦<F as Facts>⟧ self.new).held }
-        ensures steps { steps.new ≤ steps.old + taking_cost_at ⟦<F as Facts>⟧ (grammar_of g.now.grammar) (option_copied call.entry) (list_map equation_of es) self.old }
+        ensures steps { steps.new ≤ steps.old
+            + taking_cost_at ⟦<F as Facts>⟧ (grammar_of g.now.grammar) (option_copied call.entry) (list_map equation_of es) self.old }
     {
-        take_in(
-            g.grammar(),
-            &mut self.held,
-            &mut self.facts,
-            &mut self.kept,
-            call,
-            es,
-            steps,
-        )
+        self.take_all_in(call, es, steps)
     }
 
     /// The worklist: each open node in order with each rule of its sort, and how it stands. It tests no guard.

@@ -1,24 +1,24 @@
 //! Taking in a call and equations together, which no other call of the space could do without being refused midway.
-ghost use Rattle.std.specs.Prelude.{◌≡◌, ◌≤◌, ◌+◌, None, true, Contains, IfOk, OnOk, OnErr, map as list_map, option_map};
+ghost use Rattle.std.specs.Prelude.{◌≡◌, ◌≤◌, ◌+◌, None, true, IfOk, OnOk, OnErr, map as list_map, option_map};
 ghost use Rattle.std.specs.Option.{option_copied};
 ghost use Rattle.aw_grammar.specs.GrammarOf.{grammar_of};
-ghost use Rattle.aw_store.specs.Equations.{Equation as PlainEquation};
 ghost use Rattle.aw_store.specs.EquationView.{equation_of};
-ghost use Rattle.aw_store.specs.NamedRefs.{all_named, Grows};
+ghost use Rattle.aw_store.specs.NamedRefs.{all_named};
 ghost use Rattle.aw_store.specs.StoreView.{all_few};
 ghost use Rattle.aw_node_list.specs.InOrder.{IsInOrder};
 ghost use Rattle.aw_law_sites.specs.Receiving.{add_all, first_clash};
 ghost use Rattle.aw_standing.specs.KeptStates.{IsKept};
-ghost use Rattle.aw_space.specs.Missing.{missing_node, with_node, inherited_by, LacksIf};
+ghost use Rattle.aw_space.specs.Missing.{missing_node, with_node, LacksIf};
 ghost use Rattle.aw_space.specs.Openings.{held_in};
+ghost use Rattle.aw_space.specs.Placings.{MayBeCalledIf, MayBeLearnt, called_by};
 ghost use Rattle.aw_space.specs.Waking.{lefts_of};
-ghost use Rattle.aw_space.specs.TakenIn.{IsOpenableIf, IsReadyIf, tests_if, call_taken_cost};
+ghost use Rattle.aw_space.specs.TakenIn.{IsOpenableIf, IsReadyIf, tests_if};
 
 use crate::calls::called;
 use crate::learning::learn_in_turn;
-use crate::making::make_ready;
 use crate::opening::{Opening, put_open};
 use crate::placing::Placing;
+use crate::space::Space;
 use aw_apply::Steps;
 use aw_grammar::Grammar;
 use aw_node_list::{Held, Holding, find_held};
@@ -39,58 +39,6 @@ fn missing(held: &Holding, call: Option<&Placing>) -> Result<Option<Held>, Alloc
         },
         None => Ok(None),
     }
-}
-
-/// What is to be kept of a node, if there is one, and room for it. An error changes nothing but the names of the store.
-fn make_ready_if<F: Facts>(
-    grammar: &Grammar,
-    facts: &mut F,
-    held: &mut Holding,
-    kept: &mut Kept,
-    new: Option<Held>,
-) -> Result<Option<Opening>, AllocError>
-    requires new { IsOpenableIf (grammar_of grammar.now) new }
-    requires stands { IsKept (grammar_of grammar.now) held.old.items (F.map facts.old) (F.names facts.old) kept.old }
-    ensures new { IfOk result (λ o. option_map held_in o ≡ new) }
-    ensures ready { IfOk result (IsReadyIf (grammar_of grammar.now) (F.names facts.new) held.new kept.new) }
-    ensures held { held.new.items ≡ held.old.items }
-    ensures map { F.map facts.new ≡ F.map facts.old }
-    ensures names { Grows (F.names facts.old) (F.names facts.new) }
-    ensures stands { IsKept (grammar_of grammar.now) held.new.items (F.map facts.new) (F.names facts.new) kept.new }
-{
-    match new {
-        Some(new) => Ok(Some(make_ready(grammar, facts, held, kept, new)?)),
-        None => Ok(None),
-    }
-}
-
-/// What is to be kept of the node of a call, where it is not held, and room for it and for these equations. An error changes nothing
-/// but the names of the store.
-fn make_room<F: Facts>(
-    grammar: &Grammar,
-    held: &mut Holding,
-    facts: &mut F,
-    kept: &mut Kept,
-    call: Option<&Placing>,
-    es: &Equations,
-) -> Result<Option<Opening>, AllocError>
-    requires ordered { IsInOrder held.old.items }
-    requires few { all_few (list_map equation_of es.now) ≡ true }
-    requires call { IsOpenableIf (grammar_of grammar.now) (missing_node (option_copied call) held.old.items) }
-    requires stands { IsKept (grammar_of grammar.now) held.old.items (F.map facts.old) (F.names facts.old) kept.old }
-    ensures new { IfOk result (λ o. option_map held_in o ≡ missing_node (option_copied call.entry) held.old.items) }
-    ensures ready { IfOk result (IsReadyIf (grammar_of grammar.now) (F.names facts.new) held.new kept.new) }
-    ensures sure { OnOk result ((e : PlainEquation) → Contains (list_map equation_of es.now) e → F.is_ready facts.new e) }
-    ensures named { OnOk result (all_named (F.names facts.new) (lefts_of (list_map equation_of es.now)) ≡ true) }
-    ensures held { held.new.items ≡ held.old.items }
-    ensures map { F.map facts.new ≡ F.map facts.old }
-    ensures names { Grows (F.names facts.old) (F.names facts.new) }
-    ensures stands { IsKept (grammar_of grammar.now) held.new.items (F.map facts.new) (F.names facts.new) kept.new }
-{
-    let new = missing(held, call)?;
-    let opening = make_ready_if(grammar, facts, held, kept, new)?;
-    facts.reserve(es)?;
-    Ok(opening)
 }
 
 /// Holds a node that is not held, if there is one, and keeps how the rules of its sort stand. There is room for it.
@@ -117,34 +65,85 @@ fn put_if<F: Facts, L: Ledger>(
     }
 }
 
-/// Holds a called node, where there is one that is not held, and adds each equation whose left side has none when its turn
-/// comes. All memory is taken first, so an error changes nothing but the names of the store.
-pub fn take_in<F: Facts, L: Ledger>(
-    grammar: &Grammar,
-    held: &mut Holding,
-    facts: &mut F,
-    kept: &mut Kept,
-    call: Option<&Placing>,
-    es: Equations,
-    steps: &mut Steps<L>,
-) -> Result<(), AllocError>
-    requires ordered { IsInOrder held.old.items }
-    requires few { all_few (list_map equation_of es) ≡ true }
-    requires free { first_clash (F.map facts.old) (list_map equation_of es) ≡ None }
-    requires call { IsOpenableIf (grammar_of grammar.now) (missing_node (option_copied call) held.old.items) }
-    requires stands { IsKept (grammar_of grammar.now) held.old.items (F.map facts.old) (F.names facts.old) kept.old }
-    ensures held { OnOk result (held.new.items ≡ with_node (missing_node (option_copied call.entry) held.old.items) held.old.items) }
-    ensures ordered { IsInOrder held.new.items }
-    ensures map { OnOk result (F.map facts.new ≡ add_all (F.map facts.old) (list_map equation_of es)) }
-    ensures names { Grows (F.names facts.old) (F.names facts.new) }
-    ensures named { OnOk result (all_named (F.names facts.new) (inherited_by (missing_node (option_copied call.entry) held.old.items)) ≡ true) }
-    ensures err_held { OnErr result (held.new.items ≡ held.old.items) }
-    ensures err_map { OnErr result (F.map facts.new ≡ F.map facts.old) }
-    ensures stands { IsKept (grammar_of grammar.now) held.new.items (F.map facts.new) (F.names facts.new) kept.new }
-    ensures steps { steps.new ≤ steps.old + call_taken_cost (grammar_of grammar.now) (option_copied call.entry) held.old.items (F.map facts.old) (list_map equation_of es) }
-{
-    let opening = make_room(grammar, held, facts, kept, call, &es)?;
-    put_if(grammar, &*facts, held, kept, opening, steps);
-    learn_in_turn(grammar, facts, kept, es.into_vec(), steps);
-    Ok(())
+impl<'g, F: Facts> Space<'g, F> {
+    ghost use Rattle.aw_space.specs.InSpace.{AreSureIn, IsReadyIn, IsStill, call_tests, missing_in};
+    ghost use Rattle.aw_space.specs.Seen.{grammar_in, IsUnchanged};
+
+    /// What is to be kept of a node, if there is one, and room for it. An error changes nothing but the names of the store.
+    fn make_ready_if(&mut self, new: Option<Held>) -> Result<Option<Opening>, AllocError>
+        requires { IsOpenableIf (grammar_in ⟦<F as Facts>⟧ self.old) new }
+        ensures new { IfOk result (λ o. option_map held_in o ≡ new) }
+        ensures ready { IfOk result (IsReadyIn ⟦<F as Facts>⟧ self.new) }
+        ensures still { IsStill ⟦<F as Facts>⟧ self.old self.new }
+    {
+        match new {
+            Some(new) => Ok(Some(self.make_ready(new)?)),
+            None => Ok(None),
+        }
+    }
+
+    /// What is to be kept of the node of a call, where it is not held, and room for it and for these equations. An error changes
+    /// nothing but the names of the store.
+    fn make_room(
+        &mut self,
+        call: Option<&Placing>,
+        es: &Equations,
+    ) -> Result<Option<Opening>, AllocError>
+        requires few { all_few (list_map equation_of es.now) ≡ true }
+        requires call { IsOpenableIf (grammar_in ⟦<F as Facts>⟧ self.old) (missing_in ⟦<F as Facts>⟧ self.old (option_copied call)) }
+        ensures new { IfOk result (λ o. option_map held_in o ≡ missing_in ⟦<F as Facts>⟧ self.old (option_copied call.entry)) }
+        ensures ready { IfOk result (IsReadyIn ⟦<F as Facts>⟧ self.new) }
+        ensures sure { OnOk result (AreSureIn ⟦<F as Facts>⟧ self.new es.now) }
+        ensures named { OnOk result (all_named (F.names self.new.facts) (lefts_of (list_map equation_of es.now)) ≡ true) }
+        ensures still { IsStill ⟦<F as Facts>⟧ self.old self.new }
+    {
+        let new = missing(&self.held, call)?;
+        let opening = self.make_ready_if(new)?;
+        match self.make_known(es) {
+            Ok(()) => Ok(opening),
+            Err(error) => {
+                drop(opening);
+                Err(error)
+            }
+        }
+    }
+
+    /// Holds a called node, where there is one that is not held, and adds each equation whose left side has none when its turn
+    /// comes. All memory is taken first, so an error changes nothing but the names of the store.
+    pub(crate) fn take_all_in<L: Ledger>(
+        &mut self,
+        call: Option<&Placing>,
+        es: Equations,
+        steps: &mut Steps<L>,
+    ) -> Result<(), AllocError>
+        requires call { MayBeCalledIf (grammar_in ⟦<F as Facts>⟧ self.old) self.old.role (called_by (grammar_in ⟦<F as Facts>⟧ self.old) (option_copied call)) }
+        requires ok { MayBeLearnt (grammar_in ⟦<F as Facts>⟧ self.old) self.old.role (list_map equation_of es) }
+        requires free { first_clash (F.map self.old.facts) (list_map equation_of es) ≡ None }
+        ensures grammar { self.new.accepted.now.grammar ≡ self.old.accepted.now.grammar }
+        ensures role { self.new.role ≡ self.old.role }
+        ensures held { OnOk result (self.new.held.items ≡ with_node (missing_in ⟦<F as Facts>⟧ self.old (option_copied call.entry)) self.old.held.items) }
+        ensures map { OnOk result (F.map self.new.facts ≡ add_all (F.map self.old.facts) (list_map equation_of es)) }
+        ensures choices { self.new.choices.items ≡ self.old.choices.items }
+        ensures err { OnErr result (IsUnchanged ⟦<F as Facts>⟧ self.old self.new) }
+        ensures steps { steps.new ≤ steps.old + call_tests ⟦<F as Facts>⟧ self.old (option_copied call.entry) es }
+    {
+        let opening = self.make_room(call, &es)?;
+        let grammar = self.accepted.grammar();
+        put_if(
+            grammar,
+            &self.facts,
+            &mut self.held,
+            &mut self.kept,
+            opening,
+            steps,
+        );
+        learn_in_turn(
+            grammar,
+            &mut self.facts,
+            &mut self.kept,
+            es.into_vec(),
+            steps,
+        );
+        Ok(())
+    }
 }

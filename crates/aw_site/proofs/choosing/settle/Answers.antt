@@ -1,4 +1,4 @@
-use Rattle.std.proofs.Common.{◌≡◌, ◌∙◌, ◌++◌, sym, ap, map, length, subst, rules}
+use Rattle.std.proofs.Common.{◌≡◌, ◌∙◌, ◌++◌, refl, sym, ap, map, length, subst, rules}
 use Rattle.aw_choice.specs.ChoiceView.{choice_of}
 use Rattle.aw_grammar.specs.GrammarOf.{grammar_of}
 use Rattle.aw_msg.specs.MessageView.{message_of}
@@ -11,6 +11,7 @@ use Rattle.aw_site.specs.Shown.{Shows}
 use Rattle.aw_site.proofs.ChosenSites.{site_reacted, sent_reacted}
 use Rattle.aw_site.proofs.Holding.{count_planned, copy_planned, shown_planned}
 use Rattle.aw_site.proofs.InRange.{short_more}
+use Rattle.aw_site.proofs.Unchanged.{if_err, as_it_was, still_shown}
 use Rattle.aw_site.proofs.choosing.settle.Goals as goal
 
 pub returns-in-Ok-clause-count : goal.returns-in-Ok-clause-count
@@ -38,7 +39,7 @@ returns-in-Ok-clause-site g c = λ s shows.
     (c.requires.grammar ∙ sym c.conclude.ensures.grammar) (h.role ∙ sym c.conclude.ensures.role) h.flag
     ((λ i. space_on gr (h.role i) (h.holds i) ch (S.outcome gr (h.holds i) ch)) ∙ sym c.in-Ok.ensures.space)
     (c.carry_out.ensures.asked s.asked (c.prepare_with_room.ensures.asked s.asked h.asked))
-    (c.carry_out.ensures.watchers s.watchers (c.prepare_with_room.ensures.watchers s.watchers h.watchers))
+    (c.carry_out.ensures.watchers s.watches (c.prepare_with_room.ensures.watchers s.watches h.watchers))
     (shows.sent ∙ (λ i. map (message_of (grammar_of (sym c.requires.grammar i))) c.args.outbox.now.items))
     c.prepare_with_room.ensures.outbox c.carry_out.ensures.outbox planned)
 
@@ -55,3 +56,13 @@ returns-in-Ok-clause-copy g c = λ s shows.
 pub returns-in-Ok-clause-short : goal.returns-in-Ok-clause-short
 returns-in-Ok-clause-short g c =
     short_more c.args.outbox.now.items c.prepare_with_room.new.outbox.items c.in_ok-outcome.field-0.plan.sent.items c.carry_out.new.outbox.items c.prepare_with_room.ensures.outbox c.carry_out.ensures.outbox c.in_ok-outcome.ensures.short
+
+pub returns-in_err-outcome-clause-err : goal.returns-in_err-outcome-clause-err
+returns-in_err-outcome-clause-err g c = if_err c.from_residual.result
+    (still_shown g.F.Facts c.args.space.now c.args.space.now c.args.subs.now c.prepare_with_room.new.subs c.args.outbox.now.items c.prepare_with_room.new.outbox.items c.args.loads
+    refl refl (as_it_was g.F.Facts c.args.space.now) c.prepare_with_room.ensures.asked c.prepare_with_room.ensures.watchers c.prepare_with_room.ensures.outbox)
+
+pub returns-in-Err-clause-err : goal.returns-in-Err-clause-err
+returns-in-Err-clause-err g c =
+    still_shown g.F.Facts c.args.space.now c.conclude.new.space c.args.subs.now c.prepare_with_room.new.subs c.args.outbox.now.items c.prepare_with_room.new.outbox.items c.args.loads
+    c.conclude.ensures.grammar c.conclude.ensures.role c.in-Err.ensures.err c.prepare_with_room.ensures.asked c.prepare_with_room.ensures.watchers c.prepare_with_room.ensures.outbox

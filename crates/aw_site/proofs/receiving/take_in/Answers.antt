@@ -1,4 +1,4 @@
-use Rattle.std.proofs.Common.{◌∙◌, sym, ap, map, option_map}
+use Rattle.std.proofs.Common.{◌∙◌, refl, sym, ap, map, option_map}
 use Rattle.std.specs.Option.{option_copied}
 use Rattle.aw_grammar.specs.GrammarOf.{grammar_of}
 use Rattle.aw_store.specs.EquationView.{equation_of}
@@ -8,6 +8,7 @@ use Rattle.aw_space.specs.Spaces.{taken_in}
 use Rattle.aw_site.specs.Came.{came, holding}
 use Rattle.aw_site.proofs.Holding.{shown_planned}
 use Rattle.aw_site.proofs.InRange.{short_more}
+use Rattle.aw_site.proofs.Unchanged.{as_it_was, still_shown}
 use Rattle.aw_site.proofs.receiving.take_in.Goals as goal
 
 pub returns-in-Ok-take_in-clause-site : goal.returns-in-Ok-take_in-clause-site
@@ -20,7 +21,7 @@ returns-in-Ok-take_in-clause-site g c = λ s shows.
     c.args.outbox.now.items c.plan_with_room.new.outbox.items c.carry_out.new.outbox.items
     (c.requires.grammar ∙ sym c.take_in.ensures.grammar) (h.role ∙ sym c.take_in.ensures.role) h.flag (ap (taken_in call es) h.holds ∙ sym c.in-Ok-take_in.ensures.space)
     (c.carry_out.ensures.asked s.asked (c.plan_with_room.ensures.asked s.asked h.asked))
-    (c.carry_out.ensures.watchers s.watchers (c.plan_with_room.ensures.watchers s.watchers h.watchers))
+    (c.carry_out.ensures.watchers s.watches (c.plan_with_room.ensures.watchers s.watches h.watchers))
     (shows.sent ∙ (λ i. map (message_of (grammar_of (sym c.requires.grammar i))) c.args.outbox.now.items))
     c.plan_with_room.ensures.outbox c.carry_out.ensures.outbox
     (c.in-Ok.ensures.plan s h)
@@ -28,3 +29,13 @@ returns-in-Ok-take_in-clause-site g c = λ s shows.
 pub returns-in-Ok-take_in-clause-short : goal.returns-in-Ok-take_in-clause-short
 returns-in-Ok-take_in-clause-short g c =
     short_more c.args.outbox.now.items c.plan_with_room.new.outbox.items c.in-Ok.plan.sent.items c.carry_out.new.outbox.items c.plan_with_room.ensures.outbox c.carry_out.ensures.outbox c.in-Ok.ensures.short
+
+pub returns-in-Err-clause-err : goal.returns-in-Err-clause-err
+returns-in-Err-clause-err g c =
+    still_shown g.F.Facts c.args.space.now c.args.space.now c.args.subs.now c.plan_with_room.new.subs c.args.outbox.now.items c.plan_with_room.new.outbox.items c.args.loads
+    refl refl (as_it_was g.F.Facts c.args.space.now) c.plan_with_room.ensures.asked c.plan_with_room.ensures.watchers c.plan_with_room.ensures.outbox
+
+pub returns-in-Err-take_in-clause-err : goal.returns-in-Err-take_in-clause-err
+returns-in-Err-take_in-clause-err g c =
+    still_shown g.F.Facts c.args.space.now c.take_in.new.space c.args.subs.now c.plan_with_room.new.subs c.args.outbox.now.items c.plan_with_room.new.outbox.items c.args.loads
+    c.take_in.ensures.grammar c.take_in.ensures.role c.in-Err-take_in.ensures.err c.plan_with_room.ensures.asked c.plan_with_room.ensures.watchers c.plan_with_room.ensures.outbox

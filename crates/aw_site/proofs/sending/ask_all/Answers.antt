@@ -1,5 +1,14 @@
+use Rattle.std.proofs.Common.{◌∙◌}
+use Rattle.std.proofs.Math.Bool.{or-false}
 use Rattle.aw_site.proofs.Noting.{asked_next}
 use Rattle.aw_site.proofs.sending.ask_all.Goals as goal
+
+pub loop-r-init : goal.loop-r-init
+loop-r-init c = record {
+  asked = λ asked shows x. or-false (asked x) ∙ shows x;
+  watched = λ ws shows. shows;
+  ready = λ x h. h;
+}
 
 pub loop-r-preserved : goal.loop-r-preserved
 loop-r-preserved c = record {

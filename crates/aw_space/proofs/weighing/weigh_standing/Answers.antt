@@ -10,4 +10,4 @@ returns-in-Some-clause-value g c sorts stands =
     refused_is _ (answer_of c.in-Some.answer) (sym (ap (option_map answer_of) c.in-Some.is) ∙ c.refused_by.ensures ∙ stands)
 
 pub test_rule-requires-clause-live : goal.test_rule-requires-clause-live
-test_rule-requires-clause-live g c = named_live (g.F.Facts.names c.args.facts.now) c.args.slots.now c.args.held.now.inherited c.requires.named
+test_rule-requires-clause-live g c = named_live (g.F.Facts.names c.args.facts.now) c.args.at.slots.now c.args.at.held.now.inherited c.requires.named

@@ -1,10 +1,10 @@
-use Rattle.std.proofs.Common.{◌≡◌, ◌∙◌, ◌*◌, ◌%◌, ◌^◌, ◌<◌, ◌∷◌, ◌++◌, ap, map, bit_and, sym, subst, w64, arith, rules}
+use Rattle.std.proofs.Common.{◌≡◌, ◌*◌, ◌%◌, ◌^◌, ◌<◌, ◌∷◌, bit_and, sym, subst, w64, arith, rules}
 use Rattle.std.specs.Int.{bit_not}
 use Rattle.aw_grammar.specs.GrammarOf.{grammar_of}
 use Rattle.aw_msg.specs.MessageView.{message_of}
 use Rattle.aw_store.specs.EquationView.{equation_of}
 use Rattle.aw_law_sites.specs.Telling.{tell}
-use Rattle.aw_site.proofs.SentLists.{roles_of, told_next, told_all, push_map, left_less, first_role, watchers_are}
+use Rattle.aw_site.proofs.SentLists.{roles_of, told_next, told_all, push_map, left_less, first_role}
 use Rattle.aw_site.proofs.sender.Sender.push_told.Goals as goal
 
 pub telling-smaller : goal.telling-smaller
@@ -25,8 +25,5 @@ telling-preserved g c =
     (push_map (message_of gr) _ _ _ (tell gr s e c.first_of-role.result) c.in_ok-push.ensures.items (c.in_ok-tell.ensures s sends)) (c.telling.invariant s sends)
 
 pub returns : goal.returns
-returns g c = λ s sends watch.
-    let gr = grammar_of c.args.self.now.grammar.now in
-    let told = tell gr s (equation_of c.args.e.now) in
-    told_all told _ _ c.telling.rest c.telling-test.false (c.telling.invariant s sends)
-    ∙ ap (λ is. map (message_of gr) c.args.sent.now.items ++ map told is) (sym (watchers_are c.args.watchers c.args.e.now.left s.watchers watch))
+returns g c = λ s sends.
+    told_all (tell (grammar_of c.args.self.now.grammar.now) s (equation_of c.args.e.now)) _ _ c.telling.rest c.telling-test.false (c.telling.invariant s sends)
