@@ -1,3 +1,10 @@
 pub mod OwnEquations
 pub mod OwnWords
+pub mod Traces
 pub mod Once
+pub mod Steps
+pub mod Bringing
+pub mod Sending
+pub mod MadeNames
+pub mod Names
+pub mod Truth

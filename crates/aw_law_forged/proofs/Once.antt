@@ -1,139 +1,47 @@
 -- No site says the same twice.
-use Rattle.std.specs.Prelude.{◌⊎◌, filter, is_none, nat_eq, not}
-use Rattle.std.proofs.Common.{◌≡◌, ℕ, ◌+◌, Bool, true, false, cond, List, [], ◌∷◌, ◌++◌, map, Option, Some, None, refl, sym, ap, ◌∙◌, subst, inl, inr, append_assoc, append-nil}
-use Rattle.std.proofs.lemmas.Bool.{and_parts, eq-eqb, eqb-true}
+use Rattle.std.specs.Prelude.{◌&&◌, ◌⊎◌, nat_eq, not}
+use Rattle.std.proofs.Common.{◌≡◌, ℕ, ◌+◌, Bool, true, false, cond, List, [], ◌∷◌, ◌++◌, map, Option, Some, None, refl, sym, ap, ◌∙◌, subst, inl, inr, append-nil}
+use Rattle.std.proofs.lemmas.Bool.{and_from, and_parts, eq-eqb, eqb-true, or_left, or_right}
 use Rattle.aw_list.specs.Members.{Member}
-use Rattle.aw_list.proofs.Members.{member_left, member_map, member_right, member_split, member_unmap, never}
+use Rattle.aw_list.proofs.Members.{member_map, member_split, member_unmap, never}
 use Rattle.aw_name.specs.SameNodes.{node_self}
 use Rattle.aw_term.specs.Choices.{Choice, Start, Develop, Outcome, Refused, Starts, Takes}
 use Rattle.aw_term.specs.Configs.{Done, Pending, State}
 use Rattle.aw_term.specs.Held.{Held, held_of, insert_all, insert_held, mark}
-use Rattle.aw_term.specs.Names.{Node, Ref, below, node_eq, root}
+use Rattle.aw_term.specs.Names.{Node, Ref, below, node_eq, ref_eq, root}
 use Rattle.aw_term.specs.Rules.{Grammar, Ground, Rule}
 use Rattle.aw_term.specs.Trees.{Never}
 use Rattle.aw_term.specs.WellFormed.{Each, Later}
+use Rattle.aw_term.proofs.RefTests.{ref_eq-self}
 use Rattle.aw_accept.proofs.Fitting.{each_member}
 use Rattle.aw_store.specs.Equations.{Body, Equation, find, mentions}
 use Rattle.aw_apply.specs.Made.{Call, Making, made}
 use Rattle.aw_apply.specs.Messages.{Kind, Calls, Asks, Tells, Message, Clash, Received, BadName, NotMine, Conflict, Repeat, New}
 use Rattle.aw_apply.proofs.Numbering.{made-apart}
-use Rattle.aw_law_sites.specs.Asking.{all_inherited, all_mentions, ask_message, asking, is_wanted}
+use Rattle.aw_law_sites.specs.Asking.{all_inherited, all_mentions, asking}
 use Rattle.aw_law_sites.specs.Choosing.{choose_on, develop_site, joint_of, outcome, start_site}
 use Rattle.aw_law_sites.specs.Homes.{has_steps, home, parent}
-use Rattle.aw_law_sites.specs.InOrder.{in_order}
 use Rattle.aw_law_sites.specs.Joint.{by_root, called_held, root_held}
 use Rattle.aw_law_sites.specs.Reacting.{add_held, react, receive, received_on}
 use Rattle.aw_law_sites.specs.Receiving.{about_ok, add_all, clash, is_mine, is_repeat, none_mine}
 use Rattle.aw_law_sites.specs.SiteEvents.{SiteEvent, Chose, Got, after_choice, after_message, site_step, site_run}
-use Rattle.aw_law_sites.specs.Sites.{Site, Reaction, Watch, empty_site}
+use Rattle.aw_law_sites.specs.Sites.{Site, Reaction, empty_site}
 use Rattle.aw_law_sites.specs.Loads.{load_of}
-use Rattle.aw_law_sites.specs.Telling.{call_out, calls_in, calls_out, has_watch, tell_back, tells}
+use Rattle.aw_law_sites.specs.Telling.{call_out, calls_in, calls_out, tell_back, tells, watches_too}
 use Rattle.aw_law_sites.specs.ValidNames.{message_ok, origin_ok}
 use Rattle.aw_law_sites.specs.Worlds.{node_of}
 use Rattle.aw_law_sites.proofs.AnyOrders.{Member-all_held, Member-insert_all, Member-insert_held, Member-inserted_held, Took, marked, takes}
-use Rattle.aw_law_worlds.specs.Invariant.{watch}
-use Rattle.aw_law_worlds.proofs.Answering.{has_watch-member, one-place}
-use Rattle.aw_law_worlds.proofs.AskingLemmas.{has_ref-member}
+use Rattle.aw_law_worlds.proofs.Answering.{one-place}
 use Rattle.aw_law_worlds.proofs.Delivering.{has-end, parent-below}
-use Rattle.aw_law_worlds.proofs.HeldLookups.{held_of-there}
 use Rattle.aw_law_worlds.proofs.HeldOrdering.{all-ordered, insert-ordered, mark-ordered, ordered-differ, own-differ}
 use Rattle.aw_law_worlds.proofs.Learning.{add-member, find-member}
-use Rattle.aw_law_worlds.proofs.Lists.{Later-filter, Later-mapped, Member-filtered, later_both, once}
-use Rattle.aw_law_worlds.proofs.Parts.{Apart, HeldBefore, Kin, KindKin}
+use Rattle.aw_law_worlds.proofs.Lists.{later_both}
+use Rattle.aw_law_worlds.proofs.Parts.{Apart, Kin, KindKin}
 use Rattle.aw_law_worlds.proofs.SentLemmas.{call_case, calls_differ, in_case, out_apart, out_case, tell_case, tells_apart}
 use Rattle.aw_law_nodes.proofs.Following.{new-of}
 use Rattle.aw_law_forged.specs.Forged.{IsAtHome, SameKind, SaysOnce}
 use Rattle.aw_law_forged.proofs.OwnEquations.{made-left}
-
--- ---- nodes that are developed
-
--- the node is held, and a rule was taken on it
-abbrev IsDone : Node → List Held → Type 0
-IsDone x hs = (h : Held) × Member h hs × (h.node ≡ x) × (h.state ≡ Pending → Never)
-
--- two held nodes of one name are one
-same-held : (hs : List Held) → Later (λ (a b : Held). a.node ≡ b.node → Never) hs → (a b : Held) → Member a hs → Member b hs → a.node ≡ b.node → a ≡ b
-same-held [] l a b i j e = never i
-same-held (x ∷ xs) l a b (inl p) (inl q) e = p ∙ sym q
-same-held (x ∷ xs) l a b (inl p) (inr j) e = never (each_member (λ (c : Held). x.node ≡ c.node → Never) xs b l.0 j (ap (λ (h : Held). h.node) (sym p) ∙ e))
-same-held (x ∷ xs) l a b (inr i) (inl q) e = never (each_member (λ (c : Held). x.node ≡ c.node → Never) xs a l.0 i (ap (λ (h : Held). h.node) (sym q) ∙ sym e))
-same-held (x ∷ xs) l a b (inr i) (inr j) e = same-held xs l.1 a b i j e
-
--- what is not found is not held
-none-there : (hs : List Held) → Later (λ (a b : Held). a.node ≡ b.node → Never) hs → (n : Node) → held_of n hs ≡ None → (h : Held) → Member h hs → h.node ≡ n → Never
-none-there hs l n e h i p = let f = held_of-there hs h n p (λ q j same. same-held hs l q h j i same) i in absurd (let no : None ≡ Some h = sym e ∙ f in cc no)
-
--- ---- what is kept of a site
-
--- a message that was sent leaves a trace: the parent is developed, the question is noted, or the reference's node is developed and its watcher is noted
-abbrev Said : Site → ℕ → Kind → Type 0
-Said s to (Calls c load) = IsDone (parent c.node) s.held
-Said s to (Asks r from) = Member r s.asked
-Said s to (Tells e load) = Member (watch e.left to) s.watchers × IsDone e.left.node s.held
-
-record Nodes (g : Grammar) (role : ℕ) (s : Site) : Type 0 where
-  is : s.role ≡ role
-  ordered : Later HeldBefore s.held
-  developed : (e : Equation) → Member e s.equations → home g e.left.node ≡ role → IsDone e.left.node s.held
-  children : (h : Held) → Member h s.held → has_steps h.node.steps ≡ true → home g (parent h.node) ≡ role → IsDone (parent h.node) s.held
-
-abbrev AllSaid : Site → List Message → Type 0
-AllSaid s xs = (m : Message) → Member m xs → Said s m.to m.kind
-
-record Good (g : Grammar) (role : ℕ) (s : Site) : Type 0 where
-  nodes : Nodes g role s
-  said : AllSaid s s.outbox
-  apart : Later Apart s.outbox
-
--- a trace stays
-said-on : (s t : Site) → ((x : Node) → IsDone x s.held → IsDone x t.held) → ((r : Ref) → Member r s.asked → Member r t.asked) → ((v : Watch) → Member v s.watchers → Member v t.watchers) → (to : ℕ) (k : Kind) → Said s to k → Said t to k
-said-on s t d a w to (Calls c load) i = d (parent c.node) i
-said-on s t d a w to (Asks r from) i = a r i
-said-on s t d a w to (Tells e load) i = (w (watch e.left to) i.0, d e.left.node i.1)
-
--- ---- questions
-
-false-of : (b : Bool) → not b ≡ true → b ≡ false
-false-of true e = absurd cc
-false-of false e = refl
-
--- what is asked for was not asked for before
-not-asked : (g : Grammar) (t : Site) (rs : List Ref) (r : Ref) → Member r (filter (is_wanted g t) (in_order rs)) → Member r t.asked → Never
-not-asked g t rs r i j =
-    let q = (Member-filtered (is_wanted g t) r (in_order rs) i).1 in
-    let v = (and_parts (not (nat_eq (home g r.node) t.role)) _ q).1 in
-    let z = (and_parts (is_none (find t.equations r)) _ v).1 in
-    let no : true ≡ false = sym (has_ref-member r t.asked j) ∙ false-of _ z in
-    absurd (cc no)
-
-kin-ask : (k : Kind) (r : Ref) (a : ℕ) → KindKin k (Asks r a) → k ≡ Asks r a
-kin-ask (Calls c load) r a z = never z
-kin-ask (Asks s b) r a z = λ i. Asks (z.0 i) (z.1 i)
-kin-ask (Tells e load) r a z = never z
-
--- a site sends some messages and then asks
-asking-good : (g : Grammar) (role : ℕ) (t : Site) → Nodes g role t → (first : List Message) → AllSaid t (t.outbox ++ first) → Later Apart (t.outbox ++ first) → (rs : List Ref) → Good g role (asking g t first rs).site
-asking-good g role t N first said apart rs =
-    let wanted = filter (is_wanted g t) (in_order rs) in
-    let asks = map (ask_message g t.role) wanted in
-    let u = (asking g t first rs).site in
-    let on : (m : Message) → Said t m.to m.kind → Said u m.to m.kind = λ m. said-on t u (λ x d. d) (λ r i. member_left r t.asked wanted i) (λ v i. i) m.to m.kind in
-    let all : AllSaid u ((t.outbox ++ first) ++ asks) = λ m i. elim (member_split m (t.outbox ++ first) asks i) [
-      | inl j ↦ on m (said m j)
-      | inr j ↦ (let (r, k, p) = member_unmap (ask_message g t.role) m wanted j in subst (λ (m : Message). Said u m.to m.kind) (sym p) (member_right r t.asked wanted k))
-    ] in
-    let far : Later Apart ((t.outbox ++ first) ++ asks) =
-    later_both Apart (t.outbox ++ first) asks apart
-    (Later-mapped (λ a b. a ≡ b → Never) Apart (ask_message g t.role) (λ a b n k. n k.1.0) wanted (Later-filter (λ a b. a ≡ b → Never) (is_wanted g t) (in_order rs) (once rs)))
-    (λ m n i j k.
-    let (r, w, p) = member_unmap (ask_message g t.role) n wanted j in
-    let same = kin-ask m.kind r t.role (subst (λ (n : Message). Kin m n) p k).1 in
-    not-asked g t rs r w (subst (λ q. Said t m.to q) same (said m i))) in
-    record {
-      nodes = record { is = N.is; ordered = N.ordered; developed = N.developed; children = N.children };
-      said = subst (λ xs. AllSaid u xs) (append_assoc t.outbox first asks) all;
-      apart = subst (λ xs. Later Apart xs) (append_assoc t.outbox first asks) far;
-    }
+use Rattle.aw_law_forged.proofs.Traces.{AllSaid, Good, IsDone, Nodes, Said, asking-good, false-of, none-there, said-on, same-held}
 
 module _ (g : Grammar) (role : ℕ) (s : Site) (G : Good g role s) where
   differ : Later (λ (a b : Held). a.node ≡ b.node → Never) s.held
@@ -155,7 +63,7 @@ module _ (g : Grammar) (role : ℕ) (s : Site) (G : Good g role s) where
             | inr o ↦ d (parent q.node) (G.nodes.children q o w a)
           ];
         };
-        said = λ m i. said-on s (start_site s st k) d (λ r j. j) (λ v j. j) m.to m.kind (G.said m i);
+        said = λ m i. said-on s (start_site s st k) d (λ r j. j) (λ r b j. j) m.to m.kind (G.said m i);
         apart = G.apart;
       }
 
@@ -166,7 +74,7 @@ module _ (g : Grammar) (role : ℕ) (s : Site) (G : Good g role s) where
     T = takes g (joint_of s) n ri args rule bound e0
 
     -- it was pending
-    not_done : IsDone n s.held → Never
+    pub not_done : IsDone n s.held → Never
     not_done (d, i, q, w) = w (ap (λ (h : Held). h.state) (same-held s.held differ d T.held i T.is_held (q ∙ sym T.node)) ∙ T.open_)
 
     abbrev mk : Making
@@ -242,10 +150,12 @@ module _ (g : Grammar) (role : ℕ) (s : Site) (G : Good g role s) where
     abbrev first : List Message
     first = calls_out g t mk.calls ++ tells g t mk.equations
 
-    first_case : (m : Message) → Member m first → ((c : Call) × Member c mk.calls × (m.kind ≡ Calls c (load_of g t [] c.inherited))) ⊎ ((e : Equation) × Member e mk.equations × Member (watch e.left m.to) t.watchers × (m.kind ≡ Tells e (load_of g t (e.left ∷ []) (mentions e.body))))
+    first_case : (m : Message) → Member m first
+        → ((c : Call) × Member c mk.calls × (m.kind ≡ Calls c (load_of g t [] c.inherited)))
+        ⊎ ((e : Equation) × Member e mk.equations × (t.watches e.left m.to ≡ true) × (m.kind ≡ Tells e (load_of g t (e.left ∷ []) (mentions e.body))))
     first_case m i = elim (member_split m (calls_out g t mk.calls) (tells g t mk.equations) i) [
       | inl u ↦ (let (c, j, q, p) = out_case g t mk.calls m u in inl (c, j, ap (λ (m : Message). m.kind) p))
-      | inr u ↦ (let (e, j, b, w, p) = tell_case g t mk.equations m u in inr (e, j, subst (λ x. Member (watch e.left x) t.watchers) (sym (ap (λ (m : Message). m.to) p)) w, ap (λ (m : Message). m.kind) p))
+      | inr u ↦ (let (e, j, b, w, p) = tell_case g t mk.equations m u in inr (e, j, subst (λ x. t.watches e.left x ≡ true) (sym (ap (λ (m : Message). m.to) p)) w, ap (λ (m : Message). m.kind) p))
     ]
 
     first_said : AllSaid t first
@@ -275,7 +185,7 @@ module _ (g : Grammar) (role : ℕ) (s : Site) (G : Good g role s) where
     develop-good =
         asking-good g role t nodes_then first
         (λ m i. elim (member_split m s.outbox first i) [
-          | inl o ↦ said-on s t done_on (λ r j. j) (λ v j. j) m.to m.kind (G.said m o)
+          | inl o ↦ said-on s t done_on (λ r j. j) (λ r b j. j) m.to m.kind (G.said m o)
           | inr o ↦ first_said m o
         ])
         (later_both Apart s.outbox first G.apart first_apart
@@ -297,7 +207,8 @@ module _ (g : Grammar) (role : ℕ) (s : Site) (G : Good g role s) where
   others (d ∷ es) f e (inr i) a = others es (and_parts (not (nat_eq (home g d.left.node) role)) (none_mine g role es) f).1 e i a
 
   -- the nodes and equations of a message that is new
-  developed-then : (ks : List Held) → ((x : Node) → IsDone x s.held → IsDone x ks) → (es : List Equation) → none_mine g role es ≡ true → (e : Equation) → Member e (add_all s.equations es) → home g e.left.node ≡ role → IsDone e.left.node ks
+  developed-then : (ks : List Held) → ((x : Node) → IsDone x s.held → IsDone x ks) → (es : List Equation) → none_mine g role es ≡ true → (e : Equation)
+      → Member e (add_all s.equations es) → home g e.left.node ≡ role → IsDone e.left.node ks
   developed-then ks d es f e i a = elim (add-member s.equations es e i) [ inl o ↦ d e.left.node (G.nodes.developed e o a) | inr o ↦ never (others es f e o a) ]
 
   called-good : (c : Call) (load : List Equation) → none_mine g role load ≡ true → (home g (parent c.node) ≡ role → Never) → (o : Option Held) → held_of c.node s.held ≡ o →
@@ -315,7 +226,7 @@ module _ (g : Grammar) (role : ℕ) (s : Site) (G : Good g role s) where
           | inl p ↦ never (away (ap (λ (x : Held). home g (parent x.node)) (sym p) ∙ a))
           | inr o ↦ d (parent q.node) (G.nodes.children q o w a)
         ];
-      }) refl (λ m. said-on s u d (λ r j. j) (λ v j. j) m.to m.kind) (c.inherited ++ all_mentions load)
+      }) refl (λ m. said-on s u d (λ r j. j) (λ r b j. j) m.to m.kind) (c.inherited ++ all_mentions load)
     where
       quietly : (u : Site) → Nodes g role u → u.outbox ≡ s.outbox → ((m : Message) → Said s m.to m.kind → Said u m.to m.kind) → (rs : List Ref) → Good g role (asking g u [] rs).site
       quietly u N same on rs =
@@ -324,41 +235,43 @@ module _ (g : Grammar) (role : ℕ) (s : Site) (G : Good g role s) where
   called-good c load f away (Some h) e =
       let u : Site = record s { equations = add_all s.equations load } in
       asking-good g role u (record { is = G.nodes.is; ordered = G.nodes.ordered; developed = developed-then s.held (λ x d. d) load f; children = G.nodes.children }) []
-      (subst (λ xs. AllSaid u xs) (sym (append-nil s.outbox)) (λ m i. said-on s u (λ x d. d) (λ r j. j) (λ v j. j) m.to m.kind (G.said m i)))
+      (subst (λ xs. AllSaid u xs) (sym (append-nil s.outbox)) (λ m i. said-on s u (λ x d. d) (λ r j. j) (λ r b j. j) m.to m.kind (G.said m i)))
       (subst (λ xs. Later Apart xs) (sym (append-nil s.outbox)) G.apart) (c.inherited ++ all_mentions load)
 
   told-good : (e : Equation) (load : List Equation) → none_mine g role (e ∷ load) ≡ true → Good g role (react g s (Tells e load)).site
   told-good e load f =
       let u : Site = record s { equations = add_all s.equations (e ∷ load) } in
       asking-good g role u (record { is = G.nodes.is; ordered = G.nodes.ordered; developed = developed-then s.held (λ x d. d) (e ∷ load) f; children = G.nodes.children }) []
-      (subst (λ xs. AllSaid u xs) (sym (append-nil s.outbox)) (λ m i. said-on s u (λ x d. d) (λ r j. j) (λ v j. j) m.to m.kind (G.said m i)))
+      (subst (λ xs. AllSaid u xs) (sym (append-nil s.outbox)) (λ m i. said-on s u (λ x d. d) (λ r j. j) (λ r b j. j) m.to m.kind (G.said m i)))
       (subst (λ xs. Later Apart xs) (sym (append-nil s.outbox)) G.apart) (all_mentions (e ∷ load))
 
   -- a question that was noted is not asked again
-  old_watch : (m : Message) (r : Ref) (b : Body) (l : List Equation) (from : ℕ) → has_watch r from s.watchers ≡ false → (k : Kind) → Said s m.to k → m.to ≡ from → KindKin k (Tells (record { left = r; body = b }) l) → Never
+  old_watch : (m : Message) (r : Ref) (b : Body) (l : List Equation) (from : ℕ) → s.watches r from ≡ false → (k : Kind) → Said s m.to k → m.to ≡ from
+      → KindKin k (Tells (record { left = r; body = b }) l) → Never
   old_watch m r b l from f (Calls d l') i t z = never z
   old_watch m r b l from f (Asks q a) i t z = never z
   old_watch m r b l from f (Tells e l') i t z =
-      let there : Member (watch r from) s.watchers = subst (λ (q : Ref). Member (watch q from) s.watchers) z (subst (λ x. Member (watch e.left x) s.watchers) t i.0) in
-      let no : true ≡ false = sym (has_watch-member r from s.watchers there) ∙ f in
+      let there : s.watches r from ≡ true = subst (λ (q : Ref). s.watches q from ≡ true) z (subst (λ x. s.watches e.left x ≡ true) t i.0) in
+      let no : true ≡ false = sym there ∙ f in
       absurd (cc no)
 
-  asked-good : (r : Ref) (from : ℕ) → home g r.node ≡ role → has_watch r from s.watchers ≡ false → (o : Option Body) → find s.equations r ≡ o →
-      Good g role (record s { watchers = s.watchers ++ record { reference = r; role = from } ∷ []; outbox = s.outbox ++ tell_back g s o r from })
+  asked-good : (r : Ref) (from : ℕ) → home g r.node ≡ role → s.watches r from ≡ false → (o : Option Body) → find s.equations r ≡ o →
+      Good g role (record s { watches = watches_too s.watches r from; outbox = s.outbox ++ tell_back g s o r from })
   asked-good r from a f o e =
-      let u : Site = record s { watchers = s.watchers ++ record { reference = r; role = from } ∷ []; outbox = s.outbox ++ tell_back g s o r from } in
-      let on : (m : Message) → Said s m.to m.kind → Said u m.to m.kind = λ m. said-on s u (λ x d. d) (λ q j. j) (λ v j. member_left v s.watchers (watch r from ∷ []) j) m.to m.kind in
+      let u : Site = record s { watches = watches_too s.watches r from; outbox = s.outbox ++ tell_back g s o r from } in
+      let on : (m : Message) → Said s m.to m.kind → Said u m.to m.kind = λ m. said-on s u (λ x d. d) (λ q j. j) (λ q b j. or_right (ref_eq r q && nat_eq from b) (s.watches q b) j) m.to m.kind in
       record {
         nodes = record { is = G.nodes.is; ordered = G.nodes.ordered; developed = G.nodes.developed; children = G.nodes.children };
         said = λ m i. elim (member_split m s.outbox (tell_back g s o r from) i) [ inl j ↦ on m (G.said m j) | inr j ↦ back o e m j ];
         apart = later_both Apart s.outbox (tell_back g s o r from) G.apart (alone o) (λ m n i j k. far o m n i j k);
       }
     where
-      back : (o : Option Body) → find s.equations r ≡ o → (m : Message) → Member m (tell_back g s o r from) → Said (record s { watchers = s.watchers ++ record { reference = r; role = from } ∷ []; outbox = s.outbox ++ tell_back g s o r from }) m.to m.kind
+      back : (o : Option Body) → find s.equations r ≡ o → (m : Message) → Member m (tell_back g s o r from)
+          → Said (record s { watches = watches_too s.watches r from; outbox = s.outbox ++ tell_back g s o r from }) m.to m.kind
       back None e m i = never i
       back (Some b) e m (inl p) =
-          subst (λ (m : Message). Said (record s { watchers = s.watchers ++ record { reference = r; role = from } ∷ []; outbox = s.outbox ++ tell_back g s (Some b) r from }) m.to m.kind) (sym p)
-          (member_right (watch r from) s.watchers (watch r from ∷ []) (inl refl), G.nodes.developed (record { left = r; body = b }) (find-member s.equations r b e) a)
+          subst (λ (m : Message). Said (record s { watches = watches_too s.watches r from; outbox = s.outbox ++ tell_back g s (Some b) r from }) m.to m.kind) (sym p)
+          (or_left _ (s.watches r from) (and_from _ _ (ref_eq-self r) (eq-eqb from from refl)), G.nodes.developed (record { left = r; body = b }) (find-member s.equations r b e) a)
       back (Some b) e m (inr i) = never i
 
       alone : (o : Option Body) → Later Apart (tell_back g s o r from)
@@ -394,7 +307,8 @@ module _ (g : Grammar) (role : ℕ) (s : Site) (G : Good g role s) where
           subst (λ (z : Reaction). Good g role z.site) (new-of (clash s m.kind) false (react g s m.kind) y e)
           (react-good m.kind (subst (λ x. origin_ok g x m.kind ≡ true) G.nodes.is (and_parts _ _ names).1) (subst (λ x. about_ok g x m.kind ≡ true) G.nodes.is (and_parts _ _ i).1) r)
 
-      go : (a b : Bool) → message_ok g s.role m ≡ a → is_mine g s.role m ≡ b → cond (not a) BadName (cond (not b) NotMine (received_on (clash s m.kind) (is_repeat s m.kind) (react g s m.kind))) ≡ New y → Good g role y.site
+      go : (a b : Bool) → message_ok g s.role m ≡ a → is_mine g s.role m ≡ b
+          → cond (not a) BadName (cond (not b) NotMine (received_on (clash s m.kind) (is_repeat s m.kind) (react g s m.kind))) ≡ New y → Good g role y.site
       go false b p q e = absurd cc
       go true false p q e = absurd cc
       go true true p q e = on p q (is_repeat s m.kind) refl e
@@ -415,7 +329,7 @@ module _ (g : Grammar) (role : ℕ) (s : Site) (G : Good g role s) where
   chosen-good (Develop n r args) h Starts e = G
   chosen-good (Develop n r args) h (Takes rule bound) e = develop-good n r args rule bound h e
 
-  step-good : (e : SiteEvent) → IsAtHome g role e → Good g role (site_step g s e)
+  pub step-good : (e : SiteEvent) → IsAtHome g role e → Good g role (site_step g s e)
   step-good (Chose c) h = chosen-good c h (outcome g s c) refl
   step-good (Got m) h = received-good m (receive g s m) refl
 
@@ -423,7 +337,7 @@ run-good : (g : Grammar) (role : ℕ) (s : Site) → Good g role s → (es : Lis
 run-good g role s G [] h = G
 run-good g role s G (e ∷ es) h = run-good g role (site_step g s e) (step-good g role s G e h.0) es h.1
 
-none-good : (g : Grammar) (loads : Bool) (role : ℕ) → Good g role (empty_site loads role)
+pub none-good : (g : Grammar) (loads : Bool) (role : ℕ) → Good g role (empty_site loads role)
 none-good g loads role = record {
   nodes = record { is = refl; ordered = tt; developed = λ e i a. never i; children = λ h i w a. never i };
   said = λ m i. never i;

@@ -70,7 +70,8 @@ module _ (g : Grammar) (role : ℕ) where
         let a = cond-new (not (message_ok g s.role m)) BadName _ y (λ z. absurd cc) e in
         go (is_mine g s.role m) refl a
       where
-        go : (b : Bool) → is_mine g s.role m ≡ b → cond (not b) NotMine (received_on (clash s m.kind) (is_repeat s m.kind) (react g s m.kind)) ≡ New y → own_equations g role y.site.equations ≡ own_equations g role s.equations
+        go : (b : Bool) → is_mine g s.role m ≡ b → cond (not b) NotMine (received_on (clash s m.kind) (is_repeat s m.kind) (react g s m.kind)) ≡ New y
+            → own_equations g role y.site.equations ≡ own_equations g role s.equations
         go true i a =
             subst (λ (z : Reaction). own_equations g role z.site.equations ≡ own_equations g role s.equations) (new-of (clash s m.kind) (is_repeat s m.kind) (react g s m.kind) y a)
             (react-own m.kind (and_parts _ _ i).1)
@@ -83,7 +84,8 @@ module _ (g : Grammar) (role : ℕ) where
     received-own m (Conflict a b) e = refl
     received-own m Repeat e = refl
 
-    pub chosen-own : (c : Choice) → home g (node_of c) ≡ role → (o : Outcome Ref Ref) → own_equations g role (after_choice s (choose_on g s c o)).equations ≡ own_equations g role s.equations ++ equations_in (making_of c o)
+    pub chosen-own : (c : Choice) → home g (node_of c) ≡ role → (o : Outcome Ref Ref)
+        → own_equations g role (after_choice s (choose_on g s c o)).equations ≡ own_equations g role s.equations ++ equations_in (making_of c o)
     chosen-own (Start st k) h (Refused a) = sym (append-nil (own_equations g role s.equations))
     chosen-own (Start st k) h Starts = sym (append-nil (own_equations g role s.equations))
     chosen-own (Start st k) h (Takes rule bound) = sym (append-nil (own_equations g role s.equations))
@@ -98,7 +100,7 @@ module _ (g : Grammar) (role : ℕ) where
     step-own (Got m) h = received-own m (receive g s m) refl ∙ sym (append-nil (own_equations g role s.equations))
 
 -- a site keeps its role
-react-role : (g : Grammar) (s : Site) (k : Kind) → (react g s k).site.role ≡ s.role
+pub react-role : (g : Grammar) (s : Site) (k : Kind) → (react g s k).site.role ≡ s.role
 react-role g s (Calls c load) = refl
 react-role g s (Asks r from) = refl
 react-role g s (Tells e load) = refl
@@ -125,7 +127,8 @@ pub step-role : (g : Grammar) (s : Site) (e : SiteEvent) → (site_step g s e).r
 step-role g s (Chose c) = chosen-role g s c (outcome g s c)
 step-role g s (Got m) = received-role g s m (receive g s m) refl
 
-own-run : (g : Grammar) (role : ℕ) (s : Site) (es : List SiteEvent) → s.role ≡ role → Each (IsAtHome g role) es → own_equations g role (site_run g s es).equations ≡ own_equations g role s.equations ++ equations_in (all_made g s es)
+own-run : (g : Grammar) (role : ℕ) (s : Site) (es : List SiteEvent) → s.role ≡ role → Each (IsAtHome g role) es
+    → own_equations g role (site_run g s es).equations ≡ own_equations g role s.equations ++ equations_in (all_made g s es)
 own-run g role s [] is h = sym (append-nil (own_equations g role s.equations))
 own-run g role s (e ∷ es) is h =
     let t = site_step g s e in

@@ -37,7 +37,7 @@ use Rattle.aw_law_forged.specs.Forged.{IsAtHome, own_equations, making_of, makes
 use Rattle.aw_law_forged.proofs.OwnEquations.{equations-append, chosen-own, step-own, step-role}
 
 -- the children of what was made, one making behind the other
-calls-append : (xs ys : List Making) → calls_in (xs ++ ys) ≡ calls_in xs ++ calls_in ys
+pub calls-append : (xs ys : List Making) → calls_in (xs ++ ys) ≡ calls_in xs ++ calls_in ys
 calls-append [] ys = refl
 calls-append (m ∷ xs) ys = ap (λ cs. m.calls ++ cs) (calls-append xs ys) ∙ sym (append_assoc m.calls (calls_in xs) (calls_in ys))
 
@@ -62,7 +62,8 @@ last-call xs m c i = subst (λ zs. Member c zs) (sym (calls-append xs (m ∷ [])
 
 module _ (g : Grammar) (role : ℕ) where
   -- what a site holds of its own was made
-  known : (s : Site) (ms : List Making) → s.role ≡ role → own_equations g role s.equations ≡ equations_in ms → (e : Equation) → (find s.equations e.left ≡ Some e.body) × (home g e.left.node ≡ s.role) → Member e (equations_in ms)
+  known : (s : Site) (ms : List Making) → s.role ≡ role → own_equations g role s.equations ≡ equations_in ms → (e : Equation)
+      → (find s.equations e.left ≡ Some e.body) × (home g e.left.node ≡ s.role) → Member e (equations_in ms)
   known s ms is own e (f, h) =
       subst (λ xs. Member e xs) own
       (Member-filter (λ (e : Equation). nat_eq (home g e.left.node) role) e s.equations (find-member s.equations e.left e.body f) (eq-eqb (home g e.left.node) role (h ∙ is)))

@@ -1,2 +1,3 @@
 pub mod Forged
+pub mod Told
 pub mod Worked

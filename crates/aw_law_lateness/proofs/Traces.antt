@@ -20,6 +20,7 @@ use Rattle.aw_law_sites.specs.Homes.{home}
 use Rattle.aw_law_sites.specs.Joint.{Joint, empty_joint, joint_run}
 use Rattle.aw_law_sites.specs.Laws.{IsAccepted, SameChoices}
 use Rattle.aw_law_sites.specs.Sites.{Site, empty_site}
+use Rattle.aw_law_sites.specs.Worklists.{site_worklist}
 use Rattle.aw_law_sites.specs.Worlds.{World, empty_world, site_at, Move, Delivers, run, IsQuiet, MayCome, world_after}
 use Rattle.aw_law_sites.proofs.AnyOrders.{Goes_on, any_order}
 use Rattle.aw_law_sites.proofs.Entering.{VariablesEnter, variables_enter}
@@ -36,6 +37,7 @@ use Rattle.aw_law_worlds.proofs.Settling.{run_both}
 use Rattle.aw_law_settling.specs.Still.{IsStill, StillBecomesQuiet, StillAnswers, StillWorklists, StillArtifacts}
 use Rattle.aw_law_learning.specs.Learning.{IsLedTo, inherited, own, further, OfficesLearnTheirOwn}
 use Rattle.aw_law_lateness.specs.Lateness.{LatenessLeavesNoTrace}
+use Rattle.aw_law_lateness.proofs.SameMaps.{worklist-same}
 use Rattle.aw_law_lateness.proofs.Taking.{choices-same}
 
 module _ (words : Words) (g : Grammar) (accepted : IsAccepted words g) where
@@ -67,7 +69,7 @@ module _ (words : Words) (g : Grammar) (accepted : IsAccepted words g) where
   joint-equations : (cs ds : List Choice) (x y : Joint) → SameChoices cs ds → joint_run g empty_joint cs ≡ Some x → joint_run g empty_joint ds ≡ Some y → (r : Ref) (b : Body) → find x.equations r ≡ Some b → find y.equations r ≡ Some b
   joint-equations cs ds x y same e f = (any_order g (Fit g fit enter ok) (fit_of g fit enter ok) (keep g fit enter ok) (fit_empty g fit enter ok) ds cs y x same.0 f e).equations
 
-  same-back : (cs ds : List Choice) → SameChoices cs ds → SameChoices ds cs
+  pub same-back : (cs ds : List Choice) → SameChoices cs ds → SameChoices ds cs
   same-back cs ds (a, b) = (b, a)
 
   -- ---- quiet worlds
@@ -118,7 +120,7 @@ module _ (words : Words) (g : Grammar) (accepted : IsAccepted words g) where
       pub sites : (world_after g loads moves).sites ≡ w.sites
       pub taken : (world_after g loads moves).taken ≡ w.taken
 
-    quiet-of : (loads : Bool) (es : List Move) → Each (MayCome g) es → IsStill g (world_after g loads es) → IsQuietOf loads (world_after g loads es)
+    pub quiet-of : (loads : Bool) (es : List Move) → Each (MayCome g) es → IsStill g (world_after g loads es) → IsQuietOf loads (world_after g loads es)
     quiet-of loads es may still =
         let (ks, q, s, t) = becomes loads es may still in
         let e : world_after g loads (es ++ map Delivers ks) ≡ run g (world_after g loads es) (map Delivers ks) = run_both g (empty_world g loads) es (map Delivers ks) in
@@ -146,20 +148,20 @@ module _ (words : Words) (g : Grammar) (accepted : IsAccepted words g) where
       abbrev V : (x : Joint) × IsWorld words g accepted other vq x
       V = invariant_holds words g accepted other P.moves P.may
 
-      quiet-held : (a : ℕ) → (site_at wq a).held ≡ (site_at vq a).held
+      pub quiet-held : (a : ℕ) → (site_at wq a).held ≡ (site_at vq a).held
       quiet-held a = same_held (site_at wq a).held (site_at vq a).held (W.1.inv.ordered a) (V.1.inv.ordered a)
           (held-there loads other wq vq W.0 V.0 W.1 V.1 P.quiet same-quiet a)
           (held-there other loads vq wq V.0 W.0 V.1 W.1 Q.quiet (same-back wq.taken vq.taken same-quiet) a)
 
-      quiet-equations : (a : ℕ) (r : Ref) → find (site_at wq a).equations r ≡ find (site_at vq a).equations r
+      pub quiet-equations : (a : ℕ) (r : Ref) → find (site_at wq a).equations r ≡ find (site_at vq a).equations r
       quiet-equations a r = option-same (find (site_at wq a).equations r) (find (site_at vq a).equations r)
           (equation-there loads other wq vq W.0 V.0 W.1 V.1 P.quiet same-quiet (λ a r b e n. (learns loads Q.moves Q.may a r b e n).0) a r)
           (equation-there other loads vq wq V.0 W.0 V.1 W.1 Q.quiet (same-back wq.taken vq.taken same-quiet) (λ a r b e n. (learns other P.moves P.may a r b e n).0) a r)
 
-      at-w : (a : ℕ) → site_at wq a ≡ site_at w a
+      pub at-w : (a : ℕ) → site_at wq a ≡ site_at w a
       at-w a = ap (λ (ss : List Site). get (empty_site false a) ss a) Q.sites
 
-      at-v : (a : ℕ) → site_at vq a ≡ site_at v a
+      pub at-v : (a : ℕ) → site_at vq a ≡ site_at v a
       at-v a = ap (λ (ss : List Site). get (empty_site false a) ss a) P.sites
 
       pub tasks-same : (a : ℕ) → (site_at w a).held ≡ (site_at v a).held
@@ -185,6 +187,8 @@ module _ (words : Words) (g : Grammar) (accepted : IsAccepted words g) where
           choices = choices-same g homes loads other es fs may might same;
           equations = equations-same loads other w v Q P same;
           answers = λ z. f still z ∙ (ap (λ c. answer g c z) one ∙ sym (h rests z));
+          worklist = λ a. worklist-same (site_at w a).equations (site_at v a).equations (equations-same loads other w v Q P same a) g (site_at w a).held
+              ∙ ap (site_worklist g (site_at v a).equations) (tasks-same loads other w v Q P same a);
           worklists = f2 still ∙ (ap (worklist g) two ∙ sym (h2 rests));
           printed = λ text p.
               let it = (artifacts loads es may still w.taken ((λ z i. i), (λ z i. i)) c e).1 text p in

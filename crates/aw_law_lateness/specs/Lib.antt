@@ -1,2 +1,3 @@
 pub mod Lateness
+pub mod Sending
 pub mod Worked

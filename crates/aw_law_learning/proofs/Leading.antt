@@ -1,7 +1,7 @@
 -- What is learnt, asked and sent is what the tasks of a site lead to.
-use Rattle.std.specs.Prelude.{filter, not, ◌⊎◌}
+use Rattle.std.specs.Prelude.{filter, nat_eq, not, ◌&&◌, ◌⊎◌}
 use Rattle.std.proofs.Common.{◌≡◌, ℕ, zero, suc, Bool, true, false, cond, List, [], ◌∷◌, ◌++◌, map, Option, Some, None, refl, sym, ap, ◌∙◌, subst, inl, inr}
-use Rattle.std.proofs.lemmas.Bool.{and_parts}
+use Rattle.std.proofs.lemmas.Bool.{and_from, and_parts, eq-eqb, eqb-true, or_cases, or_left, or_right}
 use Rattle.aw_list.specs.Members.{Member}
 use Rattle.aw_list.proofs.Members.{never, member_left, member_right, member_split, member_map, member_unmap}
 use Rattle.aw_term.specs.Choices.{Choice, Start, Develop, Outcome, Refused, Starts, Takes}
@@ -10,7 +10,7 @@ use Rattle.aw_term.specs.Held.{Held, held_of, insert_all, mark}
 use Rattle.aw_term.specs.Names.{Node, Ref, node_eq, ref_eq}
 use Rattle.aw_term.specs.Rules.{Ground, Rule, Grammar}
 use Rattle.aw_term.specs.Trees.{Never}
-use Rattle.aw_term.proofs.RefTests.{ref_eq-true}
+use Rattle.aw_term.proofs.RefTests.{ref_eq-self, ref_eq-true}
 use Rattle.aw_accept.proofs.Fitting.{each_member}
 use Rattle.aw_store.specs.Equations.{Body, Equation, Map, find, mentions}
 use Rattle.aw_apply.specs.Made.{Call, made}
@@ -19,20 +19,20 @@ use Rattle.aw_apply.proofs.Numbering.{made-apart}
 use Rattle.aw_law_sites.specs.Asking.{all_mentions, all_inherited, ask_message, asking, is_wanted}
 use Rattle.aw_law_sites.specs.Choosing.{Did, choose, choose_on, develop_site, outcome, start_site}
 use Rattle.aw_law_sites.specs.Homes.{home}
-use Rattle.aw_law_sites.specs.InOrder.{in_order}
+use Rattle.aw_law_sites.specs.InOrder.{has_ref, in_order}
 use Rattle.aw_law_sites.specs.Joint.{called_held, root_held}
 use Rattle.aw_law_sites.specs.Loads.{Given, given_on, load_of, may_give, next_given, walk}
 use Rattle.aw_law_sites.specs.Reacting.{add_held, react, receive, received_on}
 use Rattle.aw_law_sites.specs.Receiving.{add_all, add_on, call_clash, clash, first_clash, is_mine, is_repeat, refs_eq}
-use Rattle.aw_law_sites.specs.Sites.{Site, Reaction, Watch, silently}
+use Rattle.aw_law_sites.specs.Sites.{Site, Reaction, silently}
 use Rattle.aw_law_sites.specs.Telling.{calls_in, calls_out, tell_back, tells}
 use Rattle.aw_law_sites.specs.ValidNames.{message_ok}
 use Rattle.aw_law_sites.specs.Worlds.{node_of}
 use Rattle.aw_law_sites.proofs.AnyOrders.{Member-all_held, Member-inserted_held, held_of-found}
-use Rattle.aw_law_worlds.specs.Invariant.{watch}
 use Rattle.aw_law_worlds.specs.Mentioned.{IsMentioned}
+use Rattle.aw_law_worlds.proofs.AskingLemmas.{has_ref-member}
 use Rattle.aw_law_worlds.proofs.Learning.{add-member}
-use Rattle.aw_law_worlds.proofs.Lists.{Member-filtered, Member-of_order}
+use Rattle.aw_law_worlds.proofs.Lists.{Member-filtered, Member-of_order, has_ref-true}
 use Rattle.aw_law_worlds.proofs.SentLemmas.{out_case, tell_case}
 use Rattle.aw_law_nodes.proofs.Following.{cond-new, new-of}
 use Rattle.aw_law_learning.specs.Learning.{IsLedTo, inherited, own, further}
@@ -134,16 +134,16 @@ module _ (g : Grammar) where
   -- what a reaction may send: a question that it asked, a call and its load, a tell to one who watches
   abbrev pub IsSentFrom : Site → Message → Kind → Type 0
   IsSentFrom t m (Calls c load) = Chain c.inherited load
-  IsSentFrom t m (Asks r from) = (from ≡ t.role) × Member r t.asked
-  IsSentFrom t m (Tells e load) = Member (watch e.left m.to) t.watchers × Chain (mentions e.body) load
+  IsSentFrom t m (Asks r from) = (from ≡ t.role) × (t.asked r ≡ true)
+  IsSentFrom t m (Tells e load) = (t.watches e.left m.to ≡ true) × Chain (mentions e.body) load
 
   -- what a reaction to its own choice or to a message keeps and adds
-  pub record Learnt (s : Site) (x : Reaction) (new : Watch → Type 0) : Type 0 where
+  pub record Learnt (s : Site) (x : Reaction) (new : Ref → ℕ → Type 0) : Type 0 where
     pub grown : Grown s x.site
     pub equations : (e : Equation) → Member e x.site.equations → Member e s.equations ⊎ ((home g e.left.node ≡ s.role) ⊎ IsLedTo g x.site e.left)
-    pub asked : (r : Ref) → Member r x.site.asked → Member r s.asked ⊎ IsLedTo g x.site r
-    pub asks : (r : Ref) → Member r s.asked → Member r x.site.asked
-    pub watchers : (v : Watch) → Member v x.site.watchers → Member v s.watchers ⊎ new v
+    pub asked : (r : Ref) → x.site.asked r ≡ true → (s.asked r ≡ true) ⊎ IsLedTo g x.site r
+    pub asks : (r : Ref) → s.asked r ≡ true → x.site.asked r ≡ true
+    pub watchers : (r : Ref) (to : ℕ) → x.site.watches r to ≡ true → (s.watches r to ≡ true) ⊎ new r to
     pub sent : (m : Message) → Member m x.sent → IsSentFrom x.site m m.kind
 
   -- a site that asks
@@ -153,13 +153,17 @@ module _ (g : Grammar) where
       elim (member_split m first (map (ask_message g v.role) wanted) i) [
         | inl j ↦ f m j
         | inr j ↦ (let (r, k, p) = member_unmap (ask_message g v.role) m wanted j in
-            subst (λ (m : Message). IsSentFrom (asking g v first rs).site m m.kind) (sym p) (refl, member_right r v.asked wanted k))
+            subst (λ (m : Message). IsSentFrom (asking g v first rs).site m m.kind) (sym p) (refl, or_right (v.asked r) (has_ref r wanted) (has_ref-member r wanted k)))
       ]
 
-  asks-asked : (v : Site) (first : List Message) (rs : List Ref) → ((r : Ref) → Member r rs → IsLedTo g (asking g v first rs).site r) → (r : Ref) → Member r (asking g v first rs).site.asked → Member r v.asked ⊎ IsLedTo g (asking g v first rs).site r
+  asks-asked : (v : Site) (first : List Message) (rs : List Ref) → ((r : Ref) → Member r rs → IsLedTo g (asking g v first rs).site r) → (r : Ref) → (asking g v first rs).site.asked r ≡ true
+      → (v.asked r ≡ true) ⊎ IsLedTo g (asking g v first rs).site r
   asks-asked v first rs f r m =
       let wanted = filter (is_wanted g v) (in_order rs) in
-      elim (member_split r v.asked wanted m) [ inl i ↦ inl i | inr i ↦ inr (f r (Member-of_order r rs (Member-filtered (is_wanted g v) r (in_order rs) i).0)) ]
+      elim (or_cases (v.asked r) (has_ref r wanted) m) [
+        | inl i ↦ inl i
+        | inr i ↦ inr (f r (Member-of_order r rs (Member-filtered (is_wanted g v) r (in_order rs) (has_ref-true r wanted i)).0))
+      ]
 
   mention-of : (es : List Equation) (r : Ref) → Member r (all_mentions es) → (e : Equation) × Member e es × Member r (mentions e.body)
   mention-of [] r m = never m
@@ -174,8 +178,8 @@ module _ (g : Grammar) where
   mark-refs s h false = refl
 
   -- a choice
-  abbrev Nothing : Watch → Type 0
-  Nothing v = Never
+  abbrev Nothing : Ref → ℕ → Type 0
+  Nothing r to = Never
 
   develop-learns : (s : Site) (c : Choice) (n : Node) (r : ℕ) (args : List Ground) (rule : Rule) (bound : List Ref) → home g n ≡ s.role → Learnt s (develop_site g s c n r args (made n r rule args bound)) Nothing
   develop-learns s c n r args rule bound at =
@@ -198,8 +202,8 @@ module _ (g : Grammar) where
           | inl j ↦ (let (e, k, l) = mention-of m.equations u j in own e (member_right e s.equations m.equations k) (mine e k) l)
           | inr j ↦ (let (h, k, l) = inherited-of own_ u j in inherited h (Member-all_held h own_ (map (mark n (Done r args)) s.held) (inl k)) l)
         ]);
-        asks = λ u i. member_left u s.asked (filter (is_wanted g v) (in_order rs)) i;
-        watchers = λ w i. inl i;
+        asks = λ u i. or_left (s.asked u) (has_ref u (filter (is_wanted g v) (in_order rs))) i;
+        watchers = λ q to i. inl i;
         sent = asks-sent v first rs (λ x i. elim (member_split x (calls_out g v m.calls) (tells g v m.equations) i) [
           | inl j ↦ (let (d, a, b, p) = out_case g v m.calls x j in subst (λ (x : Message). IsSentFrom t x x.kind) (sym p) (load-chain v [] d.inherited))
           | inr j ↦ (let (e, a, to, b, p) = tell_case g v m.equations x j in subst (λ (x : Message). IsSentFrom t x x.kind) (sym p) (b, load-chain v (e.left ∷ []) (mentions e.body)))
@@ -212,7 +216,7 @@ module _ (g : Grammar) where
     equations = λ e i. inl i;
     asked = λ r i. inl i;
     asks = λ r i. i;
-    watchers = λ v i. inl i;
+    watchers = λ r to i. inl i;
     sent = λ m i. never i;
   }
 
@@ -237,10 +241,10 @@ module _ (g : Grammar) where
       by None = member_left q k (e ∷ []) m
       by (Some b) = m
 
-  abbrev pub NewWatch : Kind → Watch → Type 0
-  NewWatch (Calls c load) v = Never
-  NewWatch (Asks r from) v = v ≡ watch r from
-  NewWatch (Tells e load) v = Never
+  abbrev pub NewWatch : Kind → Ref → ℕ → Type 0
+  NewWatch (Calls c load) r to = Never
+  NewWatch (Asks q from) r to = (r ≡ q) × (to ≡ from)
+  NewWatch (Tells e load) r to = Never
 
   -- what makes a message fine where it comes
   abbrev pub ComesFine : Site → Kind → Type 0
@@ -275,18 +279,20 @@ module _ (g : Grammar) where
         grown = record { role = refl; equations = λ e i. add-old s.equations load e i; held = λ h i. (h, add-held-old c s.held (held_of c.node s.held) h i, refl) };
         equations = λ e i. elim (add-member s.equations load e i) [ inl j ↦ inl j | inr j ↦ inr (inr (L e j).0) ];
         asked = asks-asked v [] rs (λ u i. elim (member_split u c.inherited (all_mentions load) i) [ inl j ↦ root u j | inr j ↦ (let (e, x, y) = mention-of load u j in (L e x).1 u y) ]);
-        asks = λ u i. member_left u s.asked (filter (is_wanted g v) (in_order rs)) i;
-        watchers = λ w i. inl i;
+        asks = λ u i. or_left (s.asked u) (has_ref u (filter (is_wanted g v) (in_order rs))) i;
+        watchers = λ q to i. inl i;
         sent = asks-sent v [] rs (λ m i. never i);
       }
   react-learns s (Asks r from) q fine has =
-      let w = watch r from in
       record {
         grown = record { role = refl; equations = λ e i. i; held = λ h i. (h, i, refl) };
         equations = λ e i. inl i;
         asked = λ u i. inl i;
         asks = λ u i. i;
-        watchers = λ v i. elim (member_split v s.watchers (w ∷ []) i) [ inl j ↦ inl j | inr j ↦ elim j [ inl p ↦ inr p | inr n ↦ never n ] ];
+        watchers = λ q to i. elim (or_cases (ref_eq r q && nat_eq from to) (s.watches q to) i) [
+          | inl e ↦ inr (let (p, n) = and_parts (ref_eq r q) (nat_eq from to) e in (sym (ref_eq-true r q p), sym (eqb-true from to n)))
+          | inr o ↦ inl o
+        ];
         sent = λ m i. told (find s.equations r) m i;
       }
     where
@@ -294,7 +300,7 @@ module _ (g : Grammar) where
       told None m i = never i
       told (Some b) m (inl p) =
           subst (λ (m : Message). IsSentFrom (react g s (Asks r from)).site m m.kind) (sym p)
-          (member_right (watch r from) s.watchers (watch r from ∷ []) (inl refl), load-chain s (r ∷ []) (mentions b))
+          (or_left _ (s.watches r from) (and_from _ _ (ref_eq-self r) (eq-eqb from from refl)), load-chain s (r ∷ []) (mentions b))
       told (Some b) m (inr n) = never n
   react-learns s (Tells e load) q fine has =
       let v : Site = record s { equations = add_all s.equations (e ∷ load) } in
@@ -307,8 +313,8 @@ module _ (g : Grammar) where
         grown = G;
         equations = λ d i. elim (add-member s.equations (e ∷ load) d i) [ inl j ↦ inl j | inr j ↦ inr (inr (L d j).0) ];
         asked = asks-asked v [] rs (λ u i. let (d, x, y) = mention-of (e ∷ load) u i in (L d x).1 u y);
-        asks = λ u i. member_left u s.asked (filter (is_wanted g v) (in_order rs)) i;
-        watchers = λ w i. inl i;
+        asks = λ u i. or_left (s.asked u) (has_ref u (filter (is_wanted g v) (in_order rs))) i;
+        watchers = λ q to i. inl i;
         sent = asks-sent v [] rs (λ m i. never i);
       }
 

@@ -1,6 +1,6 @@
 -- In every world sites learn and ask for what their own tasks lead to alone.
 use Rattle.std.specs.Prelude.{slice_get, ◌⊎◌}
-use Rattle.std.proofs.Common.{◌≡◌, ℕ, zero, suc, ◌+◌, ◌<◌, Bool, false, List, [], ◌∷◌, ◌++◌, map, length, Option, Some, None, refl, sym, ap, ◌∙◌, subst, inl, inr, arith}
+use Rattle.std.proofs.Common.{◌≡◌, ℕ, zero, suc, ◌+◌, ◌<◌, Bool, true, false, List, [], ◌∷◌, ◌++◌, map, length, Option, Some, None, refl, sym, ap, ◌∙◌, subst, inl, inr, arith}
 use Rattle.std.proofs.lemmas.Option.{slice_get_within}
 use Rattle.aw_list.specs.Members.{Member}
 use Rattle.aw_list.proofs.Members.{never, member_got, member_split}
@@ -16,9 +16,9 @@ use Rattle.aw_law_sites.specs.Choosing.{Chosen, No, Did, choose}
 use Rattle.aw_law_sites.specs.Homes.{home}
 use Rattle.aw_law_sites.specs.Joint.{Joint}
 use Rattle.aw_law_sites.specs.Reacting.{receive}
-use Rattle.aw_law_sites.specs.Sites.{Site, Reaction, Watch, empty_site}
+use Rattle.aw_law_sites.specs.Sites.{Site, Reaction, empty_site}
 use Rattle.aw_law_sites.specs.Worlds.{World, empty_world, site_at, node_of, with_site, Move, Chooses, Delivers, chosen_at, mark_delivered, received_at, deliver_on, step, run, MayCome, world_after}
-use Rattle.aw_law_worlds.specs.Invariant.{IsDelivered, IsInvariant, IsSent, sender, watch}
+use Rattle.aw_law_worlds.specs.Invariant.{IsDelivered, IsInvariant, IsSent, sender}
 use Rattle.aw_law_worlds.specs.Laws.{HomesAreRoles, InvariantHolds}
 use Rattle.aw_law_worlds.proofs.Learning.{find-member}
 use Rattle.aw_law_worlds.proofs.Places.{get-left, get-set, get-set_other, same_or_not, set-here}
@@ -31,25 +31,25 @@ module _ (g : Grammar) where
   -- what holds of each message
   abbrev Fine : World → Message → Kind → Type 0
   Fine w m (Calls c load) = Chain c.inherited load
-  Fine w m (Asks r from) = Member r (site_at w from).asked
-  Fine w m (Tells e load) = Member e.left (site_at w m.to).asked × Chain (mentions e.body) load
+  Fine w m (Asks r from) = (site_at w from).asked r ≡ true
+  Fine w m (Tells e load) = ((site_at w m.to).asked e.left ≡ true) × Chain (mentions e.body) load
 
   abbrev KnowsOwn : ℕ → Site → Type 0
   KnowsOwn a s = (e : Equation) → Member e s.equations → (home g e.left.node ≡ a) ⊎ IsLedTo g s e.left
 
   abbrev AsksOwn : Site → Type 0
-  AsksOwn s = (r : Ref) → Member r s.asked → IsLedTo g s r
+  AsksOwn s = (r : Ref) → s.asked r ≡ true → IsLedTo g s r
 
   -- and of each site
   record Learns (w : World) : Type 0 where
     equations : (a : ℕ) → KnowsOwn a (site_at w a)
     asked : (a : ℕ) → AsksOwn (site_at w a)
-    watchers : (a : ℕ) (v : Watch) → Member v (site_at w a).watchers → Member v.reference (site_at w v.role).asked
+    watchers : (a : ℕ) (r : Ref) (to : ℕ) → (site_at w a).watches r to ≡ true → (site_at w to).asked r ≡ true
     messages : (m : Message) → Member m w.messages → Fine w m m.kind
 
   -- one site reacts
-  module _ (w : World) (A : Learns w) (a : ℕ) (x : Reaction) (new : Watch → Type 0) (here : a < length w.sites) (role : (site_at w a).role ≡ a) (L : Learnt g (site_at w a) x new)
-      (watched : (v : Watch) → new v → Member v.reference (site_at w v.role).asked) where
+  module _ (w : World) (A : Learns w) (a : ℕ) (x : Reaction) (new : Ref → ℕ → Type 0) (here : a < length w.sites) (role : (site_at w a).role ≡ a) (L : Learnt g (site_at w a) x new)
+      (watched : (r : Ref) (to : ℕ) → new r to → (site_at w to).asked r ≡ true) where
     abbrev W : World
     W = with_site w a x
 
@@ -59,10 +59,10 @@ module _ (g : Grammar) where
     cases : (b : ℕ) → ((a ≡ b) × (site_at W b ≡ x.site)) ⊎ (site_at W b ≡ site_at w b)
     cases b = elim (same_or_not a b) [ inl p ↦ inl (p, subst (λ b. site_at W b ≡ x.site) p there) | inr n ↦ inr (get-set_other (empty_site false b) w.sites a b x.site n) ]
 
-    grows : (b : ℕ) (r : Ref) → Member r (site_at w b).asked → Member r (site_at W b).asked
+    grows : (b : ℕ) (r : Ref) → (site_at w b).asked r ≡ true → (site_at W b).asked r ≡ true
     grows b r m = elim (cases b) [
-      | inl c ↦ subst (λ (s : Site). Member r s.asked) (sym c.1) (L.asks r (subst (λ b. Member r (site_at w b).asked) (sym c.0) m))
-      | inr e ↦ subst (λ (s : Site). Member r s.asked) (sym e) m
+      | inl c ↦ subst (λ (s : Site). s.asked r ≡ true) (sym c.1) (L.asks r (subst (λ b. (site_at w b).asked r ≡ true) (sym c.0) m))
+      | inr e ↦ subst (λ (s : Site). s.asked r ≡ true) (sym e) m
     ]
 
     knows : KnowsOwn a x.site
@@ -74,10 +74,10 @@ module _ (g : Grammar) where
     asks : AsksOwn x.site
     asks r m = elim (L.asked r m) [ inl i ↦ led-grown g (site_at w a) x.site L.grown (A.asked a r i) | inr l ↦ l ]
 
-    watches : (b : ℕ) (v : Watch) → Member v (site_at W b).watchers → Member v.reference (site_at W v.role).asked
-    watches b v m = elim (cases b) [
-      | inl c ↦ elim (L.watchers v (subst (λ (s : Site). Member v s.watchers) c.1 m)) [ inl i ↦ grows v.role v.reference (A.watchers a v i) | inr n ↦ grows v.role v.reference (watched v n) ]
-      | inr e ↦ grows v.role v.reference (A.watchers b v (subst (λ (s : Site). Member v s.watchers) e m))
+    watches : (b : ℕ) (r : Ref) (to : ℕ) → (site_at W b).watches r to ≡ true → (site_at W to).asked r ≡ true
+    watches b r to m = elim (cases b) [
+      | inl c ↦ elim (L.watchers r to (subst (λ (s : Site). s.watches r to ≡ true) c.1 m)) [ inl i ↦ grows to r (A.watchers a r to i) | inr n ↦ grows to r (watched r to n) ]
+      | inr e ↦ grows to r (A.watchers b r to (subst (λ (s : Site). s.watches r to ≡ true) e m))
     ]
 
     old-fine : (m : Message) (k : Kind) → Fine w m k → Fine W m k
@@ -89,10 +89,8 @@ module _ (g : Grammar) where
     new-fine m (Calls c load) f = f
     new-fine m (Asks r from) f =
         let p : from ≡ a = f.0 ∙ (L.grown.role ∙ role) in
-        subst (λ b. Member r (site_at W b).asked) (sym p) (subst (λ (s : Site). Member r s.asked) (sym there) f.1)
-    new-fine m (Tells e load) f =
-        let v = watch e.left m.to in
-        (watches a v (subst (λ (s : Site). Member v s.watchers) (sym there) f.0), f.1)
+        subst (λ b. (site_at W b).asked r ≡ true) (sym p) (subst (λ (s : Site). s.asked r ≡ true) (sym there) f.1)
+    new-fine m (Tells e load) f = (watches a e.left m.to (subst (λ (s : Site). s.watches e.left m.to ≡ true) (sym there) f.0), f.1)
 
     reacts : Learns W
     reacts = record {
@@ -114,8 +112,8 @@ module _ (g : Grammar) where
   begins : (loads : Bool) → Learns (empty_world g loads)
   begins loads = record {
     equations = empty-all (λ a s. KnowsOwn a s) (λ a b e m. never m) loads;
-    asked = empty-all (λ a s. AsksOwn s) (λ a b r m. never m) loads;
-    watchers = λ a v m. never (empty-all (λ a s. (v : Watch) → Member v s.watchers → Never) (λ a b v m. m) loads a v m);
+    asked = empty-all (λ a s. AsksOwn s) (λ a b r m. absurd cc) loads;
+    watchers = λ a r to m. never (empty-all (λ a s. (r : Ref) (to : ℕ) → s.watches r to ≡ true → Never) (λ a b r to m. absurd cc) loads a r to m);
     messages = λ m i. never i;
   }
 
@@ -134,7 +132,7 @@ module _ (g : Grammar) where
           let l = homes c k in
           let n = I.1.sites in
           let role = I.1.roles a in
-          let R = reacts w A a x (λ v. Never) (omega (arith, l, n)) role (choose-learns g (site_at w a) c (sym role) x e) (λ v n. never n) in
+          let R = reacts w A a x (λ r to. Never) (omega (arith, l, n)) role (choose-learns g (site_at w a) c (sym role) x e) (λ r to n. never n) in
           record { equations = R.equations; asked = R.asked; watchers = R.watchers; messages = R.messages }
 
       -- after the delivery of a new message its equations are here
@@ -169,10 +167,10 @@ module _ (g : Grammar) where
         fine-here A (Asks r from) f = tt
         fine-here A (Tells d load) f = (A.asked m.to d.left f.0, f.1)
 
-        watch-new : (k : Kind) → Fine w m k → (v : Watch) → NewWatch g k v → Member v.reference (site_at w v.role).asked
-        watch-new (Calls c load) f v n = never n
-        watch-new (Asks r from) f v n = subst (λ (v : Watch). Member v.reference (site_at w v.role).asked) (sym n) f
-        watch-new (Tells d load) f v n = never n
+        watch-new : (k : Kind) → Fine w m k → (r : Ref) (to : ℕ) → NewWatch g k r to → (site_at w to).asked r ≡ true
+        watch-new (Calls c load) f r to n = never n
+        watch-new (Asks q from) f r to n = (λ i. (site_at w (n.1 i)).asked (n.0 i)) ∙ f
+        watch-new (Tells d load) f r to n = never n
 
         new-learns : Learns w → Learns V
         new-learns A =

@@ -1,5 +1,5 @@
 -- What a site may learn: only what its own tasks lead to.
-use Rattle.std.specs.Prelude.{◌≡◌, ℕ, Some}
+use Rattle.std.specs.Prelude.{◌≡◌, ℕ, true, Some}
 use Rattle.aw_list.specs.Members.{Member}
 use Rattle.aw_term.specs.Held.{Held}
 use Rattle.aw_term.specs.Names.{Ref}
@@ -25,5 +25,5 @@ OfficesLearnTheirOwn g = InEachWorld g (λ loads w. (a : ℕ) (r : Ref) (b : Bod
 
 -- and so is each reference that a site asked for
 abbrev pub OfficesAskTheirOwn : Grammar → Type 0
-OfficesAskTheirOwn g = InEachWorld g (λ loads w. (a : ℕ) (r : Ref) → Member r (site_at w a).asked →
+OfficesAskTheirOwn g = InEachWorld g (λ loads w. (a : ℕ) (r : Ref) → (site_at w a).asked r ≡ true →
     IsLedTo g (site_at w a) r × IsMentioned r (site_at w a).equations (site_at w a).held)

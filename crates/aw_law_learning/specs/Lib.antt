@@ -1,2 +1,3 @@
 pub mod Learning
+pub mod Working
 pub mod Worked

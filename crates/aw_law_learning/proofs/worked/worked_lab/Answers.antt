@@ -1,4 +1,4 @@
-use Rattle.std.proofs.Common.{refl, inl}
+use Rattle.std.proofs.Common.{refl, inl, inr}
 use Rattle.aw_term.specs.Names.{part}
 use Rattle.aw_law_sites.specs.Worked.{clinic, visit}
 use Rattle.aw_law_learning.specs.Learning.{IsLedTo, inherited, further}
@@ -13,3 +13,6 @@ returns-clause-led c = (sample, further _ sample (inl refl) (inl refl))
 
 pub returns-clause-forged : goal.returns-clause-forged
 returns-clause-forged c = (refl, refl)
+
+pub returns-clause-called : goal.returns-clause-called
+returns-clause-called c = (refl, refl, inr (inr (_, inl refl)), refl, refl)

@@ -1,0 +1,2 @@
+pub mod KeptSystems
+pub mod Worked
