@@ -8,7 +8,8 @@ use Rattle.aw_sched.specs.declared.event.Event.{Event}
 use Rattle.aw_sched.specs.declared.event.Event.TheVariants.{Choose, Deliver, Settle, List as List_}
 use Rattle.aw_sched.specs.Answers.{event_seen, MayCome}
 use Rattle.aw_law_sites.specs.Outputs.{MayStand, after_event, after_events, event_lines, all_lines, moves_of, all_moves}
-use Rattle.aw_law_worlds.proofs.Headlining.{event_runs}
+use Rattle.aw_choice.specs.Events as P
+use Rattle.aw_law_worlds.proofs.Headlining.{event_runs, events_run}
 
 pub each_here : (Q : Event → Type 0) (es : List Event) (i : ℕ) (e : Event) → i < length es → e ≡ get_or es i e → Each Q es → Q e
 each_here Q [] i e l s a = absurd (omega (arith, l))
@@ -65,6 +66,20 @@ behind g v (a ∷ as') bs n = let (k, e) = behind g (step g v a).world as' bs n 
 pub all_taken : (as' : List Move) → (n : ℕ) × (take n as' ≡ as')
 all_taken [] = (0, refl)
 all_taken (a ∷ as') = let (n, e) = all_taken as' in (suc n, ap (λ z. a ∷ z) e)
+
+-- some first moves of an event behind others
+pub last_some : (g : Grammar) (v : World) (es : List P.Event) (e : P.Event) (m : ℕ)
+    → (n : ℕ) × (run g v (take n (all_moves g v (es ++ e ∷ []))) ≡ run g (after_events g v es) (take m (moves_of g (after_events g v es) e)))
+last_some g v [] e m = let (n, q) = front (moves_of g v e) [] m in (n, ap (run g v) q)
+last_some g v (x ∷ es) e m =
+    let u = after_event g v x in
+    let (n, q) = last_some g u es e m in
+    let (k, r) = behind g v (moves_of g v x) (all_moves g u (es ++ e ∷ [])) n in
+    (k, r ∙ ap (λ z. run g z (take n (all_moves g u (es ++ e ∷ [])))) (event_runs g v x) ∙ q)
+
+-- all moves of events
+pub all_some : (g : Grammar) (v : World) (es : List P.Event) → (n : ℕ) × (run g v (take n (all_moves g v es)) ≡ after_events g v es)
+all_some g v es = let (n, q) = all_taken (all_moves g v es) in (n, ap (run g v) q ∙ events_run g v es)
 
 -- some first moves of one event, after those of the events before it
 pub some_before : (g : Grammar) (v : World) (es : List Event) (i : ℕ) (e : Event) → i < length es → e ≡ get_or es i e → (m : ℕ)

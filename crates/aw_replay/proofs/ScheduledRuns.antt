@@ -11,7 +11,7 @@ use Rattle.aw_grammar.specs.declared.grammar.Grammar.{Grammar}
 use Rattle.aw_grammar.specs.GrammarOf.{grammar_of, words_of}
 use Rattle.aw_law_sites.specs.Laws.{IsAccepted}
 use Rattle.aw_out.specs.Report.{Bounded}
-use Rattle.aw_replay.specs.Replays.{MayReplay, Replays, is_kept, kept_of, most, whole_output}
+use Rattle.aw_replay.specs.Replays.{MayReplay, TellsOutput, is_kept, kept_of, most, whole_output}
 use Rattle.aw_replay.specs.declared.scheduled.Kept.TheVariants.{Choices}
 use Rattle.aw_replay.specs.declared.scheduled.ReplayFault.{ReplayFault}
 use Rattle.aw_replay.specs.declared.scheduled.ReplayFault.TheVariants.{Bad, TooLarge, NoMemory}
@@ -54,7 +54,7 @@ module _ (a one : Accepted) (words : words_of one.grammar ≡ united_words (word
     text_same : whole_output one false (kept_of Choices es) ≡ undivided_text a.grammar (map event_seen es)
     text_same = told a one words grammar es (filter (is_kept Choices) es) (kept_same es) (subst (λ (d : Grammar). Each (MayCome (grammar_of d)) es) is read.come) law
 
-  pub runs : (result : Result Bounded ReplayFault) → Replays one false Choices reader result → RunsUndivided a reader result
+  pub runs : (result : Result Bounded ReplayFault) → TellsOutput one false Choices reader result → RunsUndivided a reader result
   runs (Ok report) h = (h.0, h.1, h.2 ∙ ap (λ (t : List ℕ). record { text = t; limit = most }) (text_same h.0 h.1))
   runs (Err TooLarge) h = (h.0, h.1, subst (λ (t : List ℕ). most < length t) (text_same h.0 h.1) h.2)
   runs (Err (Bad line kind)) h = h

@@ -17,7 +17,9 @@ use crate::uniting::unite_accepted;
 use aw_accept::Accepted;
 use aw_out::{OUTPUT_LIMIT, PrintFault, Report};
 use aw_sched::{Event, ScheduleReader};
+use aw_world::SiteWorld;
 use std::alloc::Global;
+use std::mem;
 
 /// Tells the choices among events between the sites of the grammar with one role.
 fn run_united(
@@ -56,6 +58,9 @@ pub fn run_undivided(
 }
 
 /// What the undivided run tells of the choices among the events that are left of a schedule, which is read while it is told.
+///
+/// The memory of the world is not given back: a program that replays ends then, and to take apart what each site holds, piece by piece,
+/// takes long.
 pub fn run_schedule(
     alloc: Global,
     accepted: &Accepted,
@@ -68,5 +73,8 @@ pub fn run_schedule(
     let one = unite_accepted(alloc, accepted)?;
     united_laws();
     undivided_laws();
-    replay_schedule(alloc, &one, false, Kept::Choices, reader)
+    let mut world = SiteWorld::new(alloc, &one, false)?;
+    let told = replay_schedule(&mut world, Kept::Choices, reader);
+    mem::forget(world);
+    told
 }

@@ -1,18 +1,18 @@
 //! A schedule that is replayed while it is read.
-ghost use Rattle.std.specs.Prelude.{◌≡◌, Err, OnOk, true};
+ghost use Rattle.std.specs.Prelude.{◌≡◌, Err, OnErr, OnOk, true};
 ghost use Rattle.aw_grammar.specs.GrammarOf.{grammar_of};
 ghost use Rattle.aw_sched.specs.Answers.{MayCome};
 ghost use Rattle.aw_sched.specs.Readers.{IsReading};
 ghost use Rattle.aw_world.specs.WorldView.{plain_of};
-ghost use Rattle.aw_replay.specs.Replays.{EndsWhole, IsKeptPastLimit, IsNamed, MayReplay, Replays, StopsWith, TellsKept, TellsLeft, is_kept};
+ghost use Rattle.aw_replay.specs.Replays.{EndsWhole, IsKeptPastLimit, IsNamed, MakesSomeKept, MakesSomeLeft, MayReplay};
+ghost use Rattle.aw_replay.specs.Replays.{Replays, ReplaysSome, StopsWith, TellsKept, TellsLeft, is_kept};
+ghost use Rattle.aw_replay.specs.Telling.{IsNew};
 
 use crate::stepwise::Replay;
-use aw_accept::Accepted;
 use aw_out::{PrintFault, Report};
 use aw_sched::{Event, SchedFault, SchedKind, ScheduleReader};
-use aw_world::{SiteWorld, Workspace};
-use std::alloc::{AllocError, Global};
-use std::mem;
+use aw_world::{Workspace, World};
+use std::alloc::AllocError;
 
 /// Which events of a schedule are replayed. The others are read for their faults alone.
 #[derive(Clone, Copy, Debug, PartialEq, Eq)]
@@ -84,17 +84,20 @@ impl From<AllocError> for ReplayFault {
 fn tell_kept<W: Workspace>(
     kept: Kept,
     event: &Event,
-    replay: &mut Replay<'_, W>,
+    world: &mut World<W>,
+    replay: &mut Replay<'_>,
 ) -> Result<(), PrintFault>
-    requires named { IsNamed ⟦<W as Workspace>⟧ replay.old }
-    requires may { is_kept kept event.now ≡ true → MayCome (plain_of replay.old.world) event.now }
-    ensures named { IsNamed ⟦<W as Workspace>⟧ replay.new }
-    ensures accepted { replay.new.world.accepted.now ≡ replay.old.world.accepted.now }
-    ensures tells { OnOk result (TellsKept ⟦<W as Workspace>⟧ kept replay.old replay.new event.now) }
-    ensures too_large { result ≡ Err PrintFault.TooLarge → IsKeptPastLimit ⟦<W as Workspace>⟧ kept replay.old event.now }
+    requires named { IsNamed ⟦<W as Workspace>⟧ (world.old, replay.old) }
+    requires may { is_kept kept event.now ≡ true → MayCome (plain_of world.old) event.now }
+    ensures named { IsNamed ⟦<W as Workspace>⟧ (world.new, replay.new) }
+    ensures accepted { world.new.accepted.now ≡ world.old.accepted.now }
+    ensures loads { world.new.loads ≡ world.old.loads }
+    ensures tells { OnOk result (TellsKept ⟦<W as Workspace>⟧ kept (world.old, replay.old) (world.new, replay.new) event.now) }
+    ensures too_large { result ≡ Err PrintFault.TooLarge → IsKeptPastLimit ⟦<W as Workspace>⟧ kept (world.old, replay.old) event.now }
+    ensures some { OnErr result (MakesSomeKept ⟦<W as Workspace>⟧ kept (world.old, replay.old) (world.new, replay.new) event.now) }
 {
     if is_kept(kept, event) {
-        replay.tell(event)
+        replay.tell(world, event)
     } else {
         Ok(())
     }
@@ -105,19 +108,23 @@ fn tell_kept<W: Workspace>(
 fn tell_left<W: Workspace>(
     reader: &mut ScheduleReader<'_>,
     kept: Kept,
-    replay: &mut Replay<'_, W>,
+    world: &mut World<W>,
+    replay: &mut Replay<'_>,
 ) -> Result<(), ReplayFault>
     requires reading { IsReading reader.old }
-    requires named { IsNamed ⟦<W as Workspace>⟧ replay.old }
-    requires may { MayReplay kept (grammar_of reader.old.grammar.now) (plain_of replay.old.world) }
+    requires named { IsNamed ⟦<W as Workspace>⟧ (world.old, replay.old) }
+    requires may { MayReplay kept (grammar_of reader.old.grammar.now) (plain_of world.old) }
     ensures reading { IsReading reader.new }
     ensures grammar { reader.new.grammar.now ≡ reader.old.grammar.now }
     ensures typed { reader.new.typed.now ≡ reader.old.typed.now }
-    ensures named { IsNamed ⟦<W as Workspace>⟧ replay.new }
-    ensures tells { TellsLeft ⟦<W as Workspace>⟧ kept reader.old replay.old reader.new replay.new result }
+    ensures named { IsNamed ⟦<W as Workspace>⟧ (world.new, replay.new) }
+    ensures accepted { world.new.accepted.now ≡ world.old.accepted.now }
+    ensures loads { world.new.loads ≡ world.old.loads }
+    ensures tells { TellsLeft ⟦<W as Workspace>⟧ kept reader.old (world.old, replay.old) reader.new (world.new, replay.new) result }
+    ensures some { OnErr result (MakesSomeLeft ⟦<W as Workspace>⟧ kept reader.old (world.old, replay.old) (world.new, replay.new)) }
 {
     while let Some(event) = reader.next()? {
-        let told = tell_kept(kept, &event, replay);
+        let told = tell_kept(kept, &event, world, replay);
         drop(event);
         told?;
     }
@@ -125,11 +132,11 @@ fn tell_left<W: Workspace>(
 }
 
 /// Ends a replay: the whole output of what was replayed.
-fn finish<W: Workspace>(replay: Replay<'_, W>) -> Result<Report, ReplayFault>
-    requires { IsNamed ⟦<W as Workspace>⟧ replay }
-    ensures { EndsWhole ⟦<W as Workspace>⟧ replay.entry result }
+fn finish<W: Workspace>(world: &World<W>, replay: Replay<'_>) -> Result<Report, ReplayFault>
+    requires { IsNamed ⟦<W as Workspace>⟧ (world.now, replay) }
+    ensures { EndsWhole ⟦<W as Workspace>⟧ (world.now, replay.entry) result }
 {
-    Ok(replay.finish()?)
+    Ok(replay.finish(world)?)
 }
 
 /// Why a schedule is not replayed whose telling stopped with this fault. An output that would be too long comes after a faulty line,
@@ -147,30 +154,27 @@ fn fault_with_left(reader: &mut ScheduleReader<'_>, fault: ReplayFault) -> Repla
     }
 }
 
-/// Replays the events that are left of a schedule and are kept, between sites that hold nothing, one for each role: the lines of all
-/// events, and then the artifacts where every message was delivered, and otherwise how many were not. Messages carry loads, or none
-/// does. An event is let go before the next is read, so that beside its text a schedule takes memory for the tokens of one line and the
-/// names that were read last. Where a line is faulty, nothing else is told, whatever stands before it.
-///
-/// The memory of the world is not given back: a program that replays ends then, and to take apart what each site holds, piece by piece,
-/// takes long.
-pub fn replay_schedule(
-    alloc: Global,
-    accepted: &Accepted,
-    loads: bool,
+/// Replays the events that are left of a schedule and are kept, in a world in which nothing happened yet: the lines of all events, and
+/// then the artifacts where every message was delivered, and otherwise how many were not. An event is let go before the next is read, so
+/// that beside its text a schedule takes memory for the tokens of one line and the names that were read last. Where a line is faulty,
+/// nothing else is told, whatever stands before it. The world is then that behind the events that are told. After an error some first
+/// choices and deliveries of events that are kept were made in it.
+pub fn replay_schedule<W: Workspace>(
+    world: &mut World<W>,
     kept: Kept,
     reader: &mut ScheduleReader<'_>,
 ) -> Result<Report, ReplayFault>
     requires reading { IsReading reader.old }
-    requires may { MayReplay kept (grammar_of reader.old.grammar.now) (grammar_of accepted.now.grammar) }
-    ensures { Replays accepted.now loads kept reader.old result }
+    requires new { IsNew ⟦<W as Workspace>⟧ world.old }
+    requires may { MayReplay kept (grammar_of reader.old.grammar.now) (plain_of world.old) }
+    ensures accepted { world.new.accepted.now ≡ world.old.accepted.now }
+    ensures loads { world.new.loads ≡ world.old.loads }
+    ensures replays { Replays ⟦<W as Workspace>⟧ kept reader.old world.old world.new result }
+    ensures some { OnErr result (ReplaysSome ⟦<W as Workspace>⟧ kept reader.old world.old world.new) }
 {
-    let mut replay = Replay::new(SiteWorld::new(alloc, accepted, loads)?);
-    match tell_left(reader, kept, &mut replay) {
-        Ok(()) => finish(replay),
-        Err(fault) => {
-            mem::forget(replay);
-            Err(fault_with_left(reader, fault))
-        }
+    let mut replay = Replay::new(world);
+    match tell_left(reader, kept, world, &mut replay) {
+        Ok(()) => finish(world, replay),
+        Err(fault) => Err(fault_with_left(reader, fault)),
     }
 }

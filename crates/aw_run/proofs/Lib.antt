@@ -16,4 +16,5 @@ pub mod Four
 pub mod OneRoles
 pub mod TypedChoices
 pub mod Promising
+pub mod Spelled
 pub mod Scheduled

@@ -20,7 +20,7 @@ use Rattle.aw_sched.specs.declared.reader.ScheduleReader.{ScheduleReader}
 use Rattle.aw_sched.proofs.ReadEvents.{with_none}
 use Rattle.aw_choice.specs.Events as E
 use Rattle.aw_out.specs.Report.{Bounded}
-use Rattle.aw_replay.specs.Replays.{MayReplay, Replays, most, whole_output}
+use Rattle.aw_replay.specs.Replays.{MayReplay, TellsOutput, most, whole_output}
 use Rattle.aw_replay.specs.declared.scheduled.Kept.TheVariants.{All}
 use Rattle.aw_replay.specs.declared.scheduled.ReplayFault.{ReplayFault}
 use Rattle.aw_replay.specs.declared.scheduled.ReplayFault.TheVariants as fault
@@ -81,7 +81,7 @@ module _ (telling : Telling) (a : Accepted) (t : Typed) (before : ℕ) (loads : 
 pub all_may_replay : (a : Accepted) (r : ScheduleReader) → r.grammar.now ≡ a.grammar → MayReplay All (grammar_of r.grammar.now) (grammar_of a.grammar)
 all_may_replay a r same e may kept = subst (λ (g : Grammar). MayCome (grammar_of g) e) same may
 
-pub tells_replayed : (a : Accepted) (loads : Bool) (r : ScheduleReader) (result : Result Bounded ReplayFault) → Replays a loads All r result → TellsLeft Replayed a loads r result
+pub tells_replayed : (a : Accepted) (loads : Bool) (r : ScheduleReader) (result : Result Bounded ReplayFault) → TellsOutput a loads All r result → TellsLeft Replayed a loads r result
 tells_replayed a loads r (Ok report) h = (h.0, h.1, h.2 ∙ ap (λ (es : List E.Event). record { text = whole_output a loads es; limit = most }) (all_kept h.0))
 tells_replayed a loads r (Err fault.TooLarge) h = (h.0, h.1, subst (λ (es : List E.Event). most < length (whole_output a loads es)) (all_kept h.0) h.2)
 tells_replayed a loads r (Err (fault.Bad line kind)) h = h

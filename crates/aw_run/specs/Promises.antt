@@ -1,7 +1,8 @@
 -- What is promised of the events that an input spells behind a good specification, apart from what is written of them.
-use Rattle.std.specs.Prelude.{◌≡◌, ℕ, suc, ◌+◌, ◌≤◌, Bool, true, List, [], ◌∷◌, ◌++◌, length, take, drop, Option, Some, ◌⊎◌}
+use Rattle.std.specs.Prelude.{◌≡◌, ℕ, suc, ◌+◌, ◌≤◌, Bool, true, List, [], ◌∷◌, ◌++◌, length, take, drop, Option, Some, None, ◌⊎◌}
 use Rattle.aw_list.specs.Members.{Member}
 use Rattle.aw_out.specs.Edge.{Gets}
+use Rattle.aw_out.specs.declared.report.TheConstants.{OUTPUT_LIMIT}
 use Rattle.aw_lex.specs.Lines.{lines_of}
 use Rattle.aw_term.specs.Trees.{Never}
 use Rattle.aw_term.specs.Names.{Node, Ref, root}
@@ -11,10 +12,11 @@ use Rattle.aw_term.specs.Choices.{Choice, Start, Develop, Developed, Refused, St
 use Rattle.aw_term.specs.Artifacts.{Words}
 use Rattle.aw_term.specs.Runs.{after_all, artifacts}
 use Rattle.aw_grammar.specs.Declarations.{grammar_in, words_in}
-use Rattle.aw_iograph.specs.Dependence.{IO}
+use Rattle.aw_iograph.specs.Dependence.{IO, HasNoCircle}
 use Rattle.aw_accept.specs.Acyclic.{IsAcyclic}
 use Rattle.aw_typed.specs.Types.{Types}
 use Rattle.aw_typed.specs.Typing.{types_of}
+use Rattle.aw_typed.specs.TypeFaults.{type_fault}
 use Rattle.aw_typed.specs.WellTyped.{IsWellTyped}
 use Rattle.aw_spec.specs.Reading.{Spec, Reading, Good, Faulty, specification}
 use Rattle.aw_sched.specs.Events.{Event, Chooses as Chose}
@@ -29,6 +31,7 @@ use Rattle.aw_law_worlds.specs.Arriving.{AnswersByArrivals}
 use Rattle.aw_law_worlds.specs.Holding.{EquationsStay, NodesStay, HoldsConfig, MeetsNoCircle}
 use Rattle.aw_replay.specs.Settling.{SettlingEnds}
 use Rattle.aw_replay.specs.ChoicesIn.{choices_in}
+use Rattle.aw_front.specs.declared.limit.TheConstants.{INPUT_LIMIT}
 use Rattle.aw_run.specs.Words.{command_of}
 use Rattle.aw_run.specs.Output.{IsOutputOf}
 use Rattle.aw_run.specs.OfInputs.{ForInput, WritesSome}
@@ -59,8 +62,7 @@ RulesStayEnabled t w g loads es =
 -- A start that is enabled is so at the next moment, if it was not chosen.
 abbrev pub StartsStayEnabled : Types → Words → Grammar → (loads : Bool) → List Event → Type 0
 StartsStayEnabled t w g loads es =
-    ∥ ((n s k : ℕ) →
-    outcome g (site_at (moment g loads es n) (home g (root s k))) (Start s k) ≡ Starts →
+    ∥ ((n s k : ℕ) → outcome g (site_at (moment g loads es n) (home g (root s k))) (Start s k) ≡ Starts →
     (Member (Chooses (Start s k)) (take (suc n) (all_moves g (empty_world g loads) es)) → Never) →
     outcome g (site_at (moment g loads es (suc n)) (home g (root s k))) (Start s k) ≡ Starts) ∥₁
 
@@ -168,6 +170,21 @@ DoneBy job said result left P = said ≡ Some (Reads job) → result ≡ Done �
 abbrev pub DoneWith : (Types → Words → Grammar → Bool → List Event → Type 0) → Job → Option Command → Status → Option (List ℕ) → (List ℕ → Type 0) → Type 0
 DoneWith F job said result left P = said ≡ Some (Reads job) → result ≡ Done → ForInput left (λ input. WritesWith F job input P)
 
+-- A replay of the input writes this text: the input is within its limit and spells a specification, whose types have no fault and whose
+-- grammar has no circle, and behind it these events; and the text is their whole output, within its limit.
+pub record IsReplayOf (input : List ℕ) (s : Spec) (loads : Bool) (es : List Event) (text : List ℕ) : Type 0 where
+  pub within : length input ≤ INPUT_LIMIT
+  pub spells : (taken : ℕ) × (specification (lines_of input) ≡ Good s taken loads) × (read_lines (types_of s.types) s.declared 1 (drop taken (lines_of input)) ≡ Events es)
+  pub typed : type_fault (types_of s.types) (grammar_in s.declared) ≡ None
+  pub sound : HasNoCircle (grammar_in s.declared) (IO (grammar_in s.declared))
+  pub output : text ≡ output_of (words_in s.declared) (grammar_in s.declared) loads es
+  pub limit : length text ≤ OUTPUT_LIMIT
+
+-- the text that a replay of the input writes has P, and of the events that the input spells F holds
+abbrev pub ReplaysWith : (Types → Words → Grammar → Bool → List Event → Type 0) → List ℕ → (List ℕ → Type 0) → Type 0
+ReplaysWith F input P =
+    (s : Spec) × (loads : Bool) × (es : List Event) × (text : List ℕ) × IsReplayOf input s loads es text × P text × F (types_of s.types) (words_in s.declared) (grammar_in s.declared) loads es
+
 -- one run: the command that its words are, what was left to read, how it ended, and what the sink had been written before it and after it
 pub record Run : Type 0 where
   pub command : Option Command
@@ -188,6 +205,6 @@ Wrote job r = DoneBy job r.command r.status r.left (Gets r.before r.after)
 abbrev pub WroteWith : Job → (Types → Words → Grammar → Bool → List Event → Type 0) → Run → Type 0
 WroteWith job F r = DoneWith F job r.command r.status r.left (Gets r.before r.after)
 
--- of the events of a replay that is done F holds
+-- a replay that is done has written the output of the events that its input spells, and of these F holds
 abbrev pub Replayed : (Types → Words → Grammar → Bool → List Event → Type 0) → Run → Type 0
-Replayed F r = WroteWith (Tells Telling.Replayed) F r
+Replayed F r = r.command ≡ Some (Reads (Tells Telling.Replayed)) → r.status ≡ Done → ForInput r.left (λ input. ReplaysWith F input (Gets r.before r.after))

@@ -19,7 +19,28 @@ use aw_replay::{Kept, ReplayFault, replay_schedule, run_schedule};
 use aw_sched::ScheduleReader;
 use aw_spec::SpecText;
 use aw_typed::Typed;
+use aw_world::SiteWorld;
 use std::alloc::{AllocError, Global};
+use std::mem;
+
+/// What is told of the events that are left of a schedule, which are replayed in a world in which nothing happened yet.
+///
+/// The memory of the world is not given back: the program ends then, and to take apart what each site holds, piece by piece, takes long.
+fn replay_left(
+    alloc: Global,
+    accepted: &Accepted,
+    loads: bool,
+    reader: &mut ScheduleReader<'_>,
+) -> Result<Report, ReplayFault>
+    requires reading { IsReading reader.old }
+    requires same { reader.old.grammar.now ≡ accepted.now.grammar }
+    ensures { TellsLeft Telling.Replayed accepted.now loads reader.old result }
+{
+    let mut world = SiteWorld::new(alloc, accepted, loads)?;
+    let told = replay_schedule(&mut world, Kept::All, reader);
+    mem::forget(world);
+    told
+}
 
 /// What is told of the events that are left of a schedule.
 fn tell_left(
@@ -35,7 +56,7 @@ fn tell_left(
 {
     match telling {
         Telling::Undivided => run_schedule(alloc, accepted, reader),
-        Telling::Replayed => replay_schedule(alloc, accepted, loads, Kept::All, reader),
+        Telling::Replayed => replay_left(alloc, accepted, loads, reader),
     }
 }
 

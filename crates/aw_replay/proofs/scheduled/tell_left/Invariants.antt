@@ -10,9 +10,10 @@ invariant-loop-event g l = record {
   reading : IsReading l.reader;
   grammar : l.reader.grammar.now ≡ l.initial.reader.grammar.now;
   typed : l.reader.typed.now ≡ l.initial.reader.typed.now;
-  named : IsNamed g.W.Workspace l.replay;
-  accepted : l.replay.world.accepted.now ≡ l.initial.replay.world.accepted.now;
-  told : AreTold g.W.Workspace l.kept l.initial.reader l.initial.replay l.reader l.replay;
+  named : IsNamed g.W.Workspace (l.world, l.replay);
+  accepted : l.world.accepted.now ≡ l.initial.world.accepted.now;
+  loads : l.world.loads ≡ l.initial.world.loads;
+  told : AreTold g.W.Workspace l.kept l.initial.reader (l.initial.world, l.initial.replay) l.reader (l.world, l.replay);
 }
 
 abbrev pub decreases-loop-event : goal.decreases-loop-event

@@ -1,11 +1,7 @@
 use Rattle.std.proofs.Common.{rules, ◌≡◌, sym, subst}
 use Rattle.aw_run.specs.Scheduled.{TellsLeft}
 use Rattle.aw_run.specs.declared.words.Telling.TheVariants.{Replayed, Undivided}
-use Rattle.aw_run.proofs.Scheduled.{all_may_replay, tells_replayed}
 use Rattle.aw_run.proofs.schedule.tell_left.Goals as goal
-
-pub replay_schedule-requires-clause-may : goal.replay_schedule-requires-clause-may
-replay_schedule-requires-clause-may c = all_may_replay c.args.accepted.now c.args.reader.now c.requires.same
 
 pub returns-in-Undivided : goal.returns-in-Undivided
 returns-in-Undivided c =
@@ -16,5 +12,5 @@ returns-in-Undivided c =
 pub returns-in-Replayed : goal.returns-in-Replayed
 returns-in-Replayed c =
     let is : c.args.telling ≡ Replayed = search rules in
-    subst (λ telling. TellsLeft telling c.args.accepted.now c.args.loads c.args.reader.now c.replay_schedule.result) (sym is)
-    (tells_replayed c.args.accepted.now c.args.loads c.args.reader.now c.replay_schedule.result c.replay_schedule.ensures)
+    subst (λ telling. TellsLeft telling c.args.accepted.now c.args.loads c.args.reader.now c.replay_left.result) (sym is)
+    c.replay_left.ensures

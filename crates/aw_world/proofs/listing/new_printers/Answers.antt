@@ -6,7 +6,7 @@ pub loop-i-preserved : goal.loop-i-preserved
 loop-i-preserved g c = record {
   bound = omega (arith, c.loop-i-test.true);
   count = omega (arith, ap length c.in_ok-push.ensures.items, length-append c.loop-i.printers.items (c.new.result ∷ []), c.loop-i.invariant.count);
-  new = subst AreNew (sym c.in_ok-push.ensures.items) (new_more c.loop-i.printers.items c.new.result c.loop-i.invariant.new c.new.ensures);
+  new = subst AreNew (sym c.in_ok-push.ensures.items) (new_more c.loop-i.printers.items c.new.result c.loop-i.invariant.new c.new.ensures.new);
 }
 
 pub returns : goal.returns
