@@ -5,7 +5,6 @@ pub mod fault;
 mod items;
 pub mod law;
 pub mod lines;
-mod redoing;
 pub mod replica;
 pub mod tasks;
 pub mod view;

@@ -9,12 +9,12 @@ ghost use Rattle.aw_book_join.specs.Handing.{CountsWrites};
 ghost use Rattle.aw_book_join.specs.Writing.{WritesTasks};
 
 use crate::fault::TasksFault;
-use crate::redoing::redo;
 use crate::tasks::write_tasks;
 use crate::view::View;
 use aw_accept::Accepted;
 use aw_cells::CellFacts;
 use aw_journal::NodeEvent;
+use aw_kept_node::redo;
 use aw_out::Sink;
 use aw_site::Site;
 use aw_typed::Typed;

@@ -14,8 +14,8 @@ pub record IsSafeSince {D : Type 0} (d : Ghosts D) (o : Origin D) (end : D) (las
   pub passed : moment ≤ d.moment end
   pub left : (c : List ℕ) → d.left_since end moment c → IsBetween o.role o.text events last c
 
--- What a node does before a byte of a reply is written: the bytes are those of the reply of its site, the site keeps what the frame was, and from this moment on
--- no crash loses the event of the frame, nor one from before it.
+-- What a node does for a frame that it answers: the bytes are those of the reply of its site, the site keeps what the frame was, and from this moment on no
+-- crash loses the event of the frame, nor one from before it.
 pub record RepliesSafely {D : Type 0} (d : Ghosts D) (o : Origin D) (end : D) (last : List Event) (s : Standing) (f : Frame) (x : List ℕ) (t : Standing) : Type 0 where
   pub replied : keeps o.rules s.kept f x t.kept
   pub none_in_hand : t.in_hand ≡ None

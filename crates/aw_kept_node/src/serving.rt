@@ -5,6 +5,7 @@ ghost use Rattle.aw_kept_node.specs.KeptSites.{KeptSite};
 ghost use Rattle.aw_kept_node.specs.Serving.{IsKeptServing, StopsKept, GoesOn, StopsNode, WasReopened};
 ghost use Rattle.aw_grammar.specs.GrammarOf.{grammar_of};
 ghost use Rattle.aw_journal.specs.Journal.{IsSettled};
+ghost use Rattle.aw_node.specs.Staying.{NodeStays};
 ghost use Rattle.aw_node.specs.TypedNodes.{rules_of};
 ghost use Rattle.aw_law_sites.specs.Sites.{Site};
 ghost use Rattle.aw_session.specs.Sessions.{NoneComes};
@@ -16,7 +17,7 @@ use crate::redoing::redo_all;
 use aw_accept::Accepted;
 use aw_disk::Disk;
 use aw_journal::{AppendFault, Journal};
-use aw_node::Workspace;
+use aw_node::{Workspace, served_nodes};
 use aw_out::Wire;
 use aw_session::{Log, Stopped, serve_sessions};
 use aw_typed::Typed;
@@ -120,7 +121,10 @@ pub fn serve_kept_workspace<W: Wire, D: Disk, P: Workspace + Drop>(
     ensures kept { (IsErrOf result KeptFault.DiskFault → ⊥) → D.faults disk.new ≡ D.faults disk.old }
     // A session that could not be opened is told; after any other answer each was opened.
     ensures openings_kept { (IsErrOf result KeptFault.NetFault → ⊥) → W.failed_openings wire.new ≡ W.failed_openings wire.old }
+    // Whatever frames came, forged ones too, none takes away or contradicts what the node holds.
+    ensures stays { NodeStays (rules_of g.now.grammar t.now) }
 {
+    served_nodes();
     let mut journal = Journal::reopen(alloc, disk, role, text, JOURNAL_LIMIT)?;
     let mut site = site;
     let served = serve_reopened(

@@ -2,6 +2,7 @@
 ghost use Rattle.std.specs.Prelude.{◌≡◌, ◌⊎◌, ◌<◌, ◌≤◌, true, length, IfOk, IfErr, IsErrOf};
 ghost use Rattle.aw_kept_node.specs.Serving.{IsKeptServing, StopsKept};
 ghost use Rattle.aw_grammar.specs.GrammarOf.{grammar_of};
+ghost use Rattle.aw_node.specs.Staying.{NodeStays};
 ghost use Rattle.aw_node.specs.TypedNodes.{rules_of};
 ghost use Rattle.aw_law_sites.specs.Sites.{empty_site};
 ghost use Rattle.aw_session.specs.Sessions.{NoneComes};
@@ -44,6 +45,8 @@ pub fn serve_kept<W: Wire, D: Disk>(
     ensures kept { (IsErrOf result KeptFault.DiskFault → ⊥) → D.faults disk.new ≡ D.faults disk.old }
     // A session that could not be opened is told; after any other answer each was opened.
     ensures openings_kept { (IsErrOf result KeptFault.NetFault → ⊥) → W.failed_openings wire.new ≡ W.failed_openings wire.old }
+    // Whatever frames came, forged ones too, none takes away or contradicts what the node holds.
+    ensures stays { NodeStays (rules_of g.now.grammar t.now) }
 {
     let site = Site::new(alloc, g, role, CellFacts::new(alloc), true);
     serve_kept_workspace(

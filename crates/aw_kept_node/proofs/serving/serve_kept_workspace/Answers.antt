@@ -47,3 +47,9 @@ returns-clause-stopped g c s shown =
 
 pub returns-clause-kept : goal.returns-clause-kept
 returns-clause-kept g c other = c.serve_reopened-served.ensures.kept other ∙ c.in_ok-journal.ensures.kept (λ is. cc is)
+
+pub returns-in_err-journal-clause-stays : goal.returns-in_err-journal-clause-stays
+returns-in_err-journal-clause-stays g c = c.served_nodes.ensures.stays (rules_of c.args.g.now.grammar c.args.t.now)
+
+pub returns-clause-stays : goal.returns-clause-stays
+returns-clause-stays g c = c.served_nodes.ensures.stays (rules_of c.args.g.now.grammar c.args.t.now)
