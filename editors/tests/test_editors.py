@@ -167,7 +167,7 @@ def vim(script: str, *files: str) -> str:
     words = ["vim", "-N", "-u", "NONE", "-i", "NONE", "-n", "-es", "--cmd", "set rtp^=%s" % (EDITORS / "vim"), "-c", "filetype plugin on | syntax on",
              "-c", "edit %s" % files[0], "-c", script.replace("OUT", str(out)), "-c", "qall!"]
     try:
-        subprocess.run(words, timeout=60, check=False, stdin=subprocess.DEVNULL, capture_output=True, env={**os.environ, "TERM": "dumb"})
+        subprocess.run(words, timeout=60 * float(os.environ.get("PATIENCE", "1")), check=False, stdin=subprocess.DEVNULL, capture_output=True, env={**os.environ, "TERM": "dumb"})
         return out.read_text(encoding="utf-8") if out.exists() else ""
     finally:
         out.unlink(missing_ok=True)

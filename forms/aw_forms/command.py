@@ -2,7 +2,9 @@
 from __future__ import annotations
 
 import argparse
+import contextlib
 import os
+import signal
 import sys
 from collections.abc import Callable
 from pathlib import Path
@@ -10,7 +12,8 @@ from typing import NoReturn
 
 from .program import TOP, Sorry
 
-NO_FILE = 66
+NO_FILE, NOT_WRITTEN = 66, 73
+LONGEST = 16_777_216
 
 
 class Words(argparse.ArgumentParser):
@@ -18,7 +21,7 @@ class Words(argparse.ArgumentParser):
 
     def error(self, message: str) -> NoReturn:
         """Ends with status 2."""
-        print("%s: %s; `%s --help` shows the words." % (self.prog, message, self.prog), file=sys.stderr)
+        tell("%s: %s; `%s --help` shows the words." % (self.prog, message, self.prog))
         raise SystemExit(2)
 
 
@@ -37,29 +40,35 @@ def parser(name: str, what: str, behind: str) -> Words:
     return words
 
 
-def read_file(name: str) -> bytes:
-    """The bytes of a file, or of the standard input where the name is `-`."""
-    if name == "-":
-        return sys.stdin.buffer.read()
+def read_file(name: str, most: int = LONGEST + 1) -> bytes:
+    """The bytes of a file, or of the standard input where the name is `-`: all of them, or so many that no program takes them."""
     try:
-        return Path(name).read_bytes()
+        if name == "-":
+            return sys.stdin.buffer.read(most)
+        with open(name, "rb") as file:
+            return file.read(most)
     except OSError as error:
-        raise Sorry("%s can't be read: %s." % (name, (error.strerror or str(error)).lower()), NO_FILE) from None
+        shown = "The standard input" if name == "-" else name
+        raise Sorry("%s can't be read: %s." % (shown, (error.strerror or str(error)).lower()), NO_FILE) from None
     except ValueError as error:
         raise Sorry("%r can't be read: %s." % (name, error), NO_FILE) from None
 
 
 def write_file(name: str, data: bytes) -> None:
-    """Writes a file whole, or leaves it as it was."""
-    path = Path(name)
+    """Writes a file whole, or leaves it as it was; a link stays one. What is no plain file, as a pipe, is written as it is."""
+    path = Path(os.path.realpath(name))
     beside = path.with_name(path.name + ".new-%d" % os.getpid())
     try:
+        if os.path.exists(name) and not os.path.isfile(name):
+            Path(name).write_bytes(data)
+            return
         beside.write_bytes(data)
         beside.chmod(path.stat().st_mode & 0o7777 if path.exists() else 0o644)
         beside.replace(path)
     except OSError as error:
-        beside.unlink(missing_ok=True)
-        raise Sorry("%s can't be written: %s." % (name, (error.strerror or str(error)).lower()), 73) from None
+        with contextlib.suppress(OSError):
+            beside.unlink(missing_ok=True)
+        raise Sorry("%s can't be written: %s." % (name, (error.strerror or str(error)).lower()), NOT_WRITTEN) from None
 
 
 def say(text: str) -> None:
@@ -71,18 +80,64 @@ def say(text: str) -> None:
 
 def run(name: str, work: Callable[[list[str]], int]) -> NoReturn:
     """Runs a command; whatever happens is told in a sentence."""
+    open_streams()
+    on_signals(signal.default_int_handler, signal.SIGINT)
+    on_signals(ended, signal.SIGTERM, signal.SIGHUP)
+    status = ended_with(name, lambda: work(sys.argv[1:]))
+    status = ended_with(name, lambda: written(status))
+    raise SystemExit(status)
+
+
+def open_streams() -> None:
+    """A standard stream that is closed is there and fails, so that no file takes its number."""
+    for number, name in enumerate(("stdin", "stdout", "stderr")):
+        if getattr(sys, name) is None:
+            os.dup2(os.open(os.devnull, os.O_WRONLY if number != 1 else os.O_RDONLY), number)
+            setattr(sys, name, open(number, "w" if number else "r", encoding="utf-8", errors="surrogateescape", closefd=False))
+
+
+def on_signals(work: Callable[[int, object], object], *signs: signal.Signals) -> None:
+    """What is done when a signal comes, but for those that whoever started the program has it pass over, as `nohup` does."""
+    for sign in signs:
+        if signal.getsignal(sign) is not signal.SIG_IGN:
+            signal.signal(sign, work)
+
+
+def ended(sign: int, _: object) -> NoReturn:
+    """Ends as a signal says; what is open is closed, and what was begun beside is taken away."""
+    raise SystemExit(128 + sign)
+
+
+def written(status: int) -> int:
+    """The status, once all that was said is written."""
+    sys.stdout.flush()
+    return status
+
+
+def ended_with(name: str, work: Callable[[], int]) -> int:
+    """The status of some work, whatever happens."""
     try:
-        status = work(sys.argv[1:])
-        sys.stdout.flush()
+        return work()
     except Sorry as sorry:
-        print("%s: %s" % (name, sorry), file=sys.stderr)
-        status = sorry.status
+        tell("%s: %s" % (name, sorry))
+        return sorry.status
+    except SystemExit as end:
+        return end.code if isinstance(end.code, int) else 0
     except BrokenPipeError:
         os.dup2(os.open(os.devnull, os.O_WRONLY), 1)
-        status = 0
+        return 0
     except KeyboardInterrupt:
-        status = 130
+        return 128 + signal.SIGINT
     except (RecursionError, MemoryError):
-        print("%s: The text is too large for this companion; the program itself can read it." % name, file=sys.stderr)
-        status = 70
-    raise SystemExit(status)
+        tell("%s: The text is too large for this companion; the program itself can read it." % name)
+        return 70
+    except OSError as error:
+        os.dup2(os.open(os.devnull, os.O_WRONLY), 1)
+        tell("%s: %s can't be written: %s." % (name, error.filename or "The standard output", (error.strerror or str(error)).lower()))
+        return NOT_WRITTEN
+
+
+def tell(text: str) -> None:
+    """A line on the standard error, where it can be written."""
+    with contextlib.suppress(OSError):
+        print(text, file=sys.stderr, flush=True)

@@ -18,7 +18,7 @@ What the program writes decides. The place and the words are looked for by this 
 another fault than the program tells, it prints the program's line alone."""
 BEHIND = """statuses:
   that of the program (docs/SCHEDULE.md): 0 no fault, 3 specification, 4 circle, 5 schedule, 15 types
-  2 the words are wrong     66 the file can't be read     69 the program is not there
+  2 the words are wrong     66 the file can't be read     69 the program is not there     73 the output can't be written
 
 examples:
   aw_explain claim.aw                   the specification, and the schedule where there is one

@@ -30,7 +30,7 @@ WHAT = """Looks at a specification that the program accepts, for what was hardly
 BEHIND = """A comment `% aw_lint: allow KIND ..` above a line allows these kinds at the line.
 
 statuses: 0 nothing found, 1 something found; 3, 4, 15 the program refuses the specification
-          2 the words are wrong, 66 the file can't be read, 69 the program is not there"""
+          2 the words are wrong, 66 the file can't be read, 69 the program is not there, 73 the output can't be written"""
 KINDS = ("misspelt", "uncovered", "no_rule", "unreachable", "never_built", "idle_field", "unused")
 
 

@@ -13,6 +13,7 @@ import pytest
 TOP = Path(__file__).resolve().parent.parent.parent
 FORMS = TOP / "forms"
 EXAMPLES = TOP / "examples"
+LONG = 120.0 * float(os.environ.get("PATIENCE", "1"))
 sys.dont_write_bytecode = True
 sys.path.insert(0, str(FORMS))
 
@@ -45,7 +46,7 @@ def tool(name: str, *words: str, data: bytes = b"") -> subprocess.CompletedProce
 
 def spawned(name: str, *words: str, data: bytes = b"", **more: str) -> subprocess.CompletedProcess[str]:
     """Runs one of the commands as a user does."""
-    done = subprocess.run([str(FORMS / name), *words], input=data, capture_output=True, timeout=120, check=False, env={**os.environ, **more})
+    done = subprocess.run([str(FORMS / name), *words], input=data, capture_output=True, timeout=LONG, check=False, env={**os.environ, **more})
     read = done.stdout.decode("utf-8", "surrogateescape"), done.stderr.decode("utf-8", "surrogateescape")
     assert "Traceback" not in read[1], read[1]
     return subprocess.CompletedProcess(words, done.returncode, *read)

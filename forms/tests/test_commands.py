@@ -3,13 +3,15 @@ from __future__ import annotations
 
 import os
 import re
+import signal
 import subprocess
+import time
 from pathlib import Path
 
 import pytest
 
 import edits
-from conftest import EXAMPLES, FORMS, TOP, spawned, tool
+from conftest import EXAMPLES, FORMS, LONG, TOP, spawned, tool
 
 COMMANDS = {"aw_explain": [], "aw_lint": [], "aw_draw": ["offices"], "aw_fmt": []}
 CLAIM = str(EXAMPLES / "insurance-claim-typed.aw")
@@ -43,6 +45,46 @@ def test_sentences_for_errors(name: str, tmp_path: Path) -> None:
         assert spawned(name, *words, CLAIM, AW=str(broken)).returncode == 69
 
 
+@pytest.mark.parametrize("name", COMMANDS)
+def test_streams_that_are_closed_or_full(name: str) -> None:
+    """A sentence and a status, and no traceback; nothing is told where nothing can be."""
+    line = " ".join([str(FORMS / name), *COMMANDS[name]])
+    for behind, status, said in (("%s >/dev/full", 73, "no space left"), ("%s >&-", 73, "can't be written"), ("- <&-", 66, "standard input can't be read"), ("--help >/dev/full", 73, "no space left"),
+                                 ("--nonsense 2>/dev/full", 2, ""), ("--nonsense 2>&-", 2, "")):
+        done = subprocess.run(["bash", "-c", "exec %s %s" % (line, behind.replace("%s", CLAIM))], capture_output=True, text=True,
+                              timeout=LONG, check=False)
+        assert done.returncode == status and said in done.stderr and "Traceback" not in done.stderr and "Exception" not in done.stderr, (behind, done)
+        assert done.stderr.startswith("%s: " % name) if said else not done.stderr
+
+
+@pytest.mark.parametrize("name", COMMANDS)
+def test_ended_while_it_reads(name: str) -> None:
+    """By Ctrl-C, SIGTERM or SIGHUP, early or late: no traceback, but of what is interrupted before its first line."""
+    for sign in (signal.SIGINT, signal.SIGTERM, signal.SIGHUP):
+        for wait in (0.0, 0.03, 0.1, 0.5):
+            process = subprocess.Popen([str(FORMS / name), *COMMANDS[name], "-"], stdin=subprocess.PIPE, stdout=subprocess.PIPE, stderr=subprocess.PIPE)
+            time.sleep(wait)  # (a moment to end it at, not a condition)
+            process.send_signal(sign)
+            told = process.communicate(timeout=LONG)[1]
+            assert process.returncode in (-sign, 128 + sign, 1) and b"aw_forms" not in told, (sign, wait, told)
+
+
+def test_what_is_no_plain_file_is_not_replaced(tmp_path: Path) -> None:
+    """A link stays a link, and a pipe a pipe: a picture never takes the place of a device."""
+    (tmp_path / "link.svg").symlink_to(tmp_path / "picture.svg")
+    assert spawned("aw_draw", "offices", CLAIM, "-o", str(tmp_path / "link.svg")).returncode == 0
+    assert (tmp_path / "link.svg").is_symlink() and (tmp_path / "picture.svg").read_bytes().startswith(b"<?xml")
+    os.mkfifo(tmp_path / "pipe")
+    reader = subprocess.Popen(["cat", str(tmp_path / "pipe")], stdout=subprocess.PIPE)
+    assert spawned("aw_draw", "offices", CLAIM, "-o", str(tmp_path / "pipe")).returncode == 0
+    assert reader.communicate(timeout=LONG)[0] == (tmp_path / "picture.svg").read_bytes() and (tmp_path / "pipe").is_fifo()
+    (tmp_path / "form.aw").write_text("role  desk\n")
+    (tmp_path / "other.aw").symlink_to("form.aw")
+    assert spawned("aw_fmt", "--write", str(tmp_path / "other.aw")).returncode == 0
+    assert (tmp_path / "other.aw").is_symlink() and (tmp_path / "form.aw").read_text() == "role desk\n"
+    assert spawned("aw_draw", "offices", CLAIM, "-o", str(tmp_path)).returncode == 73 and tmp_path.is_dir()
+
+
 def test_pictures_without_graphviz(tmp_path: Path) -> None:
     """A sentence that says what to install."""
     done = spawned("aw_draw", "offices", CLAIM, PATH=str(tmp_path))
@@ -71,7 +113,7 @@ def test_another_fault_than_the_program_s_is_not_shown(tmp_path: Path) -> None:
 
 def test_a_pipe_that_ends_early() -> None:
     """No traceback where nobody reads on."""
-    done = subprocess.run("%s replay %s | head -c 10" % (FORMS / "aw_explain", CLAIM), shell=True, capture_output=True, text=True, timeout=60, check=False)
+    done = subprocess.run("%s replay %s | head -c 10" % (FORMS / "aw_explain", CLAIM), shell=True, capture_output=True, text=True, timeout=LONG, check=False)
     assert done.stdout == "start clai" and done.stderr == ""
 
 
@@ -145,6 +187,8 @@ def test_a_text_that_is_too_long() -> None:
     """The program writes nothing of it; the companion says why."""
     done = tool("aw_explain", "-", data=b"role r\n" + b"% x\n" * 4_200_000)
     assert done.returncode == 11 and "16,777,216 bytes" in done.stderr
+    done = tool("aw_explain", "/dev/zero")
+    assert done.returncode == 11 and "16,777,216 bytes" in done.stderr
 
 
 def test_the_page_shows_what_comes() -> None:
@@ -152,5 +196,5 @@ def test_the_page_shows_what_comes() -> None:
     boxes = re.findall(r"^```\n\$ ([^\n]*)\n(.*?)^```$", (FORMS / "README.md").read_text(encoding="utf-8"), re.MULTILINE | re.DOTALL)
     assert len(boxes) == 2
     for typed, shown in boxes:
-        done = subprocess.run(["bash", "-c", typed], cwd=TOP, capture_output=True, text=True, timeout=60, check=False)
+        done = subprocess.run(["bash", "-c", typed], cwd=TOP, capture_output=True, text=True, timeout=LONG, check=False)
         assert done.stdout == shown

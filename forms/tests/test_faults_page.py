@@ -11,7 +11,7 @@ from pathlib import Path
 
 import pytest
 
-from conftest import EXAMPLES, TOP, tool
+from conftest import EXAMPLES, LONG, TOP, tool
 
 from aw_forms.program import ask
 
@@ -133,7 +133,7 @@ def test_commands_that_are_typed(part: str, tmp_path: Path) -> None:
     script = ["aw() { \"$AW\" \"$@\"; }"]
     for command, _ in typed:
         script += [command, LISTENING if command.endswith("&") else "", "printf '\\1'"]
-    done = subprocess.run([*ALONE, "bash", "-c", "\n".join(script)], cwd=tmp_path, capture_output=True, text=True, timeout=120, check=False, stdin=subprocess.DEVNULL)
+    done = subprocess.run([*ALONE, "bash", "-c", "\n".join(script)], cwd=tmp_path, capture_output=True, text=True, timeout=LONG, check=False, stdin=subprocess.DEVNULL)
     assert done.stdout.split("\1")[:-1] == [shown for _, shown in typed], done.stderr
 
 
@@ -144,7 +144,7 @@ def test_words_that_are_answered_with_usage(tmp_path: Path) -> None:
     rows = re.findall(r"^\| `(aw [^`]*)` \|", text, re.MULTILINE)
     assert len(rows) >= 4
     for words in rows:
-        done = subprocess.run(["bash", "-c", 'aw() { "$AW" "$@"; }\n' + words], cwd=tmp_path, capture_output=True, text=True, timeout=60, check=False, stdin=subprocess.DEVNULL)
+        done = subprocess.run(["bash", "-c", 'aw() { "$AW" "$@"; }\n' + words], cwd=tmp_path, capture_output=True, text=True, timeout=LONG, check=False, stdin=subprocess.DEVNULL)
         assert (done.stdout, done.returncode) == ("usage\n", 2), words
 
 
@@ -154,7 +154,7 @@ def test_replies_of_a_node() -> None:
     (asked, _), (replies, _) = boxes(text)
     given = json.dumps(["lab", base_of("Answers to choices and deliveries"), asked.split("\n")[:-1]])
     done = subprocess.run([*ALONE, sys.executable, str(Path(__file__).with_name("sessions.py")), os.environ["AW"]], input=given, capture_output=True, text=True,
-                          timeout=60, check=False)
+                          timeout=LONG, check=False)
     assert done.stdout == replies, done.stderr
 
 

@@ -12,7 +12,7 @@ from pathlib import Path
 import pytest
 
 import edits
-from conftest import EXAMPLES, tool
+from conftest import EXAMPLES, LONG, tool
 
 from aw_forms.fmt import formatted
 from aw_forms.lexing import decoded, encoded, lines_of
@@ -80,7 +80,7 @@ def test_the_head_of_a_kept_node_is_the_same() -> None:
         pairs.append([[0, role], encoded(before).decode("latin-1"), encoded(formatted(before, "x")).decode("latin-1")])
     assert len(pairs) > 30
     done = subprocess.run([*ALONE, sys.executable, str(Path(__file__).with_name("heads.py")), os.environ["AW"]], input=json.dumps(pairs), capture_output=True,
-                          text=True, timeout=300, check=False)
+                          text=True, timeout=3 * LONG, check=False)
     assert done.returncode == 0, done.stderr
     assert json.loads(done.stdout) == []
 

@@ -8,7 +8,7 @@ from pathlib import Path
 
 import pytest
 
-from conftest import EXAMPLES, FORMS, tool
+from conftest import EXAMPLES, FORMS, LONG, tool
 
 from aw_forms.lexing import decoded
 from aw_forms.offices import called, told
@@ -24,7 +24,7 @@ CLAIM = EXAMPLES / "insurance-claim-typed.aw"
 def png(svg: str, folder: Path) -> tuple[int, int, int]:
     """Renders a picture: its width and height, and how many colours are in it."""
     (folder / "picture.svg").write_text(svg, encoding="utf-8")
-    done = subprocess.run(["rsvg-convert", "--unlimited", "-o", str(folder / "picture.png"), str(folder / "picture.svg")], capture_output=True, timeout=60, check=False)
+    done = subprocess.run(["rsvg-convert", "--unlimited", "-o", str(folder / "picture.png"), str(folder / "picture.svg")], capture_output=True, timeout=LONG, check=False)
     assert done.returncode == 0 and not done.stderr, done.stderr
     data = (folder / "picture.png").read_bytes()
     assert data[:8] == b"\x89PNG\r\n\x1a\n"
