@@ -1,8 +1,10 @@
 """Puts the events of a journal under a specification that only adds behind what stands."""
 from __future__ import annotations
 
+import ctypes
 import fcntl
 import os
+import signal
 import struct
 import subprocess
 import tempfile
@@ -10,7 +12,7 @@ import time
 from dataclasses import dataclass
 from pathlib import Path
 
-from aw_forms.command import parser, read_file, say
+from aw_forms.command import NO_FILE, parser, read_file, say
 from aw_forms.program import SILENT, Sorry, found
 
 NAME = "aw_carry_over"
@@ -30,11 +32,15 @@ Ends with
     69  the program is not there, or its port is taken
     73  RESULT can't be written, or is there
     75  a node serves JOURNAL
+
+Example
+    aw_carry_over front/workspace.journal new.aw front/new.journal
 """
 JOURNAL = "workspace.journal"
 BY_POSITION = ("role", "con", "sort", "rule")
 REFUSED, NOT_THERE, NOT_WRITTEN, SERVED = 65, 69, 73, 75
 HEAD, NO_SESSION, OPENED_WITHIN = 11, 9, 600.0
+LIBC = ctypes.CDLL(None)
 REASONS = {3: "a line of the specification is faulty; `aw check` tells which", 4: "the specification is circular; `aw check` tells where",
            13: "an event in the journal does not fit the specification"}
 
@@ -75,7 +81,9 @@ def journal(data: bytes, name: str) -> Journal:
 
 def unlocked(name: str) -> bytes:
     """The bytes of a journal that no node serves."""
-    data = read_file(name)
+    if os.path.exists(name) and not os.path.isfile(name):
+        raise Sorry("%s can't be read: it is no plain file." % name, NO_FILE)
+    data = read_file(name, -1)
     with open(name, "rb") as file:
         try:
             fcntl.flock(file, fcntl.LOCK_SH | fcntl.LOCK_NB)
@@ -94,6 +102,11 @@ def listens(pid: int) -> bool:
     return any(line.split()[3] == "0A" and "socket:[%s]" % line.split()[9] in own for line in lines)
 
 
+def ends_with_us() -> None:
+    """Has a child end with this process, so that none is left that holds a port."""
+    LIBC.prctl(1, signal.SIGKILL)
+
+
 def opened(role: str, specification: bytes, kept: bytes | None) -> bytes:
     """The journal that a node leaves which was started on some bytes, or on none, and ended as soon as it waits for a session."""
     with tempfile.TemporaryDirectory() as folder, tempfile.TemporaryFile() as text:
@@ -101,16 +114,18 @@ def opened(role: str, specification: bytes, kept: bytes | None) -> bytes:
         text.seek(0)
         if kept is not None:
             (Path(folder) / JOURNAL).write_bytes(kept)
-        node = subprocess.Popen([str(found()), "node", role, "1", "kept"], stdin=text, stdout=subprocess.PIPE, cwd=folder)
-        ends = time.monotonic() + OPENED_WITHIN
-        while node.poll() is None and not listens(node.pid) and time.monotonic() < ends:
-            time.sleep(0.01)
-        node.terminate()
-        told = node.communicate()[0].decode("utf-8", "replace").split("\n")[0]
+        node = subprocess.Popen([str(found()), "node", role, "1", "kept"], stdin=text, stdout=subprocess.PIPE, cwd=folder, preexec_fn=ends_with_us)
+        try:
+            ends = time.monotonic() + OPENED_WITHIN
+            while node.poll() is None and not listens(node.pid) and time.monotonic() < ends:
+                time.sleep(0.01)
+        finally:
+            node.terminate()
+            told = node.communicate()[0].decode("utf-8", "replace").split("\n")[0]
         if node.returncode == NO_SESSION:
             raise Sorry("The port of %s is taken on this machine; stop its node first." % role, NOT_THERE)
         if node.returncode > 0:
-            why = REASONS.get(node.returncode, SILENT.get(node.returncode, "docs/JOURNAL.md tells its statuses"))
+            why = REASONS.get(node.returncode, SILENT.get(node.returncode, "docs/OPERATING.md tells its statuses"))
             raise Sorry("A node of %s ended with status %d%s: %s." % (role, node.returncode, told and " (%s)" % told, why), REFUSED)
         return (Path(folder) / JOURNAL).read_bytes()
 
@@ -168,9 +183,9 @@ def write_new(name: str, data: bytes) -> None:
 def main(given: list[str]) -> int:
     """The command."""
     said = parser(NAME, WHAT, BEHIND)
-    said.add_argument("journal", metavar="JOURNAL")
-    said.add_argument("specification", metavar="SPECIFICATION")
-    said.add_argument("result", metavar="RESULT")
+    said.add_argument("journal", metavar="JOURNAL", help="the journal of a node that is stopped")
+    said.add_argument("specification", metavar="SPECIFICATION", help="the specification with more")
+    said.add_argument("result", metavar="RESULT", help="where the journal under it is written; a new file")
     words = said.parse_args(given)
     if os.path.lexists(words.result):
         raise Sorry("%s is there already; name a file that is not." % words.result, NOT_WRITTEN)

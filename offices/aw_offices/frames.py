@@ -152,17 +152,18 @@ def message(data: bytes) -> Message:
     return Message(to, kind, node, ref, asker, load)
 
 
-def choice(data: bytes) -> None:
-    """Raises `Bad` where some bytes are not exactly one choice."""
+def choice(data: bytes) -> int:
+    """The number of the case that some bytes choose in; raises `Bad` where they are not exactly one choice."""
     items = Items(data)
     if items.number("B", 1) == 0:
         items.number("H")
-        items.number("Q")
+        case = items.number("Q")
     else:
-        items.node()
+        case = items.node().case
         items.number("H")
         items.grounds()
     items.end()
+    return case
 
 
 def frame(kind: int, payload: bytes) -> bytes:

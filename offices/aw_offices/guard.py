@@ -4,16 +4,16 @@ from __future__ import annotations
 import asyncio
 import contextlib
 import signal
-import sys
 from dataclasses import dataclass
 
-from aw_forms.command import parser
+from aw_forms.command import parser, tell
 from aw_forms.program import Sorry
 
 from . import frames
 from .addresses import Address, address, standard
 from .sessions import words
 from .specification import Offices, offices_in
+from .spread import Spread, spread
 
 NAME = "aw_guard"
 WHAT = "Stands in front of an office's node and lets through what fits the door."
@@ -31,12 +31,16 @@ not troubled before a request is whole.
 Ends with
     0   it was told to end (SIGTERM, SIGINT)
     2   the words are none of the above
-    65  the specification is faulty
+    65  the specification is faulty, or the file of systems is
     66  a file can't be read
     69  a door can't be opened
+
+Examples
+    aw_guard claim.aw front person=/run/front/people post=/run/front/post     two doors, each a socket with its owner and mode
+    aw_guard claim.aw assessor letters:front=127.0.0.1:8401                   the front office's letters, behind a tunnel
 """
 NO_DOOR = 69
-PIECE = 1 << 16
+PIECE, LAST_LOOK = 1 << 16, 0.05
 
 
 class Refused(Exception):
@@ -51,17 +55,19 @@ class Door:
     where: Address
     kinds: frozenset[int]
     authors: frozenset[int]
+    spread: Spread = Spread()
 
     def look(self, offices: Offices, office: int, kind: int, payload: bytes) -> None:
         """Raises why a request is not let through."""
         try:
             message = frames.message(payload) if kind == frames.PUSH else None
-            if kind == frames.CHOOSE:
-                frames.choice(payload)
+            case = frames.choice(payload) if kind == frames.CHOOSE else None
         except frames.Bad as bad:
             raise Refused("no %s: %s" % ("message" if kind == frames.PUSH else "choice", bad)) from None
         if kind not in self.kinds:
             raise Refused("a %s does not belong here" % frames.REQUESTS[kind])
+        if case is not None and not self.spread.is_here(case):
+            raise Refused("a choice in another system: %s" % self.spread.elsewhere(case))
         if message is None:
             return
         author = offices.author(message)
@@ -73,7 +79,7 @@ class Door:
             raise Refused("a letter of %s: %s" % (offices.roles[author], offices.words(message)))
 
 
-def door(offices: Offices, office: int, text: str) -> Door:
+def door(offices: Offices, office: int, text: str, spread: Spread) -> Door:
     """The door that a word spells."""
     who, equals, where = text.partition("=")
     kind, _, names = who.partition(":")
@@ -83,7 +89,7 @@ def door(offices: Offices, office: int, text: str) -> Door:
                     % (text, offices.roles[office]))
     kinds = {"person": {frames.CHOOSE, frames.LIST}, "post": {frames.PUSH, frames.PULL}, "letters": {frames.PUSH}}[kind]
     everyone = set(range(len(offices.roles))) - {office} if who == "post" else authors
-    return Door(who, address(where) if equals else standard(office), frozenset(kinds), frozenset(everyone))
+    return Door(who, address(where) if equals else standard(office), frozenset(kinds), frozenset(everyone), spread)
 
 
 @dataclass(frozen=True, slots=True)
@@ -148,6 +154,16 @@ async def closed(writer: asyncio.StreamWriter, wait: float) -> None:
         writer.transport.abort()
 
 
+async def whole(data: bytearray, reader: asyncio.StreamReader) -> tuple[int, bytes] | None:
+    """The next whole request; nothing at the end of the session."""
+    while (request := frames.split(data)) is None:
+        piece = await reader.read(PIECE)
+        if not piece:
+            return None
+        data += piece
+    return request
+
+
 class Guard:
     """The doors of an office."""
 
@@ -157,7 +173,7 @@ class Guard:
 
     def log(self, at: Door, text: str) -> None:
         """A line on the standard error."""
-        print("%s, %s: %s" % (self.offices.roles[self.office], at.who, text), file=sys.stderr, flush=True)
+        tell("%s, %s: %s" % (self.offices.roles[self.office], at.who, text))
 
     async def served(self, at: Door, reader: asyncio.StreamReader, writer: asyncio.StreamWriter) -> None:
         """One session, however it ends."""
@@ -201,14 +217,13 @@ class Guard:
         return False
 
     async def request(self, at: Door, data: bytearray, reader: asyncio.StreamReader) -> tuple[int, bytes] | None:
-        """The next request that passes; nothing at the end of the session."""
-        async with asyncio.timeout(self.bounds.idle):
-            while (request := frames.split(data)) is None:
-                piece = await reader.read(PIECE)
-                if not piece:
-                    return None
-                data += piece
-        at.look(self.offices, self.office, *request)
+        """The next request that passes; nothing at the end of the session. What came while this program itself was held up counts."""
+        try:
+            request = await asyncio.wait_for(whole(data, reader), self.bounds.idle)
+        except TimeoutError:
+            request = await asyncio.wait_for(whole(data, reader), LAST_LOOK)
+        if request is not None:
+            at.look(self.offices, self.office, *request)
         return request
 
     async def serve(self, doors: list[Door]) -> None:
@@ -235,19 +250,21 @@ class Guard:
 def main(given: list[str]) -> int:
     """The command."""
     said = parser(NAME, WHAT, BEHIND)
-    said.add_argument("specification")
+    said.add_argument("specification", metavar="SPECIFICATION", help="the specification that the node was started with")
     said.add_argument("office", metavar="ROLE", help="the role whose node stands behind the doors")
-    said.add_argument("doors", nargs="+", metavar="DOOR")
+    said.add_argument("doors", nargs="+", metavar="DOOR", help="who is behind a door, and where it is: WHO=ADDRESS")
     said.add_argument("--node", metavar="ADDRESS", help="where the node is; else 127.0.0.1 and its port")
     said.add_argument("--idle", type=float, default=10.0, metavar="SECONDS", help="how long a peer may take for a whole request, or to take a reply (10)")
     said.add_argument("--session", type=float, default=300.0, metavar="SECONDS", help="how long a session may last (300)")
     said.add_argument("--peers", type=int, default=64, metavar="NUMBER", help="how many sessions are served at a time (64)")
+    said.add_argument("--systems", metavar="FILE", help="let through choices in those cases alone that lie here: a line of FILE is FIRST LAST WHERE, and WHERE is `here` or a place")
     words_ = said.parse_args(given)
     if min(words_.idle, words_.session, words_.peers) <= 0:
         raise Sorry("SECONDS and NUMBER are above 0.")
     offices = offices_in(words_.specification)
     office = offices.role(words_.office)
     node = address(words_.node) if words_.node else standard(office)
-    doors = [door(offices, office, text) for text in words_.doors]
+    cases = spread(words_.systems)
+    doors = [door(offices, office, text, cases) for text in words_.doors]
     asyncio.run(Guard(offices, office, node, Bounds(words_.idle, words_.session, words_.peers)).serve(doors))
     return 0

@@ -6,6 +6,9 @@ import threading
 import time
 from collections import Counter
 
+from aw_forms.command import NOT_WRITTEN
+from aw_forms.program import Sorry
+
 HELP = {
     "aw_post_letters_carried_total": ("counter", "Letters that were pushed and answered new or again."),
     "aw_post_letters_again_total": ("counter", "Letters among them that the receiver had already."),
@@ -25,7 +28,10 @@ class Metrics:
     """Counters and gauges, each with its labels."""
 
     def __init__(self, path: str | None) -> None:
-        self.path, self.values, self.lock = path, Counter[tuple[str, str]](), threading.Lock()
+        if path is not None and os.path.exists(path) and not os.path.isfile(path):
+            raise Sorry("The numbers can't be written into %s: it is no plain file." % path, NOT_WRITTEN)
+        self.path = path and os.path.realpath(path)
+        self.values, self.lock = Counter[tuple[str, str]](), threading.Lock()
 
     def add(self, name: str, count: int = 1, **labels: str) -> None:
         """Adds to a counter."""

@@ -83,7 +83,7 @@ class Places:
     """The pairs of all roles, read from a file and written into it. Two programs never use one file at a time."""
 
     def __init__(self, path: str, roles: list[str]) -> None:
-        self.path, self.roles, self.guard = Path(path), roles, threading.Lock()
+        self.path, self.roles, self.guard = Path(os.path.realpath(path)), roles, threading.Lock()
         self.lock = self.locked()
         noted = self.noted()
         self.pairs = [[self.pair(s, r, noted) for r in range(len(roles)) if r != s] for s in range(len(roles))]

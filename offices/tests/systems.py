@@ -24,7 +24,8 @@ import client  # noqa: E402
 from aw_offices import frames  # noqa: E402
 from aw_offices.specification import FIRST_PORT, offices  # noqa: E402
 
-LONG = 120.0
+LONG = 120.0 * float(os.environ.get("PATIENCE", "1"))
+BOOK = Path(os.environ.get("AW_BOOK") or TOP / "crates" / "aw_book" / "out" / "aw_book")
 FAST = "/dev/shm" if os.path.isdir("/dev/shm") else None
 
 
@@ -38,11 +39,15 @@ CLAIM = text_of("insurance-claim.aw")
 
 
 def until(what: Callable[[], object], why: str, limit: float = LONG) -> None:
-    """Waits until something holds, and fails where it does not within a generous time."""
+    """Waits until something holds, and fails where it does not within a generous time. It looks seldom where a look takes long: a node has one
+    session at a time, and who lists it all the time keeps its post out."""
     ends = time.monotonic() + limit
-    while not what():
-        assert time.monotonic() < ends, why
-        time.sleep(0.02)
+    while True:
+        began = time.monotonic()
+        if what():
+            return
+        assert began < ends, why
+        time.sleep(max(0.02, 4 * (time.monotonic() - began)))
 
 
 def listens(port: int) -> bool:
@@ -150,7 +155,11 @@ class System:
     def session(self, role: str) -> client.Node:
         """A session with a node."""
         with self.machines[role].inside() if role in self.machines else contextlib.nullcontext():
-            return client.Node(self.names, role, 60)
+            try:
+                return client.Node(self.names, role, LONG)
+            except client.Broken as broken:
+                process = self.nodes[role].process
+                raise AssertionError("%s (its process: %s)" % (broken, process and (process.poll(), process.pid))) from None
 
     def ask(self, role: str, kind: int, *payloads: bytes) -> list[tuple[int, bytes]]:
         """The replies of a node to some requests."""
@@ -160,22 +169,48 @@ class System:
         finally:
             node.peer.close()
 
-    def choose(self, line: str) -> str:
-        """Does what a line of a schedule says, at the office that it is for; the answer."""
+    def asked(self, line: str) -> tuple[str, bytes]:
+        """The office that a line of a schedule is for, and what it asks for, in bytes."""
         words = line.split(" ", 3)
         if words[0] == "start":
             role = self.offices.roles[self.offices.homes[self.names.number("sort", words[1])]]
-            data = b"\0" + self.names.number("sort", words[1]).to_bytes(2, "big") + int(words[2]).to_bytes(8, "big")
-        else:
-            said = client.Words(self.names, words[3] if len(words) > 3 else "")
-            grounds = said.several(said.ground, "{", "}") if said.tokens else []
-            task = client.Words(self.names, "").node_bytes(words[1])
-            role = self.home(task)
-            data = b"\1" + task + self.names.number("rule", words[2]).to_bytes(2, "big") + bytes([len(grounds)]) + b"".join(grounds)
+            return role, b"\0" + self.names.number("sort", words[1]).to_bytes(2, "big") + int(words[2]).to_bytes(8, "big")
+        said = client.Words(self.names, words[3] if len(words) > 3 else "")
+        grounds = said.several(said.ground, "{", "}") if said.tokens else []
+        task = client.Words(self.names, "").node_bytes(words[1])
+        rule = self.names.number("rule", words[2]).to_bytes(2, "big")
+        return self.home(task), b"\1" + task + rule + bytes([len(grounds)]) + b"".join(grounds)
+
+    def choose(self, line: str) -> str:
+        """Does what a line of a schedule says, at the office that it is for; the answer."""
+        role, data = self.asked(line)
         answer = self.ask(role, frames.CHOOSE, data)[0][1].decode()
         if answer == "taken":
             self.lines.append(line)
         return answer
+
+    def kept(self, role: str) -> list[bytes]:
+        """The choices in the journal of a role, in their order, as docs/JOURNAL.md has the file."""
+        data = (self.nodes[role].folder / "workspace.journal").read_bytes()
+        at, found = 11 + int.from_bytes(data[3:11], "big"), []
+        while data[at] == 1:
+            end = at + 9 + int.from_bytes(data[at + 1:at + 9], "big")
+            if data[at + 9] == 1:
+                found.append(data[at + 10:end])
+            at = end
+        return found
+
+    def joined(self) -> bool:
+        """Whether the journals hold each choice that was answered `taken`, once and in its order; and what `aw_book` makes of them, where it is built."""
+        asked = [self.asked(line) for line in self.lines]
+        if any(self.kept(role) != [data for home, data in asked if home == role] for role in self.offices.roles):
+            return False
+        if not BOOK.is_file():
+            return True
+        journals = [str(node.folder / "workspace.journal") for node in self.nodes.values()]
+        rows = subprocess.run([str(BOOK), "cases", *journals], capture_output=True, timeout=600, check=True).stdout.decode().splitlines()
+        plain = aw("plain", self.text + "schedule\n" + "".join(line + "\n" for line in self.lines)).splitlines()
+        return rows == plain[next(at for at, line in enumerate(plain) if line.startswith("artifacts ")) + 1:]
 
     def home(self, task: bytes) -> str:
         """The role of a task, by its bytes."""

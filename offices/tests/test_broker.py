@@ -160,16 +160,17 @@ def test_every_letter_comes(make: Make, cluster: Cluster) -> None:
             system.nodes["lab"].kill()
             system.nodes["lab"].start()
             posts.kill("lab")
-    until(lambda: len([item for item in system.ready("lab") if item.endswith(" measure")]) == CASES, "the lab has not every task: %s" % posts.told()[-3000:], 600)
+    until(lambda: len([item for item in system.ready("lab") if item.endswith(" measure")]) == CASES, "the lab has not every task: %s" % posts.told()[-3000:], 5 * LONG)
     tasks = [item.split()[0] for item in system.ready("lab") if item.endswith(" measure")]
     for number, task in enumerate(draw.sample(tasks, len(tasks))):
         assert system.choose("choose %s measure {%d}" % (task, number)) == "taken"
         if number == len(tasks) // 2:
             cluster.kill(2)
-    until(lambda: not system.unsettled(), "the worklists are not those of the replay", 600)
-    until(lambda: posts.idle(), "the queues do not get empty", 600)
+    until(lambda: not system.unsettled(), "the worklists are not those of the replay", 5 * LONG)
+    until(lambda: posts.idle(), "the queues do not get empty", 5 * LONG)
     assert set(system.undelivered()) == {frames.AGAIN}
-    assert "refused" not in posts.told() and "Traceback" not in posts.told()
+    assert system.joined(), "the journals are not those of the choices"
+    assert ": refused, " not in posts.told() and "Traceback" not in posts.told()
 
 
 def test_what_is_no_letter_goes_no_further(make: Make, cluster: Cluster) -> None:

@@ -1,14 +1,18 @@
 """Carrying a journal over: what only adds behind what stands is taken, and all else is refused."""
 from __future__ import annotations
 
+import os
 import random
 import re
+import shutil
+import signal
 import subprocess
+import time
 from collections.abc import Callable
 from pathlib import Path
 
 import pytest
-from conftest import CLAIM, CLINIC, LONG, OFFICES, System, until
+from conftest import CLAIM, CLINIC, LONG, OFFICES, System, listens, until
 
 from aw_forms.program import Sorry
 from aw_offices import carry_over, frames
@@ -90,6 +94,7 @@ def test_what_is_served_or_there_is_not_touched(worked: System) -> None:
     assert result.read_bytes() == b"kept"
     result.unlink()
     assert said(worked, lab.folder / "none", CLINIC, result)[0] == 66
+    assert said(worked, Path("/dev/full"), CLINIC, result)[0] == 66
     assert said(worked, worked.spec, CLINIC, result)[0] == 65
     assert said(worked, lab.folder / "workspace.journal", "role a\nrole a\n", result)[0] == 65
     assert said(worked, lab.folder / "workspace.journal", CLINIC, worked.folder / "none" / "result")[0] == 73
@@ -177,3 +182,29 @@ def test_nothing_of_a_claim_is_a_clinic(make: Make, worked: System) -> None:
     data = (worked.nodes["lab"].folder / "workspace.journal").read_bytes()
     with pytest.raises(Sorry):
         carry_over.carried(data, "journal", CLAIM.encode())
+
+
+def test_killed_anywhere_it_leaves_nothing_half(worked: System) -> None:
+    """No node that holds a port, no copies of journals where it was told to end, and the result whole or not there."""
+    lab, room, result = worked.nodes["lab"], worked.folder / "room", worked.folder / "result"
+    journal, draw = lab.folder / "workspace.journal", random.Random(9)
+    room.mkdir()
+    for number in range(24):
+        sign = (signal.SIGKILL, signal.SIGTERM, signal.SIGINT)[number % 3]
+        process = subprocess.Popen(["/usr/bin/python3", str(OFFICES / "aw_carry_over"), str(journal), str(worked.spec), str(result)], stdout=subprocess.DEVNULL,
+                                   stderr=subprocess.PIPE, env={**os.environ, "TMPDIR": str(room)})
+        if number % 2:
+            until(lambda: process.poll() is not None or listens(lab.port), "no node is started")
+        time.sleep(draw.random() * 0.3)  # (a moment to end it at, not a condition)
+        process.send_signal(sign)
+        told = process.communicate(timeout=LONG)[1]
+        assert process.returncode in (0, -sign, 128 + sign, 1) and b"aw_offices" not in told, told
+        until(lambda: not listens(lab.port), "a node is left")
+        if sign != signal.SIGKILL:
+            assert not list(room.iterdir()), "copies of journals are left"
+        if result.exists():
+            assert result.read_bytes() == journal.read_bytes()
+            result.unlink()
+        for left in room.iterdir():
+            shutil.rmtree(left)
+    assert said(worked, journal, CLINIC, result)[0] == 0

@@ -274,7 +274,7 @@ def test_who_is_silent_holds_nobody_up_and_is_cut(guarded: Guarded) -> None:
     for peer in silent:
         assert received(peer) == b""
         peer.close()
-    assert time.monotonic() - began < 60
+    assert time.monotonic() - began < LONG / 2
     assert guarded.told().count("cut: no whole request") == len(silent)
 
 
@@ -408,7 +408,7 @@ def test_each_office_has_a_post_of_its_own(make: Make) -> None:
     until(lambda: "claim#1/open_claim.2 file_away" in system.ready("payments"), "payments was not told")
     assert system.choose("choose claim#1/open_claim.2 file_away") == "taken"
     until(lambda: not system.unsettled(), "the letters did not come")
-    assert "reply" not in system.log() and "refused" not in system.log()
+    assert "reply" not in system.log() and ": refused, " not in system.log()
 
 
 def said(*words: str) -> tuple[int, str]:

@@ -10,6 +10,7 @@ from pathlib import Path
 
 import pytest
 from conftest import EXAMPLES, LONG, OFFICES, TOP, listens, until
+from systems import BOOK
 
 from aw_offices.metrics import HELP
 
@@ -74,11 +75,26 @@ def test_every_number_is_one_of_the_post() -> None:
 
 def test_every_unit_and_option_is_there() -> None:
     units = {path.name.removesuffix(".service").removesuffix("@") for path in (OFFICES / "units").glob("*.service")}
-    assert set(re.findall(r"^\| `(aw-[a-z-]+)(?:@ROLE)?` \|", PAGE, re.M)) == units
+    assert set(re.findall(r"^\| `(aw-[a-z-]+)(?:@ROLE)?`(?:, `aw-[a-z.]+`)? \|", PAGE, re.M)) == units
     helps = "".join(subprocess.run([str(OFFICES / name), "--help"], capture_output=True, text=True, timeout=LONG).stdout for name in ("aw_post", "aw_guard"))
     words = re.findall(r"(?:aw_post|aw_guard) .*", PAGE)
     for option in {option for line in words for option in re.findall(r" (--[a-z]+)", line)} - {"--collector"}:
         assert option in helps, option
+
+
+def test_completions_and_man_page_have_every_option_of_the_book() -> None:
+    """Where it is built: its commands and their options."""
+    if not BOOK.is_file():
+        pytest.skip("not run: there is no aw_book at %s" % BOOK)
+    man = (TOP / "packaging" / "man" / "aw_book.1.scd").read_text(encoding="utf-8")
+    texts = [man, *((TOP / "packaging" / "completions" / file).read_text(encoding="utf-8") for file in ("aw.bash", "_aw", "aw.fish"))]
+    helped = subprocess.run([str(BOOK), "--help"], capture_output=True, text=True, timeout=LONG).stdout
+    commands = re.findall(r"^  ([a-z]+) ", helped.split("Commands:")[1].split("Options:")[0], re.M)
+    for command in [command for command in commands if command != "help"]:
+        assert all(command in text for text in texts) and "*aw_book %s*" % command in man, command
+        options = re.findall(r"--([a-z]+)", subprocess.run([str(BOOK), command, "--help"], capture_output=True, text=True, timeout=LONG).stdout)
+        for option in set(options) - {"help", "version"}:
+            assert all(option in text for text in texts) and "*--%s*" % option in man, (command, option)
 
 
 @pytest.mark.parametrize("name", ["aw_post", "aw_guard"])

@@ -1,6 +1,7 @@
 """The post: it loses and doubles nothing, an office holds up its own letters alone, and it tells what is refused."""
 from __future__ import annotations
 
+import os
 import random
 import signal
 import socket
@@ -13,7 +14,7 @@ from conftest import CLAIM, CLINIC, LONG, OFFICES, System, until
 from aw_offices import frames
 
 Make = Callable[[str], System]
-KILLS, STEPS = 300, 40
+KILLS, STEPS = int(os.environ.get("OFFICES_KILLS", "300")), 40
 
 
 def choose_some(system: System, draw: random.Random, case: int) -> None:
@@ -50,7 +51,8 @@ def test_killed_anywhere_it_loses_and_doubles_nothing(make: Make) -> None:
     assert system.replayed().count(": taken\n") == len(system.lines)
     until(system.carried, "not every letter is carried")
     assert set(system.undelivered()) == {frames.AGAIN}
-    assert " refused" not in system.log()
+    assert system.joined(), "the journals are not those of the choices"
+    assert ": refused, " not in system.log()
 
 
 def test_killed_at_each_step_it_loses_and_doubles_nothing(make: Make) -> None:
@@ -65,7 +67,7 @@ def test_killed_at_each_step_it_loses_and_doubles_nothing(make: Make) -> None:
     system.start_post()
     until(system.carried, "not every letter is carried")
     assert set(system.undelivered()) == {frames.AGAIN}
-    assert not system.unsettled() and " refused" not in system.log()
+    assert not system.unsettled() and ": refused, " not in system.log()
 
 
 def test_ends_at_once_when_told(make: Make) -> None:
@@ -248,7 +250,7 @@ def test_a_restored_office_gets_its_letters_again(make: Make) -> None:
     system.start_post()
     until(lambda: not system.unsettled(), "the letters did not come again")
     until(system.carried, "not every letter is carried")
-    assert set(system.undelivered()) == {frames.AGAIN} and "refused" not in system.log()
+    assert set(system.undelivered()) == {frames.AGAIN} and ": refused, " not in system.log()
 
 
 def test_two_posts_do_not_use_one_file(make: Make) -> None:
@@ -277,6 +279,7 @@ def test_words_that_are_wrong(make: Make) -> None:
     assert said(spec, str(places), "--office", "lab=127.0.0.1")[0] == 2
     assert said(spec, str(places), "--interval", "0")[0] == 2
     assert said(spec, str(system.folder / "none" / "places"))[0] == 73
+    assert said(spec, str(places), "--metrics", "/dev/full")[0] == 73
     places.write_text("not places", encoding="utf-8")
     assert said(spec, str(places))[0] == 65
     system.spec.write_text("role a\nrole a\n", encoding="utf-8")

@@ -12,17 +12,18 @@ import pytest
 from conftest import CLINIC, LONG, OFFICES, TOP, listens, until
 
 UNITS = OFFICES / "units"
-PROGRAMS = {"/usr/bin/aw_post": str(OFFICES / "aw_post"), "/usr/bin/aw_guard": str(OFFICES / "aw_guard")}
+PROGRAMS = {"/usr/bin/aw_post": str(OFFICES / "aw_post"), "/usr/bin/aw_guard": str(OFFICES / "aw_guard"), "/usr/bin/aw_desk": str(TOP / "desk" / "aw_desk")}
+NEED_BOOK = ("aw-desk@lab.service", "aw-book.service")
 
 
 def names() -> list[str]:
     """Every unit, with an instance for each template."""
-    return sorted(path.name.replace("@", "@lab") for path in UNITS.glob("*.service"))
+    return sorted(path.name.replace("@", "@lab") for path in UNITS.iterdir() if path.suffix in (".service", ".timer"))
 
 
 def installed(folder: Path) -> None:
     """The units with the programs of this repository in place of those that a package installs."""
-    for path in UNITS.glob("*.service"):
+    for path in (UNITS / name.replace("@lab", "@") for name in names()):
         text = path.read_text(encoding="utf-8")
         for there, here in PROGRAMS.items():
             text = text.replace(there + " ", here + " ")
@@ -71,7 +72,23 @@ def test_a_node_is_alone() -> None:
     assert node["StandardOutput"] == "journal", "a file in the state folder is opened before the folder is made"
 
 
-@pytest.mark.parametrize("name", [name for name in names() if not name.startswith("aw-node")])
+def test_a_desk_reads_its_own_node_s_journal() -> None:
+    """As the node's user, in a folder that it can't write; through the door for people; and at no address of others."""
+    node, desk, door = (service("aw-%s@.service" % name) for name in ("node", "desk", "people-door"))
+    there, here = desk["BindReadOnlyPaths"].split(":")
+    assert desk["User"] == node["User"] and there == "%S/private/" + node["StateDirectory"] and here + "/workspace.journal" in desk["ExecStart"].split()
+    assert "--node %%t/%s/socket" % door["RuntimeDirectory"] in desk["ExecStart"] and desk["SupplementaryGroups"] == door["Group"]
+    assert desk["IPAddressDeny"] == "any" and desk["IPAddressAllow"] == "localhost"
+
+
+def test_the_book_reads_and_writes_nothing() -> None:
+    unit = (UNITS / "aw-book.service").read_text(encoding="utf-8")
+    assert re.findall(r"^ExecStart=.*aw_book (\w+)", unit, re.M) == ["check", "join"]
+    assert service("aw-book.service")["CapabilityBoundingSet"] == "CAP_DAC_READ_SEARCH" and "StateDirectory" not in service("aw-book.service")
+    assert "OnCalendar=*-*-* " in (UNITS / "aw-book.timer").read_text(encoding="utf-8")
+
+
+@pytest.mark.parametrize("name", [name for name in names() if not name.startswith("aw-node") and name.endswith(".service") and name not in NEED_BOOK])
 def test_the_programs_take_the_words(name: str, tmp_path: Path) -> None:
     """A program that takes its words says that the specification is missing, and nothing of words."""
     line = service(re.sub("@lab", "@", name))["ExecStart"].replace("$AW_POST_WORDS", "")

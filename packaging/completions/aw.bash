@@ -11,7 +11,9 @@ _aw_companion() {
   local word=${COMP_WORDS[COMP_CWORD]} options
   case ${COMP_WORDS[0]##*/} in
     aw_post) options="--office --at --broker --from --metrics --interval --longest --timeout --help --version" ;;
-    aw_guard) options="--node --idle --session --peers --help --version" ;;
+    aw_guard) options="--node --idle --session --peers --systems --help --version" ;;
+    aw_desk) options="--listen --node --logins --journals --systems --help --version" ;;
+    aw_desk_tty) options="--node --systems --clerk --help --version" ;;
     *) options="--help --version" ;;
   esac
   case $word in
@@ -19,5 +21,16 @@ _aw_companion() {
     *) mapfile -t COMPREPLY < <(compgen -f -- "$word") ;;
   esac
 }
+_aw_book() {
+  local word=${COMP_WORDS[COMP_CWORD]}
+  if [ "$COMP_CWORD" -eq 1 ]; then
+    mapfile -t COMPREPLY < <(compgen -W "spec check events tasks join cases --help --version" -- "$word")
+  elif [[ $word == -* ]]; then
+    mapfile -t COMPREPLY < <(compgen -W "--digest --redo --open --case --follow --settled --without --help" -- "$word")
+  else
+    mapfile -t COMPREPLY < <(compgen -f -- "$word")
+  fi
+}
 complete -F _aw aw
-complete -o filenames -F _aw_companion aw_post aw_guard aw_carry_over aw_explain aw_lint aw_draw aw_fmt
+complete -o filenames -F _aw_book aw_book
+complete -o filenames -F _aw_companion aw_post aw_guard aw_carry_over aw_explain aw_lint aw_draw aw_fmt aw_desk aw_desk_tty
