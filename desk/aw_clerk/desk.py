@@ -9,6 +9,7 @@ from aw_forms.command import read_file
 from aw_forms.lines import RuleLine
 from aw_forms.program import Sorry
 from aw_offices.addresses import Address, standard
+from aw_offices.spread import Spread
 
 from . import book
 from .book import Follower, NotSaid
@@ -33,9 +34,9 @@ class Said:
 class Desk:
     """An office's journal, node and notes. All that is shown comes from the book; all that is done is sent to the node."""
 
-    def __init__(self, specification: str, journal: str, state: Path, address: Address | None, journals: list[str]) -> None:
+    def __init__(self, specification: str, journal: str, state: Path, address: Address | None, journals: list[str], spread: Spread = Spread()) -> None:
         self.wording: Wording = wording(read_file(specification).decode("utf-8", "surrogateescape"), specification)
-        self.journal, self.journals = journal, journals
+        self.journal, self.journals, self.spread = journal, journals, spread
         self.role = self.checked(specification)
         self.office = Office(address or standard(list(self.wording.spec.roles).index(self.role)), self.wording)
         self.open_tasks = Follower(["tasks", "--open", journal])
@@ -92,7 +93,10 @@ class Desk:
         return self.sent(clerk, task.name, rule.name.text, words, lambda: self.office.choose(task.name, rule.name.text, entered))
 
     def start(self, clerk: str, sort: str, number: int) -> Said:
-        """Begins a case, and notes who did."""
+        """Begins a case, and notes who did; one that lies in another system is not begun here."""
+        elsewhere = self.spread.elsewhere(number)
+        if elsewhere:
+            return Said("%s Nothing was sent." % elsewhere, False)
         return self.sent(clerk, "%s#%d" % (sort, number), "", "", lambda: self.office.start(sort, number))
 
     def sent(self, clerk: str, task: str, rule: str, words: str, send: Callable[[], str]) -> Said:

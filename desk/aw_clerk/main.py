@@ -11,14 +11,16 @@ from typing import NoReturn
 
 from aw_forms import command
 from aw_forms.program import Sorry
-from aw_offices.addresses import address
+from aw_offices.addresses import Address, address
+from aw_offices.spread import spread
 
 from .desk import Desk
 from .logins import Logins, line_of
 from .pages import Pages, application, secret_of
 
 NAME = "aw_desk"
-THREADS = 8
+THREADS, FIRST_PORT = 8, 8400
+SYSTEMS = "where cases lie that are spread by their number: a line of FILE is FIRST LAST WHERE, and WHERE is `here` or the address of another system's desk"
 TEMPLATES = Path(__file__).resolve().parent / "templates"
 BEHIND = """
   aw_desk SPECIFICATION JOURNAL STATE    serves the pages of the office whose node keeps the journal
@@ -43,9 +45,10 @@ def words_of(given: list[str]) -> argparse.Namespace:
     parser.add_argument("specification", help="the specification that the node was started with")
     parser.add_argument("journal", help="the journal that the office's node keeps")
     parser.add_argument("state", help="a folder for the desk's own notes")
-    parser.add_argument("--listen", default="127.0.0.1:8400", metavar="HOST:PORT", help="where the pages are (127.0.0.1:8400)")
+    parser.add_argument("--listen", metavar="HOST:PORT", help="where the pages are (127.0.0.1, and the port 8400 and the number of the role)")
     parser.add_argument("--node", metavar="ADDRESS", help="where the node is, HOST:PORT or the path of a socket (127.0.0.1 and the port of its role)")
     parser.add_argument("--logins", metavar="FILE", help="who may sit at the desk: lines that `aw_desk login NAME` writes")
+    parser.add_argument("--systems", metavar="FILE", help=SYSTEMS)
     parser.add_argument("--journals", nargs="+", default=[], metavar="FILE", help="the journals of all offices, for a desk that may show whole cases")
     return parser.parse_args(given)
 
@@ -57,6 +60,7 @@ def terminal_words(name: str, given: list[str], behind: str) -> argparse.Namespa
     parser.add_argument("journal", help="the journal that the office's node keeps")
     parser.add_argument("state", help="a folder for the desk's own notes")
     parser.add_argument("--node", metavar="ADDRESS", help="where the node is, HOST:PORT or the path of a socket (127.0.0.1 and the port of its role)")
+    parser.add_argument("--systems", metavar="FILE", help=SYSTEMS)
     parser.add_argument("--clerk", default=getpass.getuser(), metavar="NAME", help="whose decisions these are (%(default)s)")
     return parser.parse_args(given)
 
@@ -68,7 +72,7 @@ def opened(words: argparse.Namespace, journals: list[str]) -> Desk:
         state.mkdir(mode=0o700, parents=True, exist_ok=True)
     except OSError as error:
         raise Sorry("The folder %s for the desk's notes can't be made: %s." % (state, (error.strerror or str(error)).lower()), 73) from None
-    return Desk(words.specification, words.journal, state, address(words.node) if words.node else None, journals)
+    return Desk(words.specification, words.journal, state, address(words.node) if words.node else None, journals, spread(words.systems))
 
 
 def login(given: list[str]) -> int:
@@ -95,7 +99,7 @@ def main(given: list[str]) -> int:
     if given[:1] == ["login"]:
         return login(given[1:])
     words = words_of(given)
-    where = address(words.listen)
+    where = address(words.listen) if words.listen else Address("127.0.0.1", FIRST_PORT)
     if where.path:
         raise Sorry("A desk listens at HOST:PORT.")
     logins = Logins(Path(words.logins)) if words.logins else None
@@ -104,18 +108,22 @@ def main(given: list[str]) -> int:
     elif where.host not in ("127.0.0.1", "::1", "localhost"):
         raise Sorry("A desk that others can reach needs --logins FILE; `aw_desk login NAME` writes its lines.")
     desk = opened(words, words.journals)
+    port = where.port if words.listen else FIRST_PORT + list(desk.wording.spec.roles).index(desk.role)
     signal.signal(signal.SIGTERM, ended)
     signal.signal(signal.SIGINT, ended)
     logging.basicConfig(stream=sys.stderr, level=logging.WARNING, format=NAME + ": %(message)s")
     try:
-        return serve(Pages(desk, logins, TEMPLATES), secret_of(Path(words.state) / "secret"), where.host, where.port)
+        return serve(Pages(desk, logins, TEMPLATES), secret_of(Path(words.state) / "secret"), where.host, port)
     finally:
         desk.close()
 
 
 def serve(pages: Pages, secret: bytes, host: str, port: int) -> int:
     """Serves until the system says that it is enough."""
-    from waitress import create_server  # type: ignore[import]
+    try:
+        from waitress import create_server  # type: ignore[import]
+    except ImportError:
+        raise Sorry("The library waitress is missing: apt-get install python3-waitress.", 69) from None
     try:
         server = create_server(application(pages, secret), host=host, port=port, threads=THREADS, ident=None, channel_timeout=60, connection_limit=200,
                                max_request_body_size=1 << 18)

@@ -125,6 +125,16 @@ class Pages:
                 "results": self.tree(results, lambda at: wording.result(task.name, at)) if results else "",
                 "who": note.clerk if note else "", "when": moment(note.at) if note else ""}
 
+    def elsewhere(self, name: str) -> Answer | None:
+        """Where a case lies that another system's desk has: its page there, or a sentence. Nothing for a case of this desk."""
+        steps = steps_of(name)
+        if steps is None or self.desk.spread.is_here(steps[1]):
+            return None
+        where = self.desk.spread.where(steps[1])
+        if where.startswith(("https://", "http://")):
+            return flask.redirect(where + quote(flask.request.path), 303)
+        return self.render("trouble.html", 404, title="This case lies elsewhere", words=self.desk.spread.elsewhere(steps[1]))
+
     def next_number(self, sort: str) -> int:
         """A number that no case of a sort has, as far as is known here."""
         with self.turn:
@@ -133,7 +143,8 @@ class Pages:
                 self.highest[sort] = max((int(found[1]) for found in map(starts.fullmatch, book.said("events", self.desk.journal)) if found), default=0)
             roots = (steps_of(name) for name in self.desk.open())
             self.highest[sort] = max([self.highest[sort], *(root[1] for root in roots if root and root[0] == sort)])
-            return self.highest[sort] + 1
+            number = self.desk.spread.next_here(self.highest[sort] + 1)
+            return self.highest[sort] + 1 if number is None else number
 
     def render(self, page: str, status: int = 200, /, **more: object) -> Answer:
         """A page."""
@@ -192,7 +203,8 @@ def guards(app: flask.Flask, pages: Pages) -> None:
             return flask.redirect(flask.url_for("login", then=here() if flask.request.method == "GET" else "/"), 303)
         if flask.request.method == "POST" and pages.is_forged():
             return pages.render("trouble.html", 403, title="This form is too old", words="It was made before you signed in, or by another page. Nothing was sent; open the task again.")
-        return None
+        named = flask.request.view_args or {}
+        return pages.elsewhere(str(named.get("name") or named.get("case") or "")) if flask.request.method == "GET" else None
 
     @app.after_request
     def headers(answer: Response) -> Response:
