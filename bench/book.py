@@ -95,7 +95,8 @@ def is_clean(program, text):
 
 
 def at_work(book, run):
-    """While the nodes run."""
+    """While the nodes run, and nobody carries: the journals are read one after the other."""
+    run.drop_couriers()
     text = book.good('join', *files(run))
     is_clean(run.program, text)
 
@@ -182,6 +183,7 @@ def set_back(book, run, draw):
 
 def forged(book, run, draw):
     """A letter that nobody sent is pushed to a node that takes it: refused, and named."""
+    run.drop_couriers()
     roles = run.names.roles
     for _ in range(20):
         office = run.offices[draw.choice(roles)]
