@@ -259,13 +259,22 @@ def files_of(names: set[Name]) -> dict[Path, set[Name]]:
     return found
 
 
-def listed(names: set[Name]) -> str:
+def in_words(names: set[Name]) -> str:
     """Returns a line for each file of these definitions, with how many lines and which definitions."""
     rows = []
     for file, here in files_of(names).items():
-        path = file.relative_to(CRATES)
-        rows.append(f"- [{path}](../crates/{path}), {lines_of(here):,}: {', '.join(f'`{it.word}`' for it in sorted(here))}")
+        rows.append(f"{file.relative_to(CRATES)}, {lines_of(here):,}: {', '.join(it.word for it in sorted(here))}")
     return "\n".join(rows)
+
+
+def listed(names: set[Name]) -> str:
+    """Returns a line for each crate of these definitions, with its files and how many lines of each."""
+    crates: dict[str, list[str]] = {}
+    for file, here in files_of(names).items():
+        crate, folder, *inside = file.relative_to(CRATES).parts
+        short = "/".join(inside).removesuffix(".antt") if folder == "specs" else "/".join([folder, *inside])
+        crates.setdefault(crate, []).append(f"{short} {lines_of(here):,}")
+    return "\n".join(f"- [{crate}](../crates/{crate}): {', '.join(files)}" for crate, files in crates.items())
 
 
 def page() -> tuple[str, list[str]]:
@@ -297,7 +306,8 @@ def page() -> tuple[str, list[str]]:
         "*New* are the lines that no clause above reaches. *Words* are those of the kit's library that are named on the way.\n",
         "| Clause | Files | Definitions | Lines | New | Words |\n|---|---|---|---|---|---|\n" + "\n".join(rows) + "\n",
         "## Which definitions\n",
-        "Below each clause stand the files with the definitions that no clause above reaches, and how many lines these have.\n",
+        "Below each clause stand the files with the definitions that no clause above reaches, and how many lines these have; a file without a folder is in the crate's `specs/`. "
+        "`bench/reach.py --names CLAUSE` lists all definitions that a clause reaches, by name.\n",
         *parts,
     ]
     return "\n".join(text), faults
@@ -315,7 +325,16 @@ def is_stale(was: str, now: str) -> bool:
 def main() -> int:
     reader = argparse.ArgumentParser(description=__doc__, formatter_class=argparse.RawDescriptionHelpFormatter)
     reader.add_argument("--check", action="store_true", help="write nothing, and say whether the page is stale")
-    checks = reader.parse_args().check
+    reader.add_argument("--names", metavar="CLAUSE", help="write nothing, and list the definitions that a clause of run reaches")
+    words = reader.parse_args()
+    checks = words.check
+    if words.names:
+        asked = clauses()
+        if words.names not in asked:
+            print(f"reach.py: aw_run::run has no clause {words.names}; its clauses are {', '.join(asked)}", file=sys.stderr)
+            return 2
+        print(in_words(reach(asked[words.names])[0]))
+        return 0
     text, faults = page()
     if not checks:
         PAGE.write_text(text, encoding="utf-8")
