@@ -5,7 +5,8 @@ ghost use Rattle.aw_wait.specs.declared.refused.WaitFault.TheVariants.{NoMemory}
 use aw_iograph::{Io, Occ};
 use std::alloc::AllocError;
 
-/// The waiting relations of the sorts of a grammar in which no node ever waits for itself.
+/// The waiting relations of the sorts of a grammar. That no node ever waits for itself there is said by `accept_waits`, which returns
+/// them, and not by this type.
 #[derive(Debug, Drop)]
 pub struct WaitFree {
     pub waiting: Io,
