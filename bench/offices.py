@@ -1,5 +1,5 @@
 #!/usr/bin/env python3
-"""offices.py BIN [--runs N] [--seed N]
+"""offices.py BIN [--runs N] [--first N] [--seed N]
 
 Serves 2 to 8 offices of one specification, each by a kept node in a process of its own. Users' choices are drawn from the nodes' own
 worklists, and couriers carry messages in between, some of them while choices go on. Nodes are killed with SIGKILL and started again, some of
@@ -364,14 +364,17 @@ def listed(text, role):
 
 def main():
     asked = argparse.ArgumentParser(description=__doc__.split('\n\n')[1])
-    asked.add_argument('binary')
-    asked.add_argument('--runs', type=int, default=300)
-    asked.add_argument('--seed', type=int, default=1)
+    asked.add_argument('binary', help='the program aw')
+    asked.add_argument('--runs', type=int, default=300, help='how many runs are made (300)')
+    asked.add_argument('--first', type=int, default=0, help='the number of the first of them (0)')
+    asked.add_argument('--seed', type=int, default=1, help='the number that all is drawn from (1)')
     given = asked.parse_args()
+    if not os.access(given.binary, os.X_OK):
+        sys.exit('There is no program %s; name the program aw, as crates/aw_prog/out/aw_prog.' % given.binary)
     alone()
     binary, began = os.path.abspath(given.binary), time.monotonic()
     sums, wrong = dict.fromkeys(('choices', 'joined', 'kills', 'broken', 'couriers', 'dropped'), 0), 0
-    for number in range(given.runs):
+    for number in range(given.first, given.first + given.runs):
         draw = random.Random(given.seed * 1_000_003 + number)
         with tempfile.TemporaryDirectory(dir=FAST) as folder:
             run = Run(binary, specification(number, draw), draw, folder)
@@ -379,6 +382,8 @@ def main():
                 for _ in range(draw.randint(20, 60)):
                     run.step()
                 why = run.differs()
+            except (Trouble, OSError, struct.error) as trouble:
+                why = 'a node did not answer as it has to: %s' % trouble
             finally:
                 run.end()
         for name in sums:
