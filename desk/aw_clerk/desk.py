@@ -1,6 +1,7 @@
 """The desk of one office: its tasks as the book has them, and choices sent to its node."""
 from __future__ import annotations
 
+import logging
 from collections.abc import Callable
 from dataclasses import dataclass
 from pathlib import Path
@@ -19,6 +20,8 @@ from .tasks import Task, steps_of, tasks_of
 from .values import Unfit, Value
 from .wording import FAULTY, Wording, same_names, titled, wording
 
+LOG = logging.getLogger("aw_desk")
+LOG.addHandler(logging.NullHandler())
 CLOSED = "The office is closed. Nothing was sent; try again later."
 BROKEN = "The office broke off while it was asked, so it is not known whether this was done. Look at the task again before you repeat it."
 
@@ -41,7 +44,6 @@ class Desk:
         self.office = Office(address or standard(list(self.wording.spec.roles).index(self.role)), self.wording)
         self.open_tasks = Follower(["tasks", "--open", journal])
         self.records = Records(state / "desk.sqlite")
-        self.failed = ""
 
     def checked(self, specification: str) -> str:
         """The role of the journal, whose specification has the same names as the desk's."""
@@ -104,10 +106,10 @@ class Desk:
         try:
             answer = send()
         except Closed as closed:
-            self.failed = str(closed)
+            LOG.warning("%s; nothing was sent", closed)
             return Said(CLOSED, False)
         except Unsure as unsure:
-            self.failed = str(unsure)
+            LOG.warning("%s at %s", unsure, task)
             self.records.decide(clerk, task, rule, words, UNSURE)
             return Said(BROKEN, False)
         except Unfit as unfit:

@@ -16,7 +16,7 @@ from .book import NotSaid
 from .desk import Desk
 from .fields import Field, fields_of
 from .main import opened, terminal_words
-from .pages import ordered, wanted
+from .lists import ordered, wanted
 from .tasks import Task
 from .wording import human, titled
 
@@ -61,7 +61,7 @@ class Terminal:
     def run(self) -> None:
         """Shows the open tasks until `q` is typed."""
         while True:
-            tasks = ordered(wanted(list(self.desk.open().values()), self.words, "", False, self.desk.wording.sort), "old")
+            tasks = ordered(wanted(list(self.desk.open().values()), self.words, "", False, self.desk.wording), "old")
             self.screen(tasks)
             said = self.ask("Number, n, + or -, /words, q: ").strip()
             if said == "q":

@@ -12,7 +12,7 @@ from aw_forms.verdict import read
 from aw_forms.program import Sorry
 
 from .tasks import REF, Task, steps_of
-from .values import BLANK, MORE, TEXT, NUMBER, Value
+from .values import BLANK, MORE, TEXT, NUMBER, Value, readable
 
 FAULTY = 65
 Place = tuple[str, str, int]
@@ -114,7 +114,7 @@ class Wording:
             return "Not yet: this waits for what %s owes. Nothing was changed." % human(self.owner(more)[0])
         if first in ("mismatch", "circle"):
             return "This does not fit what the task was given. Nothing was changed."
-        return ANSWERS.get(said, "The office answered: %s." % said)
+        return ANSWERS.get(said, "The office answered: %s." % readable(said))
 
     def state(self, task: Task, rule: RuleLine) -> str:
         """Why a rule can't be chosen now, in words; nothing where it can."""
@@ -145,13 +145,13 @@ class Wording:
 def short(value: Value) -> str:
     """A value in a few words."""
     if value.kind == TEXT:
-        return "“%s”" % (value.word if len(value.word) <= 40 else value.word[:37] + "…")
+        return "“%s”" % readable(value.word if len(value.word) <= 40 else value.word[:37] + "…")
     return "missing" if value.kind == BLANK else value.word if value.kind in (NUMBER, MORE) else human(value.word)
 
 
 def wanted(pattern: Term) -> str:
     """What a pattern asks for at its front."""
-    return "“%s”" % pattern.name[1:-1] if pattern.name.startswith('"') else human(pattern.name)
+    return "“%s”" % readable(pattern.name[1:-1]) if pattern.name.startswith('"') else human(pattern.name)
 
 
 def notes_of(lines: list[str]) -> dict[tuple[str, str], str]:
@@ -161,7 +161,7 @@ def notes_of(lines: list[str]) -> dict[tuple[str, str], str]:
     for line in lines:
         bare = line.strip(" \t\r")
         if bare.startswith("%"):
-            above.append(bare.lstrip("% "))
+            above.append(readable(bare.lstrip("% ")))
             continue
         words = bare.replace("{", " ").replace(":", " ").split()
         if above and len(words) > 1:
