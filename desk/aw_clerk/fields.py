@@ -93,8 +93,10 @@ def fill(wording: Wording, into: Field, form: Mapping[str, str], look: bool, dep
             into.chosen = ""
     if look:
         into.fault = fault_of(into)
-    if into.chosen in wording.spec.cons and into.kind not in ("num", "text") and depth < DEEPEST_FORM:
+    if into.chosen in wording.spec.cons and into.kind not in ("num", "text"):
         into.parts = parts_of(wording, into, form)
+        if into.parts and depth == DEEPEST_FORM:
+            into.parts, into.fault = [], "Nothing deeper can be entered here: %d values within one another are the most." % DEEPEST_FORM
         for part in into.parts:
             fill(wording, part, form, look and part.key + ".seen" in form, depth + 1)
 

@@ -49,6 +49,12 @@ def phrase(wording: Wording, value: Value) -> str:
     return human(value.word) if value.kind == WORD else readable(value.word) or "(nothing)"
 
 
+def front(wording: Wording, label: str, value: Value) -> str:
+    """What stands beside a label: nothing where a value with parts is called as its label is."""
+    words = phrase(wording, value)
+    return "" if value.parts and words == human(label) else words
+
+
 def page(wording: Wording, values: list[Labelled], most: int = MOST_BYTES) -> Markup:
     """Values as nested definition lists."""
     found = [Markup('<dl class="values">')]
@@ -58,7 +64,7 @@ def page(wording: Wording, values: list[Labelled], most: int = MOST_BYTES) -> Ma
             continue
         kind = value.kind if value.word or value.kind != TEXT else "nothing"
         found.append(Markup('<div><dt>%s</dt><dd><span class="%s">') % (titled(label) or "Value", kind))
-        found += [Markup("<br>").join(phrase(wording, value).split("\n"))]
+        found += [Markup("<br>").join(front(wording, label, value).split("\n"))]
         found.append(Markup("</span><dl>") if value.parts else Markup("</span></dd></div>"))
     found.append(Markup("</dl>"))
     return Markup("").join(found)
@@ -69,9 +75,9 @@ def lines(wording: Wording, values: list[Labelled]) -> list[str]:
     found = []
     for way, label, value, depth in visits(wording, values):
         if way == "enter":
-            words = phrase(wording, value).split("\n")
+            words = front(wording, label, value).split("\n")
             pad = "  " * min(depth, 20)
-            found.append("%s%s: %s" % (pad, titled(label) or "Value", words[0]))
+            found.append(("%s%s: %s" % (pad, titled(label) or "Value", words[0])).rstrip())
             found += ["%s    %s" % (pad, more) for more in words[1:]]
     return found
 

@@ -1,15 +1,13 @@
 """The pages over real offices: a claim by clicks, what must not be shown or sent, several clerks, and offices that are closed."""
 from __future__ import annotations
 
-import random
-import re
 import time
 from collections.abc import Callable
 from pathlib import Path
 
 import pytest
 from conftest import CLAIM_TEXT, TOP, TYPED, Company
-from systems import aw, until
+from systems import until
 
 from aw_clerk.logins import line_of
 from aw_clerk.tasks import tasks_of
@@ -76,45 +74,43 @@ def test_a_claim_by_clicks(company: Make) -> None:
     text = good(front)
     assert "Decided: Open claim, by front, today" in text and "8000" in text and "not there yet" not in text
     front.follow("Decided")
-    assert 'Open claim{88012, "storm, roof", 12000, "DK50 0040"}'.replace(" ", "") in good(front).replace(" ", "")
+    assert "Open claim Policy 88012 What storm, roof Asked 12000 Number DK50 0040" in good(front)
     for role in made.roles:
         assert not made.log(role).replace("aw_desk: the desk of %s is at http://127.0.0.1:%d/\n" % (role, made.port(role)), "")
 
 
-def test_what_is_shown_is_what_the_book_says(company: Make) -> None:
-    """Drawn runs: each row of each page is one of the book's, and in the end the values are those of the undivided run."""
-    made, draw = company(CLAIM_TEXT), random.Random(3)
-    made.system.start_post()
-    desks = {role: made.open_desk(role) for role in made.roles}
-    for number in range(1, 31):
-        made.system.choose("start claim %d" % number)
-        made.system.choose('choose claim#%d open_claim {%d, "%s", %d, "DK50"}' % (number, number, draw.choice(['storm', 'a \\"b\\" <i>', 'æ']), draw.randrange(99)))
-        for role in made.roles[1:]:
-            for task, rule in (line.split() for line in made.system.ready(role) if draw.random() < 0.3):
-                fields = {"grant": " {7}", "deny": ' {"no"}', "find_repairable": " {5}"}.get(rule, "")
-                made.system.choose("choose %s %s%s" % (task, rule, fields))
-        for role in made.roles:
-            compare(made, desks[role], role)
-    settled(made)
-    plain = tasks_of(aw("plain", made.system.text + "schedule 2\n" + "\n".join(made.system.lines) + "\n").split("\nartifacts ", 1)[1].split("\n")[1:-1])
-    for role in made.roles:
-        own = tasks_of(made.book("tasks", made.journal(role)))
-        assert own and all(plain[name].text == task.text and plain[name].rule == task.rule for name, task in own.items())
+NESTED = """role shop
+con empty 0
+con item 3
+sort order shop 0 1
+start order
+type goods
+shape empty () goods
+shape item (text, num, goods) goods
+carry order ()<goods>
+% What is ordered.
+rule place {what} : order()<what>
+"""
 
 
-def compare(made: Company, browser: Browser, role: str) -> None:
-    """The list of a desk beside what the book says, and one task of it."""
-    browser.get("/")
-    shown = re.findall(r'<h2><a href="/task/([^"]*)">', browser.page.source)
-    tasks = tasks_of(made.book("tasks", "--open", made.journal(role)))
-    assert [name.replace("%23", "#") for name in shown] == list(tasks)[:40], role
-    good(browser)
-    for name in list(tasks)[:3]:
-        page = browser.get("/task/" + name.replace("#", "%23"))
-        if tasks[name].ready == []:
-            assert "Nothing can be done here now." in page.text()
-        for rule in tasks[name].ready:
-            assert '/do/%s/%s"' % (rule, name.replace("#", "%23")) in page.source
+def test_values_within_values(company: Make) -> None:
+    """A choice of constructors, and the fields of the one that was chosen."""
+    made = company(NESTED)
+    shop = made.open_desk("shop")
+    shop.get("/begin")
+    shop.press("Begin order")
+    shop.follow("Place")
+    shop.press("Go on")
+    assert "Nothing was sent: What. Choose one." in good(shop) and shop.page.status == 422
+    shop.press("Go on", What="item")
+    assert shop.page.status == 200 and "What: item" in good(shop)
+    shop.press("Go on", Part_1="lamp <1>", Part_2="many", Goods="item")
+    assert shop.page.status == 422 and "Enter a whole number in digits, as 120." in good(shop)
+    shop.press("Go on", Part_2="2", Goods="empty")
+    assert "send this?" in good(shop)
+    shop.press("Send")
+    assert "Place: done for order 1." in good(shop)
+    assert tasks_of(made.book("tasks", made.journal("shop")))["order#1"].text.startswith('{item("lamp <1>", 2, empty)}')
 
 
 HOSTILE = ["<script>alert(1)</script>", "\"'&<>", "x" * 1024, "two\nlines", "\\n", "æøå 好", "{{7*7}}", "a%00b", "\u202e\u0085"]
