@@ -3,6 +3,7 @@ from __future__ import annotations
 
 import base64
 import os
+import subprocess
 import tempfile
 from collections.abc import Callable, Iterator
 from pathlib import Path
@@ -18,7 +19,7 @@ from selenium.webdriver.common.keys import Keys
 from selenium.webdriver.remote.webelement import WebElement
 
 CHROMIUM, DRIVER = Path("/usr/bin/chromium"), Path("/usr/bin/chromedriver")
-FLAGS = ["--headless=new", "--no-sandbox", "--disable-dev-shm-usage", "--disable-gpu", "--no-first-run", "--disable-background-networking", "--disable-component-update", "--window-size=1000,1100"]
+FLAGS = ["--headless=new", "--no-sandbox", "--disable-dev-shm-usage", "--disable-gpu", "--disable-lcd-text", "--no-first-run", "--disable-background-networking", "--disable-component-update", "--window-size=1000,1100"]
 BRIGHTNESS = """
 const light = c => { const [r, g, b] = c.match(/[\\d.]+/g).map(Number).map(v => v / 255).map(v => v <= .03928 ? v / 12.92 : ((v + .055) / 1.055) ** 2.4);
                      return .2126 * r + .7152 * g + .0722 * b; };
@@ -74,14 +75,15 @@ class Screen:
         self.driver.execute_cdp_cmd("Emulation.setDeviceMetricsOverride", {"width": width, "height": height, "deviceScaleFactor": 1, "mobile": False})
 
     def picture(self, name: str) -> None:
-        """Keeps a picture of the page, where the variable DESK_PICTURES names a folder for pictures."""
+        """Keeps a picture of the page in 64 colours, where the variable DESK_PICTURES names a folder for pictures; it needs the package pngquant."""
         folder = os.environ.get("DESK_PICTURES")
         if folder:
             self.wide(640, 300)
             height = self.driver.execute_script("return Math.ceil(document.querySelector('main').getBoundingClientRect().bottom) + 16")
             clip = {"x": 0, "y": 0, "width": 640, "height": height, "scale": 1}
             data = self.driver.execute_cdp_cmd("Page.captureScreenshot", {"format": "png", "clip": clip, "captureBeyondViewport": True})["data"]
-            (Path(folder) / (name + ".png")).write_bytes(base64.b64decode(data))
+            small = subprocess.run(["pngquant", "64", "--speed", "1", "-"], input=base64.b64decode(data), capture_output=True, check=True).stdout
+            (Path(folder) / (name + ".png")).write_bytes(small)
             self.wide(1000)
 
     def moved(self, work: Callable[[], object]) -> str:
