@@ -69,7 +69,12 @@ class Desk:
 
     def case(self, case: str) -> dict[str, Task]:
         """The tasks of one case at this office, decided ones too."""
-        return tasks_of(book.said("tasks", "--case", case, self.journal))
+        return tasks_of(book.said("tasks", "--case", case, self.journal)) if self.is_case(case) else {}
+
+    def is_case(self, case: str) -> bool:
+        """Whether a word names a case, of a sort that is declared."""
+        steps = steps_of(case)
+        return steps is not None and not steps[2] and steps[0] in self.wording.spec.sorts
 
     def task(self, name: str) -> Task | None:
         """A task, open or decided."""
@@ -79,7 +84,7 @@ class Desk:
 
     def whole(self, case: str) -> dict[str, Task]:
         """A case over all offices, as it is once all letters are there."""
-        return tasks_of(book.said("cases", "--case", case, *self.journals))
+        return tasks_of(book.said("cases", "--case", case, *self.journals)) if self.is_case(case) else {}
 
     def starts(self) -> list[str]:
         """The sorts with which a case can be begun here."""

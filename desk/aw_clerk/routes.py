@@ -1,7 +1,6 @@
 """What each page of a desk shows and does. No page needs a script; each works by keyboard alone."""
 from __future__ import annotations
 
-import re
 import secrets
 import time
 from datetime import timedelta
@@ -24,7 +23,6 @@ from .wording import human, titled
 
 LONGEST_BODY, HOURS_OF_SESSION = 1 << 18, 12
 POLICY = "default-src 'none'; style-src 'self'; img-src data:; form-action 'self'; frame-ancestors 'none'; base-uri 'none'"
-CASE = re.compile(r"[a-z][a-z0-9_]*#\d+")
 
 
 def application(pages: Pages, secret: bytes) -> flask.Flask:
@@ -138,8 +136,6 @@ def reading(app: flask.Flask, pages: Pages) -> None:
 
     @app.get("/case/<case>")
     def case(case: str) -> Answer:
-        if CASE.fullmatch(case) is None:
-            flask.abort(404)
         tasks = list(desk.case(case).values())
         if not tasks:
             flask.abort(404)
@@ -148,7 +144,7 @@ def reading(app: flask.Flask, pages: Pages) -> None:
 
     @app.get("/whole/<case>")
     def whole(case: str) -> Answer:
-        if not desk.journals or CASE.fullmatch(case) is None:
+        if not desk.journals or not desk.is_case(case):
             flask.abort(404)
         try:
             tasks = list(desk.whole(case).values())

@@ -19,7 +19,8 @@ from selenium.webdriver.common.keys import Keys
 from selenium.webdriver.remote.webelement import WebElement
 
 CHROMIUM, DRIVER = Path("/usr/bin/chromium"), Path("/usr/bin/chromedriver")
-FLAGS = ["--headless=new", "--no-sandbox", "--disable-dev-shm-usage", "--disable-gpu", "--disable-lcd-text", "--no-first-run", "--disable-background-networking", "--disable-component-update", "--window-size=1000,1100"]
+FLAGS = ["--headless=new", "--no-sandbox", "--disable-dev-shm-usage", "--disable-gpu", "--disable-lcd-text", "--no-first-run",
+         "--disable-background-networking", "--disable-component-update", "--window-size=1000,1100"]
 BRIGHTNESS = """
 const light = c => { const [r, g, b] = c.match(/[\\d.]+/g).map(Number).map(v => v / 255).map(v => v <= .03928 ? v / 12.92 : ((v + .055) / 1.055) ** 2.4);
                      return .2126 * r + .7152 * g + .0722 * b; };
@@ -120,6 +121,15 @@ class Screen:
                 assert width == "3px", "the focus can't be seen"
                 return
         raise AssertionError("nothing with %r can be reached by keys" % words)
+
+    def keys(self, *keys: str) -> None:
+        """Presses keys where the focus is."""
+        self.driver.switch_to.active_element.send_keys(*keys)
+
+    def enter_on(self, words: str) -> str:
+        """Goes by keys to a link or a button with some words, and presses Enter; the words of the page that comes."""
+        self.tab_to(words)
+        return self.moved(lambda: self.keys(Keys.ENTER))
 
 
 @pytest.fixture

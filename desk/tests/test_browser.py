@@ -12,7 +12,7 @@ from systems import until
 Make = Callable[[str], Company]
 
 
-def test_a_claim_by_clicks(company: Make, screen: Screen) -> None:
+def test_a_claim_by_clicks(company: Make, screen: Screen) -> None:  # noqa: F811
     made = company(TYPED)
     made.system.start_post()
     for role in made.roles:
@@ -55,25 +55,34 @@ def test_a_claim_by_clicks(company: Make, screen: Screen) -> None:
     assert not made.system.items("payments")
 
 
-def test_a_claim_by_keys_alone(company: Make, screen: Screen) -> None:
+def test_a_claim_by_keys_alone(company: Make, screen: Screen) -> None:  # noqa: F811
     made = company(TYPED)
-    made.open_desk("front")
+    made.system.start_post()
+    for role in made.roles:
+        made.open_desk(role)
     screen.at(0)
-    screen.tab_to("Begin a case")
-    screen.moved(lambda: screen.driver.switch_to.active_element.send_keys(Keys.ENTER))
+    screen.enter_on("Begin a case")
     screen.tab_to("Number of the case")
-    screen.driver.switch_to.active_element.send_keys(Keys.CONTROL, "a")
-    screen.driver.switch_to.active_element.send_keys("77")
-    screen.moved(lambda: screen.driver.switch_to.active_element.send_keys(Keys.ENTER))
-    assert "Claim 77 has begun." in screen.text()
-    screen.tab_to("Open claim")
-    screen.moved(lambda: screen.driver.switch_to.active_element.send_keys(Keys.ENTER))
+    screen.keys(Keys.CONTROL, "a")
+    screen.keys("77")
+    assert "Claim 77 has begun." in screen.moved(lambda: screen.keys(Keys.ENTER))
+    screen.enter_on("Open claim")
     for label, value in (("Policy", "1"), ("What", "by keys"), ("Asked", "2"), ("Number", "n")):
         screen.tab_to(label)
-        screen.driver.switch_to.active_element.send_keys(value)
-    screen.tab_to("Go on")
-    screen.moved(lambda: screen.driver.switch_to.active_element.send_keys(Keys.ENTER))
-    assert "by keys" in screen.text()
-    screen.tab_to("Send")
-    screen.moved(lambda: screen.driver.switch_to.active_element.send_keys(Keys.ENTER))
-    assert "Open claim: done for claim 77." in screen.text()
+        screen.keys(value)
+    assert "by keys" in screen.enter_on("Go on")
+    assert "Open claim: done for claim 77." in screen.enter_on("Send")
+    until(lambda: "Assessment, claim 77" in screen.at(1), "the assessor has no task")
+    screen.enter_on("Assessment, claim 77")
+    screen.tab_to("Something else")
+    screen.keys(Keys.ENTER)
+    screen.enter_on("Deny")
+    screen.tab_to("Why")
+    screen.keys("too late")
+    screen.enter_on("Go on")
+    assert "Deny: done for assessment, claim 77." in screen.enter_on("Send")
+    until(lambda: "Can be done: File away" in screen.at(2), "payments was not told")
+    screen.enter_on("Payment, claim 77")
+    screen.enter_on("File away")
+    screen.enter_on("Send")
+    until(lambda: "too late" in screen.at(0, "/case/claim%2377") and "unpaid" in screen.text(), "the front office has no letter")

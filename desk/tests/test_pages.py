@@ -74,7 +74,7 @@ def test_a_claim_by_clicks(company: Make) -> None:
     text = good(front)
     assert "Decided: Open claim, by front, today" in text and "8000" in text and "not there yet" not in text
     front.follow("Decided")
-    assert "Open claim Policy 88012 What storm, roof Asked 12000 Number DK50 0040" in good(front)
+    assert all(words in good(front) for words in ("Policy 88012", "What storm, roof", "Asked 12000", "Number DK50 0040"))
     for role in made.roles:
         assert not made.log(role).replace("aw_desk: the desk of %s is at http://127.0.0.1:%d/\n" % (role, made.port(role)), "")
 
@@ -131,6 +131,24 @@ def test_any_text_comes_through(company: Make, text: str) -> None:
     assert "<script>" not in front.page.source
 
 
+def test_bytes_that_are_no_text(company: Make) -> None:
+    """Another client may enter any bytes; each page shows them, and none fails."""
+    made = company(TYPED)
+    made.system.start_post()
+    front, assessor = made.open_desk("front"), made.open_desk("assessor")
+    made.system.choose("start claim 1")
+    data = b'\xff\xfe \xc2\x9b \xe2\x80\xae "\x80'.decode("utf-8", "surrogateescape").replace('"', '\\"')
+    assert made.system.choose('choose claim#1 open_claim {1, "%s", 2, "n"}' % data) == "taken"
+    settled(made)
+    for browser, url in ((front, "/case/claim%231"), (front, "/task/claim%231"), (assessor, "/"), (assessor, "/task/claim%231/open_claim.1"), (assessor, "/?words=%ff")):
+        browser.get(url)
+        assert browser.page.status == 200 and ('\\xff\\xfe \\x9b \\u202e "\\x80' in good(browser) or "words" in url), url
+    assessor.get("/task/claim%231/open_claim.1")
+    assessor.follow("Inspect")
+    assessor.press("Send")
+    assert "Inspect: done" in good(assessor)
+
+
 def test_what_no_text_may_have_is_told(company: Make) -> None:
     made = company(TYPED)
     front = made.open_desk("front")
@@ -169,8 +187,9 @@ def test_headers_and_paths(company: Make) -> None:
     page = front.get("/")
     assert "script" not in page.headers["content-security-policy"] and "default-src 'none'" in page.headers["content-security-policy"]
     assert page.headers["x-content-type-options"] == "nosniff" and "httponly" in page.headers["set-cookie"].lower() and "samesite=strict" in page.headers["set-cookie"].lower()
-    for url in ("/task/", "/task/claim%23999", "/task/%3Cscript%3E", "/task/claim%231/../../etc/passwd", "/case/claim%231%20--redo", "/case/--help", "/case/claim%237", "/whole/claim%231", "/do/x/claim%231",
-                "/static/style.css", "/templates/base.html", "/%ff%fe", "/" + "a" * 60000):
+    for url in ("/task/", "/task/claim%23999", "/task/%3Cscript%3E", "/task/claim%231/../../etc/passwd", "/task/nothing%231", "/task/claim%2318446744073709551616",
+                "/case/claim%231%20--redo", "/case/--help", "/case/claim%237", "/case/nothing%231", "/case/claim%2307", "/case/claim%23%D9%A3", "/whole/claim%231",
+                "/do/x/claim%231", "/static/style.css", "/templates/base.html", "/%ff%fe", "/" + "a" * 60000):
         assert front.get(url).status in (400, 404), url
         assert "<script>" not in front.page.source
     for query in ("page=99999999999999999999999", "page=-1", "page=x", "words=%00%ff", "sort=%3Cb%3E", "order=%27"):
@@ -208,6 +227,8 @@ def test_two_clerks(company: Make, tmp_path: Path) -> None:
     assert "Decided: Open claim, by ada" in good(bob)
     bob.press("Sign out")
     assert "Sign in" in bob.get("/").text()
+    logins.write_text("ada\n", encoding="utf-8")
+    assert "Sign in" in ada.get("/").text() and ada.page.status == 200, "nobody is let in while the file is none"
     logins.write_text(line_of("bob", "battery staple") + "\n", encoding="utf-8")
     time.sleep(0.01)
     assert "Sign in" in ada.get("/").text(), "who is taken out of the file is out"
