@@ -1,6 +1,7 @@
 """The desk of one office: its tasks as the book has them, and choices sent to its node."""
 from __future__ import annotations
 
+import logging
 from collections.abc import Callable
 from dataclasses import dataclass
 from pathlib import Path
@@ -19,6 +20,8 @@ from .tasks import Task, steps_of, tasks_of
 from .values import Unfit, Value
 from .wording import FAULTY, Wording, same_names, titled, wording
 
+LOG = logging.getLogger("aw_desk")
+LOG.addHandler(logging.NullHandler())
 CLOSED = "The office is closed. Nothing was sent; try again later."
 BROKEN = "The office broke off while it was asked, so it is not known whether this was done. Look at the task again before you repeat it."
 
@@ -41,7 +44,6 @@ class Desk:
         self.office = Office(address or standard(list(self.wording.spec.roles).index(self.role)), self.wording)
         self.open_tasks = Follower(["tasks", "--open", journal])
         self.records = Records(state / "desk.sqlite")
-        self.failed = ""
 
     def checked(self, specification: str) -> str:
         """The role of the journal, whose specification has the same names as the desk's."""
@@ -67,7 +69,12 @@ class Desk:
 
     def case(self, case: str) -> dict[str, Task]:
         """The tasks of one case at this office, decided ones too."""
-        return tasks_of(book.said("tasks", "--case", case, self.journal))
+        return tasks_of(book.said("tasks", "--case", case, self.journal)) if self.is_case(case) else {}
+
+    def is_case(self, case: str) -> bool:
+        """Whether a word names a case, of a sort that is declared."""
+        steps = steps_of(case)
+        return steps is not None and not steps[2] and steps[0] in self.wording.spec.sorts
 
     def task(self, name: str) -> Task | None:
         """A task, open or decided."""
@@ -77,7 +84,7 @@ class Desk:
 
     def whole(self, case: str) -> dict[str, Task]:
         """A case over all offices, as it is once all letters are there."""
-        return tasks_of(book.said("cases", "--case", case, *self.journals))
+        return tasks_of(book.said("cases", "--case", case, *self.journals)) if self.is_case(case) else {}
 
     def starts(self) -> list[str]:
         """The sorts with which a case can be begun here."""
@@ -104,10 +111,10 @@ class Desk:
         try:
             answer = send()
         except Closed as closed:
-            self.failed = str(closed)
+            LOG.warning("%s; nothing was sent", closed)
             return Said(CLOSED, False)
         except Unsure as unsure:
-            self.failed = str(unsure)
+            LOG.warning("%s at %s", unsure, task)
             self.records.decide(clerk, task, rule, words, UNSURE)
             return Said(BROKEN, False)
         except Unfit as unfit:

@@ -1,6 +1,7 @@
 """The fields of a rule as a form: each by its own name, a value with parts as fields within a field."""
 from __future__ import annotations
 
+import re
 from collections.abc import Mapping
 from dataclasses import dataclass, field
 
@@ -11,8 +12,9 @@ from aw_offices.frames import LONGEST_TEXT
 from .values import LARGEST, NUMBER, TEXT, WORD, Value
 from .wording import Wording, human, titled
 
-KINDS = ("", NUMBER, TEXT)
 DEEPEST_FORM = 12
+DAY = re.compile(r"(\d{4}-\d\d-\d\d)?")
+LONG_WORDS = frozenset(("what", "why", "text", "note", "reason", "comment", "report", "letter", "description"))
 
 
 @dataclass(slots=True)
@@ -42,12 +44,22 @@ class Field:
     @property
     def is_long(self) -> bool:
         """Whether a text wants several lines."""
-        return self.is_text and (len(self.entered) > 60 or any(word in self.label.lower().split() for word in ("what", "why", "text", "note", "reason", "comment", "report", "letter", "description")))
+        return self.is_text and (len(self.entered) > 60 or "\n" in self.entered or not LONG_WORDS.isdisjoint(self.label.lower().split()))
+
+    @property
+    def is_day(self) -> bool:
+        """Whether a text is a day, by its name."""
+        return self.is_text and not {"day", "date"}.isdisjoint(self.label.lower().split()) and DAY.fullmatch(self.entered) is not None
 
     @property
     def is_whole(self) -> bool:
         """Whether everything within is entered and fits."""
         return not self.fault and bool(self.is_number or self.is_text or self.chosen) and all(part.is_whole for part in self.parts)
+
+    @property
+    def first_fault(self) -> "Field | None":
+        """The first field with something wrong, this one or one within it."""
+        return self if self.fault else next((found for part in self.parts if (found := part.first_fault)), None)
 
     def value(self) -> Value:
         """What was entered, where it is whole."""
@@ -81,8 +93,10 @@ def fill(wording: Wording, into: Field, form: Mapping[str, str], look: bool, dep
             into.chosen = ""
     if look:
         into.fault = fault_of(into)
-    if into.chosen in wording.spec.cons and into.kind not in ("num", "text") and depth < DEEPEST_FORM:
+    if into.chosen in wording.spec.cons and into.kind not in ("num", "text"):
         into.parts = parts_of(wording, into, form)
+        if into.parts and depth == DEEPEST_FORM:
+            into.parts, into.fault = [], "Nothing deeper can be entered here: %d values within one another are the most." % DEEPEST_FORM
         for part in into.parts:
             fill(wording, part, form, look and part.key + ".seen" in form, depth + 1)
 

@@ -4,6 +4,7 @@ from __future__ import annotations
 import base64
 import hashlib
 import hmac
+import logging
 import re
 import secrets
 from dataclasses import dataclass, field
@@ -11,6 +12,7 @@ from pathlib import Path
 
 from aw_forms.program import Sorry
 
+LOG = logging.getLogger("aw_desk")
 NAME = re.compile(r"[^\s:\x00-\x1f]{1,64}")
 COST, BLOCK, LANES, MOST_MEMORY = 1 << 15, 8, 1, 1 << 26
 SHORTEST = 10
@@ -56,9 +58,17 @@ class Logins:
         except (OSError, UnicodeDecodeError) as error:
             raise Sorry("%s, which says who may sit at the desk, can't be read: %s." % (self.path, error), 66) from None
 
+    def read_again(self) -> None:
+        """Reads the file where it changed; while it can't be read nobody is let in."""
+        try:
+            self.read()
+        except Sorry as sorry:
+            LOG.error("%s", sorry)
+            self.lines, self.stamp = {}, (0, 0)
+
     def fits(self, name: str, password: str) -> bool:
         """Whether this is the password of a clerk. It takes the same time where there is no such clerk."""
-        self.read()
+        self.read_again()
         kept = self.lines.get(name, "scrypt$%d$%d$%d$%s$" % (COST, BLOCK, LANES, base64.b64encode(bytes(16)).decode()))
         try:
             _, cost, block, lanes, salt, sum_ = kept.split("$")
@@ -69,5 +79,5 @@ class Logins:
 
     def has(self, name: str) -> bool:
         """Whether a clerk is still in the file."""
-        self.read()
+        self.read_again()
         return name in self.lines

@@ -16,7 +16,8 @@ from aw_offices.spread import spread
 
 from .desk import Desk
 from .logins import Logins, line_of
-from .pages import Pages, application, secret_of
+from .pages import Pages
+from .routes import application, secret_of
 
 NAME = "aw_desk"
 THREADS, FIRST_PORT = 8, 8400

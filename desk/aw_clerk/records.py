@@ -1,6 +1,7 @@
 """The desk's own notes: who decided what and when, since when a task has been there, and who is at it. The office's journal has none of this."""
 from __future__ import annotations
 
+import logging
 import sqlite3
 import threading
 import time
@@ -10,6 +11,7 @@ from pathlib import Path
 
 from aw_forms.program import Sorry
 
+LOG = logging.getLogger("aw_desk")
 TABLES = """
 CREATE TABLE IF NOT EXISTS decided (number INTEGER PRIMARY KEY, at REAL NOT NULL, clerk TEXT NOT NULL, task TEXT NOT NULL, rule TEXT NOT NULL,
                                     entered TEXT NOT NULL, answer TEXT NOT NULL);
@@ -77,11 +79,15 @@ class Records:
         if not new:
             return
         with self.turn:
-            now = time.time()
-            self.base.execute("BEGIN")
-            self.base.executemany("INSERT OR IGNORE INTO seen VALUES (?, ?)", [(task, now) for task in new])
-            self.base.execute("COMMIT")
-            self.known.update(new)
+            try:
+                self.base.execute("BEGIN")
+                self.base.executemany("INSERT OR IGNORE INTO seen VALUES (?, ?)", [(task, time.time()) for task in new])
+                self.base.execute("COMMIT")
+                self.known.update(new)
+            except sqlite3.Error as error:
+                LOG.warning("since when tasks are here can't be noted: %s", error)
+                if self.base.in_transaction:
+                    self.base.execute("ROLLBACK")
 
     def since(self, tasks: list[str]) -> dict[str, float]:
         """Since when some tasks have been here."""

@@ -4,9 +4,9 @@ from __future__ import annotations
 import re
 from dataclasses import dataclass, field
 
-from .values import Value, groups_of
+from .values import LARGEST, Value, groups_of
 
-NODE = re.compile(r"([a-z][a-z0-9_]*)#(\d+)((?:/[a-z][a-z0-9_]*\.[1-8])*)")
+NODE = re.compile(r"([a-z][a-z0-9_]*)#(0|[1-9][0-9]{0,19})((?:/[a-z][a-z0-9_]*\.[1-8])*)")
 REF = re.compile(r"(.*):([rp])(\d+)")
 
 
@@ -45,7 +45,7 @@ class Task:
 def steps_of(name: str) -> tuple[str, int, list[tuple[str, int]]] | None:
     """The sort, the number and the steps of a task's name; nothing where it is none."""
     found = NODE.fullmatch(name)
-    if found is None:
+    if found is None or int(found[2]) > LARGEST:
         return None
     return found[1], int(found[2]), [(rule, int(child)) for rule, _, child in (step.partition(".") for step in found[3].split("/")[1:])]
 

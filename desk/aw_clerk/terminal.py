@@ -1,7 +1,7 @@
 """The command `aw_desk_tty`: the desk in a terminal, by keys alone."""
 from __future__ import annotations
 
-from collections.abc import Callable
+from collections.abc import Callable, Iterable
 
 from prompt_toolkit import PromptSession
 from prompt_toolkit.completion import WordCompleter
@@ -16,8 +16,9 @@ from .book import NotSaid
 from .desk import Desk
 from .fields import Field, fields_of
 from .main import opened, terminal_words
-from .pages import ordered, wanted
+from .lists import ordered, wanted
 from .tasks import Task
+from .values import TEXT
 from .wording import human, titled
 
 NAME = "aw_desk_tty"
@@ -61,7 +62,7 @@ class Terminal:
     def run(self) -> None:
         """Shows the open tasks until `q` is typed."""
         while True:
-            tasks = ordered(wanted(list(self.desk.open().values()), self.words, "", False, self.desk.wording.sort), "old")
+            tasks = ordered(wanted(list(self.desk.open().values()), self.words, "", False, self.desk.wording), "old")
             self.screen(tasks)
             said = self.ask("Number, n, + or -, /words, q: ").strip()
             if said == "q":
@@ -117,7 +118,7 @@ class Terminal:
         """Asks for the fields of a rule, shows them, and sends them."""
         wording = self.desk.wording
         form: dict[str, str] = {}
-        while (field := missing(fields_of(wording, rule, form, True))) is not None:
+        while (field := missing(fields_of(wording, rule, form, True), form)) is not None:
             self.fill(field, form)
         entered = [field.value() for field in fields_of(wording, rule, form, True)]
         print("\n%s: send this?" % titled(rule.name.text))
@@ -128,17 +129,21 @@ class Terminal:
         print(self.desk.choose(self.clerk, task, rule, entered).words)
 
     def fill(self, field: Field, form: dict[str, str]) -> None:
-        """Asks for one field."""
-        form[field.key + ".seen"] = "1"
-        if field.options and not field.chosen:
-            words = {words: value for value, words in field.options}
-            said = self.ask("%s (%s): " % (field.label, ", ".join(list(words)[:12])), lambda text: "" if text.strip() in words or not text else "One of: %s." % ", ".join(words),
-                            list(words)).strip()
+        """Asks what a field is, where that is not known, or what is in it."""
+        words = {words: value for value, words in field.options}
+        if field.options and field.kind is None and field.key + ".is" not in form:
+            said = self.ask("%s is (%s; an empty line for a text): " % (field.label, some(words)), lambda text: "" if text.strip() in ("", *words) else "One of: %s." % ", ".join(words), list(words))
+            form[field.key + ".is"] = words.get(said.strip(), TEXT)
+        elif field.options and not field.chosen:
+            said = self.ask("%s (%s): " % (field.label, some(words)), lambda text: "" if text.strip() in ("", *words) else "One of: %s." % ", ".join(words), list(words)).strip()
             if not said:
                 raise Back
             form[field.key + ".is"] = words[said]
-            return
-        form[field.key] = self.ask("%s: " % field.label, lambda text: number_fault(text) if field.is_number else "").replace("\\n", "\n")
+        else:
+            if field.fault and field.key + ".seen" in form:
+                print(field.fault)
+            form[field.key + ".seen"] = "1"
+            form[field.key] = self.ask("%s: " % field.label, lambda text: number_fault(text) if field.is_number else "").replace("\\n", "\n")
 
     def begin(self) -> None:
         """Begins a case."""
@@ -159,12 +164,19 @@ def number_fault(text: str) -> str:
     return "" if digits.isascii() and digits.isdigit() and int(digits[:30]) < 1 << 64 and len(digits) <= 20 else "A whole number, please."
 
 
-def missing(fields: list[Field]) -> Field | None:
-    """The first field that is not whole."""
+def some(words: Iterable[str]) -> str:
+    """The first of some words, for a question."""
+    found = list(words)
+    return ", ".join(found[:12]) + (", .." if len(found) > 12 else "")
+
+
+def missing(fields: list[Field], form: dict[str, str]) -> Field | None:
+    """The first field that is to be asked for."""
     todo = list(fields)
     while todo:
         field = todo.pop(0)
-        if not field.is_whole and all(part.is_whole for part in field.parts):
+        plain = field.is_number or field.is_text
+        if field.fault or (plain and field.key + ".seen" not in form) or not (plain or field.chosen):
             return field
         todo = field.parts + todo
     return None

@@ -3,12 +3,13 @@ from __future__ import annotations
 
 from collections.abc import Iterator
 
-from markupsafe import Markup
+from markupsafe import Markup, escape
 
-from .values import BLANK, MORE, TEXT, WORD, Value
+from .values import BLANK, MORE, TEXT, WORD, Value, readable
 from .wording import Wording, human, titled
 
 DEEPEST = 40
+MOST_BYTES, OF_A_TAG = 24_000, 90
 Labelled = tuple[str, Value]
 
 
@@ -17,12 +18,21 @@ def labelled(wording: Wording, value: Value) -> list[Labelled]:
     return [(wording.part(value.word, at), part) for at, part in enumerate(value.parts)]
 
 
-def visits(wording: Wording, values: list[Labelled]) -> Iterator[tuple[str, str, Value, int]]:
-    """Goes through values from left to right: `enter` each, and `leave` each that has parts."""
-    todo = [("enter", label, value, 0) for label, value in reversed(values)]
+def size(label: str, value: Value) -> int:
+    """About how many bytes the front of a value takes on a page."""
+    return OF_A_TAG + len(label) + len(str(escape(value.word)).encode("utf-8", "surrogateescape"))
+
+
+def visits(wording: Wording, values: list[Labelled], most: int = MOST_BYTES) -> Iterator[tuple[str, str, Value, int]]:
+    """Goes through values from left to right: `enter` each, and `leave` each that has parts. Of what is larger than a page shows, the rest is left out."""
+    todo, left = [("enter", label, value, 0) for label, value in reversed(values)], most
     while todo:
         way, label, value, depth = todo.pop()
-        if depth > DEEPEST:
+        if way == "enter":
+            left -= size(label, value)
+        if way == "enter" and left < 0:
+            label, value, todo = "", Value(MORE, "…"), [one for one in todo if one[0] == "leave"]
+        elif depth > DEEPEST:
             value = Value(MORE, "…")
         yield way, label, value, depth
         if way == "enter" and value.parts:
@@ -36,19 +46,25 @@ def phrase(wording: Wording, value: Value) -> str:
         return wording.missing(value.word)
     if value.kind == MORE:
         return "… and more, which is not shown here"
-    return human(value.word) if value.kind == WORD else value.word or "(nothing)"
+    return human(value.word) if value.kind == WORD else readable(value.word) or "(nothing)"
 
 
-def page(wording: Wording, values: list[Labelled]) -> Markup:
+def front(wording: Wording, label: str, value: Value) -> str:
+    """What stands beside a label: nothing where a value with parts is called as its label is."""
+    words = phrase(wording, value)
+    return "" if value.parts and words == human(label) else words
+
+
+def page(wording: Wording, values: list[Labelled], most: int = MOST_BYTES) -> Markup:
     """Values as nested definition lists."""
     found = [Markup('<dl class="values">')]
-    for way, label, value, _ in visits(wording, values):
+    for way, label, value, _ in visits(wording, values, most):
         if way == "leave":
             found.append(Markup("</dl></dd></div>"))
             continue
         kind = value.kind if value.word or value.kind != TEXT else "nothing"
         found.append(Markup('<div><dt>%s</dt><dd><span class="%s">') % (titled(label) or "Value", kind))
-        found += [Markup("<br>").join(phrase(wording, value).split("\n"))]
+        found += [Markup("<br>").join(front(wording, label, value).split("\n"))]
         found.append(Markup("</span><dl>") if value.parts else Markup("</span></dd></div>"))
     found.append(Markup("</dl>"))
     return Markup("").join(found)
@@ -59,9 +75,9 @@ def lines(wording: Wording, values: list[Labelled]) -> list[str]:
     found = []
     for way, label, value, depth in visits(wording, values):
         if way == "enter":
-            words = phrase(wording, value).split("\n")
+            words = front(wording, label, value).split("\n")
             pad = "  " * min(depth, 20)
-            found.append("%s%s: %s" % (pad, titled(label) or "Value", words[0]))
+            found.append(("%s%s: %s" % (pad, titled(label) or "Value", words[0])).rstrip())
             found += ["%s    %s" % (pad, more) for more in words[1:]]
     return found
 

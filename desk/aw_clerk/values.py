@@ -10,6 +10,7 @@ from aw_offices.frames import DEEPEST, LONGEST_TEXT, MOST_SYMBOLS
 
 TOKEN = re.compile(r'"((?:[^"\\]|\\.)*)"|\?([a-z][a-z0-9_]*#\d+[^ ,()<>{}]*)|([a-z][a-z0-9_]*)|(\d+)|([(){}<>,])|[ ]+')
 PAIR = re.compile(r"\\(.)")
+UNSHOWN = re.compile("[\x00-\x09\x0b-\x1f\x7f-\x9f\u202a-\u202e\u2066-\u2069\ud800-\udfff]")
 MOST_SHOWN = 400
 LARGEST = (1 << 64) - 1
 TEXT, NUMBER, WORD, BLANK, MORE = "text", "number", "word", "blank", "more"
@@ -46,6 +47,11 @@ class Value:
             if value.kind == BLANK:
                 yield value.word
             todo += reversed(value.parts)
+
+
+def readable(text: str) -> str:
+    """A text as it can be shown: bytes that are no UTF-8, and signs that drive a terminal or turn what stands behind them round, are written as `\\xHH` or `\\uHHHH`."""
+    return UNSHOWN.sub(lambda sign: "\\u%04x" % ord(sign[0]) if 0xff < ord(sign[0]) < 0xd800 else "\\x%02x" % (ord(sign[0]) & 0xff), text)
 
 
 def text_of(inside: str) -> str:

@@ -8,11 +8,12 @@ from aw_forms.lines import RuleLine, Term
 from aw_forms.places import listed
 from aw_forms.specification import Specification, is_variable
 from aw_forms.transcript import sort_of
+from aw_forms.value_types import gives_of, takes_of
 from aw_forms.verdict import read
 from aw_forms.program import Sorry
 
 from .tasks import REF, Task, steps_of
-from .values import BLANK, MORE, TEXT, NUMBER, Value
+from .values import BLANK, MORE, TEXT, NUMBER, Value, readable
 
 FAULTY = 65
 Place = tuple[str, str, int]
@@ -114,7 +115,7 @@ class Wording:
             return "Not yet: this waits for what %s owes. Nothing was changed." % human(self.owner(more)[0])
         if first in ("mismatch", "circle"):
             return "This does not fit what the task was given. Nothing was changed."
-        return ANSWERS.get(said, "The office answered: %s." % said)
+        return ANSWERS.get(said, "The office answered: %s." % readable(said))
 
     def state(self, task: Task, rule: RuleLine) -> str:
         """Why a rule can't be chosen now, in words; nothing where it can."""
@@ -145,13 +146,13 @@ class Wording:
 def short(value: Value) -> str:
     """A value in a few words."""
     if value.kind == TEXT:
-        return "“%s”" % (value.word if len(value.word) <= 40 else value.word[:37] + "…")
+        return "“%s”" % readable(value.word if len(value.word) <= 40 else value.word[:37] + "…")
     return "missing" if value.kind == BLANK else value.word if value.kind in (NUMBER, MORE) else human(value.word)
 
 
 def wanted(pattern: Term) -> str:
     """What a pattern asks for at its front."""
-    return "“%s”" % pattern.name[1:-1] if pattern.name.startswith('"') else human(pattern.name)
+    return "“%s”" % readable(pattern.name[1:-1]) if pattern.name.startswith('"') else human(pattern.name)
 
 
 def notes_of(lines: list[str]) -> dict[tuple[str, str], str]:
@@ -161,7 +162,7 @@ def notes_of(lines: list[str]) -> dict[tuple[str, str], str]:
     for line in lines:
         bare = line.strip(" \t\r")
         if bare.startswith("%"):
-            above.append(bare.lstrip("% "))
+            above.append(readable(bare.lstrip("% ")))
             continue
         words = bare.replace("{", " ").replace(":", " ").split()
         if above and len(words) > 1:
@@ -171,16 +172,18 @@ def notes_of(lines: list[str]) -> dict[tuple[str, str], str]:
 
 
 class Labels:
-    """Votes of a specification's rules on what each part of a constructor, each value and each result of a sort is called."""
+    """Votes of a specification's rules on what each part of a constructor, each value and each result of a sort is called. Where the rules give no
+    name of more than one letter it is called as its type, and where it has none as the subtask that it comes from."""
 
     def __init__(self, spec: Specification) -> None:
         self.spec = spec
         self.votes: dict[Place, Counter[str]] = {}
+        self.subtasks: dict[Place, Counter[str]] = {}
         for rule in spec.rules.values():
             self.rule(rule)
 
     def rule(self, rule: RuleLine) -> None:
-        """The votes of a rule: the names of its variables; one of a single letter that stands for a subtask's only result is called as the subtask."""
+        """The votes of a rule: the names of its variables; of one of a single letter that stands for a subtask's only result, the name of the subtask."""
         names = {child.names[0].text: child.sort.text for child in rule.children if len(child.names) == 1 and len(child.names[0].text) == 1}
         self.terms(rule.patterns, "in", rule.sort.text, {})
         self.terms(rule.results, "out", rule.sort.text, names)
@@ -195,7 +198,9 @@ class Labels:
         while todo:
             term, place = todo.pop()
             if is_variable(self.spec, term):
-                self.vote(place, names.get(term.name, term.name))
+                self.vote(place, term.name)
+                if term.name in names:
+                    self.subtasks.setdefault(place, Counter())[names[term.name]] += 1
             todo += [(part, ("con", term.name, at)) for at, part in enumerate(term.parts or [])]
 
     def vote(self, place: Place, name: str) -> None:
@@ -203,9 +208,24 @@ class Labels:
         if len(name) > 1:
             self.votes.setdefault(place, Counter())[name] += 1
 
+    def types(self) -> dict[Place, str]:
+        """The types of places, but for numbers and texts."""
+        found: dict[Place, str] = {}
+        for name, shape in self.spec.shapes.items():
+            found.update({("con", name, at): part.text for at, part in enumerate(shape.parts)})
+        for name in self.spec.carries:
+            found.update({("in", name, at): kind for at, kind in enumerate(takes_of(self.spec, name))})
+            found.update({("out", name, at): kind for at, kind in enumerate(gives_of(self.spec, name))})
+        return {place: kind for place, kind in found.items() if kind in self.spec.types}
+
     def most(self) -> dict[Place, str]:
         """For each place the name that it has most often."""
-        return {place: names.most_common(1)[0][0] for place, names in self.votes.items()}
+        return {**oftenest(self.subtasks), **self.types(), **oftenest(self.votes)}
+
+
+def oftenest(votes: dict[Place, Counter[str]]) -> dict[Place, str]:
+    """For each place the name with the most votes."""
+    return {place: names.most_common(1)[0][0] for place, names in votes.items()}
 
 
 def wording(text: str, name: str) -> Wording:

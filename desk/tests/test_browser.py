@@ -1,125 +1,18 @@
 """The pages in a real browser: the claim by clicks and by keys alone, narrow screens, and nothing told in the console."""
 from __future__ import annotations
 
-import os
-import tempfile
-from collections.abc import Callable, Iterator
-from pathlib import Path
+from collections.abc import Callable
 
-import pytest
-from conftest import FIRST_DESK, TYPED, Company
-from systems import until
-
-from selenium import webdriver
-from selenium.webdriver.chrome.service import Service
+from conftest import TYPED, Company
+from screens import Screen, screen  # noqa: F401
 from selenium.webdriver.common.by import By
 from selenium.webdriver.common.keys import Keys
-from selenium.webdriver.remote.webelement import WebElement
+from systems import until
 
 Make = Callable[[str], Company]
-CHROMIUM, DRIVER = Path("/usr/bin/chromium"), Path("/usr/bin/chromedriver")
-FLAGS = ["--headless=new", "--no-sandbox", "--disable-dev-shm-usage", "--disable-gpu", "--no-first-run", "--disable-background-networking", "--disable-component-update", "--window-size=1000,1100"]
-BRIGHTNESS = """
-const light = c => { const [r, g, b] = c.match(/[\\d.]+/g).map(Number).map(v => v / 255).map(v => v <= .03928 ? v / 12.92 : ((v + .055) / 1.055) ** 2.4);
-                     return .2126 * r + .7152 * g + .0722 * b; };
-const behind = e => { for (; e; e = e.parentElement) { const c = getComputedStyle(e).backgroundColor; if (!/, 0\\)$/.test(c)) return c; } return 'rgb(255, 255, 255)'; };
-return [...document.querySelectorAll('body *')].filter(e => e.offsetParent && [...e.childNodes].some(n => n.nodeType == 3 && n.textContent.trim())).map(e => {
-  const a = light(getComputedStyle(e).color), b = light(behind(e)); return [(Math.max(a, b) + .05) / (Math.min(a, b) + .05), e.tagName + ' ' + e.textContent.slice(0, 30)]; })
-  .filter(([ratio]) => ratio < 4.5);
-"""
-SMALL = """
-return [...document.querySelectorAll('button, select, textarea, input:not([type=hidden]):not([type=checkbox]), .button, summary')].filter(e => e.offsetParent)
-  .map(e => [e.getBoundingClientRect().height, e.tagName + ' ' + e.textContent.slice(0, 20)]).filter(([height]) => height < 44);
-"""
 
 
-class Screen:
-    """A browser with a screen."""
-
-    def __init__(self, profile: str) -> None:
-        options = webdriver.ChromeOptions()
-        options.binary_location = str(CHROMIUM)
-        for flag in [*FLAGS, "--user-data-dir=" + profile]:
-            options.add_argument(flag)
-        options.set_capability("goog:loggingPrefs", {"browser": "ALL"})
-        self.driver = webdriver.Chrome(service=Service(str(DRIVER)), options=options)
-        self.driver.set_page_load_timeout(60)
-        self.seen = 0
-
-    def at(self, number: int, path: str = "/") -> str:
-        """Goes to a page of a desk."""
-        self.driver.get("http://127.0.0.1:%d%s" % (FIRST_DESK + number, path))
-        return self.looked()
-
-    def text(self) -> str:
-        """The words of the page."""
-        return " ".join(self.driver.find_element(By.TAG_NAME, "body").text.split())
-
-    def looked(self) -> str:
-        """Looks at a page as a person would who sees badly, or holds a telephone; its words."""
-        driver = self.driver
-        driver.set_window_size(390, 800)
-        assert driver.execute_script("return document.documentElement.scrollWidth <= innerWidth + 1"), "wider than the screen: %s" % driver.current_url
-        assert not driver.execute_script(SMALL), (driver.current_url, driver.execute_script(SMALL))
-        driver.set_window_size(1000, 1100)
-        assert not driver.execute_script(BRIGHTNESS), (driver.current_url, driver.execute_script(BRIGHTNESS))
-        told = [entry for entry in driver.get_log("browser") if entry["level"] == "SEVERE"]
-        assert not told, told
-        self.seen += 1
-        pictures = os.environ.get("DESK_PICTURES")
-        if pictures:
-            driver.save_screenshot("%s/%03d.png" % (pictures, self.seen))
-        return self.text()
-
-    def moved(self, work: Callable[[], object]) -> str:
-        """Does something that leads to another page, and waits until it is there; its words."""
-        self.driver.execute_script("window.left = 1")
-        work()
-        until(lambda: self.driver.execute_script('return window.left === undefined && document.readyState === "complete"'), "no other page", 60)
-        return self.looked()
-
-    def click(self, words: str) -> str:
-        """Clicks on a link or a button with some words."""
-        return self.moved(next(element for element in self.driver.find_elements(By.CSS_SELECTOR, "a, button") if words in element.text).click)
-
-    def field(self, label: str) -> WebElement:
-        """The field with a label."""
-        found = next(element for element in self.driver.find_elements(By.TAG_NAME, "label") if element.text.strip() == label)
-        return self.driver.find_element(By.ID, found.get_attribute("for"))
-
-    def enter(self, **values: str) -> None:
-        """Enters values by labels."""
-        for label, value in values.items():
-            field = self.field(label)
-            field.clear()
-            field.send_keys(value)
-
-    def tab_to(self, words: str) -> None:
-        """Presses the tabulator until something with some words, or a field with such a label, has the focus."""
-        for _ in range(60):
-            self.driver.switch_to.active_element.send_keys(Keys.TAB)
-            focus = self.driver.switch_to.active_element
-            label = self.driver.execute_script("return arguments[0].labels && arguments[0].labels[0] ? arguments[0].labels[0].textContent : ''", focus)
-            if words in (focus.text or "") or words == label.strip():
-                width = self.driver.execute_script("return getComputedStyle(arguments[0]).outlineWidth", focus)
-                assert width == "3px", "the focus can't be seen"
-                return
-        raise AssertionError("nothing with %r can be reached by keys" % words)
-
-
-@pytest.fixture
-def screen() -> Iterator[Screen]:
-    for part in (CHROMIUM, DRIVER):
-        assert part.exists(), "not run: %s is missing; `ci/setup desk` installs it" % part
-    with tempfile.TemporaryDirectory(ignore_cleanup_errors=True) as profile:
-        made = Screen(profile)
-        try:
-            yield made
-        finally:
-            made.driver.quit()
-
-
-def test_a_claim_by_clicks(company: Make, screen: Screen) -> None:
+def test_a_claim_by_clicks(company: Make, screen: Screen) -> None:  # noqa: F811
     made = company(TYPED)
     made.system.start_post()
     for role in made.roles:
@@ -162,25 +55,34 @@ def test_a_claim_by_clicks(company: Make, screen: Screen) -> None:
     assert not made.system.items("payments")
 
 
-def test_a_claim_by_keys_alone(company: Make, screen: Screen) -> None:
+def test_a_claim_by_keys_alone(company: Make, screen: Screen) -> None:  # noqa: F811
     made = company(TYPED)
-    made.open_desk("front")
+    made.system.start_post()
+    for role in made.roles:
+        made.open_desk(role)
     screen.at(0)
-    screen.tab_to("Begin a case")
-    screen.moved(lambda: screen.driver.switch_to.active_element.send_keys(Keys.ENTER))
+    screen.enter_on("Begin a case")
     screen.tab_to("Number of the case")
-    screen.driver.switch_to.active_element.send_keys(Keys.CONTROL, "a")
-    screen.driver.switch_to.active_element.send_keys("77")
-    screen.moved(lambda: screen.driver.switch_to.active_element.send_keys(Keys.ENTER))
-    assert "Claim 77 has begun." in screen.text()
-    screen.tab_to("Open claim")
-    screen.moved(lambda: screen.driver.switch_to.active_element.send_keys(Keys.ENTER))
+    screen.keys(Keys.CONTROL, "a")
+    screen.keys("77")
+    assert "Claim 77 has begun." in screen.moved(lambda: screen.keys(Keys.ENTER))
+    screen.enter_on("Open claim")
     for label, value in (("Policy", "1"), ("What", "by keys"), ("Asked", "2"), ("Number", "n")):
         screen.tab_to(label)
-        screen.driver.switch_to.active_element.send_keys(value)
-    screen.tab_to("Go on")
-    screen.moved(lambda: screen.driver.switch_to.active_element.send_keys(Keys.ENTER))
-    assert "by keys" in screen.text()
-    screen.tab_to("Send")
-    screen.moved(lambda: screen.driver.switch_to.active_element.send_keys(Keys.ENTER))
-    assert "Open claim: done for claim 77." in screen.text()
+        screen.keys(value)
+    assert "by keys" in screen.enter_on("Go on")
+    assert "Open claim: done for claim 77." in screen.enter_on("Send")
+    until(lambda: "Assessment, claim 77" in screen.at(1), "the assessor has no task")
+    screen.enter_on("Assessment, claim 77")
+    screen.tab_to("Something else")
+    screen.keys(Keys.ENTER)
+    screen.enter_on("Deny")
+    screen.tab_to("Why")
+    screen.keys("too late")
+    screen.enter_on("Go on")
+    assert "Deny: done for assessment, claim 77." in screen.enter_on("Send")
+    until(lambda: "Can be done: File away" in screen.at(2), "payments was not told")
+    screen.enter_on("Payment, claim 77")
+    screen.enter_on("File away")
+    screen.enter_on("Send")
+    until(lambda: "too late" in screen.at(0, "/case/claim%2377") and "unpaid" in screen.text(), "the front office has no letter")

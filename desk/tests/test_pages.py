@@ -1,15 +1,13 @@
 """The pages over real offices: a claim by clicks, what must not be shown or sent, several clerks, and offices that are closed."""
 from __future__ import annotations
 
-import random
-import re
 import time
 from collections.abc import Callable
 from pathlib import Path
 
 import pytest
 from conftest import CLAIM_TEXT, TOP, TYPED, Company
-from systems import aw, until
+from systems import until
 
 from aw_clerk.logins import line_of
 from aw_clerk.tasks import tasks_of
@@ -76,45 +74,43 @@ def test_a_claim_by_clicks(company: Make) -> None:
     text = good(front)
     assert "Decided: Open claim, by front, today" in text and "8000" in text and "not there yet" not in text
     front.follow("Decided")
-    assert 'Open claim{88012, "storm, roof", 12000, "DK50 0040"}'.replace(" ", "") in good(front).replace(" ", "")
+    assert all(words in good(front) for words in ("Policy 88012", "What storm, roof", "Asked 12000", "Number DK50 0040"))
     for role in made.roles:
         assert not made.log(role).replace("aw_desk: the desk of %s is at http://127.0.0.1:%d/\n" % (role, made.port(role)), "")
 
 
-def test_what_is_shown_is_what_the_book_says(company: Make) -> None:
-    """Drawn runs: each row of each page is one of the book's, and in the end the values are those of the undivided run."""
-    made, draw = company(CLAIM_TEXT), random.Random(3)
-    made.system.start_post()
-    desks = {role: made.open_desk(role) for role in made.roles}
-    for number in range(1, 31):
-        made.system.choose("start claim %d" % number)
-        made.system.choose('choose claim#%d open_claim {%d, "%s", %d, "DK50"}' % (number, number, draw.choice(['storm', 'a \\"b\\" <i>', 'æ']), draw.randrange(99)))
-        for role in made.roles[1:]:
-            for task, rule in (line.split() for line in made.system.ready(role) if draw.random() < 0.3):
-                fields = {"grant": " {7}", "deny": ' {"no"}', "find_repairable": " {5}"}.get(rule, "")
-                made.system.choose("choose %s %s%s" % (task, rule, fields))
-        for role in made.roles:
-            compare(made, desks[role], role)
-    settled(made)
-    plain = tasks_of(aw("plain", made.system.text + "schedule 2\n" + "\n".join(made.system.lines) + "\n").split("\nartifacts ", 1)[1].split("\n")[1:-1])
-    for role in made.roles:
-        own = tasks_of(made.book("tasks", made.journal(role)))
-        assert own and all(plain[name].text == task.text and plain[name].rule == task.rule for name, task in own.items())
+NESTED = """role shop
+con empty 0
+con item 3
+sort order shop 0 1
+start order
+type goods
+shape empty () goods
+shape item (text, num, goods) goods
+carry order ()<goods>
+% What is ordered.
+rule place {what} : order()<what>
+"""
 
 
-def compare(made: Company, browser: Browser, role: str) -> None:
-    """The list of a desk beside what the book says, and one task of it."""
-    browser.get("/")
-    shown = re.findall(r'<h2><a href="/task/([^"]*)">', browser.page.source)
-    tasks = tasks_of(made.book("tasks", "--open", made.journal(role)))
-    assert [name.replace("%23", "#") for name in shown] == list(tasks)[:40], role
-    good(browser)
-    for name in list(tasks)[:3]:
-        page = browser.get("/task/" + name.replace("#", "%23"))
-        if tasks[name].ready == []:
-            assert "Nothing can be done here now." in page.text()
-        for rule in tasks[name].ready:
-            assert '/do/%s/%s"' % (rule, name.replace("#", "%23")) in page.source
+def test_values_within_values(company: Make) -> None:
+    """A choice of constructors, and the fields of the one that was chosen."""
+    made = company(NESTED)
+    shop = made.open_desk("shop")
+    shop.get("/begin")
+    shop.press("Begin order")
+    shop.follow("Place")
+    shop.press("Go on")
+    assert "Nothing was sent: What. Choose one." in good(shop) and shop.page.status == 422
+    shop.press("Go on", What="item")
+    assert shop.page.status == 200 and "What: item" in good(shop)
+    shop.press("Go on", Part_1="lamp <1>", Part_2="many", Goods="item")
+    assert shop.page.status == 422 and "Enter a whole number in digits, as 120." in good(shop)
+    shop.press("Go on", Part_2="2", Goods="empty")
+    assert "send this?" in good(shop)
+    shop.press("Send")
+    assert "Place: done for order 1." in good(shop)
+    assert tasks_of(made.book("tasks", made.journal("shop")))["order#1"].text.startswith('{item("lamp <1>", 2, empty)}')
 
 
 HOSTILE = ["<script>alert(1)</script>", "\"'&<>", "x" * 1024, "two\nlines", "\\n", "æøå 好", "{{7*7}}", "a%00b", "\u202e\u0085"]
@@ -133,6 +129,24 @@ def test_any_text_comes_through(company: Make, text: str) -> None:
     row = tasks_of(made.book("tasks", made.journal("front")))["claim#1"]
     assert row.values()[0][1].word == text
     assert "<script>" not in front.page.source
+
+
+def test_bytes_that_are_no_text(company: Make) -> None:
+    """Another client may enter any bytes; each page shows them, and none fails."""
+    made = company(TYPED)
+    made.system.start_post()
+    front, assessor = made.open_desk("front"), made.open_desk("assessor")
+    made.system.choose("start claim 1")
+    data = b'\xff\xfe \xc2\x9b \xe2\x80\xae "\x80'.decode("utf-8", "surrogateescape").replace('"', '\\"')
+    assert made.system.choose('choose claim#1 open_claim {1, "%s", 2, "n"}' % data) == "taken"
+    settled(made)
+    for browser, url in ((front, "/case/claim%231"), (front, "/task/claim%231"), (assessor, "/"), (assessor, "/task/claim%231/open_claim.1"), (assessor, "/?words=%ff")):
+        browser.get(url)
+        assert browser.page.status == 200 and ('\\xff\\xfe \\x9b \\u202e "\\x80' in good(browser) or "words" in url), url
+    assessor.get("/task/claim%231/open_claim.1")
+    assessor.follow("Inspect")
+    assessor.press("Send")
+    assert "Inspect: done" in good(assessor)
 
 
 def test_what_no_text_may_have_is_told(company: Make) -> None:
@@ -173,8 +187,9 @@ def test_headers_and_paths(company: Make) -> None:
     page = front.get("/")
     assert "script" not in page.headers["content-security-policy"] and "default-src 'none'" in page.headers["content-security-policy"]
     assert page.headers["x-content-type-options"] == "nosniff" and "httponly" in page.headers["set-cookie"].lower() and "samesite=strict" in page.headers["set-cookie"].lower()
-    for url in ("/task/", "/task/claim%23999", "/task/%3Cscript%3E", "/task/claim%231/../../etc/passwd", "/case/claim%231%20--redo", "/case/--help", "/case/claim%237", "/whole/claim%231", "/do/x/claim%231",
-                "/static/style.css", "/templates/base.html", "/%ff%fe", "/" + "a" * 60000):
+    for url in ("/task/", "/task/claim%23999", "/task/%3Cscript%3E", "/task/claim%231/../../etc/passwd", "/task/nothing%231", "/task/claim%2318446744073709551616",
+                "/case/claim%231%20--redo", "/case/--help", "/case/claim%237", "/case/nothing%231", "/case/claim%2307", "/case/claim%23%D9%A3", "/whole/claim%231",
+                "/do/x/claim%231", "/static/style.css", "/templates/base.html", "/%ff%fe", "/" + "a" * 60000):
         assert front.get(url).status in (400, 404), url
         assert "<script>" not in front.page.source
     for query in ("page=99999999999999999999999", "page=-1", "page=x", "words=%00%ff", "sort=%3Cb%3E", "order=%27"):
@@ -212,6 +227,8 @@ def test_two_clerks(company: Make, tmp_path: Path) -> None:
     assert "Decided: Open claim, by ada" in good(bob)
     bob.press("Sign out")
     assert "Sign in" in bob.get("/").text()
+    logins.write_text("ada\n", encoding="utf-8")
+    assert "Sign in" in ada.get("/").text() and ada.page.status == 200, "nobody is let in while the file is none"
     logins.write_text(line_of("bob", "battery staple") + "\n", encoding="utf-8")
     time.sleep(0.01)
     assert "Sign in" in ada.get("/").text(), "who is taken out of the file is out"

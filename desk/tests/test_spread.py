@@ -9,7 +9,8 @@ from conftest import CLAIM_TEXT, TOP
 
 from aw_clerk import book
 from aw_clerk.desk import Desk
-from aw_clerk.pages import Pages, application
+from aw_clerk.pages import Pages
+from aw_clerk.routes import application
 from aw_offices.spread import spread
 
 SYSTEMS = "1 99 https://west.example/\n100 199 here\n200 299 the_office_in_town\n"

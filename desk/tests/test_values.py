@@ -77,7 +77,8 @@ def test_what_is_shown_is_no_markup() -> None:
 
 
 def test_tasks_of_lines() -> None:
-    tasks = tasks_of(["claim#1 open_claim {1} () <letter(?claim#1/open_claim.1:r1, ?claim#1/open_claim.2:r1)>", "claim#1/open_claim.2 open (account(1), ?claim#1/open_claim.1:r1) <?claim#1/open_claim.2:r1>",
+    tasks = tasks_of(["claim#1 open_claim {1} () <letter(?claim#1/open_claim.1:r1, ?claim#1/open_claim.2:r1)>",
+                      "claim#1/open_claim.2 open (account(1), ?claim#1/open_claim.1:r1) <?claim#1/open_claim.2:r1>",
                       "item claim#1/open_claim.2 pay waits claim#1/open_claim.1:r1", "item claim#1/open_claim.2 file_away ready"])
     one, two = tasks.values()
     assert isinstance(one, Task) and not one.is_open and one.values()[0][0].word == "1" and two.is_open and two.ready == ["file_away"]
