@@ -81,11 +81,16 @@ def say(text: str) -> None:
 def run(name: str, work: Callable[[list[str]], int]) -> NoReturn:
     """Runs a command; whatever happens is told in a sentence."""
     open_streams()
-    on_signals(signal.default_int_handler, signal.SIGINT)
-    on_signals(ended, signal.SIGTERM, signal.SIGHUP)
-    status = ended_with(name, lambda: work(sys.argv[1:]))
+    status = ended_with(name, lambda: worked(work))
     status = ended_with(name, lambda: written(status))
     raise SystemExit(status)
+
+
+def worked(work: Callable[[list[str]], int]) -> int:
+    """The work; from here on a signal ends it, and is told as all else is."""
+    on_signals(signal.default_int_handler, signal.SIGINT)
+    on_signals(ended, signal.SIGTERM, signal.SIGHUP)
+    return work(sys.argv[1:])
 
 
 def open_streams() -> None:

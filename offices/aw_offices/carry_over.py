@@ -83,13 +83,13 @@ def unlocked(name: str) -> bytes:
     """The bytes of a journal that no node serves."""
     if os.path.exists(name) and not os.path.isfile(name):
         raise Sorry("%s can't be read: it is no plain file." % name, NO_FILE)
-    data = read_file(name, -1)
+    read_file(name, 0)
     with open(name, "rb") as file:
         try:
             fcntl.flock(file, fcntl.LOCK_SH | fcntl.LOCK_NB)
         except OSError:
             raise Sorry("A node serves %s; stop it first." % name, SERVED) from None
-    return data
+        return read_file(name, -1)
 
 
 def listens(pid: int) -> bool:
@@ -117,7 +117,9 @@ def opened(role: str, specification: bytes, kept: bytes | None) -> bytes:
         node = subprocess.Popen([str(found()), "node", role, "1", "kept"], stdin=text, stdout=subprocess.PIPE, cwd=folder, preexec_fn=ends_with_us)
         try:
             ends = time.monotonic() + OPENED_WITHIN
-            while node.poll() is None and not listens(node.pid) and time.monotonic() < ends:
+            while node.poll() is None and not listens(node.pid):
+                if time.monotonic() > ends:
+                    raise Sorry("A node of %s did not wait for a session within %g seconds; nothing is written." % (role, OPENED_WITHIN), REFUSED)
                 time.sleep(0.01)
         finally:
             node.terminate()

@@ -9,7 +9,7 @@ import subprocess
 from collections.abc import Iterator
 from pathlib import Path
 
-from systems import until
+from systems import LONG, until
 
 LIBC = ctypes.CDLL(None, use_errno=True)
 NETWORK = 0x40000000
@@ -21,10 +21,14 @@ class Machine:
     def __init__(self, name: str) -> None:
         self.name = name
         self.init = subprocess.Popen(["unshare", "-n", "sleep", "infinity"])
-        own = os.readlink("/proc/self/ns/net")
-        until(lambda: os.readlink("/proc/%d/ns/net" % self.init.pid) != own, "%s has no network" % name)
+        until(lambda: self.network() != os.readlink("/proc/self/ns/net"), "%s has no network" % name)
+        self.own = self.network()
         self.running: list[subprocess.Popen[bytes]] = []
         self.do("ip", "link", "set", "lo", "up")
+
+    def network(self) -> str:
+        """The network of its first process."""
+        return os.readlink("/proc/%d/ns/net" % self.init.pid)
 
     def words(self, *words: str) -> list[str]:
         """A command in this network."""
@@ -32,7 +36,7 @@ class Machine:
 
     def do(self, *words: str, check: bool = True, **more: object) -> subprocess.CompletedProcess[str]:
         """Runs a command to its end."""
-        return subprocess.run(self.words(*words), capture_output=True, text=True, timeout=60, check=check, **more)  # type: ignore[call-overload,no-any-return]
+        return subprocess.run(self.words(*words), capture_output=True, text=True, timeout=LONG, check=check, **more)  # type: ignore[call-overload,no-any-return]
 
     def run(self, *words: str, **more: object) -> subprocess.Popen[bytes]:
         """Runs a program that ends with the machine."""
@@ -55,13 +59,19 @@ class Machine:
             finally:
                 assert LIBC.setns(own.fileno(), NETWORK) == 0
 
-    def end(self) -> None:
-        """Ends all that runs here, also what goes on behind a command that ended."""
-        own = os.readlink("/proc/%d/ns/net" % self.init.pid)
+    def killed(self) -> int:
+        """Kills every process that is here; how many there were."""
+        count = 0
         for entry in Path("/proc").glob("[0-9]*"):
             with contextlib.suppress(OSError):
-                if os.readlink(entry / "ns" / "net") == own:
+                if os.readlink(entry / "ns" / "net") == self.own:
                     os.kill(int(entry.name), signal.SIGKILL)
+                    count += 1
+        return count
+
+    def end(self) -> None:
+        """Ends all that runs here, also what goes on behind a command that ended, and what such a process begins meanwhile."""
+        until(lambda: not self.killed(), "processes of %s do not end" % self.name)
         for process in [*self.running, self.init]:
             process.kill()
             process.wait()

@@ -38,15 +38,15 @@ CLINIC = text_of("clinical-test.aw")
 CLAIM = text_of("insurance-claim.aw")
 
 
-def until(what: Callable[[], object], why: str, limit: float = LONG) -> None:
-    """Waits until something holds, and fails where it does not within a generous time. It looks seldom where a look takes long: a node has one
-    session at a time, and who lists it all the time keeps its post out."""
+def until(what: Callable[[], object], why: str | Callable[[], str], limit: float = LONG) -> None:
+    """Waits until something holds, and fails where it does not within a generous time; why is asked then. It looks seldom where a look takes
+    long: a node has one session at a time, and who lists it all the time keeps its post out."""
     ends = time.monotonic() + limit
     while True:
         began = time.monotonic()
         if what():
             return
-        assert began < ends, why
+        assert began < ends, why if isinstance(why, str) else why()
         time.sleep(max(0.02, 4 * (time.monotonic() - began)))
 
 
@@ -63,10 +63,11 @@ def opened(path: Path) -> bool:
 
 
 def files_of(process: int) -> Iterator[str]:
-    """The files that a process has open; one that it closes meanwhile is left out."""
-    for descriptor in os.listdir("/proc/%d/fd" % process):
-        with contextlib.suppress(FileNotFoundError):
-            yield os.readlink("/proc/%d/fd/%s" % (process, descriptor))
+    """The files that a process has open; one that it closes meanwhile is left out, and so is all where it ends."""
+    with contextlib.suppress(OSError):
+        for descriptor in os.listdir("/proc/%d/fd" % process):
+            with contextlib.suppress(OSError):
+                yield os.readlink("/proc/%d/fd/%s" % (process, descriptor))
 
 
 class Node:
@@ -130,11 +131,11 @@ class System:
         return process
 
     def start_post(self, *words: str, log: str = "post.log", before: list[str] | None = None) -> subprocess.Popen[bytes]:
-        """Starts a post that is quick to ask again."""
+        """Starts a post that is quick to ask again, and patient with an office that is slow to reply where no other words say so."""
         (self.folder / "post.prom").unlink(missing_ok=True)
         with open(self.folder / log, "ab") as file:
             self.post = self.run(*(before or []), "/usr/bin/python3", str(OFFICES / "aw_post"), str(self.spec), str(self.folder / "places"), "--metrics",
-                                 str(self.folder / "post.prom"), "--interval", "0.1", "--longest", "0.4", *words, stderr=file)
+                                 str(self.folder / "post.prom"), "--interval", "0.1", "--longest", "0.4", "--timeout", str(LONG), *words, stderr=file)
         return self.post
 
     def post_works(self) -> bool:
@@ -208,7 +209,7 @@ class System:
         if not BOOK.is_file():
             return True
         journals = [str(node.folder / "workspace.journal") for node in self.nodes.values()]
-        rows = subprocess.run([str(BOOK), "cases", *journals], capture_output=True, timeout=600, check=True).stdout.decode().splitlines()
+        rows = subprocess.run([str(BOOK), "cases", *journals], capture_output=True, timeout=5 * LONG, check=True).stdout.decode().splitlines()
         plain = aw("plain", self.text + "schedule\n" + "".join(line + "\n" for line in self.lines)).splitlines()
         return rows == plain[next(at for at, line in enumerate(plain) if line.startswith("artifacts ")) + 1:]
 
@@ -288,4 +289,4 @@ class System:
 
 def aw(word: str, text: str) -> str:
     """What the program writes."""
-    return subprocess.run([os.environ["AW"], word], input=text.encode(), capture_output=True, timeout=LONG, check=False).stdout.decode()
+    return subprocess.run([os.environ["AW"], word], input=text.encode(), capture_output=True, timeout=5 * LONG, check=False).stdout.decode()

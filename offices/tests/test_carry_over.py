@@ -184,6 +184,17 @@ def test_nothing_of_a_claim_is_a_clinic(make: Make, worked: System) -> None:
         carry_over.carried(data, "journal", CLAIM.encode())
 
 
+def test_a_node_that_never_gets_ready_is_not_believed(worked: System, monkeypatch: pytest.MonkeyPatch) -> None:
+    slow = worked.folder / "slow"
+    slow.write_text("#!/bin/sh\nexec sleep infinity\n", encoding="utf-8")
+    slow.chmod(0o755)
+    data = (worked.nodes["lab"].folder / "workspace.journal").read_bytes()
+    monkeypatch.setenv("AW", str(slow))
+    monkeypatch.setattr(carry_over, "OPENED_WITHIN", 0.5)
+    with pytest.raises(Sorry, match="did not wait for a session"):
+        carry_over.carried(data, "journal", CLINIC.encode())
+
+
 def test_killed_anywhere_it_leaves_nothing_half(worked: System) -> None:
     """No node that holds a port, no copies of journals where it was told to end, and the result whole or not there."""
     lab, room, result = worked.nodes["lab"], worked.folder / "room", worked.folder / "result"

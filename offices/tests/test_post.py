@@ -1,16 +1,20 @@
 """The post: it loses and doubles nothing, an office holds up its own letters alone, and it tells what is refused."""
 from __future__ import annotations
 
+import contextlib
 import os
 import random
 import signal
 import socket
 import subprocess
+import threading
 import time
-from collections.abc import Callable
+from collections.abc import Callable, Iterator
 
+import pytest
 from conftest import CLAIM, CLINIC, LONG, OFFICES, System, until
 
+import client
 from aw_offices import frames
 
 Make = Callable[[str], System]
@@ -47,7 +51,7 @@ def test_killed_anywhere_it_loses_and_doubles_nothing(make: Make) -> None:
             node.start()
     for number in range(1, 11):
         choose_some(system, draw, KILLS + number)
-    until(lambda: not system.unsettled(), "the worklists are not those of the replay: %s" % system.log()[-2000:])
+    until(lambda: not system.unsettled(), lambda: "the worklists are not those of the replay: %s" % system.log()[-2000:])
     assert system.replayed().count(": taken\n") == len(system.lines)
     until(system.carried, "not every letter is carried")
     assert set(system.undelivered()) == {frames.AGAIN}
@@ -76,14 +80,13 @@ def test_ends_at_once_when_told(make: Make) -> None:
     post = system.start_post()
     system.choose("start visit 1")
     system.choose("choose visit#1 admit {\"Ada\", 7, glucose}")
-    until(lambda: system.items("lab"), "the call did not come")
+    until(lambda: "visit#1/admit.1 measure" in system.ready("lab") and system.carried(), "not every letter is carried")
     for sign in (signal.SIGTERM, signal.SIGINT):
         post.send_signal(sign)
         assert post.wait(LONG) == 0
         post = system.start_post()
         until(lambda: system.number("aw_post_office_up") == 2, "the post has not begun")
-    carried = system.number("aw_post_letters_carried_total")
-    assert carried == 0, "what was noted is not carried again"
+        assert system.number("aw_post_letters_carried_total") == 0, "what was noted is not carried again"
 
 
 def test_a_dead_office_holds_up_its_own_letters_alone(make: Make) -> None:
@@ -96,12 +99,14 @@ def test_a_dead_office_holds_up_its_own_letters_alone(make: Make) -> None:
     until(lambda: system.items("assessor"), "the assessor has no task")
     system.choose("choose claim#1/open_claim.1 deny {\"late\"}")
     until(lambda: system.number("aw_post_letters_waiting") > 0, "no letter is told to wait")
-    assert "payments: nobody answers" in system.log()
+    until(lambda: "payments: nobody answers" in system.log(), "nothing is told of the dead office")
+    until(lambda: system.number("aw_post_oldest_letter_age_seconds") > 1, "the age of the oldest letter does not grow")
     system.nodes["payments"].start()
     until(lambda: "claim#1/open_claim.2 file_away" in system.ready("payments"), "payments did not get its letters")
     system.choose("choose claim#1/open_claim.2 file_away")
     until(lambda: not system.unsettled(), "the letters did not come")
     until(lambda: system.number("aw_post_letters_waiting") == 0, "letters are told to wait")
+    until(lambda: system.number("aw_post_oldest_letter_age_seconds") == 0, "a letter is told to be old")
     assert "payments: answers again" in system.log()
 
 
@@ -136,16 +141,64 @@ def test_refused_letters_are_told_and_counted(make: Make) -> None:
     assert "reply=\"conflict\"" in (system.folder / "post.prom").read_text(encoding="utf-8")
 
 
+@pytest.mark.parametrize("kind", frames.REFUSED)
+def test_each_refusal_is_told_counted_and_passed_by(make: Make, kind: int) -> None:
+    """An office that refuses its first letter and takes the others: none is carried again."""
+    system = make(CLINIC)
+    system.nodes["clinic"].start()
+    with refusing(system.nodes["lab"].port, kind) as pushed:
+        for case in (1, 2):
+            system.choose("start visit %d" % case)
+            system.choose("choose visit#%d admit {\"Ada\", 7, glucose}" % case)
+        system.start_post()
+        until(lambda: system.number("aw_post_letters_refused_total") == 1, "the refusal is not counted")
+        until(lambda: system.number("aw_post_letters_carried_total") == len(system.all_of("clinic", frames.PULL)) - 1, "not every other letter is carried")
+    assert len(pushed) == len(set(pushed)) == len(system.all_of("clinic", frames.PULL))
+    name = frames.REFUSED[kind]
+    assert system.log().count("clinic -> lab: refused, %s: call visit#1/admit.1" % name) == 1 and pushed[0].hex() in system.log()
+    assert "reply=\"%s\"} 1\n" % name.replace(" ", "_") in (system.folder / "post.prom").read_text(encoding="utf-8")
+
+
+@contextlib.contextmanager
+def refusing(port: int, kind: int) -> Iterator[list[bytes]]:
+    """A server at a port, with no letters of its own, that refuses the first letter and takes the others; the letters that were pushed to it."""
+    pushed: list[bytes] = []
+
+    def reply(request: int, payload: bytes) -> bytes:
+        if request == frames.PULL:
+            return frames.frame(frames.NONE, bytes(8))
+        pushed.append(payload)
+        return frames.frame(kind if len(pushed) == 1 else frames.NEW, b"")
+
+    def serve(server: socket.socket) -> None:
+        while True:
+            try:
+                with server.accept()[0] as peer:
+                    data = bytearray()
+                    while piece := peer.recv(1 << 16):
+                        data += piece
+                        while (request := frames.split(data)) is not None:
+                            peer.sendall(reply(*request))
+            except ConnectionError:
+                continue
+            except OSError:
+                return
+    with socket.create_server(("127.0.0.1", port)) as server:
+        threading.Thread(target=serve, args=(server,), daemon=True).start()
+        try:
+            yield pushed
+        finally:
+            server.shutdown(socket.SHUT_RDWR)
+
+
 def client_words(system: System, text: str) -> tuple[int, bytes]:
     """A message, by its words."""
-    import client
     role, data = client.Words(system.names, text).message()
     return role, data
 
 
 def liar(port: int, reply: bytes) -> socket.socket:
     """A server at a port that answers each session with the same bytes."""
-    import threading
     server = socket.create_server(("127.0.0.1", port))
 
     def serve() -> None:
@@ -206,6 +259,7 @@ def test_another_outbox_is_carried_anew(make: Make) -> None:
         system.choose("choose visit#%d admit {\"Ada\", 7, glucose}" % case)
     until(lambda: not system.unsettled(), "the letters did not come")
     until(lambda: system.number("aw_post_letters_carried_total") > 3, "nothing is counted")
+    until(system.carried, "not every letter is carried")
     for kept in (True, False):
         if not kept:
             system.kill_post()

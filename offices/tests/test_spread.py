@@ -48,7 +48,8 @@ class Part:
         self.door, systems = system.folder / "door", system.folder / "systems"
         systems.write_text(spans, encoding="utf-8")
         with (system.folder / "guard.log").open("ab") as log:
-            self.machine.run("/usr/bin/python3", str(OFFICES / "aw_guard"), str(system.spec), "front", "person=%s" % self.door, "--systems", str(systems), stderr=log)
+            self.machine.run("/usr/bin/python3", str(OFFICES / "aw_guard"), str(system.spec), "front", "person=%s" % self.door, "--systems", str(systems),
+                             "--idle", str(LONG), stderr=log)
         until(self.opened, "the door is not open")
 
     def opened(self) -> bool:
@@ -62,7 +63,10 @@ class Part:
             peer.settimeout(LONG)
             peer.connect(str(self.door))
             peer.sendall(frames.frame(frames.CHOOSE, self.system.asked(line)[1]))
-            return peer.recv(1 << 16)
+            got = b""
+            while not (len(got) >= 5 and len(got) >= 5 + int.from_bytes(got[1:5], "big")) and (piece := peer.recv(1 << 16)):
+                got += piece
+            return got
 
     def begin(self, case: int) -> None:
         """A claim, begun and opened through the door, and granted."""
@@ -98,7 +102,7 @@ def test_two_systems_are_one(parts: list[Part]) -> None:
     log = (west.system.folder / "guard.log").read_text(encoding="utf-8")
     assert "Cases with the number 100 lie at https://east.example." in log and "Cases with the number 1000 lie in none of the systems." in log
     for part in parts:
-        until(lambda: not part.system.unsettled() and part.system.carried(), "not every letter is carried: %s" % part.system.log()[-2000:])
+        until(lambda: not part.system.unsettled() and part.system.carried(), lambda: "not every letter is carried: %s" % part.system.log()[-2000:])
         assert part.system.joined()
     both = west.system
     apart = {role: sorted(west.system.items(role) + east.system.items(role)) for role in both.offices.roles}

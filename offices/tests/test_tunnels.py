@@ -54,13 +54,14 @@ class Company:
     def open_door(self, role: str, address: str) -> None:
         """The door of an office, at an address of its machine."""
         with (self.folder / "guard.log").open("ab") as log:
-            self.machines[role].run("/usr/bin/python3", str(OFFICES / "aw_guard"), str(self.system.spec), role, "post=%s:%d" % (address, self.door(role)), stderr=log)
+            self.machines[role].run("/usr/bin/python3", str(OFFICES / "aw_guard"), str(self.system.spec), role, "post=%s:%d" % (address, self.door(role)),
+                                    "--idle", str(LONG), stderr=log)
         until(lambda: self.machines[role].listens(self.door(role)), "the door of %s is not open" % role)
 
     def post(self, addresses: dict[str, str]) -> None:
-        """The post, at the front office's machine."""
+        """The post, at the front office's machine; it is to tell soon where a tunnel carries nothing."""
         words = [word for role, address in addresses.items() for word in ("--office", "%s=%s" % (role, address))]
-        self.system.start_post(*words, before=self.home.words())
+        self.system.start_post(*words, "--timeout", "10", before=self.home.words())
 
     def case(self, number: int) -> None:
         """A claim through all three offices."""
@@ -70,15 +71,15 @@ class Company:
         for task, rule, fields in (("claim#%d/open_claim.1", "inspect", ""), ("claim#%d/open_claim.1/inspect.1", "find_repairable", " {7400}"),
                                    ("claim#%d/open_claim.1/inspect.2", "pay_repair", ""), ("claim#%d/open_claim.2", "pay", "")):
             role = "payments" if rule == "pay" else "assessor"
-            until(lambda: "%s %s" % (task % number, rule) in system.ready(role), "%s cannot be chosen: %s" % (rule, system.log()[-2000:]))
+            until(lambda: "%s %s" % (task % number, rule) in system.ready(role), lambda: "%s cannot be chosen: %s" % (rule, system.log()[-2000:]))
             assert system.choose("choose %s %s%s" % (task % number, rule, fields)) == "taken"
-        until(lambda: not system.unsettled() and system.carried(), "not every letter is carried: %s" % system.log()[-2000:])
+        until(lambda: not system.unsettled() and system.carried(), lambda: "not every letter is carried: %s" % system.log()[-2000:])
 
     def journals(self) -> list[bytes]:
         """What the offices afar have kept."""
         return [(self.system.nodes[role].folder / "workspace.journal").read_bytes() for role in AFAR]
 
-    def asked(self, address: tuple[str, int], data: bytes, wait: float = 30) -> bytes:
+    def asked(self, address: tuple[str, int], data: bytes, wait: float = LONG) -> bytes:
         """The first reply at an address of the front office's machine, or nothing."""
         with self.home.inside():
             peer = socket.socket()
@@ -137,7 +138,8 @@ def test_ssh(company: Company) -> None:
         config = filled("ssh/sshd_config", folder / ("sshd-" + role), PORT=port, ADDRESS="10.77.%d.2" % net, HOST_KEY=made["host"], AUTHORIZED_KEYS=allowed, USER="root")
         company.machines[role].run("/usr/sbin/sshd", "-D", "-f", str(config), "-o", "StrictModes=no", "-o", "PermitRootLogin=prohibit-password", stderr=subprocess.DEVNULL)
         until(lambda: company.machines[role].listens(port), "no sshd at %s" % role)
-        company.home.run(str(tunnel(role, made["post"], known)), env=ENDS, stderr=subprocess.DEVNULL)
+        again = ("sh", "-c", "while :; do \"$0\"; sleep 0.2; done")  # (as systemd does where it ends)
+        company.home.run(*again, str(tunnel(role, made["post"], known)), env=ENDS, stderr=subprocess.DEVNULL)
         until(lambda: company.home.listens(company.door(role)), "no tunnel to %s" % role)
     company.post({role: "127.0.0.1:%d" % company.door(role) for role in AFAR})
     company.case(1)

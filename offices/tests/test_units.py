@@ -6,10 +6,12 @@ import os
 import re
 import shlex
 import subprocess
+from collections.abc import Callable
 from pathlib import Path
 
 import pytest
-from conftest import CLINIC, LONG, OFFICES, TOP, listens, until
+from conftest import CLINIC, LONG, OFFICES, TOP, System, listens, until
+from systems import BOOK
 
 UNITS = OFFICES / "units"
 PROGRAMS = {"/usr/bin/aw_post": str(OFFICES / "aw_post"), "/usr/bin/aw_guard": str(OFFICES / "aw_guard"), "/usr/bin/aw_desk": str(TOP / "desk" / "aw_desk")}
@@ -50,6 +52,16 @@ def test_a_misspelt_key_is_seen(tmp_path: Path) -> None:
     assert verified(tmp_path).returncode != 0
 
 
+def test_little_is_open_to_them(tmp_path: Path) -> None:
+    """By the rating of systemd, from 0 to 10, no service is above 2."""
+    installed(tmp_path)
+    for path in [path for path in tmp_path.iterdir() if path.suffix == ".service"]:
+        unit = path.rename(path.with_name(path.name.replace("@", "@lab")))
+        words = ["systemd-analyze", "security", "--offline=yes", "--threshold=20", "--no-pager", str(unit)]
+        done = subprocess.run(words, capture_output=True, text=True, timeout=LONG)
+        assert done.returncode == 0, done.stdout + done.stderr
+
+
 def service(name: str) -> configparser.SectionProxy:
     """The keys of a unit's service."""
     unit = configparser.ConfigParser(strict=False, interpolation=None)
@@ -86,6 +98,31 @@ def test_the_book_reads_and_writes_nothing() -> None:
     assert re.findall(r"^ExecStart=.*aw_book (\w+)", unit, re.M) == ["check", "join"]
     assert service("aw-book.service")["CapabilityBoundingSet"] == "CAP_DAC_READ_SEARCH" and "StateDirectory" not in service("aw-book.service")
     assert "OnCalendar=*-*-* " in (UNITS / "aw-book.timer").read_text(encoding="utf-8")
+
+
+def test_the_nightly_look_sees_a_damaged_journal(make: Callable[[str], System]) -> None:
+    """Its words, over the journals of nodes that run."""
+    if not BOOK.is_file():
+        pytest.skip("not run: there is no aw_book at %s" % BOOK)
+    system = make(CLINIC)
+    system.start()
+    system.start_post()
+    for case in (1, 2, 3):
+        assert system.choose("start visit %d" % case) == "taken"
+    assert system.choose("choose visit#1 admit {\"Ada\", 7, glucose}") == "taken"
+    until(lambda: "visit#1/admit.1 measure" in system.ready("lab"), "the letters did not come")
+    lines = re.findall(r"^ExecStart=(.*)$", (UNITS / "aw-book.service").read_text(encoding="utf-8"), re.M)
+
+    def looked() -> list[int]:
+        return [subprocess.run(shlex.split(line.replace("/run/aw-book", str(system.folder))), env={"PATH": str(BOOK.parent), "AW_BOOK_WORDS": ""},
+                               capture_output=True, timeout=LONG).returncode for line in lines]
+    assert looked() == [0, 0]
+    system.nodes["clinic"].kill()
+    journal = system.nodes["clinic"].folder / "workspace.journal"
+    data = bytearray(journal.read_bytes())
+    data[11 + int.from_bytes(data[3:11], "big")] = 0  # (the first gate)
+    journal.write_bytes(data)
+    assert looked()[0] == 1
 
 
 @pytest.mark.parametrize("name", [name for name in names() if not name.startswith("aw-node") and name.endswith(".service") and name not in NEED_BOOK])
