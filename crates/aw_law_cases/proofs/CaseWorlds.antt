@@ -289,7 +289,7 @@ module _ (C : Cases) where
     empty-sites loads i zero = refl
     empty-sites loads i (suc n) = ap (λ xs. empty_site loads i ∷ xs) (empty-sites loads (suc i) n)
 
-    empty-parted-one : (b : Bool) (a : ℕ) → IsParted C (empty_site b a)
+    pub empty-parted-one : (b : Bool) (a : ℕ) → IsParted C (empty_site b a)
     empty-parted-one b a = record { equations = λ e m. never m; held = λ h m. never m; ordered = tt }
 
     empty-get : (loads : Bool) (i n j : ℕ) (d : Site) → IsParted C d → IsParted C (get d (map (empty_site loads) (upto i n)) j)

@@ -4,3 +4,4 @@ pub mod Keeping
 pub mod Making
 pub mod Receiving
 pub mod Sending
+pub mod Ties

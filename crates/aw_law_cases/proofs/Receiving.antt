@@ -277,7 +277,7 @@ module _ (C : Cases) where
     step-kept s P (Got m) one true i = got-seen s (receive g s m) ∙ ap (after_message (keep_site C s)) (sym (receive-kept s P m one i))
     step-kept s P (Got m) one false i = got-unseen s P m one i (receive g s m) refl
 
-    step-parted : (s : Site) → IsParted C s → (e : SiteEvent) → IsOneSidedEvent C e → IsParted C (site_step g s e)
+    pub step-parted : (s : Site) → IsParted C s → (e : SiteEvent) → IsOneSidedEvent C e → IsParted C (site_step g s e)
     step-parted s P (Chose c) one = choose-parted C g s P c
     step-parted s P (Got m) one = got-parted s P m one (receive g s m) refl
 

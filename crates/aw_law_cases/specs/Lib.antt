@@ -1,3 +1,4 @@
 pub mod CaseWorlds
 pub mod Cases
+pub mod Ties
 pub mod Worked

@@ -1,4 +1,5 @@
 pub mod Causes
+pub mod Circles
 pub mod Coming
 pub mod Orders
 pub mod Picking

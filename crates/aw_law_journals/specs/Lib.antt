@@ -1,3 +1,4 @@
+pub mod Circles
 pub mod Driving
 pub mod Journals
 pub mod Laws

@@ -12,6 +12,7 @@ use Rattle.aw_law_sites.specs.SiteEvents.{SiteEvent, Chose, Got}
 use Rattle.aw_law_sites.specs.Worked.{clinic, visit, test, ada, seven}
 use Rattle.aw_law_sites.specs.Worlds.{Move, Chooses, Delivers}
 use Rattle.aw_law_nodes.specs.Worked.{calls_test, asks_result, tells_found, tells_none}
+use Rattle.aw_law_journals.specs.Circles.{LeadsTo}
 use Rattle.aw_law_journals.specs.Journals.{journal_at, IsSound}
 use Rattle.aw_law_journals.specs.Driving.{joined}
 use Rattle.aw_law_journals.specs.Laws.{SendsAt}
@@ -111,6 +112,10 @@ CircleIsRefused = JoinsTo two circle (1 ∷ 0 ∷ []) (Chooses (Start 0 1) ∷ [
 -- a's second event waits for b's first one, and that for a's third: nobody forged a message
 abbrev pub CircleHasCauses : Type 0
 CircleHasCauses = SendsAt two circle 1 0 asks_first × SendsAt two circle 0 2 calls_second
+
+-- so each journal waits for the other
+abbrev pub CircleComesRound : Type 0
+CircleComesRound = LeadsTo two circle (1 ∷ 0 ∷ []) 0 0
 
 -- where a's choice stands before the question, both fit
 abbrev pub NoCircleJoins : Type 0

@@ -1,5 +1,6 @@
 //! The laws of joined journals, of every accepted grammar and whatever types are declared. They stand on what `aw_law_worlds` says of
 //! every world and of every site.
+ghost use Rattle.aw_law_journals.specs.Circles.{StopsAtForgeryOrCircle};
 ghost use Rattle.aw_law_journals.specs.Laws.{ForgedIsNotReached, JoinIsExact, JoinReaches, MessagesHaveCauses, OrderLeavesNoTrace, ReachIsGreatest, ReachIsUnique, SitesAreJournals};
 ghost use Rattle.aw_law_sites.specs.Laws.{IsAccepted};
 ghost use Rattle.aw_term.specs.Artifacts.{Words};
@@ -37,6 +38,15 @@ pub fn join_laws()
 pub fn cause_laws()
     ensures forged { (words : Words) (t : Types) (g : Grammar) → IsAccepted words g → ForgedIsNotReached t g }
     ensures causes { (words : Words) (t : Types) (g : Grammar) → IsAccepted words g → MessagesHaveCauses t g }
+{
+    world_laws();
+    site_laws();
+}
+
+/// Where journals that each make sense alone do not fit whole, one of them ends before a message that its sender's journal never sends, or they wait for
+/// each other in a circle, as journals do of which one was set back (`stops`).
+pub fn circle_law()
+    ensures stops { (words : Words) (t : Types) (g : Grammar) → IsAccepted words g → StopsAtForgeryOrCircle t g }
 {
     world_laws();
     site_laws();
