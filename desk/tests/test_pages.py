@@ -139,7 +139,7 @@ def test_bytes_that_are_no_text(company: Make) -> None:
     made.system.choose("start claim 1")
     data = b'\xff\xfe \xc2\x9b \xe2\x80\xae "\x80'.decode("utf-8", "surrogateescape").replace('"', '\\"')
     assert made.system.choose('choose claim#1 open_claim {1, "%s", 2, "n"}' % data) == "taken"
-    settled(made)
+    until(lambda: tasks_of(made.book("tasks", made.journal("assessor"))), "the letter did not come")
     for browser, url in ((front, "/case/claim%231"), (front, "/task/claim%231"), (assessor, "/"), (assessor, "/task/claim%231/open_claim.1"), (assessor, "/?words=%ff")):
         browser.get(url)
         assert browser.page.status == 200 and ('\\xff\\xfe \\x9b \\u202e "\\x80' in good(browser) or "words" in url), url
