@@ -1,6 +1,7 @@
 """The pages over real offices: a claim by clicks, what must not be shown or sent, several clerks, and offices that are closed."""
 from __future__ import annotations
 
+import contextlib
 import time
 from collections.abc import Callable
 from pathlib import Path
@@ -175,7 +176,8 @@ def test_forged_posts_do_nothing(company: Make) -> None:
     other.get("/begin")
     token = next(control.value for form in other.page.forms for control in form.controls if control.name == "token")
     assert front.ask("POST", "/begin/claim", ("number=7&token=" + token).encode()).status == 403, "a token of another session"
-    assert front.ask("POST", "/begin/claim", b"number=" + b"7" * (1 << 19)).status in (400, 403, 413)
+    with contextlib.suppress(BrokenPipeError, ConnectionResetError):  # (what is too long need not be read to its end)
+        assert front.ask("POST", "/begin/claim", b"number=" + b"7" * (1 << 19)).status in (400, 403, 413)
     assert front.ask("POST", "/begin/claim", b"\xff\xfe" * 100, "multipart/form-data; boundary=x").status == 403
     assert not tasks_of(made.book("tasks", made.journal("front")))
     assert "Traceback" not in made.log("front")
