@@ -8,7 +8,6 @@ import threading
 import time
 from collections.abc import Callable
 from dataclasses import dataclass
-from datetime import datetime
 from pathlib import Path
 from urllib.parse import quote, urlsplit
 
@@ -21,7 +20,7 @@ from .desk import Desk
 from .logins import Logins
 from .tasks import Task, steps_of
 from .values import LARGEST, Value, groups_of
-from .wording import human, titled
+from .wording import human, moment, titled
 
 MOST_OF_TASKS, OF_A_TREE = 24_000, 6_000
 OWN_NAMES = ("127.0.0.1", "localhost", "::1")
@@ -112,15 +111,10 @@ class Pages:
 
     def decided(self, task: Task, most: int = 2 * OF_A_TREE) -> dict[str, object]:
         """A decided task: what it was given, what was entered, and what it gives back, each in so many bytes at most."""
-        entered, given, results = task.values()
-        wording, rule = self.desk.wording, self.desk.wording.spec.rules.get(task.rule)
-        fields = [param.text for param in rule.params] if rule else []
-        note = self.desk.records.of_task(task.name)
+        wording, note = self.desk.wording, self.desk.records.of_task(task.name)
+        shown = {part: trees.page(wording, values, most) if values else "" for part, values in trees.lists(wording, task).items()}
         return {"task": task, "title": wording.task(task.name), "rule": titled(task.rule) if task.rule else "", "home": human(wording.home(task.name)),
-                "given": self.tree(given, lambda at: wording.given(task.name, at), most) if given else "",
-                "entered": self.tree(entered, lambda at: fields[at] if at < len(fields) else "", most) if entered else "",
-                "results": self.tree(results, lambda at: wording.result(task.name, at), most) if results else "",
-                "who": note.clerk if note else "", "when": moment(note.at) if note else ""}
+                "who": note.clerk if note else "", "when": moment(note.at) if note else "", **shown}
 
     def some(self, tasks: list[Task], at: int) -> tuple[list[dict[str, object]], int]:
         """As many of some tasks as a page takes, from a number on; and the number of the next one, 0 where there is none."""
@@ -180,9 +174,3 @@ def behind() -> int:
     """From which task on a page shows, counted from 0."""
     said = flask.request.args.get("from", "")
     return int(said) if said.isdecimal() and len(said) < 10 else 0
-
-
-def moment(at: float) -> str:
-    """A time in words."""
-    then, now = datetime.fromtimestamp(at), datetime.now()
-    return then.strftime("today %H:%M" if then.date() == now.date() else "%-d %B %Y, %H:%M")

@@ -16,10 +16,10 @@ from aw_forms.program import Sorry
 from .book import NotSaid
 from .fields import Field, fields_of
 from .lists import A_PAGE, cuts, ordered, wanted
-from .pages import Answer, Pages, behind, here, moment
+from .pages import Answer, Pages, behind, here
 from .records import UNSURE
 from .tasks import Task
-from .wording import human, titled
+from .wording import human, moment, titled
 
 LONGEST_BODY, HOURS_OF_SESSION = 1 << 18, 12
 POLICY = "default-src 'none'; style-src 'self'; img-src data:; form-action 'self'; frame-ancestors 'none'; base-uri 'none'"

@@ -17,14 +17,16 @@ from .desk import Desk
 from .fields import Field, fields_of
 from .main import opened, terminal_words
 from .lists import ordered, wanted
+from .records import UNSURE
 from .tasks import Task
 from .values import TEXT
-from .wording import human, titled
+from .wording import human, moment, titled
 
 NAME = "aw_desk_tty"
 A_SCREEN = 20
 BEHIND = """
-A number chooses; an empty line goes back; `q` ends. `/words` shows the tasks with these words, `n` begins a case.
+A number chooses; an empty line goes back; `q` ends. `/words` shows the tasks with these words, `n` begins a case,
+`d` shows what was decided here.
 The statuses are those of `aw_desk`.
 """
 
@@ -64,7 +66,7 @@ class Terminal:
         while True:
             tasks = ordered(wanted(list(self.desk.open().values()), self.words, "", False, self.desk.wording), "old")
             self.screen(tasks)
-            said = self.ask("Number, n, + or -, /words, q: ").strip()
+            said = self.ask("Number, n, d, + or -, /words, q: ").strip()
             if said == "q":
                 return
             try:
@@ -86,6 +88,8 @@ class Terminal:
         """Does what was typed at the list."""
         if said == "n":
             self.begin()
+        elif said == "d":
+            self.decided()
         elif said in ("+", "-"):
             self.at = max(self.at + (1 if said == "+" else -1), 0)
         elif said.startswith("/"):
@@ -99,7 +103,7 @@ class Terminal:
         """Shows a task, and asks what to do."""
         wording = self.desk.wording
         print("\n%s" % titled(wording.task(task.name)))
-        print("\n".join(trees.lines(wording, [(wording.given(task.name, at), value) for at, value in enumerate(task.values()[1])])))
+        print("\n".join(trees.lines(wording, trees.lists(wording, task)["given"])))
         rules = [rule for rule in wording.rules(task.name) if not wording.state(task, rule)]
         for rule in wording.rules(task.name):
             why = wording.state(task, rule)
@@ -144,6 +148,21 @@ class Terminal:
                 print(field.fault)
             form[field.key + ".seen"] = "1"
             form[field.key] = self.ask("%s: " % field.label, lambda text: number_fault(text) if field.is_number else "").replace("\\n", "\n")
+
+    def decided(self) -> None:
+        """Shows what was decided at this desk, and what came of one of it."""
+        wording, notes = self.desk.wording, [note for _, note in self.desk.records.decisions(A_SCREEN)]
+        for number, note in enumerate(notes, 1):
+            words = "" if note.answer == "taken" else "   (%s)" % (note.answer if note.answer == UNSURE else wording.answer(note.answer))
+            print("%4d  %s, %s: %s: %s%s" % (number, moment(note.at), note.clerk, titled(wording.task(note.task)), human(note.rule) or "begun", words))
+        if not notes:
+            print("Nothing was decided at this desk yet.")
+            raise Back
+        said = self.ask("Number: ", lambda text: "" if not text or text.isdecimal() and 0 < int(text) <= len(notes) else "A number from 1 to %d, or an empty line." % len(notes))
+        task = self.desk.task(notes[int(said) - 1].task) if said else None
+        for part, values in (trees.lists(wording, task) if task else {}).items():
+            if values:
+                print("\n".join([titled(part) + ":", *("  " + line for line in trees.lines(wording, values))]))
 
     def begin(self) -> None:
         """Begins a case."""

@@ -5,6 +5,7 @@ from collections.abc import Iterator
 
 from markupsafe import Markup, escape
 
+from .tasks import Task
 from .values import BLANK, MORE, TEXT, WORD, Value, readable
 from .wording import Wording, human, titled
 
@@ -21,6 +22,16 @@ def labelled(wording: Wording, value: Value) -> list[Labelled]:
 def size(label: str, value: Value) -> int:
     """About how many bytes the front of a value takes on a page."""
     return OF_A_TAG + len(label) + len(str(escape(value.word)).encode("utf-8", "surrogateescape"))
+
+
+def lists(wording: Wording, task: Task) -> dict[str, list[Labelled]]:
+    """What a task was given, what was entered, and its results, with their labels."""
+    entered, given, results = task.values()
+    rule = wording.spec.rules.get(task.rule)
+    fields = [param.text for param in rule.params] if rule else []
+    return {"given": [(wording.given(task.name, at), value) for at, value in enumerate(given)],
+            "entered": [(fields[at] if at < len(fields) else "", value) for at, value in enumerate(entered)],
+            "results": [(wording.result(task.name, at), value) for at, value in enumerate(results)]}
 
 
 def visits(wording: Wording, values: list[Labelled], most: int = MOST_BYTES) -> Iterator[tuple[str, str, Value, int]]:

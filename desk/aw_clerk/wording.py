@@ -3,9 +3,9 @@ from __future__ import annotations
 
 from collections import Counter
 from dataclasses import dataclass, field
+from datetime import datetime
 
 from aw_forms.lines import RuleLine, Term
-from aw_forms.places import listed
 from aw_forms.specification import Specification, is_variable
 from aw_forms.transcript import sort_of
 from aw_forms.value_types import gives_of, takes_of
@@ -242,6 +242,7 @@ def same_names(one: Specification, other: Specification) -> bool:
     return all(list(getattr(one, kind)) == list(getattr(other, kind)) for kind in ("roles", "cons", "sorts", "rules", "starts"))
 
 
-def offices(names: list[str]) -> str:
-    """Some offices in words."""
-    return listed([human(name) for name in names])
+def moment(at: float) -> str:
+    """A time in words."""
+    then, now = datetime.fromtimestamp(at), datetime.now()
+    return then.strftime("today %H:%M" if then.date() == now.date() else "%-d %B %Y, %H:%M")

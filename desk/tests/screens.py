@@ -80,7 +80,7 @@ class Screen:
         folder = os.environ.get("DESK_PICTURES")
         if folder:
             self.wide(640, 300)
-            height = self.driver.execute_script("return Math.ceil(document.querySelector('main').getBoundingClientRect().bottom) + 16")
+            height = self.driver.execute_script("document.activeElement.blur(); return Math.ceil(document.querySelector('main').getBoundingClientRect().bottom) + 16")
             clip = {"x": 0, "y": 0, "width": 640, "height": height, "scale": 1}
             data = self.driver.execute_cdp_cmd("Page.captureScreenshot", {"format": "png", "clip": clip, "captureBeyondViewport": True})["data"]
             small = subprocess.run(["pngquant", "64", "--speed", "1", "-"], input=base64.b64decode(data), capture_output=True, check=True).stdout

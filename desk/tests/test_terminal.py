@@ -82,6 +82,9 @@ def test_a_claim_by_keys(company: Make, screens: Callable[[list[str]], Screen]) 
     row = tasks_of(made.book("tasks", made.journal("front")))["claim#12"]
     assert [value.word for value in row.values()[0]] == ["88012", 'storm æøå "roof"', "12000", "DK50 0040"]
     screen.wait("Front: 0 open")
+    screen.type("d", "ada: Claim 12: open claim")
+    screen.type("1", "not there yet: assessor owes it, at assessment, claim 12")
+    assert "Number: DK50 0040" in screen.shown()
     screen.type("q", "ended 0")
 
 
