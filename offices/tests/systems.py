@@ -202,16 +202,22 @@ class System:
         return found
 
     def joined(self) -> bool:
-        """Whether the journals hold each choice that was answered `taken`, once and in its order; and what `aw_book` makes of them, where it is built."""
+        """Whether the journals hold each choice that was answered `taken`, once and in its order; and, where `aw_book` is built, whether the
+        tasks in them are together those of the undivided run."""
         asked = [self.asked(line) for line in self.lines]
         if any(self.kept(role) != [data for home, data in asked if home == role] for role in self.offices.roles):
             return False
         if not BOOK.is_file():
             return True
-        journals = [str(node.folder / "workspace.journal") for node in self.nodes.values()]
-        rows = subprocess.run([str(BOOK), "cases", *journals], capture_output=True, timeout=5 * LONG, check=True).stdout.decode().splitlines()
         plain = aw("plain", self.text + "schedule\n" + "".join(line + "\n" for line in self.lines)).splitlines()
-        return rows == plain[next(at for at, line in enumerate(plain) if line.startswith("artifacts ")) + 1:]
+        rows = plain[next(at for at, line in enumerate(plain) if line.startswith("artifacts ")) + 1:]
+        return sorted(row for role in self.offices.roles for row in self.tasks(role)) == sorted(rows)
+
+    def tasks(self, role: str) -> list[str]:
+        """The tasks in the journal of a role with their values, as `aw_book` has them."""
+        words = [str(BOOK), "tasks", str(self.nodes[role].folder / "workspace.journal")]
+        said = subprocess.run(words, capture_output=True, timeout=5 * LONG, check=True).stdout.decode()
+        return [line for line in said.splitlines() if not line.startswith("item ")]
 
     def home(self, task: bytes) -> str:
         """The role of a task, by its bytes."""
