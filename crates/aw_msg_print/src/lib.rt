@@ -1,0 +1,6 @@
+//! Messages as text.
+#![tactic(auto)]
+
+mod sent;
+
+pub use sent::{push_kind, push_sent};
