@@ -1,13 +1,14 @@
 #!/usr/bin/env python3
 """kill.py BIN [--kills N] [--lives N] [--seed N]
-   kill.py BIN --reopen EVENTS
+   kill.py BIN --reopen EVENTS [--choices]
 
 The first form serves the clinic of examples/clinical-test.aw by `node clinic 1000000 kept`, asks it for starts and choices as fast as
 they are answered, and kills it with SIGKILL at a random moment; then it starts it again in the same folder and asks for every choice
 that was answered `taken`: each has to be `known` or `developed`. So many kills are made, each journal having so many lives. Prints
 what was found and ends with 1 where a choice was lost.
 
-The second form writes a journal of so many starts of cases, and prints how long the node takes until it has answered its first frame.
+The second form writes a journal of so many starts of cases, or of half as many and a choice of each case, and prints how long the node takes
+until it has answered its first frame, by the clock and of the processor, and the most memory that it held.
 
 The node listens at port 7400 of this machine; nothing else may. Journals lie in a folder that is taken away at the end.
 """
@@ -141,20 +142,30 @@ def head(binary, folder, names):
         return file.read()[:-1]
 
 
-def reopen(binary, events):
+def events_of(names, count, with_choices):
+    """So many starts, or half as many and a choice of each case."""
+    asked = choices(names, 0)
+    return (next(asked) for _ in range(count)) if with_choices else (start_of(names, case) for case in range(count))
+
+
+def reopen(binary, events, with_choices):
     names = names_in(SPECIFICATION)
     with tempfile.TemporaryDirectory() as folder:
+        path = os.path.join(folder, 'workspace.journal')
         data = [head(binary, folder, names)]
-        for case in range(events):
-            payload = b'\x01' + start_of(names, case)
-            data.append(b'\x01' + struct.pack('>Q', len(payload)) + payload)
-        with open(os.path.join(folder, 'workspace.journal'), 'wb') as file:
+        for event in events_of(names, events, with_choices):
+            data.append(b'\x01' + struct.pack('>QB', len(event) + 1, 1) + event)
+        with open(path, 'wb') as file:
             file.write(b''.join(data) + b'\x00')
+        del data
         began = time.monotonic()
         served = Served(binary, folder)
-        answer = served.session(names).ask(CHOOSE, start_of(names, events - 1))
-        print('%d events: %.2f s to the first reply, %s' % (events, time.monotonic() - began, answer[1].decode()))
-        served.kill()
+        answer = served.session(names).ask(CHOOSE, start_of(names, 0))
+        took = time.monotonic() - began
+        served.process.send_signal(signal.SIGKILL)
+        _, served.process.returncode, used = os.wait4(served.process.pid, 0)
+        print('%d events, %.1f MB: %.2f s to the first reply, %.2f s of the processor, %d MiB held; %s'
+              % (events, os.path.getsize(path) / 1e6, took, used.ru_utime + used.ru_stime, used.ru_maxrss // 1024, answer[1].decode()))
     return 0 if answer == (6, b'known') else 1
 
 
@@ -165,9 +176,10 @@ def main():
     asked.add_argument('--lives', type=int, default=50)
     asked.add_argument('--seed', type=int, default=1)
     asked.add_argument('--reopen', type=int)
+    asked.add_argument('--choices', action='store_true')
     given = asked.parse_args()
     binary = os.path.abspath(given.binary)
-    sys.exit(reopen(binary, given.reopen) if given.reopen else kills(binary, given.kills, given.lives, given.seed))
+    sys.exit(reopen(binary, given.reopen, given.choices) if given.reopen else kills(binary, given.kills, given.lives, given.seed))
 
 
 if __name__ == '__main__':
