@@ -61,7 +61,7 @@ put-there K role k a n = go (nat_eq a role) refl
 -- ---- what a kept node promises of the frames of a session
 
 module _ {D : Type 0} (d : Ghosts D) (o : Origin D) (end : D) (last : List Event) where
-  answered-end : (s t : Standing) (frames : List Frame) (replies : List (List ℕ)) → AreAnswered (RepliesSafely d o end last) s frames replies t → t.kept ≡ after_frames o.rules s.kept frames
+  pub answered-end : (s t : Standing) (frames : List Frame) (replies : List (List ℕ)) → AreAnswered (RepliesSafely d o end last) s frames replies t → t.kept ≡ after_frames o.rules s.kept frames
   answered-end s t [] [] h = ap (λ (x : Standing). x.kept) h
   answered-end s t [] (x ∷ replies) h = absurd h
   answered-end s t (f ∷ frames) [] h = absurd h

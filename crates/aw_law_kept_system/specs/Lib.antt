@@ -1,2 +1,3 @@
 pub mod KeptSystems
+pub mod Runs
 pub mod Worked
