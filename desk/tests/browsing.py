@@ -3,6 +3,7 @@ from __future__ import annotations
 
 import html.parser
 import http.client
+import re
 import urllib.parse
 from dataclasses import dataclass, field
 
@@ -40,6 +41,7 @@ class Page(html.parser.HTMLParser):
         self.url, self.status, self.headers, self.source = url, status, headers, text
         self.words, self.links, self.forms, self.labels = "", [], [], {}  # type: str, list[tuple[str, str]], list[Form], dict[str, str]
         self.ids: list[str] = []
+        self.heads: list[int] = []
         self.open: list[tuple[str, dict[str, str], int]] = []
         self.feed(text)
         self.close()
@@ -49,6 +51,8 @@ class Page(html.parser.HTMLParser):
         have = {name: value or "" for name, value in attrs}
         if "id" in have:
             self.ids.append(have["id"])
+        if re.fullmatch("h[1-6]", tag):
+            self.heads.append(int(tag[1]))
         if tag == "form":
             self.forms.append(Form(have.get("action", ""), have.get("method", "get")))
         elif tag in ("input", "textarea", "select") and self.forms:
@@ -85,7 +89,8 @@ class Page(html.parser.HTMLParser):
         return " ".join(self.words.split())
 
     def faults(self) -> list[str]:
-        """What WCAG asks of each page and can be seen here: a language, a title, one first heading, a label for each field, names that are used once."""
+        """What WCAG asks of each page and can be seen here: a language, a title, headings in their order, a label for each field, words on links and
+        buttons, names that are used once."""
         found = []
         for want in ('<html lang="en">', "<title>", "<main"):
             if want not in self.source:
@@ -95,6 +100,9 @@ class Page(html.parser.HTMLParser):
         for control in (control for form in self.forms for control in form.controls if control.kind != "hidden"):
             if not self.labels.get(control.id):
                 found.append("no label for %s" % control.name)
+        found += ["no words on the link to %s" % href for words, href in self.links if not words]
+        found += ["no words on a button" for form in self.forms for words in form.buttons if not words]
+        found += ["a heading %d behind a heading %d" % (here, before) for before, here in zip(self.heads, self.heads[1:]) if here > before + 1]
         found += ["the id %s twice" % name for name in set(self.ids) if self.ids.count(name) > 1]
         found += ["a script or a style within the page"] if "<script" in self.source or "style=" in self.source or "onclick" in self.source else []
         return found

@@ -10,8 +10,11 @@ import pytest
 from conftest import CLAIM_TEXT, TOP, TYPED, Company
 from systems import until
 
+from aw_clerk.desk import Desk
 from aw_clerk.logins import line_of
 from aw_clerk.tasks import tasks_of
+from aw_clerk.values import NUMBER, TEXT, Value
+from aw_clerk.wording import ANSWERS
 from browsing import Browser
 
 Make = Callable[[str], Company]
@@ -234,6 +237,25 @@ def test_two_clerks(company: Make, tmp_path: Path) -> None:
     logins.write_text(line_of("bob", "battery staple") + "\n", encoding="utf-8")
     time.sleep(0.01)
     assert "Sign in" in ada.get("/").text(), "who is taken out of the file is out"
+
+
+def test_a_race_of_two_choices(company: Make, tmp_path: Path) -> None:
+    """Both were sent while the task was open: the second is told that it came too late, and both are noted as what they were."""
+    made = company(TYPED)
+    desk = Desk(str(made.system.spec), made.journal("front"), tmp_path, None, [])
+    try:
+        assert [desk.start(clerk, "claim", 1).words for clerk in ("ada", "bob")] == ["Claim 1 has begun.", ANSWERS["known"]]
+        task = desk.task("claim#1")
+        rule = desk.rule(task, "open_claim") if task else None
+        assert task is not None and rule is not None
+        entered = [Value(NUMBER, "1"), Value(TEXT, "w"), Value(NUMBER, "2"), Value(TEXT, "n")]
+        said = [desk.choose(clerk, task, rule, entered) for clerk in ("ada", "bob")]
+        assert [one.done for one in said] == [True, False] and said[1].words == "Somebody has already decided this task. Nothing was changed."
+        assert [(note.clerk, note.answer) for _, note in desk.records.decisions(4)] == [("bob", "developed"), ("ada", "taken"), ("bob", "known"), ("ada", "taken")]
+        found = desk.records.of_task("claim#1")
+        assert found is not None and (found.clerk, found.rule) == ("ada", "open_claim")
+    finally:
+        desk.close()
 
 
 def test_a_node_that_is_killed_while_a_form_is_open(company: Make) -> None:
