@@ -77,7 +77,11 @@ fn push_call(
 }
 
 /// Adds a blank and what a message says.
-pub fn push_kind(text: &mut Text, names: &mut NameWriter<'_>, kind: &MsgKind) -> Result<(), AllocError>
+pub fn push_kind(
+    text: &mut Text,
+    names: &mut NameWriter<'_>,
+    kind: &MsgKind,
+) -> Result<(), AllocError>
     ensures text { OnOk result (text.new ≡ text.old ++ (codes " " ++ kind_text (words_of names.old.grammar.now) (kind_with (sort_or_zero (grammar_of names.old.grammar.now)) kind.now))) }
     ensures grammar { names.new.grammar.now ≡ names.old.grammar.now }
 {
