@@ -1,4 +1,3 @@
-pub mod CallTexts
 pub mod Faults
 pub mod Replays
 pub mod Settling

@@ -15,7 +15,6 @@ mod lines;
 mod replaying;
 mod running;
 mod scheduled;
-mod sent;
 mod stepwise;
 mod telling;
 mod united;

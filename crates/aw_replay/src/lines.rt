@@ -7,11 +7,11 @@ ghost use Rattle.aw_term.specs.Runs.{answer_line};
 ghost use Rattle.aw_world.specs.MoveView.{reply_of};
 ghost use Rattle.aw_replay.specs.Telling.{sent_after};
 
-use crate::sent::push_sent;
 use aw_base::{NameWriter, push_choice_line};
 use aw_choice::{Answer, Choice};
 use aw_list::Text;
 use aw_msg::Message;
+use aw_msg_print::push_sent;
 use aw_spelling::push_number;
 use aw_world::Reply;
 use std::alloc::AllocError;
