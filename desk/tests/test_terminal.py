@@ -1,10 +1,10 @@
 """The desk in a terminal, by keys, under tmux."""
 from __future__ import annotations
 
-import secrets
 import shlex
 import shutil
 import subprocess
+import tempfile
 from collections.abc import Callable, Iterator
 
 import pytest
@@ -21,12 +21,12 @@ class Screen:
 
     def __init__(self, line: list[str]) -> None:
         assert shutil.which("tmux"), "not run: tmux is missing; `ci/setup desk` installs it"
-        self.name = "aw" + secrets.token_hex(4)
+        self.room = tempfile.TemporaryDirectory()
         self.tmux("new-session", "-d", "-x", "100", "-y", "40", "env LANG=C.UTF-8 LC_ALL=C.UTF-8 " + shlex.join(line) + "; echo ended $?; sleep 60")
 
     def tmux(self, *words: str) -> str:
         """Does something with the terminal."""
-        return subprocess.run(["tmux", "-L", self.name, "-f", "/dev/null", *words], capture_output=True, text=True, timeout=60, check=True).stdout
+        return subprocess.run(["tmux", "-S", self.room.name + "/tmux", "-f", "/dev/null", *words], capture_output=True, text=True, timeout=60, check=True).stdout
 
     def shown(self) -> str:
         """What is on the screen."""
@@ -44,7 +44,8 @@ class Screen:
 
     def end(self) -> None:
         """Ends the terminal."""
-        subprocess.run(["tmux", "-L", self.name, "kill-server"], capture_output=True, timeout=60)
+        subprocess.run(["tmux", "-S", self.room.name + "/tmux", "kill-server"], capture_output=True, timeout=60)
+        self.room.cleanup()
 
 
 @pytest.fixture
