@@ -4,6 +4,7 @@ from __future__ import annotations
 import contextlib
 import json
 import os
+import re
 import subprocess
 import sys
 import time
@@ -48,6 +49,14 @@ def until(what: Callable[[], object], why: str | Callable[[], str], limit: float
             return
         assert began < ends, why if isinstance(why, str) else why()
         time.sleep(max(0.02, 4 * (time.monotonic() - began)))
+
+
+def tells(command: str) -> bool:
+    """Whether `aw_book` is built, and has a command."""
+    if not BOOK.is_file():
+        return False
+    said = subprocess.run([str(BOOK), "--help"], capture_output=True, timeout=LONG, check=False).stdout.decode(errors="replace")
+    return re.search(r"(?m)^  %s\b" % command, said) is not None
 
 
 def listens(port: int) -> bool:
@@ -202,12 +211,12 @@ class System:
         return found
 
     def joined(self) -> bool:
-        """Whether the journals hold each choice that was answered `taken`, once and in its order; and, where `aw_book` is built, whether the
+        """Whether the journals hold each choice that was answered `taken`, once and in its order; and, where `aw_book` tells tasks, whether the
         tasks in them are together those of the undivided run."""
         asked = [self.asked(line) for line in self.lines]
         if any(self.kept(role) != [data for home, data in asked if home == role] for role in self.offices.roles):
             return False
-        if not BOOK.is_file():
+        if not tells("tasks"):
             return True
         plain = aw("plain", self.text + "schedule\n" + "".join(line + "\n" for line in self.lines)).splitlines()
         rows = plain[next(at for at, line in enumerate(plain) if line.startswith("artifacts ")) + 1:]

@@ -11,7 +11,7 @@ from pathlib import Path
 
 import pytest
 from conftest import CLINIC, LONG, OFFICES, TOP, System, listens, until
-from systems import BOOK
+from systems import BOOK, tells
 
 UNITS = OFFICES / "units"
 PROGRAMS = {"/usr/bin/aw_post": str(OFFICES / "aw_post"), "/usr/bin/aw_guard": str(OFFICES / "aw_guard"), "/usr/bin/aw_desk": str(TOP / "desk" / "aw_desk")}
@@ -102,8 +102,8 @@ def test_the_book_reads_and_writes_nothing() -> None:
 
 def test_the_nightly_look_sees_a_damaged_journal(make: Callable[[str], System]) -> None:
     """Its words, over the journals of nodes that run."""
-    if not BOOK.is_file():
-        pytest.skip("not run: there is no aw_book at %s" % BOOK)
+    if not tells("tasks"):
+        pytest.skip("not run: there is no aw_book with `check --redo` at %s" % BOOK)
     system = make(CLINIC)
     system.start()
     system.start_post()

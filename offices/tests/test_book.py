@@ -1,0 +1,121 @@
+"""The program that reads journals: what it says of the journals of nodes that run, that it changes none, and what it says of files that are none."""
+from __future__ import annotations
+
+import hashlib
+import os
+import re
+import shutil
+import subprocess
+from collections.abc import Callable
+from pathlib import Path
+
+import pytest
+from conftest import CLAIM, CLINIC, LONG, System, until
+from systems import BOOK
+
+Make = Callable[[str], System]
+pytestmark = pytest.mark.skipif(not BOOK.is_file(), reason="not run: there is no aw_book at %s" % BOOK)
+
+
+def book(*words: str | Path) -> tuple[int, list[str], list[str]]:
+    """The status, the lines, and the sentences of a call."""
+    ran = subprocess.run([str(BOOK), *map(str, words)], capture_output=True, timeout=LONG, check=False)
+    return ran.returncode, ran.stdout.decode(errors="replace").splitlines(), ran.stderr.decode(errors="replace").splitlines()
+
+
+@pytest.fixture(name="clinic")
+def a_clinic(make: Make) -> System:
+    """A clinic and its laboratory, three visits, one of them admitted and measured."""
+    system = make(CLINIC)
+    system.start()
+    system.start_post()
+    for case in (1, 2, 3):
+        assert system.choose("start visit %d" % case) == "taken"
+    assert system.choose("choose visit#1 admit {\"Ada\", 7, glucose}") == "taken"
+    until(lambda: "visit#1/admit.1 measure" in system.ready("lab"), "the letters did not come")
+    assert system.choose("choose visit#1/admit.1 measure {5}") == "taken"
+    until(system.carried, "not every letter is carried")
+    return system
+
+
+def journal(system: System, role: str) -> Path:
+    """The journal of a role."""
+    return system.nodes[role].folder / "workspace.journal"
+
+
+def test_events_are_the_choices_and_the_letters(clinic: System) -> None:
+    """Line N is event N; of the choices there are just those that were taken, as they were sent."""
+    for role in clinic.offices.roles:
+        status, lines, sentences = book("events", journal(clinic, role))
+        assert (status, sentences) == (0, [])
+        chosen = [line for line in lines if not line.startswith("got ")]
+        assert set(chosen) <= set(clinic.lines) and all(line.split()[1] in ("call", "ask", "tell") for line in lines if line.startswith("got "))
+        assert len(chosen) == len(clinic.kept(role))
+    all_chosen = [line for role in clinic.offices.roles for line in book("events", journal(clinic, role))[1] if not line.startswith("got ")]
+    assert sorted(all_chosen) == sorted(clinic.lines)
+
+
+def test_check_counts_and_digests_and_changes_nothing(clinic: System) -> None:
+    """While the nodes run, and after one was killed."""
+    for role in clinic.offices.roles:
+        file = journal(clinic, role)
+        before = file.read_bytes()
+        status, lines, sentences = book("check", "--digest", file)
+        word, name, _, events, _, size, _, behind, _, digest, *path = lines[0].split(" ")
+        assert (status, sentences, name, " ".join(path)) == (0, [], role, str(file))
+        assert word == "sound" and behind == "0"
+        assert digest == hashlib.sha256(before[:int(size)]).hexdigest()
+        assert int(events) == len(book("events", file)[1])
+        assert file.read_bytes() == before
+
+
+def test_the_specification_is_the_one_that_was_served(clinic: System) -> None:
+    """What it writes is accepted, and is the text in the head."""
+    file = journal(clinic, "lab")
+    status, lines, _ = book("spec", file)
+    data = file.read_bytes()
+    assert status == 0
+    assert "\n".join(lines) + "\n" == data[11:11 + int.from_bytes(data[3:11], "big")].decode()
+
+
+def test_what_is_no_whole_journal_is_said_so(clinic: System, tmp_path: Path) -> None:
+    """Cut, damaged, empty, headless; a folder, a pipe and a file that is not there. A fault stops no other file."""
+    data = journal(clinic, "clinic").read_bytes()
+    first_gate = 11 + int.from_bytes(data[3:11], "big")
+    files = {"sound": data, "cut": data[:-1] + bytes([1, 0, 0]), "empty": b"", "headless": b"no journal", "damaged": data[:first_gate] + b"\0" + data[first_gate + 1:]}
+    for word, content in files.items():
+        (tmp_path / word).write_bytes(content)
+    os.mkfifo(tmp_path / "pipe")
+    status, lines, sentences = book("check", *(tmp_path / word for word in files), tmp_path, tmp_path / "pipe", tmp_path / "nobody")
+    assert [line.split()[0] for line in lines[:5]] == list(files)
+    assert status == 3 and len([line for line in sentences if str(tmp_path) in line]) >= 3
+    assert all((tmp_path / word).read_bytes() == content for word, content in files.items())
+    assert book("check", tmp_path / "sound", tmp_path / "cut", tmp_path / "empty")[0] == 0
+    assert book("check", tmp_path / "damaged")[0] == book("check", tmp_path / "headless")[0] == 1
+
+
+def test_words_that_are_no_command() -> None:
+    """A sentence and status 2; `--help` and `--version` are answered."""
+    for words in ((), ("nothing",), ("check",), ("events", "--digest", "x")):
+        status, lines, sentences = book(*words)
+        assert status == 2 and not lines and sentences
+    assert book("--help")[0] == 0 and book("--version")[1] == ["aw_book " + (Path(__file__).parents[2] / "VERSION").read_text(encoding="utf-8").strip()]
+
+
+def test_the_page_shows_what_is_written(make: Make, tmp_path: Path) -> None:
+    """Each box of the page, over the journal of the tutorial's front desk."""
+    system = make(CLAIM)
+    system.start()
+    assert system.choose("start claim 502") == "taken"
+    (tmp_path / "front").mkdir()
+    (tmp_path / "bin").mkdir()
+    shutil.copyfile(journal(system, "front"), tmp_path / "front" / "workspace.journal")
+    for name, program in (("aw", os.environ["AW"]), ("aw_book", BOOK)):
+        (tmp_path / "bin" / name).symlink_to(program)
+    page = (Path(__file__).parents[2] / "docs" / "BOOK.md").read_text(encoding="utf-8")
+    boxes = [box for box in re.findall(r"(?ms)^```\n(.*?)^```$", page) if box.startswith("$ ")]
+    commands = [part.split("\n", 1) for box in boxes for part in box[2:].split("\n$ ")]
+    assert len(commands) >= 4
+    for command, said in commands:
+        ran = subprocess.run(["sh", "-c", command], cwd=tmp_path, capture_output=True, timeout=LONG, check=False, env={"PATH": "%s:/usr/bin:/bin" % (tmp_path / "bin")})
+        assert ran.stdout.decode().rstrip("\n") == said.rstrip("\n"), command
