@@ -14,6 +14,7 @@ mod journals;
 mod long;
 mod replies;
 mod session;
+mod standings;
 mod values;
 mod worked;
 
@@ -24,6 +25,7 @@ use count::push_counts;
 use frames::push_frames;
 use journals::push_journals;
 use long::push_long;
+use standings::push_standings;
 use std::alloc::Global;
 use std::process::ExitCode;
 use std::rt::Env;
@@ -39,6 +41,7 @@ fn push_told(alloc: Global, told: &mut Text, name: &[u8], text: &[u8]) -> Result
         b"frames" => Ok(push_frames(alloc, told, text)?),
         b"journals" => Ok(push_journals(alloc, told, text)?),
         b"long journals" => Ok(push_long(alloc, told, text)?),
+        b"records" => Ok(push_standings(alloc, told, text)?),
         _ => Err(TableFault::Unreadable),
     }
 }
