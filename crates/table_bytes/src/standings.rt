@@ -114,7 +114,12 @@ fn tells_failures(
 }
 
 /// Adds what a file has that is read in pieces of this size.
-fn push_piece(alloc: Global, told: &mut Text, bytes: &[u8], piece: usize) -> Result<(), AllocError> {
+fn push_piece(
+    alloc: Global,
+    told: &mut Text,
+    bytes: &[u8],
+    piece: usize,
+) -> Result<(), AllocError> {
     push_number(told, piece as u64)?;
     told.push_bytes(b" ")?;
     let whole = match told_of(alloc, bytes, piece, &[]) {
@@ -124,7 +129,11 @@ fn push_piece(alloc: Global, told: &mut Text, bytes: &[u8], piece: usize) -> Res
     };
     told.push_bytes(whole.as_slice())?;
     let all = tells_failures(alloc, bytes, piece, whole.as_slice())?;
-    told.push_bytes(if all { b", each failure told\n" } else { b", a failure not told\n" })
+    told.push_bytes(if all {
+        b", each failure told\n"
+    } else {
+        b", a failure not told\n"
+    })
 }
 
 /// Adds what a file of the input has.
