@@ -59,6 +59,16 @@ def tells(command: str) -> bool:
     return re.search(r"(?m)^  %s\b" % command, said) is not None
 
 
+def begin_visits(system: System) -> None:
+    """Starts a clinic and its post, begins three visits, and admits one, of which the laboratory hears."""
+    system.start()
+    system.start_post()
+    for case in (1, 2, 3):
+        assert system.choose("start visit %d" % case) == "taken"
+    assert system.choose("choose visit#1 admit {\"Ada\", 7, glucose}") == "taken"
+    until(lambda: "visit#1/admit.1 measure" in system.ready("lab"), "the letters did not come")
+
+
 def listens(port: int) -> bool:
     """Whether somebody listens at a port of this machine; opens no session."""
     lines = Path("/proc/net/tcp").read_text(encoding="ascii").splitlines()[1:]

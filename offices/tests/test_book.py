@@ -11,7 +11,7 @@ from pathlib import Path
 
 import pytest
 from conftest import CLAIM, CLINIC, LONG, System, until
-from systems import BOOK
+from systems import BOOK, begin_visits
 
 Make = Callable[[str], System]
 pytestmark = pytest.mark.skipif(not BOOK.is_file(), reason="not run: there is no aw_book at %s" % BOOK)
@@ -27,12 +27,7 @@ def book(*words: str | Path) -> tuple[int, list[str], list[str]]:
 def a_clinic(make: Make) -> System:
     """A clinic and its laboratory, three visits, one of them admitted and measured."""
     system = make(CLINIC)
-    system.start()
-    system.start_post()
-    for case in (1, 2, 3):
-        assert system.choose("start visit %d" % case) == "taken"
-    assert system.choose("choose visit#1 admit {\"Ada\", 7, glucose}") == "taken"
-    until(lambda: "visit#1/admit.1 measure" in system.ready("lab"), "the letters did not come")
+    begin_visits(system)
     assert system.choose("choose visit#1/admit.1 measure {5}") == "taken"
     until(system.carried, "not every letter is carried")
     return system

@@ -11,7 +11,7 @@ from pathlib import Path
 
 import pytest
 from conftest import CLINIC, LONG, OFFICES, TOP, System, listens, until
-from systems import BOOK, tells
+from systems import BOOK, begin_visits, tells
 
 UNITS = OFFICES / "units"
 PROGRAMS = {"/usr/bin/aw_post": str(OFFICES / "aw_post"), "/usr/bin/aw_guard": str(OFFICES / "aw_guard"), "/usr/bin/aw_desk": str(TOP / "desk" / "aw_desk")}
@@ -105,12 +105,7 @@ def test_the_nightly_look_sees_a_damaged_journal(make: Callable[[str], System]) 
     if not tells("tasks"):
         pytest.skip("not run: there is no aw_book with `check --redo` at %s" % BOOK)
     system = make(CLINIC)
-    system.start()
-    system.start_post()
-    for case in (1, 2, 3):
-        assert system.choose("start visit %d" % case) == "taken"
-    assert system.choose("choose visit#1 admit {\"Ada\", 7, glucose}") == "taken"
-    until(lambda: "visit#1/admit.1 measure" in system.ready("lab"), "the letters did not come")
+    begin_visits(system)
     lines = re.findall(r"^ExecStart=(.*)$", (UNITS / "aw-book.service").read_text(encoding="utf-8"), re.M)
 
     def looked() -> list[int]:
