@@ -7,6 +7,7 @@ use Rattle.aw_term.specs.Views.{pattern_of}
 use Rattle.aw_term.specs.declared.term.Pattern.{Pattern}
 use Rattle.aw_term.specs.Matching as Q
 use Rattle.aw_term.specs.Matching.{and_then}
+use Rattle.aw_term.specs.Limits.{most_inherited, most_levels, most_variables}
 use Rattle.aw_choice.specs.declared.choice.Path.{Path}
 use Rattle.aw_choice.specs.ChoiceView.{path_of, place_of}
 use Rattle.aw_store.specs.Equations.{Map}
@@ -57,9 +58,9 @@ guard_with bound (met.Circle slot) = guard.Circle slot
 pub record IsTestable (names : List Ref) (patterns : List Pattern) (inherited : List ℕ) : Type 0 where
   pub live : All (λ slot. slot < length names) inherited
   pub same : length patterns ≡ length inherited
-  pub few : length patterns ≤ 8
-  pub shallow : all_nesting (join (map pattern_of patterns)) ≤ 32
-  pub room : length (all_leaves (join (map pattern_of patterns))) ≤ 64
+  pub few : length patterns ≤ most_inherited
+  pub shallow : all_nesting (join (map pattern_of patterns)) ≤ most_levels
+  pub room : length (all_leaves (join (map pattern_of patterns))) ≤ most_variables
 
 -- this is what the patterns give on the references that these slots name
 abbrev pub IsGuardOf : Map → List Ref → List Pattern → List ℕ → Guard → Type 0

@@ -4,6 +4,7 @@ use Rattle.aw_term.specs.Names.{Node, Ref}
 use Rattle.aw_term.specs.Matching as Q
 use Rattle.aw_term.specs.Rules.{Rule}
 use Rattle.aw_term.specs.Choices as C
+use Rattle.aw_name.specs.Limits.{most_steps}
 use Rattle.aw_choice.specs.ChoiceView.{answer_of, place_of}
 use Rattle.aw_apply.specs.declared.guard.Guard.{Guard}
 use Rattle.aw_apply.specs.declared.guard.Guard.TheVariants as guard
@@ -34,4 +35,4 @@ weighed_of rule (weighed.Takes bound) = C.Takes rule bound.items
 -- where a rule with so many children is taken, there is room for a child's step below the node
 abbrev pub HasRoom : ℕ → Node → Weighed → Type 0
 HasRoom children n (weighed.Refused answer) = Unit {0}
-HasRoom children n (weighed.Takes bound) = 0 < children → length n.steps < 250
+HasRoom children n (weighed.Takes bound) = 0 < children → length n.steps < most_steps

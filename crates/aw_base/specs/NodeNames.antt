@@ -5,8 +5,9 @@ use Rattle.aw_spelling.specs.Spelling.{parts_of_name}
 use Rattle.aw_term.specs.Names.{Step, Node}
 use Rattle.aw_term.specs.Rules.{Sort, Grammar, sort_of_step}
 use Rattle.aw_term.specs.Artifacts.{Words}
+use Rattle.aw_name.specs.Limits.{most_steps}
 
--- A node; or the first that holds: the text is no node name, it has more than 250 steps, a name in it is not declared or no start sort,
+-- A node; or the first that holds: the text is no node name, it has too many steps, a name in it is not declared or no start sort,
 -- or a step, counted from 0, does not fit.
 pub data NodeRead : Type 0 where
   Named : (node : Node) → NodeRead
@@ -53,7 +54,7 @@ with_start w g case steps (Some s) = if is_start (slice_get g.sorts s) then with
 -- what is read where these are the parts of the name, or the text is no node name
 abbrev pub with_parts : Words → Grammar → Option (List ℕ × ℕ × List (List ℕ × ℕ)) → NodeRead
 with_parts w g None = NoNodeName
-with_parts w g (Some parts) = if nat_lt 250 (length parts.2) then TooLong else with_start w g parts.1 parts.2 (number_named w.sorts parts.0)
+with_parts w g (Some parts) = if nat_lt most_steps (length parts.2) then TooLong else with_start w g parts.1 parts.2 (number_named w.sorts parts.0)
 
 -- which node a text names, or the first reason why it names none
 abbrev pub node_read : Words → Grammar → List ℕ → NodeRead

@@ -23,7 +23,7 @@ Reads read (Err NoMemory) = Unit {0}
 abbrev pub name_fault : Bool → NameFault
 name_fault spelled = if spelled then Unknown else Form
 
--- why a text of more than 250 steps names no node, where it is a node name, or is none
+-- why a text of too many steps names no node, where it is a node name, or is none
 abbrev pub long_fault : Bool → NameFault
 long_fault spelled = if spelled then Long else Form
 

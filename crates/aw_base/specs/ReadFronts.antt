@@ -4,6 +4,7 @@ use Rattle.aw_spelling.specs.Spelling.{parts_of_name}
 use Rattle.aw_term.specs.Names.{Step}
 use Rattle.aw_term.specs.Rules.{Grammar, sort_after}
 use Rattle.aw_term.specs.Artifacts.{Words}
+use Rattle.aw_name.specs.Limits.{most_steps}
 use Rattle.aw_grammar.specs.GrammarOf.{grammar_of, words_of}
 use Rattle.aw_grammar.specs.declared.grammar.Grammar.{Grammar as GivenGrammar}
 use Rattle.aw_base.specs.NodeNames.{steps_named}
@@ -24,7 +25,7 @@ pub record IsNamed (w : Words) (g : Grammar) (text : List ℕ) (start case : ℕ
 -- front k of the text names the node that the first k steps lead to
 pub record AreReadFronts (w : Words) (g : Grammar) (text : List ℕ) (start case : ℕ) (steps : List Step) (fronts : List Front) : Type 0 where
   pub each : (k : ℕ) (f : Front) → slice_get fronts k ≡ Some f → IsNamed w g (take f.end text) start case (take k steps) f.sort
-  pub few : length steps ≤ 250
+  pub few : length steps ≤ most_steps
   pub paired : length fronts ≤ length steps + 1
 
 -- this front is the last one, and all steps lead to its node

@@ -21,7 +21,7 @@ abbrev pub map_in : List Ref → List Stored → List ℕ → Map
 map_in ns cs [] = []
 map_in ns cs (s ∷ ss) = equation_with (slice_get ns s) (body_in ns cs s) (map_in ns cs ss)
 
--- each slot in these bodies is one of so many, and none has more than 8
+-- each slot in these bodies is one of so many, and each has few
 abbrev pub all_fit : ℕ → List Stored → Bool
 all_fit n [] = true
 all_fit n (c ∷ cs) = fits n c && all_fit n cs

@@ -3,6 +3,7 @@ use Rattle.std.specs.Prelude.{ℕ, Bool, true, false, ◌&&◌, List, [], ◌∷
 use Rattle.std.specs.Cmp.Lexicographic.{pointwise}
 use Rattle.aw_term.specs.Trees as T
 use Rattle.aw_term.specs.Names.{Ref}
+use Rattle.aw_term.specs.Limits.{most_parts}
 use Rattle.aw_store.specs.Equations as P
 use Rattle.aw_store.specs.Refs.{ref_eq}
 use Rattle.aw_store.specs.declared.equation.Body.{Body}
@@ -35,11 +36,11 @@ abbrev pub all_below : ℕ → List ℕ → Bool
 all_below n [] = true
 all_below n (s ∷ ss) = nat_lt s n && all_below n ss
 
--- each slot in a body is one of so many, and there are at most 8
+-- each slot in a body is one of so many, and there are few
 abbrev pub fits : ℕ → Stored → Bool
 fits n Missing = true
 fits n (Same s) = nat_lt s n
-fits n (Con c parts) = all_below n parts.items && nat_le (length parts.items) 8
+fits n (Con c parts) = all_below n parts.items && nat_le (length parts.items) most_parts
 fits n (Num m) = true
 fits n (Text t) = true
 

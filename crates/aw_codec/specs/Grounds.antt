@@ -4,6 +4,7 @@ use Rattle.std.specs.List.{flat_map}
 use Rattle.std.specs.Int.{w16, w64, to_be_bytes}
 use Rattle.aw_term.specs.Trees.{Never, Head, Con, Num, Text, Leaf, Made, Trees, Nil, More, join, count}
 use Rattle.aw_term.specs.Rules.{Ground}
+use Rattle.aw_term.specs.Limits.{most_parts, most_arguments, most_levels, most_symbols}
 use Rattle.aw_codec.specs.Reading.{Short, Bad, Reader, ◌>>=◌, byte, number, such_that, both, seen}
 use Rattle.aw_codec.specs.Names.{is_at_most}
 use Rattle.aw_codec.specs.Texts.{spelled_text, text}
@@ -32,11 +33,11 @@ spelled_grounds ts = length ts ∷ flat_map spelled_ground ts
 
 -- ---- reading
 
--- a head, and how many parts follow it: at most 8
+-- a head, and how many parts follow it
 unfoldable pub head : Reader (Head × ℕ)
 head [] = Err Short
 head (zero ∷ rest) = Err (Bad (suc (length rest)))
-head (suc zero ∷ rest) = seen (λ x. (Con x.0, x.1)) (both (number w16) (such_that (is_at_most 8) byte)) rest
+head (suc zero ∷ rest) = seen (λ x. (Con x.0, x.1)) (both (number w16) (such_that (is_at_most most_parts) byte)) rest
 head (suc (suc zero) ∷ rest) = seen (λ n. (Num n, 0)) (number w64) rest
 head (suc (suc (suc zero)) ∷ rest) = seen (λ t. (Text t, 0)) text rest
 head (suc (suc (suc (suc b))) ∷ rest) = Err (Bad (suc (length rest)))
@@ -61,6 +62,6 @@ ground zero allowed bytes = no_term bytes
 ground (suc levels) zero bytes = no_term bytes
 ground (suc levels) (suc allowed) bytes = head bytes >>= λ h. with_parts (ground levels) h.0 allowed h.1
 
--- at most 8 terms, at most 32 deep, of at most 256 symbols together
+-- the arguments of a choice, within their limits
 unfoldable pub arguments : Reader (List Ground)
-arguments bytes = such_that (is_at_most 8) byte bytes >>= λ n. in_turn (ground 32) n.0 256 n.1 >>= λ ts. Ok (ts.0.0, ts.1)
+arguments bytes = such_that (is_at_most most_arguments) byte bytes >>= λ n. in_turn (ground most_levels) n.0 most_symbols n.1 >>= λ ts. Ok (ts.0.0, ts.1)

@@ -3,6 +3,8 @@ use Rattle.std.specs.Prelude.{ℕ, zero, suc, Bool, ◌&&◌, nat_le, List, [], 
 use Rattle.std.specs.List.{flat_map}
 use Rattle.std.specs.Int.{w16, w64, to_be_bytes}
 use Rattle.aw_term.specs.Names.{Step, Node, Slot, Result, Part, Ref}
+use Rattle.aw_term.specs.Limits.{most_children, most_results, most_node_parts, most_references}
+use Rattle.aw_name.specs.Limits.{most_steps}
 use Rattle.aw_codec.specs.Reading.{Short, Bad, Reader, byte, number, such_that, both, seen, counted}
 
 -- ---- the spelling
@@ -40,29 +42,29 @@ is_at_most most n = nat_le n most
 
 -- ---- reading
 
--- the rule, and a child from 1 to 8
+-- the rule, and a child
 unfoldable pub step : Reader Step
-step = seen (λ s. record { rule = s.0; child = s.1 }) (both (number w16) (such_that (is_from_1_to 8) byte))
+step = seen (λ s. record { rule = s.0; child = s.1 }) (both (number w16) (such_that (is_from_1_to most_children) byte))
 
--- at most 250 steps
+-- few steps
 unfoldable pub trail : Reader (List Step)
-trail = counted (such_that (is_at_most 250) byte) step
+trail = counted (such_that (is_at_most most_steps) byte) step
 
 -- the start sort, the case and the steps
 unfoldable pub node : Reader Node
 node = seen (λ n. record { start = n.0; case = n.1.0; steps = n.1.1 }) (both (number w16) (both (number w64) trail))
 
--- 0 and a result from 1 to 8, or 1 and a part from 1 to 512
+-- 0 and a result, or 1 and a part
 unfoldable pub slot : Reader Slot
 slot [] = Err Short
-slot (zero ∷ rest) = seen Result (such_that (is_from_1_to 8) (number w16)) rest
-slot (suc zero ∷ rest) = seen Part (such_that (is_from_1_to 512) (number w16)) rest
+slot (zero ∷ rest) = seen Result (such_that (is_from_1_to most_results) (number w16)) rest
+slot (suc zero ∷ rest) = seen Part (such_that (is_from_1_to most_node_parts) (number w16)) rest
 slot (suc (suc b) ∷ rest) = Err (Bad (suc (length rest)))
 
 -- the node, and then the slot
 unfoldable pub reference : Reader Ref
 reference = seen (λ r. record { node = r.0; slot = r.1 }) (both node slot)
 
--- at most 8 references
+-- references behind their number
 unfoldable pub references : Reader (List Ref)
-references = counted (such_that (is_at_most 8) byte) reference
+references = counted (such_that (is_at_most most_references) byte) reference

@@ -6,6 +6,8 @@ use Rattle.aw_term.specs.Names.{Step, Node, Slot, Result, Part, Ref}
 use Rattle.aw_term.specs.Rules.{Ground}
 use Rattle.aw_term.specs.Choices.{Choice, Start, Develop}
 use Rattle.aw_term.specs.WellFormed.{Each, symbols_of, nesting}
+use Rattle.aw_term.specs.Limits.{most_children, most_results, most_node_parts, most_references, most_parts, most_arguments, most_symbols, most_levels}
+use Rattle.aw_name.specs.Limits.{most_steps}
 
 -- ---- names
 
@@ -17,27 +19,27 @@ From1To most n = (1 ≤ n) × (n ≤ most)
 abbrev pub StepSized : Step → Type 0
 StepSized s = (s.rule < 2 ^ 16) × (s.child < 2 ^ 8)
 
--- its child is from 1 to 8
+-- its child is one of a rule
 abbrev pub StepInRange : Step → Type 0
-StepInRange s = From1To 8 s.child
+StepInRange s = From1To most_children s.child
 
 -- the start sort of a node has two bytes, its case eight, and its steps have their sizes
 abbrev pub NodeSized : Node → Type 0
 NodeSized n = (n.start < 2 ^ 16) × (n.case < 2 ^ 64) × Each StepSized n.steps
 
--- at most 250 steps
+-- few steps
 abbrev pub NodeInRange : Node → Type 0
-NodeInRange n = (length n.steps ≤ 250) × Each StepInRange n.steps
+NodeInRange n = (length n.steps ≤ most_steps) × Each StepInRange n.steps
 
 -- the number of a slot has two bytes
 abbrev pub SlotSized : Slot → Type 0
 SlotSized (Result j) = j < 2 ^ 16
 SlotSized (Part k) = k < 2 ^ 16
 
--- a result is from 1 to 8, and a part from 1 to 512
+-- a result of a sort, and a part of a node
 abbrev pub SlotInRange : Slot → Type 0
-SlotInRange (Result j) = From1To 8 j
-SlotInRange (Part k) = From1To 512 k
+SlotInRange (Result j) = From1To most_results j
+SlotInRange (Part k) = From1To most_node_parts k
 
 -- the numbers of a reference have their sizes
 abbrev pub RefSized : Ref → Type 0
@@ -51,9 +53,9 @@ RefInRange r = NodeInRange r.node × SlotInRange r.slot
 abbrev pub RefsSized : List Ref → Type 0
 RefsSized rs = Each RefSized rs
 
--- at most 8 references
+-- few references
 abbrev pub RefsInRange : List Ref → Type 0
-RefsInRange rs = (length rs ≤ 8) × Each RefInRange rs
+RefsInRange rs = (length rs ≤ most_references) × Each RefInRange rs
 
 -- ---- texts and arguments
 
@@ -71,9 +73,9 @@ HeadSized (Con c) = c < 2 ^ 16
 HeadSized (Num n) = n < 2 ^ 64
 HeadSized (Text t) = TextSized t
 
--- a constructor has at most 8 parts, a number and a text have none
+-- a constructor has few parts, a number and a text have none
 abbrev pub HeadInRange : Head → ℕ → Type 0
-HeadInRange (Con c) parts = parts ≤ 8
+HeadInRange (Con c) parts = parts ≤ most_parts
 HeadInRange (Num n) parts = parts ≡ 0
 HeadInRange (Text t) parts = (parts ≡ 0) × TextInRange t
 
@@ -105,9 +107,9 @@ GroundInRange levels t = HeadsInRange t × (nesting t ≤ levels)
 abbrev pub GroundsSized : List Ground → Type 0
 GroundsSized ts = Each GroundSized ts
 
--- at most 8 arguments, at most 32 deep, of at most 256 symbols together
+-- arguments within their limits
 abbrev pub GroundsInRange : List Ground → Type 0
-GroundsInRange ts = (length ts ≤ 8) × (symbols_of ts ≤ 256) × Each (GroundInRange 32) ts
+GroundsInRange ts = (length ts ≤ most_arguments) × (symbols_of ts ≤ most_symbols) × Each (GroundInRange most_levels) ts
 
 -- ---- choices
 

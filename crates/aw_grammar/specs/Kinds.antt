@@ -2,6 +2,7 @@
 use Rattle.std.specs.Prelude.{ℕ, suc, Bool, true, false, ◌&&◌, ◌||◌, not, List, [], ◌∷◌, ◌++◌, map, length, Option, Some, None, slice_get, nat_eq, nat_lt, nat_le, option_and_then}
 use Rattle.aw_name_index.specs.Places.{place_of, stands, any_stands, all_stand, has_double, first_told}
 use Rattle.aw_term.specs.WellFormed.{leaves_of}
+use Rattle.aw_term.specs.Limits.{most_roles, most_cons, most_parts, most_sorts, most_inherited, most_results, most_rules, most_params, most_children, most_levels, most_symbols, most_variables}
 use Rattle.aw_grammar.specs.declared.rule.Con.{Con}
 use Rattle.aw_grammar.specs.declared.rule.Sort.{Sort}
 use Rattle.aw_grammar.specs.declared.raw.RawCon.{RawCon}
@@ -13,26 +14,26 @@ use Rattle.aw_grammar.specs.Terms.{symbols_in_all, depth_of_all, results_of, use
 use Rattle.aw_grammar.specs.Resolved.{all_resolved, entering}
 use Rattle.aw_grammar.specs.Declarations.{Declarations, con_names, sort_names, rule_names}
 
--- a role: past 64, or declared already
+-- a role: past the limit, or declared already
 abbrev pub role_tests : Declarations → List ℕ → List (Bool × DeclKind)
-role_tests d name = (nat_le 64 (length d.roles), Limit) ∷ (stands name d.roles, Double) ∷ []
+role_tests d name = (nat_le most_roles (length d.roles), Limit) ∷ (stands name d.roles, Double) ∷ []
 
 -- the first fault of a role, where it has one
 abbrev pub role_kind : Declarations → List ℕ → Option DeclKind
 role_kind d name = first_told (role_tests d name)
 
--- a constructor: past 1,024 or with more than 8 parts, or declared already
+-- a constructor: past the limit or with too many parts, or declared already
 abbrev pub con_tests : Declarations → RawCon → List (Bool × DeclKind)
-con_tests d c = (nat_le 1024 (length d.cons) || nat_lt 8 c.arity, Limit) ∷ (stands c.name (con_names d), Double) ∷ []
+con_tests d c = (nat_le most_cons (length d.cons) || nat_lt most_parts c.arity, Limit) ∷ (stands c.name (con_names d), Double) ∷ []
 
 -- the first fault of a constructor, where it has one
 abbrev pub con_kind : Declarations → RawCon → Option DeclKind
 con_kind d c = first_told (con_tests d c)
 
--- a sort: past 256 or with more than 8 inherited values or results, declared already, or of a role that is not declared
+-- a sort: past the limit or with too many inherited values or results, declared already, or of a role that is not declared
 abbrev pub sort_tests : Declarations → RawSort → List (Bool × DeclKind)
 sort_tests d s =
-    (nat_le 256 (length d.sorts) || (nat_lt 8 s.takes || nat_lt 8 s.gives), Limit)
+    (nat_le most_sorts (length d.sorts) || (nat_lt most_inherited s.takes || nat_lt most_results s.gives), Limit)
     ∷ (stands s.name (sort_names d), Double)
     ∷ (not (stands s.role d.roles), Unknown)
     ∷ []
@@ -57,12 +58,13 @@ start_kind d name = start_kind_of (sort_called name d.sorts)
 -- past the 1,024 rules; more than 8 patterns, results, parameters or children; more than 256 symbols; a term deeper than 32
 abbrev pub is_past_counts : Declarations → WrittenRule → Bool
 is_past_counts d r =
-    nat_le 1024 (length d.rules)
-    || (nat_lt 8 (length r.patterns) || (nat_lt 8 (length r.results) || (nat_lt 8 (length r.params) || nat_lt 8 (length r.children))))
+    nat_le most_rules (length d.rules)
+    || (nat_lt most_inherited (length r.patterns)
+        || (nat_lt most_results (length r.results) || (nat_lt most_params (length r.params) || nat_lt most_children (length r.children))))
 
--- a term of the rule is deeper than 32, or more than 256 symbols stand in its terms
+-- a term of the rule is too deep, or too many symbols stand in its terms
 abbrev pub is_past_terms : WrittenRule → Bool
-is_past_terms r = nat_lt 32 (depth_of_all (terms_of r)) || nat_lt 256 (symbols_in_all (terms_of r))
+is_past_terms r = nat_lt most_levels (depth_of_all (terms_of r)) || nat_lt most_symbols (symbols_in_all (terms_of r))
 
 -- each constructor that is written with parentheses is declared
 abbrev mutual
@@ -135,10 +137,10 @@ arity_differs d r =
     not (takes_and_gives (sort_called r.sort d.sorts) (length r.patterns) (length r.results))
     || (not (children_fit d.sorts r.children) || not (all_have_arities d.cons (terms_of r)))
 
--- past the 64 variables, declared already, or a parameter or a child's result is a constructor's name
+-- past the limit of variables, declared already, or a parameter or a child's result is a constructor's name
 abbrev pub name_tests : Declarations → WrittenRule → List (Bool × DeclKind)
 name_tests d r =
-    (nat_lt 64 (length (entering (con_names d) r)), Limit)
+    (nat_lt most_variables (length (entering (con_names d) r)), Limit)
     ∷ (stands r.name (rule_names d), Double)
     ∷ (any_stands (r.params ++ results_of r.children) (con_names d), Clash)
     ∷ []

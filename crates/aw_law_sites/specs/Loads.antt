@@ -2,6 +2,7 @@
 use Rattle.std.specs.Prelude.{ℕ, zero, suc, Bool, true, false, not, ◌&&◌, List, [], ◌∷◌, ◌++◌, Option, Some, None, nat_eq, if◌then◌else◌}
 use Rattle.aw_term.specs.Names.{Ref}
 use Rattle.aw_term.specs.Rules.{Grammar}
+use Rattle.aw_term.specs.Limits.{most_of_load}
 use Rattle.aw_store.specs.Equations.{Body, Equation, find, mentions}
 use Rattle.aw_law_sites.specs.Homes.{home}
 use Rattle.aw_law_sites.specs.Sites.{Site}
@@ -37,4 +38,4 @@ walk (suc n) g s seen rs = elim (next_given g s seen rs) [
 
 -- empty where the site sends no loads
 abbrev pub load_of : Grammar → Site → List Ref → List Ref → List Equation
-load_of g s seen rs = if s.loads then walk 64 g s seen rs else []
+load_of g s seen rs = if s.loads then walk most_of_load g s seen rs else []

@@ -3,6 +3,7 @@ use Rattle.std.specs.Prelude.{ℕ, zero, suc, Bool, ◌&&◌, ◌||◌, List, []
 use Rattle.aw_term.specs.Names.{Ref, ref_eq}
 use Rattle.aw_term.specs.Rules.{Grammar}
 use Rattle.aw_term.specs.Held.{Held}
+use Rattle.aw_term.specs.Limits.{most_roles}
 use Rattle.aw_store.specs.Equations.{Body, Equation, mentions}
 use Rattle.aw_apply.specs.Made.{Call}
 use Rattle.aw_apply.specs.Messages.{Message, Calls, Tells}
@@ -24,10 +25,10 @@ watchers_from (suc n) i watches = if watches i then i ∷ watchers_from n (suc i
 abbrev pub tell : Grammar → Site → Equation → ℕ → Message
 tell g s e role = record { to = role; kind = Tells e (load_of g s (e.left ∷ []) (mentions e.body)) }
 
--- for each of these equations one to each watcher of its left side, in the order of roles; there are at most 64 roles
+-- for each of these equations one to each watcher of its left side, in the order of roles
 abbrev pub tells : Grammar → Site → List Equation → List Message
 tells g s [] = []
-tells g s (e ∷ es) = map (tell g s e) (watchers_from 64 0 (s.watches e.left)) ++ tells g s es
+tells g s (e ∷ es) = map (tell g s e) (watchers_from most_roles 0 (s.watches e.left)) ++ tells g s es
 
 -- a child for its home, with its load
 abbrev pub call_out : Grammar → Site → Call → Message

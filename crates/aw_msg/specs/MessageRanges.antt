@@ -1,6 +1,7 @@
 -- Which messages have a spelling in bytes. The sizes are those of the program's types; the ranges say the rest.
 use Rattle.std.specs.Prelude.{◌<◌, ◌≤◌, ◌^◌, List, length}
 use Rattle.aw_term.specs.WellFormed.{Each}
+use Rattle.aw_term.specs.Limits.{most_of_load}
 use Rattle.aw_store.specs.Equations.{Body, Same, Is, Equation}
 use Rattle.aw_apply.specs.Messages.{Kind, Calls, Asks, Tells, Message}
 use Rattle.aw_codec.specs.Ranges.{NodeSized, NodeInRange, RefSized, RefInRange, RefsSized, RefsInRange, HeadSized, HeadInRange}
@@ -10,7 +11,7 @@ abbrev pub BodySized : Body → Type 0
 BodySized (Same r) = RefSized r
 BodySized (Is h parts) = HeadSized h × RefsSized parts
 
--- a number and a text have no references, a constructor has at most 8
+-- a number and a text have no references, a constructor has few
 abbrev pub BodyInRange : Body → Type 0
 BodyInRange (Same r) = RefInRange r
 BodyInRange (Is h parts) = HeadInRange h (length parts) × RefsInRange parts
@@ -27,9 +28,9 @@ EquationInRange e = RefInRange e.left × BodyInRange e.body
 abbrev pub LoadSized : List Equation → Type 0
 LoadSized es = Each EquationSized es
 
--- at most 64 equations
+-- few equations
 abbrev pub LoadInRange : List Equation → Type 0
-LoadInRange es = (length es ≤ 64) × Each EquationInRange es
+LoadInRange es = (length es ≤ most_of_load) × Each EquationInRange es
 
 -- the numbers of what a message says have their sizes
 abbrev pub KindSized : Kind → Type 0

@@ -1,6 +1,7 @@
 -- How messages of the program are spelled in bytes, and how they are read.
 use Rattle.std.specs.Prelude.{ℕ, zero, suc, Bool, true, false, ◌||◌, ◌==◌, List, [], ◌∷◌, length, Ok, Err}
 use Rattle.std.specs.Int.{w16, w64}
+use Rattle.aw_term.specs.Limits.{most_of_load}
 use Rattle.aw_codec.specs.Reading.{Short, Bad, Reader, ◌>>=◌, byte, number, such_that, both, seen, counted}
 use Rattle.aw_codec.specs.Names.{is_from_1_to, node, reference, references}
 use Rattle.aw_codec.specs.Texts.{text}
@@ -43,9 +44,9 @@ body (suc (suc (suc (suc b))) ∷ rest) = Err (Bad (suc (length rest)))
 unfoldable pub equation : Reader Equation
 equation = seen (λ x. record { left = x.0; body = x.1 }) (both reference body)
 
--- from 1 to 64 equations
+-- equations behind their number, at least one
 unfoldable pub equations : Reader (List Equation)
-equations = counted (such_that (is_from_1_to 64) byte) equation
+equations = counted (such_that (is_from_1_to most_of_load) byte) equation
 
 -- the load, where the message has one
 unfoldable pub load : Bool → Reader (List Equation)

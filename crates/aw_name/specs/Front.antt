@@ -2,6 +2,7 @@
 use Rattle.std.specs.Prelude.{ℕ, zero, suc, ◌+◌, ◌*◌, ◌<◌, ◌≤◌, ◌≡◌, ◌/◌, ◌%◌, ◌^◌, List, [], ◌∷◌, length, drop, Option, Some, None}
 use Rattle.aw_name.specs.declared.node.Step.{Step}
 use Rattle.aw_name.specs.Digest.{step_number}
+use Rattle.aw_name.specs.Limits.{most_steps}
 
 -- the number of the step at a place, from 0; 0 past the last
 abbrev pub number_at : List Step → ℕ → ℕ
@@ -53,7 +54,7 @@ steps_in (Some xs) = xs
 
 -- what stands beside the steps of a trail is made of them
 pub record IsTrail (xs : List Step) (high low : ℕ) : Type 0 where
-  pub short : length xs ≤ 250
+  pub short : length xs ≤ most_steps
   pub high_is : high ≡ front_of xs / 2 ^ 64
   pub low_is : low ≡ front_of xs % 2 ^ 64
   pub small : IsSmallLead xs

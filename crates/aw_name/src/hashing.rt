@@ -6,7 +6,8 @@ ghost use Rattle.aw_name.specs.Writes.{slot_number, node_writes, ref_writes};
 ghost use Rattle.aw_name.specs.SameNodes.{derived_node_Decides};
 ghost use Rattle.aw_name.specs.SameRefs.{derived_ref_Decides};
 
-use crate::node::{Node, Ref, Slot, digest_and};
+use crate::digest::digest_and;
+use crate::node::{Node, Ref, Slot};
 use std::hash::{Hash, Hasher};
 
 impl Hash for Node {

@@ -2,6 +2,7 @@
 #![tactic(auto)]
 
 pub mod compare;
+mod digest;
 mod hashing;
 pub mod node;
 

@@ -6,11 +6,13 @@ ghost use Rattle.std.specs.Cmp.Rules.{comparing};
 ghost use Rattle.std.specs.Cmp.Lexicographic.{pointwise, slice_cmp, lists_equiv, lists_total, lists_ties};
 ghost use Rattle.std.specs.Ordering.{as_partial_cmp};
 ghost use Rattle.std.proofs.Common.{rules, refl};
-ghost use Rattle.aw_name.specs.Digest.{step_number, digest_and, digest_with, digest_of};
+ghost use Rattle.aw_name.specs.Digest.{step_number, digest_of};
 ghost use Rattle.aw_name.specs.Front.{front_of, flat, flat_rest, number_at, IsSmall, IsSmallAt, IsSmallLead};
+ghost use Rattle.aw_name.specs.Limits.{most_steps};
 ghost use Rattle.aw_name.specs.Steps.{step_cmp, step_total, step_ties};
 ghost use Rattle.aw_name.specs.Same.{step_eq, steps_Decide};
 
+use crate::digest::digest_of;
 use aw_list::{Counted, Items, Shared};
 use std::alloc::{AllocError, Global};
 use std::cmp::Ordering;
@@ -38,7 +40,7 @@ impl Model for Rows {
     ghost use Rattle.std.specs.Prelude.{List, ◌≡◌};
     ghost use Rattle.std.proofs.Common.{sym};
     ghost use Rattle.aw_name.specs.declared.node.Step.{Step};
-    ghost use Rattle.aw_name.specs.Digest.{digest_of};
+    ghost use Rattle.aw_name.specs.Digest.{step_number, digest_of};
     ghost use Rattle.aw_name.specs.Front.{flat_rest};
 
     ghost Value = { List Step };
@@ -193,7 +195,7 @@ fn number_at(steps: &[Step], at: usize) -> u128
 
 /// The first five steps as one number, the first one highest, and how many there are.
 fn front_of(steps: &[Step]) -> u128
-    requires { length steps.now ≤ 250 }
+    requires { length steps.now ≤ most_steps }
     ensures value { result ≡ front_of steps.now }
     ensures small { IsSmallLead steps.now }
 {
@@ -207,7 +209,7 @@ fn front_of(steps: &[Step]) -> u128
 
 /// The rules and children of steps in turn.
 fn flat(alloc: Global, steps: &[Step]) -> Result<Vec<u16>, AllocError>
-    requires { length steps.now ≤ 250 }
+    requires { length steps.now ≤ most_steps }
     ensures { IfOk result (λ row. row.items ≡ flat steps.now) }
 {
     let mut row = Vec::with_capacity(alloc, steps.len() * 2)?;
@@ -220,7 +222,7 @@ fn flat(alloc: Global, steps: &[Step]) -> Result<Vec<u16>, AllocError>
 
 /// Those of the steps behind the front. None take no memory.
 fn rest_of(alloc: Global, steps: &[Step]) -> Result<Items<u16>, AllocError>
-    requires { length steps.now ≤ 250 }
+    requires { length steps.now ≤ most_steps }
     ensures { IfOk result (λ rest. rest ≡ flat_rest steps.now) }
 {
     if steps.len() <= FRONT {
@@ -231,34 +233,6 @@ fn rest_of(alloc: Global, steps: &[Step]) -> Result<Items<u16>, AllocError>
 
 /// How many numbers a word of 64 bits has.
 const WORD: u128 = 18_446_744_073_709_551_616;
-
-/// What a digest is multiplied by before a step is added.
-const DIGEST_FACTOR: u64 = 11_400_714_819_323_198_485;
-
-/// The digest where one more number follows.
-pub(crate) fn digest_and(digest: u64, number: u64) -> u64
-    ensures { result ≡ digest_and digest number }
-{
-    digest.wrapping_mul(DIGEST_FACTOR).wrapping_add(number)
-}
-
-/// The digest where one more step follows.
-fn digest_with(digest: u64, step: Step) -> u64
-    ensures { result ≡ digest_with digest step }
-{
-    digest_and(digest, u64::from(step.rule) * 256 + u64::from(step.child))
-}
-
-/// The digest of steps.
-fn digest_of(steps: &[Step]) -> u64
-    ensures { result ≡ digest_of steps.now }
-{
-    let mut digest = 0;
-    for step in steps {
-        digest = digest_with(digest, *step);
-    }
-    digest
-}
 
 impl Trail {
     /// How many steps a trail has at most.
@@ -278,7 +252,7 @@ impl Trail {
 
     /// These steps, of which there have to be at most 250.
     pub fn from_vec(steps: Vec<Step>) -> Result<Trail, AllocError>
-        requires { length steps.items ≤ 250 }
+        requires { length steps.items ≤ most_steps }
         ensures { IfOk result (λ t. t ≡ steps.items) }
     {
         let alloc = *steps.allocator();
@@ -304,7 +278,7 @@ impl Trail {
     /// The steps, from the start node on.
     pub fn as_slice(&self) -> &[Step]
         ensures value { result.now ≡ self.now }
-        ensures short { length self.now ≤ 250 }
+        ensures short { length self.now ≤ most_steps }
     {
         match &self.rows {
             Some(rows) => rows.get().steps(),
@@ -335,7 +309,7 @@ impl Trail {
     /// How many steps there are.
     pub fn len(&self) -> usize
         ensures value { result ≡ length self.now }
-        ensures short { length self.now ≤ 250 }
+        ensures short { length self.now ≤ most_steps }
     {
         (self.low % 256) as usize
     }
@@ -343,7 +317,7 @@ impl Trail {
     /// The first five steps as one number, and how many there are.
     fn front(&self) -> u128
         ensures value { result ≡ front_of self.now }
-        ensures short { length self.now ≤ 250 }
+        ensures short { length self.now ≤ most_steps }
         ensures small { IsSmallLead self.now }
     {
         u128::from(self.high) * WORD + u128::from(self.low)
@@ -359,7 +333,7 @@ impl Trail {
 
     /// One step further down, where there are fewer than 250. An error changes nothing: there is no memory for it.
     pub fn push(&mut self, step: Step) -> Result<(), AllocError>
-        requires { length self.old < 250 }
+        requires { length self.old < most_steps }
         ensures ok { OnOk result (self.new ≡ self.old ++ step ∷ []) }
         ensures err { OnErr result (self.new ≡ self.old) }
     {

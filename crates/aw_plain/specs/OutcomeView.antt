@@ -3,6 +3,7 @@ use Rattle.std.specs.Prelude.{◌<◌, List, length}
 use Rattle.aw_term.specs.Names.{Node, Ref}
 use Rattle.aw_term.specs.Rules.{Value}
 use Rattle.aw_term.specs.Choices as Q
+use Rattle.aw_name.specs.Limits.{most_steps}
 use Rattle.aw_grammar.specs.declared.rule.Sort.{Sort}
 use Rattle.aw_grammar.specs.declared.rule.Rule.{Rule}
 use Rattle.aw_grammar.specs.GrammarView.{rule_of}
@@ -19,4 +20,4 @@ outcome_of sorts (Takes rule bound) = Q.Takes (rule_of sorts rule.now) (values_o
 -- the rule that is taken is such a rule, and the names of its children are not too long
 abbrev pub IsTakable : (Rule → Type 0) → Node → Outcome → Type 0
 IsTakable IsIt n (Refused answer) = Unit {0}
-IsTakable IsIt n (Takes rule bound) = IsIt rule.now × (0 < length rule.now.children → length n.steps < 250)
+IsTakable IsIt n (Takes rule bound) = IsIt rule.now × (0 < length rule.now.children → length n.steps < most_steps)

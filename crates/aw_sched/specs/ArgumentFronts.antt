@@ -1,6 +1,7 @@
 -- What stands at the front of an argument, before its parts.
 use Rattle.std.specs.Prelude.{◌≡◌, ◌≤◌, ◌<◌, ◌+◌, ℕ, List, [], ◌∷◌, length}
 use Rattle.aw_term.specs.declared.ground.Ground.{Ground}
+use Rattle.aw_term.specs.Limits.{most_levels, most_symbols, most_arguments}
 use Rattle.aw_grammar.specs.declared.rule.Con.{Con}
 use Rattle.aw_term_reader.specs.Lexemes.{Name, Mark}
 use Rattle.aw_sched.specs.Arguments.{IsCon}
@@ -23,6 +24,6 @@ IsFront cons bytes (Parts con arity parts) rest = OpensParts cons bytes con arit
 pub record AreInBraces (cons : List Con) (bytes : List ℕ) (xs : List Ground) : Type 0 where
   pub left : ℕ
   pub rest : List ℕ
-  pub reads : TakesArguments cons 125 32 256 bytes xs left rest
+  pub reads : TakesArguments cons 125 most_levels most_symbols bytes xs left rest
   pub ends : SaysBefore rest [] []
-  pub few : length xs ≤ 8
+  pub few : length xs ≤ most_arguments

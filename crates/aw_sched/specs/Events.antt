@@ -10,6 +10,8 @@ pub use Rattle.aw_choice.specs.Events.{Event, Chooses, Delivers, Settles, Lists}
 use Rattle.aw_grammar.specs.Written.{Written}
 use Rattle.aw_grammar.specs.Terms.{symbols_in_all, depth_of_all}
 use Rattle.aw_term.specs.WellFormed.{leaves_of}
+use Rattle.aw_term.specs.Limits.{most_arguments, most_symbols, most_levels}
+use Rattle.aw_name.specs.Limits.{most_steps}
 use Rattle.aw_grammar.specs.Resolved.{resolved, all_resolved}
 use Rattle.aw_grammar.specs.Kinds.{all_known, all_have_arities}
 use Rattle.aw_grammar.specs.Declarations.{Declarations, con_names, sort_names, rule_names, grammar_in, words_in}
@@ -35,18 +37,18 @@ event_of d (DeliverLine message) = Delivers message
 event_of d SettleLine = Settles
 event_of d (ListLine role) = Lists (number_of role d.roles)
 
--- these parts of a node name have more than 250 steps among them
+-- these parts of a node name have too many steps among them
 abbrev pub has_many : Option (List ℕ × ℕ × List (List ℕ × ℕ)) → Bool
 has_many None = false
-has_many (Some parts) = nat_lt 250 (length parts.2)
+has_many (Some parts) = nat_lt most_steps (length parts.2)
 
--- a node name with more than 250 steps
+-- a node name with too many steps
 abbrev pub is_long : List ℕ → Bool
 is_long n = has_many (parts_of_name n)
 
--- more than 8 arguments, more than 256 symbols in them, or one that is more than 32 deep
+-- arguments past their limits
 abbrev pub args_are_past : List Written → Bool
-args_are_past args = nat_lt 8 (length args) || (nat_lt 256 (symbols_in_all args) || nat_lt 32 (depth_of_all args))
+args_are_past args = nat_lt most_arguments (length args) || (nat_lt most_symbols (symbols_in_all args) || nat_lt most_levels (depth_of_all args))
 
 -- a name in an argument is not that of a constructor
 abbrev pub args_unknown : Declarations → List Written → Bool

@@ -20,7 +20,7 @@ use Rattle.aw_sched.specs.Printed.{IsHeld}
 use Rattle.aw_sched.specs.Schedules.{Events, read_lines, schedule_of}
 use Rattle.aw_sched_writer.specs.EventTexts.{events_text}
 
--- each number of a choice has 64 bits, and its node has at most 250 steps
+-- each number of a choice has 64 bits, and its node has few steps
 abbrev pub IsSmallChoice : Choice → Type 0
 IsSmallChoice (Start sort case) = case < 2 ^ 64
 IsSmallChoice (Develop node rule args) = IsHeld node × Each (λ (s : Step). s.child < 2 ^ 64) node.steps × Each NumbersFit args

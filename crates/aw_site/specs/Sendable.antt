@@ -1,7 +1,9 @@
--- What a site sends: messages whose names are valid, with at most 64 valid equations as their loads, and names of at most 250 steps.
+-- What a site sends: messages whose names are valid, with few valid equations as their loads, and names of few steps.
 use Rattle.std.specs.Prelude.{Bool, true, ◌&&◌, List, [], ◌∷◌, length, nat_le}
 use Rattle.aw_term.specs.Names.{Node, Ref}
 use Rattle.aw_term.specs.Rules.{Grammar}
+use Rattle.aw_term.specs.Limits.{most_of_load}
+use Rattle.aw_name.specs.Limits.{most_steps}
 use Rattle.aw_base.specs.ChoiceFits.{ref_ok}
 use Rattle.aw_store.specs.Equations.{Body, Same, Is, Equation}
 use Rattle.aw_apply.specs.Messages as P
@@ -12,9 +14,9 @@ use Rattle.aw_law_sites.specs.ValidNames.{call_ok, equation_ok, equations_ok}
 
 -- ---- valid names
 
--- at most 64 valid equations
+-- few valid equations
 abbrev pub load_ok : Grammar → List Equation → Bool
-load_ok g es = nat_le (length es) 64 && equations_ok g es
+load_ok g es = nat_le (length es) most_of_load && equations_ok g es
 
 -- a valid call, a question for a valid reference, or a valid equation
 abbrev pub may_send : Grammar → Kind → Bool
@@ -29,9 +31,9 @@ all_sendable g (m ∷ ms) = may_send g m.kind && all_sendable g ms
 
 -- ---- short names
 
--- a name of at most 250 steps
+-- a name of few steps
 abbrev pub is_short : Node → Bool
-is_short n = nat_le (length n.steps) 250
+is_short n = nat_le (length n.steps) most_steps
 
 -- each of these references has a short name
 abbrev pub short_refs : List Ref → Bool

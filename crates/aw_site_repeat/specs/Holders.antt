@@ -2,6 +2,7 @@
 use Rattle.std.specs.Prelude.{◌≡◌, ℕ, ◌<◌, Bool, false, List}
 use Rattle.aw_term.specs.Names.{Ref}
 use Rattle.aw_term.specs.Held.{Held}
+use Rattle.aw_term.specs.Limits.{most_roles}
 use Rattle.aw_store.specs.Equations.{Map}
 use Rattle.aw_apply.specs.Messages.{Kind, Calls, Asks, Tells}
 use Rattle.aw_law_sites.specs.Sites.{Site, empty_site}
@@ -24,8 +25,8 @@ ShowsAsked subs asked = (r : Ref) → asked r ≡ is_asked subs.subs r
 abbrev pub ShowsWatchers : Subs → (Ref → ℕ → Bool) → Type 0
 ShowsWatchers subs watching = (r : Ref) (role : ℕ) → watching r role ≡ watches subs.subs r role
 
--- a question is of one of 64 roles
+-- a question is of a role
 abbrev pub IsOfRole : Kind → Type 0
 IsOfRole (Calls c load) = Unit {0}
-IsOfRole (Asks r from) = from < 64
+IsOfRole (Asks r from) = from < most_roles
 IsOfRole (Tells e load) = Unit {0}

@@ -5,6 +5,7 @@ use Rattle.aw_term.specs.Rules.{Rule, Grammar, sort_of}
 use Rattle.aw_term.specs.Configs.{State, Pending, Done}
 use Rattle.aw_term.specs.Choices.{WaitsFor}
 use Rattle.aw_term.specs.WellFormed.{takes_of}
+use Rattle.aw_name.specs.Limits.{most_steps}
 use Rattle.aw_store.specs.Equations.{Map}
 use Rattle.aw_store.specs.Chase.{Missing, chase}
 use Rattle.aw_store.specs.NamedRefs.{AreNamed}
@@ -65,7 +66,7 @@ open_node n rs = record { node = n; inherited = rs; done = None }
 pub record IsOf (g : Grammar) (names : List Ref) (h : Held) (x : Record) : Type 0 where
   pub sort : sort_or (sort_of g h.node) ≡ x.sort
   pub slots : AreNamed names x.slots.items h.inherited
-  pub deep : x.deep ≡ nat_eq (length h.node.steps) 250
+  pub deep : x.deep ≡ nat_eq (length h.node.steps) most_steps
   pub rules : map mark_rule x.marks.items ≡ open_rules g x.sort (state_of h.done)
 
 -- a mark with this standing

@@ -3,6 +3,7 @@ use Rattle.std.specs.Prelude.{◌≡◌, ◌≢◌, Bool, true, ◌&&◌, List, 
 use Rattle.aw_term.specs.Trees as T
 use Rattle.aw_term.specs.Trees.{Never}
 use Rattle.aw_term.specs.Names.{Ref}
+use Rattle.aw_term.specs.Limits.{most_parts}
 use Rattle.aw_store.specs.Equations as P
 use Rattle.aw_store.specs.Equations.{Map, find, mentions}
 use Rattle.aw_store.specs.EquationView.{body_of, equation_of}
@@ -32,11 +33,11 @@ Adds old e (added.Conflict kept came) new = (find old e.left ≡ Some (body_of k
 abbrev pub IsAddable : Map → P.Equation → Type 0
 IsAddable k e = (find k e.left ≡ None) ⊎ (find k e.left ≡ Some e.body)
 
--- a constructor has at most 8 references
+-- a constructor has few references
 abbrev pub has_few : P.Equation → Bool
-has_few e = nat_le (length (mentions e.body)) 8
+has_few e = nat_le (length (mentions e.body)) most_parts
 
--- each of these equations has at most 8 references in its body
+-- each of these equations has few references in its body
 abbrev pub all_few : Map → Bool
 all_few [] = true
 all_few (e ∷ es) = has_few e && all_few es

@@ -4,6 +4,7 @@ use Rattle.aw_term.specs.Names.{Node, Ref, root}
 use Rattle.aw_term.specs.Rules.{Ground, Value, Rule, Sort, Grammar}
 use Rattle.aw_term.specs.Matching.{Matched, Yes, Waits, Differs, Circle, match_all}
 use Rattle.aw_term.specs.Configs.{State, Pending, Done, Row, Config, holes, insert_row, row_of, develop}
+use Rattle.aw_name.specs.Limits.{most_steps}
 
 -- the start of a case with a sort, or a rule with its arguments on a node
 pub data Choice : Type 0 where
@@ -31,7 +32,7 @@ pub data Outcome (A R : Type 0) : Type 0 where
 
 -- a child of this rule would have a name that is too long
 abbrev pub deep : Node → Rule → Bool
-deep n rule = nat_eq (length n.steps) 250 && nat_lt 0 (length rule.children)
+deep n rule = nat_eq (length n.steps) most_steps && nat_lt 0 (length rule.children)
 
 -- what a choice of a rule on a node leads to once its patterns were matched: it is taken where all match and no child would have too long a name
 abbrev pub after_guard : {A R : Type 0} → Node → Rule → Matched A R → Outcome A R

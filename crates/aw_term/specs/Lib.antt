@@ -7,6 +7,7 @@ pub mod Configs
 pub mod Held
 pub mod Choices
 pub mod Artifacts
+pub mod Limits
 pub mod WellFormed
 pub mod SameGrammar
 pub mod Views

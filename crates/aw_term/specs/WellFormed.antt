@@ -5,6 +5,7 @@ use Rattle.aw_term.specs.Trees.{Head, Con, Num, Text, Tree, Leaf, Made, Trees, N
 use Rattle.aw_term.specs.Rules.{Child, Rule, Sort, Grammar, upto}
 use Rattle.aw_term.specs.Choices.{gives_of}
 use Rattle.aw_term.specs.Artifacts.{Words}
+use Rattle.aw_term.specs.Limits.{most_levels, most_params, most_children, most_variables, most_symbols, most_inherited, most_results, most_roles, most_cons, most_sorts, most_rules, most_parts}
 
 -- P holds of each
 abbrev pub Each : {A : Type 0} → (A → Type 0) → List A → Type 0
@@ -80,10 +81,10 @@ abbrev mutual
   all_heads_fit arities Nil = true
   all_heads_fit arities (More t ts) = heads_fit arities t && all_heads_fit arities ts
 
--- a written term: its heads fit, and it is at most 32 deep
+-- a written term: its heads fit, and it is not too deep
 pub record TermFits {A : Type 0} (arities : List ℕ) (t : Tree A) : Type 0 where
   pub heads : heads_fit arities t ≡ true
-  pub depth : nesting t ≤ 32
+  pub depth : nesting t ≤ most_levels
 
 -- how many inherited values a sort takes; 0 where no such sort is declared, which a well-formed grammar excludes by `declared`
 abbrev pub takes_of : Option Sort → ℕ
@@ -118,21 +119,21 @@ pub record RuleFits (g : Grammar) (r : Rule) : Type 0 where
   pub declared : r.sort < length g.sorts
   pub takes : length r.patterns ≡ takes_of (slice_get g.sorts r.sort)
   pub gives : length r.results ≡ gives_of (slice_get g.sorts r.sort)
-  pub few_params : r.params ≤ 8
-  pub few_children : length r.children ≤ 8
-  pub few_variables : variables r ≤ 64
-  pub few_symbols : symbols_of r.patterns + child_symbols r.children + symbols_of r.results ≤ 256
+  pub few_params : r.params ≤ most_params
+  pub few_children : length r.children ≤ most_children
+  pub few_variables : variables r ≤ most_variables
+  pub few_symbols : symbols_of r.patterns + child_symbols r.children + symbols_of r.results ≤ most_symbols
   pub numbered : leaves_of r.patterns ≡ upto 0 (length (leaves_of r.patterns))
   pub patterns : Each (TermFits g.arities) r.patterns
   pub results : Each (TermFits g.arities) r.results
   pub enter : Each (λ v. v < variables r) (leaves_of r.results)
   pub children : Each (ChildFits g (variables r)) r.children
 
--- a sort is at a declared role, has at most 8 inherited values and 8 results, and none inherited at a start
+-- a sort is at a declared role, has few inherited values and results, and none inherited at a start
 pub record SortFits (roles : ℕ) (s : Sort) : Type 0 where
   pub declared : s.role < roles
-  pub few_takes : s.takes ≤ 8
-  pub few_gives : s.gives ≤ 8
+  pub few_takes : s.takes ≤ most_inherited
+  pub few_gives : s.gives ≤ most_results
   pub start : s.start ≡ true → s.takes ≡ 0
 
 -- The limits on counts, the names, one for each declaration, and that everything written fits what is declared.
@@ -142,15 +143,15 @@ pub record IsWellFormed (w : Words) (g : Grammar) : Type 0 where
   pub all_cons : length g.arities ≡ length w.cons
   pub all_sorts : length g.sorts ≡ length w.sorts
   pub all_rules : length g.rules ≡ length w.rules
-  pub few_roles : length w.roles ≤ 64
-  pub few_cons : length w.cons ≤ 1024
-  pub few_sorts : length w.sorts ≤ 256
-  pub few_rules : length w.rules ≤ 1024
+  pub few_roles : length w.roles ≤ most_roles
+  pub few_cons : length w.cons ≤ most_cons
+  pub few_sorts : length w.sorts ≤ most_sorts
+  pub few_rules : length w.rules ≤ most_rules
   pub names : Each (λ n. is_name n ≡ true) (w.roles ++ (w.cons ++ (w.sorts ++ w.rules)))
   pub roles_differ : Differ w.roles
   pub cons_differ : Differ w.cons
   pub sorts_differ : Differ w.sorts
   pub rules_differ : Differ w.rules
-  pub arities : Each (λ n. n ≤ 8) g.arities
+  pub arities : Each (λ n. n ≤ most_parts) g.arities
   pub sorts : Each (SortFits g.roles) g.sorts
   pub rules : Each (RuleFits g) g.rules

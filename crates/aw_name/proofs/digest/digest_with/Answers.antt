@@ -1,6 +1,6 @@
 use Rattle.std.proofs.Common.{◌≡◌, ◌+◌, ◌*◌, ap, ◌∙◌, arith}
 use Rattle.aw_name.specs.Digest.{step_number, digest_and}
-use Rattle.aw_name.proofs.node.digest_with.Goals as goal
+use Rattle.aw_name.proofs.digest.digest_with.Goals as goal
 
 pub returns : goal.returns
 returns c =

@@ -1,7 +1,7 @@
 use Rattle.std.proofs.Common.{◌*◌, ◌^◌}
 use Rattle.std.proofs.Math.Nat.{mod-add-mod}
 use Rattle.aw_name.specs.Digest.{digest_and}
-use Rattle.aw_name.proofs.node.digest_and.Goals as goal
+use Rattle.aw_name.proofs.digest.digest_and.Goals as goal
 
 pub returns : goal.returns
 unfolding digest_and
