@@ -3,6 +3,8 @@ ghost use Rattle.std.specs.Prelude.{◌≡◌, ◌<◌, ◌≤◌, ◌+◌, ◌+
 ghost use Rattle.aw_term.specs.Names.{below, result as result_ref};
 ghost use Rattle.aw_term.specs.Rules.{upto};
 ghost use Rattle.aw_term.specs.WellFormed.{child_symbols};
+ghost use Rattle.aw_name.specs.Limits.{most_steps};
+ghost use Rattle.aw_term.specs.Limits.{most_children};
 ghost use Rattle.aw_grammar.specs.declared.rule.Sort.{Sort as SortValue};
 ghost use Rattle.aw_grammar.specs.GrammarView.{child_of};
 ghost use Rattle.aw_apply.specs.Made.{child_refs as plain_refs};
@@ -35,8 +37,8 @@ pub fn child_nodes(
     rule: u16,
     count: usize,
 ) -> Result<Vec<Node>, AllocError>
-    requires few { count ≤ 8 }
-    requires room { 0 < count → length node.now.steps < 250 }
+    requires few { count ≤ most_children }
+    requires room { 0 < count → length node.now.steps < most_steps }
     ensures { IfOk result (λ nodes. nodes.items ≡ map (below node.now rule) (upto 1 count)) }
 {
     let mut nodes = Vec::with_capacity(alloc, count)?;

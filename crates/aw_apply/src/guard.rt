@@ -3,6 +3,7 @@ ghost use Rattle.std.specs.Prelude.{◌≡◌, ◌≤◌, ◌+◌, ◌<◌, All,
 ghost use Rattle.aw_term.specs.Trees.{join};
 ghost use Rattle.aw_term.specs.WellFormed.{all_leaves, all_nesting};
 ghost use Rattle.aw_term.specs.Views.{pattern_of};
+ghost use Rattle.aw_term.specs.Limits.{most_inherited, most_levels, most_variables};
 ghost use Rattle.aw_apply.specs.GuardView.{IsTestable, IsGuardOf, guard_with};
 
 use crate::binding::Binding;
@@ -64,9 +65,9 @@ pub fn test_into<F: Facts, L: Ledger>(
 ) -> Met
     requires live { All (λ slot. slot < length (F.names f.now)) inherited.now }
     requires same { length rule.now.patterns ≡ length inherited.now }
-    requires few { length rule.now.patterns ≤ 8 }
-    requires shallow { all_nesting (join (map pattern_of rule.now.patterns)) ≤ 32 }
-    requires room { length (all_leaves (join (map pattern_of rule.now.patterns))) ≤ 64 }
+    requires few { length rule.now.patterns ≤ most_inherited }
+    requires shallow { all_nesting (join (map pattern_of rule.now.patterns)) ≤ most_levels }
+    requires room { length (all_leaves (join (map pattern_of rule.now.patterns))) ≤ most_variables }
     ensures guard { IsGuardOf (F.map f.now) (F.names f.now) rule.now.patterns inherited.now (guard_with bound.new result) }
     ensures step { steps.new ≡ steps.old + 1 }
 {
@@ -84,9 +85,9 @@ pub fn test_guard<F: Facts, L: Ledger>(
 ) -> Guard
     requires live { All (λ slot. slot < length (F.names f.now)) inherited.now }
     requires same { length rule.now.patterns ≡ length inherited.now }
-    requires few { length rule.now.patterns ≤ 8 }
-    requires shallow { all_nesting (join (map pattern_of rule.now.patterns)) ≤ 32 }
-    requires room { length (all_leaves (join (map pattern_of rule.now.patterns))) ≤ 64 }
+    requires few { length rule.now.patterns ≤ most_inherited }
+    requires shallow { all_nesting (join (map pattern_of rule.now.patterns)) ≤ most_levels }
+    requires room { length (all_leaves (join (map pattern_of rule.now.patterns))) ≤ most_variables }
     ensures guard { IsGuardOf (F.map f.now) (F.names f.now) rule.now.patterns inherited.now result }
     ensures step { steps.new ≡ steps.old + 1 }
 {
@@ -120,9 +121,9 @@ fn guard_in_ledger<F: Facts, L: Ledger>(
 pub fn guard_uncounted<F: Facts>(f: &F, rule: &Rule, inherited: &[usize]) -> Guard
     requires live { All (λ slot. slot < length (F.names f.now)) inherited.now }
     requires same { length rule.now.patterns ≡ length inherited.now }
-    requires few { length rule.now.patterns ≤ 8 }
-    requires shallow { all_nesting (join (map pattern_of rule.now.patterns)) ≤ 32 }
-    requires room { length (all_leaves (join (map pattern_of rule.now.patterns))) ≤ 64 }
+    requires few { length rule.now.patterns ≤ most_inherited }
+    requires shallow { all_nesting (join (map pattern_of rule.now.patterns)) ≤ most_levels }
+    requires room { length (all_leaves (join (map pattern_of rule.now.patterns))) ≤ most_variables }
     ensures { IsGuardOf (F.map f.now) (F.names f.now) rule.now.patterns inherited.now result }
 {
     guard_in_ledger::<F, Brand>(f, rule, inherited, Blank::new(1))

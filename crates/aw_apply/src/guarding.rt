@@ -4,6 +4,7 @@ ghost use Rattle.aw_term.specs.Names.{Ref};
 ghost use Rattle.aw_term.specs.Trees.{Con, Made, join};
 ghost use Rattle.aw_term.specs.WellFormed.{leaves, all_leaves, nesting, all_nesting};
 ghost use Rattle.aw_term.specs.Views.{head_of, pattern_of};
+ghost use Rattle.aw_term.specs.Limits.{most_variables, most_parts, most_levels};
 ghost use Rattle.aw_store.specs.Chase.{chase as plain_chase};
 ghost use Rattle.aw_store.specs.ChaseView.{IsChasedTo};
 ghost use Rattle.aw_store.specs.NamedRefs.{body_at, parts_at};
@@ -96,7 +97,7 @@ fn guard_part<F: Facts>(
 ) -> Step
     requires live { slot < length (F.names f.now) }
     requires shallow { at.now.len + nesting (pattern_of part.now) ≤ 31 }
-    requires room { length bound.old + length (leaves (pattern_of part.now)) ≤ 64 }
+    requires room { length bound.old + length (leaves (pattern_of part.now)) ≤ most_variables }
     ensures step { GoesOnUnder (F.names f.now) slot bound.old bound.new at.now number result (plain_guard (F.map f.now) (pattern_of part.now)) }
     ensures room { length bound.new ≤ length bound.old + length (leaves (pattern_of part.now)) }
 {
@@ -123,9 +124,9 @@ fn guard_parts<F: Facts>(
     bound: &mut Binding,
 ) -> Step
     requires same { length parts.now ≡ length (parts_at (F.map f.now) (F.names f.now) slot) }
-    requires few { length parts.now ≤ 8 }
+    requires few { length parts.now ≤ most_parts }
     requires shallow { at.now.len + all_nesting (join (map pattern_of parts.now)) ≤ 31 }
-    requires room { length bound.old + length (all_leaves (join (map pattern_of parts.now))) ≤ 64 }
+    requires room { length bound.old + length (all_leaves (join (map pattern_of parts.now))) ≤ most_variables }
     ensures step { GoesOn (F.names f.now) bound.old bound.new at.now result (plain_parts (F.map f.now) 1 (join (map pattern_of parts.now)) (parts_at (F.map f.now) (F.names f.now) slot)) }
     ensures room { length bound.new ≤ length bound.old + length (all_leaves (join (map pattern_of parts.now))) }
 {
@@ -151,7 +152,7 @@ fn guard_con<F: Facts>(
 ) -> Step
     requires live { slot < length (F.names f.now) }
     requires shallow { at.now.len + all_nesting (join (map pattern_of parts.now)) ≤ 31 }
-    requires room { length bound.old + length (all_leaves (join (map pattern_of parts.now))) ≤ 64 }
+    requires room { length bound.old + length (all_leaves (join (map pattern_of parts.now))) ≤ most_variables }
     ensures step { GoesOnAt (F.names f.now) slot bound.old bound.new at.now result (plain_guard (F.map f.now) (Made (Con con) (join (map pattern_of parts.now)))) }
     ensures room { length bound.new ≤ length bound.old + length (all_leaves (join (map pattern_of parts.now))) }
 {
@@ -178,8 +179,8 @@ pub fn guard_at<F: Facts>(
     bound: &mut Binding,
 ) -> Step
     requires live { slot < length (F.names f.now) }
-    requires shallow { at.now.len + nesting (pattern_of pattern.now) ≤ 32 }
-    requires room { length bound.old + length (leaves (pattern_of pattern.now)) ≤ 64 }
+    requires shallow { at.now.len + nesting (pattern_of pattern.now) ≤ most_levels }
+    requires room { length bound.old + length (leaves (pattern_of pattern.now)) ≤ most_variables }
     ensures step { GoesOnAt (F.names f.now) slot bound.old bound.new at.now result (plain_guard (F.map f.now) (pattern_of pattern.now)) }
     ensures room { length bound.new ≤ length bound.old + length (leaves (pattern_of pattern.now)) }
 {

@@ -4,6 +4,8 @@ ghost use Rattle.aw_term.specs.Names.{below, result as result_ref};
 ghost use Rattle.aw_term.specs.Rules.{get, upto};
 ghost use Rattle.aw_term.specs.WellFormed.{symbols, symbols_of, child_symbols};
 ghost use Rattle.aw_term.specs.Views.{ground_of, term_of};
+ghost use Rattle.aw_name.specs.Limits.{most_steps};
+ghost use Rattle.aw_term.specs.Limits.{most_results, most_symbols, most_children};
 ghost use Rattle.aw_grammar.specs.declared.rule.Rule.{Rule as RuleValue};
 ghost use Rattle.aw_grammar.specs.GrammarView.{rule_of};
 ghost use Rattle.aw_grammar.specs.GrammarOf.{grammar_of};
@@ -94,7 +96,7 @@ fn lay_results(
     k: u16,
     results: &[Expr],
 ) -> Result<(), AllocError>
-    requires few { length results.now ≤ 8 }
+    requires few { length results.now ≤ most_results }
     requires parts { k + symbols_of (map term_of results.now) ≤ 65535 }
     ensures { OnOk result (map equation_of equations.new.items ≡ map equation_of equations.old.items ++ plain_results node.now (get (no_ref node.now) refs.now) k 1 (map term_of results.now)) }
 {
@@ -138,7 +140,7 @@ fn enter(
     args: &Grounds,
 ) -> Result<u16, AllocError>
     requires nodes { nodes.now ≡ map (below node.now number) (upto 1 (length rule.now.children)) }
-    requires entered { symbols_of (map ground_of args.now) ≤ 256 }
+    requires entered { symbols_of (map ground_of args.now) ≤ most_symbols }
     ensures { IfOk result (λ next. HasEntered equations.old.items equations.new.items refs.old.items refs.new.items next (lay_list node.now (λ x. elim x [ ]) 1 (map ground_of args.now)) (child_refs node.now number 1 (rule_of g.now.sorts rule.now).children)) }
 {
     let entered = lay_grounds(alloc, equations, node, 1, args.as_slice())?;
@@ -161,9 +163,9 @@ fn lay_made(
     args: &Grounds,
 ) -> Result<Vec<MadeChild>, AllocError>
     requires nodes { nodes.now ≡ map (below node.now number) (upto 1 (length rule.now.children)) }
-    requires gives { length rule.now.results ≤ 8 }
-    requires entered { symbols_of (map ground_of args.now) ≤ 256 }
-    requires symbols { child_symbols (rule_of g.now.sorts rule.now).children + symbols_of (map term_of rule.now.results) ≤ 256 }
+    requires gives { length rule.now.results ≤ most_results }
+    requires entered { symbols_of (map ground_of args.now) ≤ most_symbols }
+    requires symbols { child_symbols (rule_of g.now.sorts rule.now).children + symbols_of (map term_of rule.now.results) ≤ most_symbols }
     ensures { IfOk result (λ children. IsMade equations.old.items equations.new.items children.items (plain_made node.now number (rule_of g.now.sorts rule.now) (map ground_of args.now) refs.old.items)) }
 {
     let next = enter(alloc, equations, refs, g, node, number, rule, nodes, args)?;
@@ -188,11 +190,11 @@ fn made_by(
     args: &Grounds,
     bound: Vec<Ref>,
 ) -> Result<Made, AllocError>
-    requires few { length rule.now.children ≤ 8 }
-    requires gives { length rule.now.results ≤ 8 }
-    requires room { 0 < length rule.now.children → length node.now.steps < 250 }
-    requires entered { symbols_of (map ground_of args.now) ≤ 256 }
-    requires symbols { child_symbols (rule_of g.now.sorts rule.now).children + symbols_of (map term_of rule.now.results) ≤ 256 }
+    requires few { length rule.now.children ≤ most_children }
+    requires gives { length rule.now.results ≤ most_results }
+    requires room { 0 < length rule.now.children → length node.now.steps < most_steps }
+    requires entered { symbols_of (map ground_of args.now) ≤ most_symbols }
+    requires symbols { child_symbols (rule_of g.now.sorts rule.now).children + symbols_of (map term_of rule.now.results) ≤ most_symbols }
     ensures { IfOk result (λ m. IsMade [] m.equations m.children (plain_made node.now number (rule_of g.now.sorts rule.now) (map ground_of args.now) bound.items)) }
 {
     let mut refs = bound;
@@ -228,8 +230,8 @@ pub fn made(
     bound: Vec<Ref>,
 ) -> Result<Made, AllocError>
     requires declared { IsSome (slice_get g.now.rules rule) }
-    requires room { (r : RuleValue) → slice_get g.now.rules rule ≡ Some r → 0 < length r.children → length node.now.steps < 250 }
-    requires entered { symbols_of (map ground_of args.now) ≤ 256 }
+    requires room { (r : RuleValue) → slice_get g.now.rules rule ≡ Some r → 0 < length r.children → length node.now.steps < most_steps }
+    requires entered { symbols_of (map ground_of args.now) ≤ most_symbols }
     ensures equations { IfOk result (λ m. OfRule (grammar_of g.now) rule (λ r. map equation_of m.equations ≡ (plain_made node.now rule r (map ground_of args.now) bound.items).equations)) }
     ensures children { IfOk result (λ m. OfRule (grammar_of g.now) rule (λ r. m.children ≡ map as_child (plain_made node.now rule r (map ground_of args.now) bound.items).calls)) }
 {

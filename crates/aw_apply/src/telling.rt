@@ -7,6 +7,7 @@ ghost use Rattle.aw_term.specs.WellFormed.{all_leaves, all_nesting};
 ghost use Rattle.aw_grammar.specs.declared.rule.Sort.{Sort as SortValue};
 ghost use Rattle.aw_grammar.specs.GrammarView.{rule_of};
 ghost use Rattle.aw_term.specs.Names.{Ref as RefName};
+ghost use Rattle.aw_term.specs.Limits.{most_inherited, most_levels, most_variables};
 ghost use Rattle.aw_store.specs.NamedRefs.{AreNamed};
 ghost use Rattle.aw_apply.specs.Guard.{guard_all as plain_guard};
 ghost use Rattle.aw_apply.specs.GuardView.{guard_of};
@@ -64,9 +65,9 @@ pub fn test_rule<F: Facts, L: Ledger>(
 ) -> Result<Tested, AllocError>
     requires live { All (λ slot. slot < length (F.names f.now)) slots.now }
     requires same { length rule.now.patterns ≡ length slots.now }
-    requires few { length rule.now.patterns ≤ 8 }
-    requires shallow { all_nesting (join (map pattern_of rule.now.patterns)) ≤ 32 }
-    requires room { length (all_leaves (join (map pattern_of rule.now.patterns))) ≤ 64 }
+    requires few { length rule.now.patterns ≤ most_inherited }
+    requires shallow { all_nesting (join (map pattern_of rule.now.patterns)) ≤ most_levels }
+    requires room { length (all_leaves (join (map pattern_of rule.now.patterns))) ≤ most_variables }
     ensures guard { IfOk result (λ t. (rs : List RefName) → AreNamed (F.names f.now) slots.now rs → matched_of t ≡ plain_guard (F.map f.now) 1 (map pattern_of rule.now.patterns) rs) }
     ensures step { steps.new ≡ steps.old + 1 }
 {

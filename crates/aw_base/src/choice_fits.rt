@@ -13,16 +13,8 @@ use crate::names::sort_of;
 use aw_choice::Choice;
 use aw_grammar::Grammar;
 use aw_spelling::content_ok;
+use aw_term::limits::{MOST_ARGUMENTS, MOST_LEVELS, MOST_SYMBOLS};
 use aw_term::{Ground, Grounds};
-
-/// The most arguments of a choice.
-pub const MOST_ARGUMENTS: usize = 8;
-
-/// The most symbols in all arguments of a choice.
-pub const MOST_SYMBOLS: u16 = 256;
-
-/// How deep an argument may be.
-pub const MOST_NESTING: u8 = 32;
 
 /// Whether a constructor is declared with so many parts.
 fn con_fits(g: &Grammar, con: u16, parts: usize) -> bool
@@ -78,7 +70,7 @@ pub fn args_ok(g: &Grammar, args: &Grounds) -> bool
     ensures { result ≡ args_ok (grammar_of g.now) (map ground_of args.now) }
 {
     args.len() <= MOST_ARGUMENTS
-        && left_after_all(g, args.as_slice(), MOST_NESTING, MOST_SYMBOLS).is_some()
+        && left_after_all(g, args.as_slice(), MOST_LEVELS, MOST_SYMBOLS).is_some()
 }
 
 /// Whether a sort is a start sort.

@@ -23,8 +23,9 @@ pub use aw_name::{
     Node, Ref, Refs, Slot, Step, Trail, compare_nodes, compare_refs, is_same_node, is_same_ref,
 };
 pub use aw_spelling::{content_ok, name_ok};
+pub use aw_term::limits::{MOST_ARGUMENTS, MOST_LEVELS, MOST_SYMBOLS};
 pub use aw_term::{Expr, Ground, Grounds, Lit, Pattern, Patterns, Terms};
-pub use choice_fits::{MOST_ARGUMENTS, MOST_NESTING, MOST_SYMBOLS, args_ok, choice_ok, is_start};
+pub use choice_fits::{args_ok, choice_ok, is_start};
 pub use declared::{Declared, Triple};
 pub use homes::{home_at, home_of_valid, role_of, sort_at};
 pub use lines::{push_artifacts_line, push_choice, push_choice_line, push_item_lines};

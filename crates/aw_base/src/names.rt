@@ -2,6 +2,7 @@
 ghost use Rattle.std.specs.Prelude.{◌≡◌, ◌<◌, List, length, map, is_some, option_map, slice_get, IfOk};
 ghost use Rattle.aw_term.specs.Names.{below};
 ghost use Rattle.aw_term.specs.Rules.{child_at, sort_of_step, sort_after, sort_of, home_of};
+ghost use Rattle.aw_name.specs.Limits.{most_steps};
 ghost use Rattle.aw_grammar.specs.GrammarView.{child_of};
 ghost use Rattle.aw_grammar.specs.declared.rule.Sort.{Sort};
 ghost use Rattle.aw_grammar.specs.GrammarOf.{grammar_of};
@@ -9,10 +10,8 @@ ghost use Rattle.aw_base.specs.ChoiceFits.{slot_ok, ref_ok};
 
 use aw_grammar::{Children, Grammar};
 use aw_name::{Node, Ref, Slot, Step, copy_node};
+use aw_term::limits::MOST_NODE_PARTS;
 use std::alloc::AllocError;
-
-/// The most parts of a node that a reference may speak of.
-pub const MOST_PARTS: u16 = 512;
 
 /// The sort of the child with a number, from 1.
 pub(crate) fn sort_of_child(children: &Children, number: u8) -> Option<u16>
@@ -60,7 +59,7 @@ pub fn sort_of(g: &Grammar, n: &Node) -> Option<u16>
 
 /// The node of a child, counted from 1, of a rule at this node.
 pub fn child_node(node: &Node, rule: u16, child: u8) -> Result<Node, AllocError>
-    requires { length node.now.steps < 250 }
+    requires { length node.now.steps < most_steps }
     ensures { IfOk result (λ n. n ≡ below node.now rule child) }
 {
     let mut below = copy_node(node)?;
@@ -93,11 +92,11 @@ fn slot_ok(g: &Grammar, sort: u16, slot: Slot) -> bool
             Some(sort) => number >= 1 && number <= u16::from(sort.gives),
             None => false,
         },
-        Slot::Part(number) => number >= 1 && number <= MOST_PARTS,
+        Slot::Part(number) => number >= 1 && number <= MOST_NODE_PARTS,
     }
 }
 
-/// Whether a reference is valid: its node is, and it speaks of a result of the node's sort or of one of the first 512 parts.
+/// Whether a reference is valid: its node is, and it speaks of a result of the node's sort or of one of its parts, within their limit.
 pub fn ref_ok(g: &Grammar, r: &Ref) -> bool
     ensures { result ≡ ref_ok (grammar_of g.now) r.now }
 {

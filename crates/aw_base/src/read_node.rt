@@ -3,6 +3,7 @@ ghost use Rattle.std.specs.Prelude.{◌≡◌, is_some, true, ◌≤◌, ◌<◌
 ghost use Rattle.aw_term.specs.Rules.{sort_of};
 ghost use Rattle.aw_spelling.specs.NodeParts.{begins};
 ghost use Rattle.aw_spelling.specs.Spelling.{node_name, parts_of_name};
+ghost use Rattle.aw_name.specs.Limits.{most_steps};
 ghost use Rattle.aw_grammar.specs.GrammarOf.{grammar_of, words_of};
 ghost use Rattle.aw_base.specs.NodeNames.{first_misfit, node_read};
 ghost use Rattle.aw_base.specs.NodeReading.{Reads, leads_on, long_fault, name_fault, start_named, steps_behind};
@@ -132,7 +133,7 @@ fn node_of(
     slashes: usize,
 ) -> Result<Node, NameFault>
     requires begun { parts_of_name text.now ≡ begins name.now }
-    requires few { IfSome (begins name.now) (λ parts. length parts.2 ≤ 250) }
+    requires few { IfSome (begins name.now) (λ parts. length parts.2 ≤ most_steps) }
     ensures valid { IfOk result (λ n. is_some (sort_of (grammar_of g.now) n) ≡ true) }
     ensures read { Reads (node_read (words_of g.now) (grammar_of g.now) text.now) result }
 {

@@ -1,5 +1,6 @@
 //! Naming references: each new one gets the next slot.
 ghost use Rattle.std.specs.Prelude.{◌≡◌, ◌≤◌, ◌+◌, ◌^◌, ◌<◌, ◌++◌, ◌∷◌, [], Some, true, false, IfOk, IfSome, OnOk, OnErr, IsOk, MatchOption, length, slice_get, vec_capacity};
+ghost use Rattle.aw_term.specs.Limits.{most_parts};
 ghost use Rattle.aw_store.specs.NamedRefs.{is_named, all_named, with_name, Grows, NamesOnly};
 ghost use Rattle.aw_cells.specs.StoredBodies.{refs_of, all_below};
 ghost use Rattle.slab.specs.Slab.{HasRoomFor};
@@ -114,17 +115,17 @@ pub fn name_one(t: &mut Table, r: &Ref) -> Result<usize, AllocError>
     }
 }
 
-/// Names each of at most 8 references, and gives their slots. An error may have named some.
+/// Names each of few references, and gives their slots. An error may have named some.
 pub fn name_parts(t: &mut Table, refs: &[Ref]) -> Result<Slots, AllocError>
     requires table { IsTable t.old }
-    requires few { length refs.now ≤ 8 }
+    requires few { length refs.now ≤ most_parts }
     ensures table { IsTable t.new }
     ensures grows { Grows (names_of t.old) (names_of t.new) }
     ensures only { NamesOnly (names_of t.old) (names_of t.new) refs.now }
     ensures map { map_of t.new ≡ map_of t.old }
     ensures slots { IfOk result (λ slots. refs_of (names_of t.new) slots.items ≡ refs.now) }
     ensures below { IfOk result (λ slots. all_below (length (names_of t.new)) slots.items ≡ true) }
-    ensures len { IfOk result (λ slots. length slots.items ≤ 8) }
+    ensures len { IfOk result (λ slots. length slots.items ≤ most_parts) }
     ensures named { all_named (names_of t.old) refs.now ≡ true → IsOk result }
 {
     let mut slots = Slots::new();

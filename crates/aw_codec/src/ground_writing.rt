@@ -3,6 +3,7 @@ ghost use Rattle.std.specs.Prelude.{◌≡◌, ◌≤◌, ◌++◌, IfOk, OnOk, 
 ghost use Rattle.std.specs.Io.{StartsWith};
 ghost use Rattle.aw_term.specs.WellFormed.{Each};
 ghost use Rattle.aw_term.specs.Views.{ground_of};
+ghost use Rattle.aw_term.specs.Limits.{most_parts};
 ghost use Rattle.aw_choice.specs.ChoiceView.{choice_of};
 ghost use Rattle.aw_codec.specs.Grounds.{spelled_ground, spelled_grounds};
 ghost use Rattle.aw_codec.specs.Choices.{spelled_choice};
@@ -15,7 +16,7 @@ use aw_term::{Ground, Grounds};
 use std::alloc::{AllocError, Global};
 
 fn count_of(number: usize) -> u8
-    ensures { number ≤ 8 → result ≡ number }
+    ensures { number ≤ most_parts → result ≡ number }
 {
     number.min(255) as u8
 }

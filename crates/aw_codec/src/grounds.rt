@@ -10,14 +10,15 @@ use crate::items::{count_at, u16_at, u64_at};
 use crate::texts::text_at;
 use crate::unread::Unread;
 use aw_list::Text;
+use aw_term::limits::{MOST_ARGUMENTS, MOST_LEVELS, MOST_PARTS, MOST_SYMBOLS};
 use aw_term::{Ground, Grounds};
 use std::alloc::Global;
 
-/// How deep an argument may be.
-const MOST_LEVELS: u8 = 32;
+/// The most parts of a constructor, as a message counts them.
+const PARTS: u8 = MOST_PARTS as u8;
 
-/// The most symbols in all arguments of a choice.
-const MOST_SYMBOLS: u16 = 256;
+/// The most arguments of a choice, as a message counts them.
+const ARGUMENTS: u8 = MOST_ARGUMENTS as u8;
 
 /// A number, a text, or a constructor with the number of its parts.
 #[derive(Debug, Drop)]
@@ -35,7 +36,7 @@ fn head_at(alloc: Global, bytes: &[u8]) -> Result<(Head, &[u8]), Unread>
         [] => Err(Unread::Short),
         [1, rest @ ..] => {
             let (con, rest) = u16_at(rest)?;
-            let (parts, rest) = count_at(8, rest)?;
+            let (parts, rest) = count_at(PARTS, rest)?;
             Ok((Head::Con(con, parts), rest))
         }
         [2, rest @ ..] => {
@@ -122,12 +123,12 @@ fn grounds_at(
     Ok((Grounds::from_vec(grounds), left, rest))
 }
 
-/// The arguments of a choice: at most 8, at most 32 deep, and of at most 256 symbols together.
+/// The arguments of a choice, within their limits.
 #[tactic(auto, unfolding(crate::specs::Grounds::arguments))]
 pub fn arguments_at(alloc: Global, bytes: &[u8]) -> Result<(Grounds, &[u8]), Unread>
     ensures { Gives (λ x. (map ground_of x.0, x.1.now)) result (spec.arguments bytes.now) }
 {
-    let (count, rest) = count_at(8, bytes)?;
+    let (count, rest) = count_at(ARGUMENTS, bytes)?;
     let (grounds, _, rest) = grounds_at(alloc, count, MOST_LEVELS, MOST_SYMBOLS, rest)?;
     Ok((grounds, rest))
 }

@@ -4,6 +4,7 @@ ghost use Rattle.std.specs.Prelude.{◌≡◌, ◌≤◌, ◌++◌, ◌∷◌, [
 ghost use Rattle.std.specs.Io.{StartsWith};
 ghost use Rattle.std.specs.Int.{w16, w64, to_be_bytes};
 ghost use Rattle.aw_term.specs.WellFormed.{Each};
+ghost use Rattle.aw_term.specs.Limits.{most_references};
 ghost use Rattle.aw_codec.specs.Names.{spelled_step, spelled_node, spelled_slot, spelled_ref, spelled_refs};
 ghost use Rattle.aw_codec.specs.Texts.{spelled_text};
 ghost use Rattle.aw_codec.specs.Ranges.{StepSized, NodeSized, SlotSized, RefSized, RefsSized, TextSized};
@@ -106,9 +107,9 @@ fn add_each_ref(text: &mut Text, refs: &[Ref]) -> Result<(), AllocError>
     Ok(())
 }
 
-/// Adds at most 8 references, behind their number. After an error what stood in the text still stands at its front.
+/// Adds references, few, behind their number. After an error what stood in the text still stands at its front.
 pub fn add_refs(text: &mut Text, refs: &[Ref]) -> Result<(), AllocError>
-    requires { length refs.now ≤ 8 }
+    requires { length refs.now ≤ most_references }
     ensures ok { OnOk result (text.new ≡ text.old ++ spelled_refs refs.now) }
     ensures err { OnErr result (StartsWith text.new text.old) }
     ensures sized { OnOk result (RefsSized refs.now) }

@@ -60,7 +60,7 @@ abbrev pub is_past_counts : Declarations → WrittenRule → Bool
 is_past_counts d r =
     nat_le most_rules (length d.rules)
     || (nat_lt most_inherited (length r.patterns)
-        || (nat_lt most_results (length r.results) || (nat_lt most_params (length r.params) || nat_lt most_children (length r.children))))
+    || (nat_lt most_results (length r.results) || (nat_lt most_params (length r.params) || nat_lt most_children (length r.children))))
 
 -- a term of the rule is too deep, or too many symbols stand in its terms
 abbrev pub is_past_terms : WrittenRule → Bool

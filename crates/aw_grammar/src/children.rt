@@ -1,23 +1,24 @@
 //! Walks over the written subtasks of a rule.
 ghost use Rattle.std.specs.Prelude.{◌≡◌, ◌+◌, ◌++◌, map, length, OnOk};
 ghost use Rattle.aw_name_index.specs.Places.{any_stands, all_stand};
+ghost use Rattle.aw_term.specs.Limits.{most_levels};
 ghost use Rattle.aw_grammar.specs.Written.{child_of_raw};
 ghost use Rattle.aw_grammar.specs.Terms.{args_of, results_of, depth_of_all, symbols_in_all, IsLeftOf};
 ghost use Rattle.aw_grammar.specs.Kinds.{child_sorts, all_known, all_have_arities, children_fit, takes_and_gives, sort_called};
 
 use crate::grammar::Grammar;
-use crate::limits::MOST_LEVELS;
 use crate::raw::{RawChild, RawChildren};
 use crate::resolve::have_arities;
 use crate::rule::Names;
 use crate::terms::{are_known, room_after_all};
 use aw_list::Text;
 use aw_name_index::NameIndex;
+use aw_term::limits::MOST_LEVELS;
 use std::alloc::AllocError;
 
-/// What is left of the room for symbols after all arguments, or nothing where one is deeper than 32 or the symbols are more.
+/// What is left of the room for symbols after all arguments, or nothing where one is too deep or the symbols are more.
 pub(crate) fn room_after_args(children: &RawChildren, room: u16) -> Option<u16>
-    ensures { IsLeftOf room 32 (depth_of_all (args_of (map child_of_raw children.now))) (symbols_in_all (args_of (map child_of_raw children.now))) result }
+    ensures { IsLeftOf room most_levels (depth_of_all (args_of (map child_of_raw children.now))) (symbols_in_all (args_of (map child_of_raw children.now))) result }
 {
     let mut left = room;
     for child in children.as_slice() {

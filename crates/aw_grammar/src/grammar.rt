@@ -29,6 +29,7 @@ pub struct Grammar {
 ghost use Rattle.aw_grammar.specs.GrammarView.{plain_grammar, plain_words};
 ghost use Rattle.aw_grammar.specs.Variables.{AllVariablesFit};
 ghost use Rattle.aw_term.specs.WellFormed.{IsWellFormed};
+ghost use Rattle.aw_term.specs.Limits.{most_parts};
 
 impl Grammar {
     ghost use Rattle.aw_grammar.specs.GrammarView.{rule_of, sort_of};
@@ -75,7 +76,7 @@ impl Grammar {
     /// The constructor with a number, from 0.
     pub fn con(&self, number: u16) -> Option<&Con>
         ensures value { option_copied result ≡ slice_get self.now.cons number }
-        ensures fits { IfSome result (λ c. c.now.arity ≤ 8) }
+        ensures fits { IfSome result (λ c. c.now.arity ≤ most_parts) }
     {
         self.cons.get(usize::from(number))
     }

@@ -4,7 +4,7 @@ ghost use Rattle.aw_name_index.specs.Places.{number_of};
 
 use crate::fault::DeclKind;
 use crate::grammar::Grammar;
-use crate::limits::{MOST_CONS, MOST_PARTS, MOST_ROLES, MOST_SORTS, MOST_VALUES};
+use crate::limits::{MOST_CONS, MOST_GIVEN, MOST_INHERITED, MOST_PARTS, MOST_ROLES, MOST_SORTS};
 use crate::raw::{RawCon, RawSort};
 use crate::rule::{Con, Sort};
 use aw_list::Text;
@@ -41,7 +41,10 @@ impl Grammar {
     pub(crate) fn kind_of_sort(&self, sort: &RawSort) -> Option<DeclKind>
         ensures { result ≡ sort_kind (declarations_of self.now) sort.now }
     {
-        if self.sorts.len() >= MOST_SORTS || sort.takes > MOST_VALUES || sort.gives > MOST_VALUES {
+        if self.sorts.len() >= MOST_SORTS
+            || sort.takes > MOST_INHERITED
+            || sort.gives > MOST_GIVEN
+        {
             return Some(DeclKind::Limit);
         }
         if self.sort_index.contains(sort.name.as_slice()) {

@@ -1,31 +1,20 @@
-//! How large the declarations of a grammar may be.
+//! The limits on declarations, in the widths in which they are counted here.
+use aw_term::limits as of;
 
 /// The most roles.
-pub(crate) const MOST_ROLES: usize = 64;
+pub(crate) const MOST_ROLES: usize = of::MOST_ROLES;
 
 /// The most constructors.
-pub(crate) const MOST_CONS: usize = 1024;
+pub(crate) const MOST_CONS: usize = of::MOST_CONS;
 
 /// The most parts of a constructor.
-pub(crate) const MOST_PARTS: u64 = 8;
+pub(crate) const MOST_PARTS: u64 = of::MOST_PARTS as u64;
 
 /// The most sorts.
-pub(crate) const MOST_SORTS: usize = 256;
+pub(crate) const MOST_SORTS: usize = of::MOST_SORTS;
 
-/// The most values that a sort inherits, and the most results that it gives.
-pub(crate) const MOST_VALUES: u64 = 8;
+/// The most values that a sort inherits.
+pub(crate) const MOST_INHERITED: u64 = of::MOST_INHERITED as u64;
 
-/// The most rules.
-pub(crate) const MOST_RULES: usize = 1024;
-
-/// The most patterns, parameters, children and results of a rule, of each kind.
-pub(crate) const MOST_OF_RULE: usize = 8;
-
-/// The most variables of a rule.
-pub(crate) const MOST_VARIABLES: usize = 64;
-
-/// The most levels of a term.
-pub(crate) const MOST_LEVELS: u8 = 32;
-
-/// The most symbols in all terms of a rule.
-pub(crate) const MOST_SYMBOLS: u16 = 256;
+/// The most results that a sort gives.
+pub(crate) const MOST_GIVEN: u64 = of::MOST_RESULTS as u64;

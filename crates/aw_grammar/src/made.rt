@@ -1,6 +1,7 @@
 //! The rule that a written rule stands for.
 ghost use Rattle.std.specs.Prelude.{◌≡◌, ◌≤◌, length, map, true, IfOk};
 ghost use Rattle.aw_term.specs.Views.{pattern_of, term_of};
+ghost use Rattle.aw_term.specs.Limits.{most_params};
 ghost use Rattle.aw_grammar.specs.Written.{written_of, child_of_raw, rule_of_raw};
 ghost use Rattle.aw_grammar.specs.Terms.{terms_of};
 ghost use Rattle.aw_grammar.specs.Resolved.{entering, numbered, children_numbered};
@@ -71,7 +72,7 @@ fn made_rule(
     results: Terms,
     children: Children,
 ) -> Result<Rule, AllocError>
-    requires few { length rule.now.params ≤ 8 }
+    requires few { length rule.now.params ≤ most_params }
     requires names { names ≡ entering (words_of grammar.now).cons (rule_of_raw rule.now) }
     requires patterns { map pattern_of patterns ≡ map (numbered (words_of grammar.now).cons names) (map written_of rule.now.patterns) }
     requires results { map term_of results ≡ map (numbered (words_of grammar.now).cons names) (map written_of rule.now.results) }
@@ -96,7 +97,7 @@ fn to_rule(
     names: Names,
     variables: &Variables,
 ) -> Result<Option<Rule>, AllocError>
-    requires few { length rule.now.params ≤ 8 }
+    requires few { length rule.now.params ≤ most_params }
     requires children { children_fit grammar.now.sorts (map child_of_raw rule.now.children) ≡ true }
     requires names { names ≡ entering (words_of grammar.now).cons (rule_of_raw rule.now) }
     requires variables { variables.now.names ≡ names }
@@ -122,7 +123,7 @@ fn faultless_rule(
     names: Names,
     variables: &Variables,
 ) -> Result<Option<Rule>, AllocError>
-    requires few { length rule.now.params ≤ 8 }
+    requires few { length rule.now.params ≤ most_params }
     requires names { names ≡ entering (words_of grammar.now).cons (rule_of_raw rule.now) }
     requires variables { variables.now.names ≡ names }
     requires free { AreNoCons grammar.now variables.now.names }

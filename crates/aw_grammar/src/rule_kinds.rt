@@ -1,6 +1,7 @@
 //! What is wrong with a rule.
 ghost use Rattle.std.specs.Prelude.{◌≡◌, ◌+◌, ◌++◌, ◌∷◌, [], true, Some, length, IfOk};
 ghost use Rattle.aw_name_index.specs.Places.{any_stands, first_told};
+ghost use Rattle.aw_term.specs.Limits.{most_symbols, most_levels};
 ghost use Rattle.aw_grammar.specs.Written.{rule_of_raw};
 ghost use Rattle.aw_grammar.specs.Terms.{results_of, terms_of, depth_of_all, symbols_in_all, IsLeftOf};
 ghost use Rattle.aw_grammar.specs.Resolved.{entering};
@@ -13,12 +14,15 @@ use crate::children::{
 };
 use crate::fault::DeclKind;
 use crate::grammar::Grammar;
-use crate::limits::{MOST_LEVELS, MOST_OF_RULE, MOST_RULES, MOST_SYMBOLS, MOST_VARIABLES};
 use crate::raw::RawRule;
 use crate::resolve::have_arities;
 use crate::rule::Names;
 use crate::terms::{are_known, push_all_variables, room_after_all};
 use aw_list::Items;
+use aw_term::limits::{
+    MOST_CHILDREN, MOST_INHERITED, MOST_LEVELS, MOST_PARAMS, MOST_RESULTS, MOST_RULES,
+    MOST_SYMBOLS, MOST_VARIABLES,
+};
 use std::alloc::AllocError;
 
 /// Whether a count of the rule is past its limit.
@@ -26,15 +30,15 @@ pub(crate) fn is_past_counts(grammar: &Grammar, rule: &RawRule) -> bool
     ensures { result ≡ is_past_counts (declarations_of grammar.now) (rule_of_raw rule.now) }
 {
     grammar.rules.len() >= MOST_RULES
-        || rule.patterns.len() > MOST_OF_RULE
-        || rule.results.len() > MOST_OF_RULE
-        || rule.params.len() > MOST_OF_RULE
-        || rule.children.len() > MOST_OF_RULE
+        || rule.patterns.len() > MOST_INHERITED
+        || rule.results.len() > MOST_RESULTS
+        || rule.params.len() > MOST_PARAMS
+        || rule.children.len() > MOST_CHILDREN
 }
 
 /// What is left of the room for the symbols of a rule, or nothing where they are too many or a term is too deep.
 fn room_after_rule(rule: &RawRule) -> Option<u16>
-    ensures { IsLeftOf 256 32 (depth_of_all (terms_of (rule_of_raw rule.now))) (symbols_in_all (terms_of (rule_of_raw rule.now))) result }
+    ensures { IsLeftOf most_symbols most_levels (depth_of_all (terms_of (rule_of_raw rule.now))) (symbols_in_all (terms_of (rule_of_raw rule.now))) result }
 {
     let left = room_after_all(&rule.patterns, MOST_LEVELS, MOST_SYMBOLS)?;
     let left = room_after_args(&rule.children, left)?;

@@ -10,10 +10,11 @@ ghost use Rattle.aw_msg.specs.Messages as spec;
 use aw_codec::items::{position_at, u16_at, u64_at};
 use aw_codec::{Unread, ref_at, refs_at, text_at};
 use aw_store::{Body, Equation, Equations};
+use aw_term::limits::MOST_OF_LOAD;
 use std::alloc::Global;
 
-/// The most equations of a load.
-pub const MOST_OF_LOAD: u8 = 64;
+/// The most equations of a load, as a message counts them.
+const LOAD: u8 = MOST_OF_LOAD as u8;
 
 /// The kind of a body that is a reference.
 pub const SAME_KIND: u8 = 0;
@@ -102,12 +103,12 @@ fn some_equations_at(
     Ok((equations, rest))
 }
 
-/// From 1 to 64 equations, behind their number.
+/// Equations behind their number, at least one.
 #[tactic(auto, unfolding(crate::specs::Messages::equations))]
 fn equations_at(alloc: Global, bytes: &[u8]) -> Result<(Equations, &[u8]), Unread>
     ensures { Gives (λ x. (x.0, x.1.now)) result (spec.equations bytes.now) }
 {
-    let (count, rest) = position_at(MOST_OF_LOAD, bytes)?;
+    let (count, rest) = position_at(LOAD, bytes)?;
     let (equations, rest) = some_equations_at(alloc, count, rest)?;
     Ok((Equations::from_vec(equations), rest))
 }

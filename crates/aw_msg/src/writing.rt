@@ -66,7 +66,7 @@ fn add_each_equation(text: &mut Text, equations: &[Equation]) -> Result<(), Allo
     Ok(())
 }
 
-/// Adds at most 64 equations, behind their number. Where there are none nothing is added.
+/// Adds equations, few, behind their number. Where there are none nothing is added.
 fn add_load(text: &mut Text, load: &Equations) -> Result<(), AllocError>
     requires { LoadInRange (map equation_of load.now) }
     ensures ok { OnOk result (text.new ≡ text.old ++ spelled_load (map equation_of load.now)) }

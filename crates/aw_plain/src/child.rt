@@ -3,6 +3,8 @@ ghost use Rattle.std.specs.Prelude.{◌≡◌, ◌<◌, ◌≤◌, ◌++◌, ◌
 ghost use Rattle.aw_term.specs.Names.{below};
 ghost use Rattle.aw_term.specs.Configs.{holes as plain_holes, child_rows as plain_child_rows, env as plain_env};
 ghost use Rattle.aw_term.specs.Views.{ground_of};
+ghost use Rattle.aw_name.specs.Limits.{most_steps};
+ghost use Rattle.aw_term.specs.Limits.{most_children};
 ghost use Rattle.aw_grammar.specs.GrammarView.{child_of, rule_of};
 ghost use Rattle.aw_plain_rows.specs.TreeView.{values_of};
 ghost use Rattle.aw_plain_rows.specs.RowView.{plain_row, config_of};
@@ -24,7 +26,7 @@ fn push_child_holes(
     k: u8,
     child: &Child,
 ) -> Result<(), AllocError>
-    requires { length node.now.steps < 250 }
+    requires { length node.now.steps < most_steps }
     ensures { OnOk result (values_of env.new.items ≡ values_of env.old.items ++ plain_holes (below node.now rule k) (child_of grammar.now.sorts child.now).outs) }
 {
     let below = child_node(node, rule, k)?;
@@ -41,8 +43,8 @@ pub fn bindings(
     bound: Trees,
     args: &[Ground],
 ) -> Result<Vec<Tree>, AllocError>
-    requires few { length rule.now.children ≤ 8 }
-    requires room { 0 < length rule.now.children → length node.now.steps < 250 }
+    requires few { length rule.now.children ≤ most_children }
+    requires room { 0 < length rule.now.children → length node.now.steps < most_steps }
     ensures { IfOk result (λ env. values_of env.items ≡ plain_env node.now number (rule_of grammar.now.sorts rule.now) (values_of bound) (map ground_of args.now)) }
 {
     let mut env = bound.into_vec();
@@ -72,7 +74,7 @@ fn child_row(
     child: &Child,
     env: &[Tree],
 ) -> Result<Row, AllocError>
-    requires { length node.now.steps < 250 }
+    requires { length node.now.steps < most_steps }
     ensures { IfOk result (λ row. plain_row row ∷ [] ≡ plain_child_rows node.now rule (values_of env.now) k (child_of grammar.now.sorts child.now ∷ [])) }
 {
     let below = child_node(node, rule, k)?;
@@ -95,8 +97,8 @@ pub fn child_rows(
     rule: &Rule,
     env: &[Tree],
 ) -> Result<Vec<Row>, AllocError>
-    requires few { length rule.now.children ≤ 8 }
-    requires room { 0 < length rule.now.children → length node.now.steps < 250 }
+    requires few { length rule.now.children ≤ most_children }
+    requires room { 0 < length rule.now.children → length node.now.steps < most_steps }
     ensures { IfOk result (λ rows. config_of rows.items ≡ plain_child_rows node.now number (values_of env.now) 1 (rule_of grammar.now.sorts rule.now).children) }
 {
     let mut rows = Vec::new(alloc);

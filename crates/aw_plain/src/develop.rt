@@ -3,6 +3,8 @@ ghost use Rattle.std.specs.Prelude.{◌≡◌, ◌<◌, ◌≤◌, IfOk, OnOk, O
 ghost use Rattle.aw_term.specs.Configs.{develop as plain_develop, done_row as plain_done, Done};
 ghost use Rattle.aw_term.specs.Choices.{or_same};
 ghost use Rattle.aw_term.specs.Views.{ground_of};
+ghost use Rattle.aw_name.specs.Limits.{most_steps};
+ghost use Rattle.aw_term.specs.Limits.{most_children};
 ghost use Rattle.aw_grammar.specs.GrammarView.{rule_of};
 ghost use Rattle.aw_plain_rows.specs.TreeView.{values_of};
 ghost use Rattle.aw_plain_rows.specs.RowView.{plain_row, plain_state, config_of};
@@ -110,8 +112,8 @@ pub fn develop(
     bound: Trees,
     args: &Grounds,
 ) -> Result<(), AllocError>
-    requires few { length rule.now.children ≤ 8 }
-    requires room { 0 < length rule.now.children → length node.now.steps < 250 }
+    requires few { length rule.now.children ≤ most_children }
+    requires room { 0 < length rule.now.children → length node.now.steps < most_steps }
     requires ordered { IsOrdered (config_of rows.old.items) }
     requires apart { AreApart (config_of rows.old.items) }
     ensures ok { OnOk result (config_of rows.new.items ≡ plain_develop node.now number (rule_of grammar.now.sorts rule.now) (values_of bound) (map ground_of args.now) (config_of rows.old.items)) }

@@ -4,6 +4,7 @@ ghost use Rattle.aw_term.specs.Trees.{join};
 ghost use Rattle.aw_term.specs.Matching.{Yes, match_all as plain_guard};
 ghost use Rattle.aw_term.specs.WellFormed.{all_nesting};
 ghost use Rattle.aw_term.specs.Views.{pattern_of};
+ghost use Rattle.aw_term.specs.Limits.{most_levels, most_inherited};
 ghost use Rattle.aw_plain_rows.specs.TreeView.{values_of};
 ghost use Rattle.aw_plain.specs.GuardView.{guard_of};
 ghost use Rattle.aw_plain.specs.Narrow.{are_narrow};
@@ -31,8 +32,8 @@ fn match_each(
     taken: &mut Vec<Tree>,
 ) -> Result<Option<Guard>, AllocError>
     requires narrow { are_narrow (join (map pattern_of patterns.now)) ≡ true }
-    requires shallow { all_nesting (join (map pattern_of patterns.now)) ≤ 32 }
-    requires few { length patterns.now ≤ 8 }
+    requires shallow { all_nesting (join (map pattern_of patterns.now)) ≤ most_levels }
+    requires few { length patterns.now ≤ most_inherited }
     requires same { length patterns.now ≡ length inherited.now }
     requires none { taken.old.items ≡ [] }
     ensures { IfOk result (λ end. MatchOption end (Yes (values_of taken.new.items) ≡ plain_guard 1 (map pattern_of patterns.now) (values_of inherited.now)) (λ g. guard_of g ≡ plain_guard 1 (map pattern_of patterns.now) (values_of inherited.now))) }
@@ -59,8 +60,8 @@ pub fn match_all(
     inherited: &[Tree],
 ) -> Result<Guard, AllocError>
     requires narrow { are_narrow (join (map pattern_of patterns.now)) ≡ true }
-    requires shallow { all_nesting (join (map pattern_of patterns.now)) ≤ 32 }
-    requires few { length patterns.now ≤ 8 }
+    requires shallow { all_nesting (join (map pattern_of patterns.now)) ≤ most_levels }
+    requires few { length patterns.now ≤ most_inherited }
     requires same { length patterns.now ≡ length inherited.now }
     ensures { IfOk result (λ m. guard_of m ≡ plain_guard 1 (map pattern_of patterns.now) (values_of inherited.now)) }
 {

@@ -4,6 +4,7 @@ ghost use Rattle.aw_term.specs.Trees.{join, Made, Text as PlainText, Nil};
 ghost use Rattle.aw_term.specs.Matching.{Yes, match as plain_match, match_parts as plain_parts};
 ghost use Rattle.aw_term.specs.WellFormed.{nesting, all_nesting};
 ghost use Rattle.aw_term.specs.Views.{pattern_of};
+ghost use Rattle.aw_term.specs.Limits.{most_parts, most_levels};
 ghost use Rattle.aw_choice.specs.ChoiceView.{path_of};
 ghost use Rattle.aw_plain_rows.specs.TreeView.{value_of};
 ghost use Rattle.aw_plain.specs.MatchView.{matched_of, behind};
@@ -85,7 +86,7 @@ fn match_parts(
     at: &Path,
 ) -> Result<Matched, AllocError>
     requires narrow { are_narrow (join (map pattern_of parts.now)) ≡ true }
-    requires few { length parts.now ≤ 8 }
+    requires few { length parts.now ≤ most_parts }
     requires same { length parts.now ≡ length trees.now }
     requires shallow { at.now.len + all_nesting (join (map pattern_of parts.now)) ≤ 31 }
     ensures { IfOk result (λ m. matched_of m ≡ behind (path_of at.now) (plain_parts 1 (join (map pattern_of parts.now)) (join (map value_of trees.now)))) }
@@ -107,7 +108,7 @@ fn match_parts(
 #[cycle(matching)]
 fn match_at(alloc: Global, pattern: &Pattern, tree: &Tree, at: &Path) -> Result<Matched, AllocError>
     requires narrow { is_narrow (pattern_of pattern.now) ≡ true }
-    requires shallow { at.now.len + nesting (pattern_of pattern.now) ≤ 32 }
+    requires shallow { at.now.len + nesting (pattern_of pattern.now) ≤ most_levels }
     ensures { IfOk result (λ m. matched_of m ≡ behind (path_of at.now) (plain_match (pattern_of pattern.now) (value_of tree.now))) }
 {
     match pattern {
@@ -138,7 +139,7 @@ fn match_at(alloc: Global, pattern: &Pattern, tree: &Tree, at: &Path) -> Result<
 /// Matches a pattern with a value.
 pub fn match_tree(alloc: Global, pattern: &Pattern, tree: &Tree) -> Result<Matched, AllocError>
     requires narrow { is_narrow (pattern_of pattern.now) ≡ true }
-    requires shallow { nesting (pattern_of pattern.now) ≤ 32 }
+    requires shallow { nesting (pattern_of pattern.now) ≤ most_levels }
     ensures { IfOk result (λ m. matched_of m ≡ plain_match (pattern_of pattern.now) (value_of tree.now)) }
 {
     match_at(alloc, pattern, tree, &Path::new())

@@ -5,6 +5,7 @@ ghost use Rattle.aw_term.specs.Trees.{join};
 ghost use Rattle.aw_term.specs.Choices.{Develop, after_guard, at_rule, outcome};
 ghost use Rattle.aw_term.specs.WellFormed.{all_nesting};
 ghost use Rattle.aw_term.specs.Views.{ground_of, pattern_of};
+ghost use Rattle.aw_term.specs.Limits.{most_levels, most_inherited};
 ghost use Rattle.aw_grammar.specs.declared.rule.Sort.{Sort as SortValue};
 ghost use Rattle.aw_grammar.specs.GrammarView.{rule_of};
 ghost use Rattle.aw_grammar.specs.GrammarOf.{grammar_of};
@@ -50,8 +51,8 @@ fn weigh_rule<'g>(
     row: &Row,
 ) -> Result<Outcome<'g>, AllocError>
     requires narrow { are_narrow (join (map pattern_of rule.now.patterns)) ≡ true }
-    requires shallow { all_nesting (join (map pattern_of rule.now.patterns)) ≤ 32 }
-    requires few { length rule.now.patterns ≤ 8 }
+    requires shallow { all_nesting (join (map pattern_of rule.now.patterns)) ≤ most_levels }
+    requires few { length rule.now.patterns ≤ most_inherited }
     requires same { rule.now.sort ≡ row.now.sort → length rule.now.patterns ≡ length row.now.inherited }
     ensures value { IfOk result (λ o. (sorts : List SortValue) → outcome_of sorts o ≡ at_rule (Some (rule_of sorts rule.now)) node.now (map ground_of args.now) (plain_row row.now)) }
     ensures takable { IfOk result (λ o. IsTakable (λ r. r ≡ rule.now) node.now o) }

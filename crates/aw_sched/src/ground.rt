@@ -11,7 +11,7 @@ ghost use Rattle.aw_sched.specs.Grounds.{Finds, known_ground, known_grounds};
 
 use crate::fault::{LineFault, SchedKind};
 use aw_base::{
-    Grammar, Ground, Grounds, Lit, MOST_ARGUMENTS, MOST_NESTING, MOST_SYMBOLS, RawTerm, RawTerms,
+    Grammar, Ground, Grounds, Lit, MOST_ARGUMENTS, MOST_LEVELS, MOST_SYMBOLS, RawTerm, RawTerms,
     Text, room_after_all,
 };
 use std::alloc::Global;
@@ -21,7 +21,7 @@ use std::mem;
 pub(crate) fn args_are_past(args: &RawTerms) -> bool
     ensures { result ≡ args_are_past (map written_of args.now) }
 {
-    args.len() > MOST_ARGUMENTS || room_after_all(args, MOST_NESTING, MOST_SYMBOLS).is_none()
+    args.len() > MOST_ARGUMENTS || room_after_all(args, MOST_LEVELS, MOST_SYMBOLS).is_none()
 }
 
 fn con_named(g: &Grammar, name: &[u8]) -> Result<u16, LineFault>

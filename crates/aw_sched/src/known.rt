@@ -11,7 +11,7 @@ ghost use Rattle.aw_sched.specs.KnownChoices.{IsKnownChoice};
 
 use crate::event::Event;
 use crate::front::{behind_blanks, name_front, number_front, text_front};
-use aw_base::{Choice, Grammar, Ground, Grounds, MOST_ARGUMENTS, MOST_NESTING, MOST_SYMBOLS, Node};
+use aw_base::{Choice, Grammar, Ground, Grounds, MOST_ARGUMENTS, MOST_LEVELS, MOST_SYMBOLS, Node};
 use aw_term_reader::Unread;
 use std::alloc::Global;
 
@@ -218,7 +218,7 @@ fn read_in_braces(
         rest: inside,
         room: MOST_SYMBOLS,
     };
-    reader.arguments(b'}', MOST_NESTING, &mut args)?;
+    reader.arguments(b'}', MOST_LEVELS, &mut args)?;
     if args.len() <= MOST_ARGUMENTS && behind_blanks(reader.rest).is_empty() {
         Ok(args)
     } else {

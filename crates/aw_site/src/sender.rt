@@ -18,11 +18,9 @@ use crate::validity::valid_home;
 use aw_base::Grammar;
 use aw_name::{Ref, copy_ref};
 use aw_store::{Body, Equation, Equations, Facts};
+use aw_term::limits::MOST_OF_LOAD;
 use aw_term::order::is_ref;
 use std::alloc::{AllocError, Global};
-
-/// The most equations that a message carries as its load.
-const MOST_LOADED: usize = 64;
 
 /// What a role sends by: its grammar, its number, whether its messages carry loads, its store, and equations that are to come behind those of
 /// the store. All of these equations are valid.
@@ -195,7 +193,7 @@ impl<'a, F: Facts> Sender<'a, F> {
             list_map equation_of load ≡ load_of (grammar_of self.now.grammar.now) s (listed (option_copied first.entry)) refs.now) }
     {
         if self.loads {
-            Ok(Equations::from_vec(self.walk(first, refs, MOST_LOADED)?))
+            Ok(Equations::from_vec(self.walk(first, refs, MOST_OF_LOAD)?))
         } else {
             Ok(Equations::new(self.alloc))
         }

@@ -13,6 +13,7 @@ ghost use Rattle.aw_node_list.specs.HeldView.{held_of};
 ghost use Rattle.aw_node_list.specs.InOrder.{place_in};
 ghost use Rattle.aw_law_sites.specs.Joint.{by_rule, by_held};
 ghost use Rattle.aw_term.specs.Choices.{Develop, after_guard};
+ghost use Rattle.aw_term.specs.Limits.{most_inherited, most_levels, most_variables};
 ghost use Rattle.aw_choice.specs.ChoiceView.{answer_of, refusal_of};
 ghost use Rattle.aw_apply.specs.Guard.{guard_all};
 ghost use Rattle.aw_apply.specs.Telling.{weighed_of, HasRoom};
@@ -64,9 +65,9 @@ fn weigh_standing<F: Facts, L: Ledger>(
 ) -> Result<Weighed, AllocError>
     requires named { AreNamed (F.names facts.now) at.slots.now at.held.now.inherited }
     requires same { length rule.now.patterns ≡ length at.held.now.inherited }
-    requires few { length rule.now.patterns ≤ 8 }
-    requires shallow { all_nesting (join (map pattern_of rule.now.patterns)) ≤ 32 }
-    requires room { length (all_leaves (join (map pattern_of rule.now.patterns))) ≤ 64 }
+    requires few { length rule.now.patterns ≤ most_inherited }
+    requires shallow { all_nesting (join (map pattern_of rule.now.patterns)) ≤ most_levels }
+    requires room { length (all_leaves (join (map pattern_of rule.now.patterns))) ≤ most_variables }
     ensures room { IfOk result (λ w. HasRoom (length rule.now.children) at.entry.held.now.node w) }
     ensures value { IfOk result (λ w. (sorts : List SortValue) → StandsSo (F.map facts.now) at.entry.held.now sorts rule.now at.entry.stands →
         weighed_of (rule_of sorts rule.now) w ≡ after_guard at.entry.held.now.node (rule_of sorts rule.now)
@@ -100,9 +101,9 @@ fn weigh_rule<F: Facts, L: Ledger>(
 ) -> Result<Weighed, AllocError>
     requires named { AreNamed (F.names facts.now) at.slots.now at.held.now.inherited }
     requires same { rule.now.sort ≡ sort → length rule.now.patterns ≡ length at.held.now.inherited }
-    requires few { length rule.now.patterns ≤ 8 }
-    requires shallow { all_nesting (join (map pattern_of rule.now.patterns)) ≤ 32 }
-    requires room { length (all_leaves (join (map pattern_of rule.now.patterns))) ≤ 64 }
+    requires few { length rule.now.patterns ≤ most_inherited }
+    requires shallow { all_nesting (join (map pattern_of rule.now.patterns)) ≤ most_levels }
+    requires room { length (all_leaves (join (map pattern_of rule.now.patterns))) ≤ most_variables }
     ensures room { IfOk result (λ w. HasRoom (length rule.now.children) at.entry.held.now.node w) }
     ensures value { IfOk result (λ w. (sorts : List SortValue) (h : P.Held) → h.sort ≡ sort → h.inherited ≡ at.entry.held.now.inherited →
         (rule.now.sort ≡ sort → StandsSo (F.map facts.now) at.entry.held.now sorts rule.now at.entry.stands) →

@@ -4,6 +4,7 @@ ghost use Rattle.aw_term.specs.Names.{Node as NodeValue, Ref as RefName};
 ghost use Rattle.aw_term.specs.Trees.{join};
 ghost use Rattle.aw_term.specs.Views.{pattern_of};
 ghost use Rattle.aw_term.specs.WellFormed.{all_leaves, all_nesting};
+ghost use Rattle.aw_name.specs.Limits.{most_steps};
 ghost use Rattle.aw_grammar.specs.declared.rule.Sort.{Sort as SortValue};
 ghost use Rattle.aw_grammar.specs.GrammarView.{rule_of};
 ghost use Rattle.aw_grammar.specs.GrammarOf.{grammar_of};
@@ -56,7 +57,7 @@ fn test_stands<F: Facts, L: Ledger>(
     requires few { length rule.now.patterns ≤ 8 }
     requires shallow { all_nesting (join (list_map pattern_of rule.now.patterns)) ≤ 32 }
     requires room { length (all_leaves (join (list_map pattern_of rule.now.patterns))) ≤ 64 }
-    ensures stands { (sorts : List SortValue) (n : NodeValue) (rs : List RefName) → deep ≡ nat_eq (length n.steps) 250 → AreNamed (F.names facts.now) slots.now rs →
+    ensures stands { (sorts : List SortValue) (n : NodeValue) (rs : List RefName) → deep ≡ nat_eq (length n.steps) most_steps → AreNamed (F.names facts.now) slots.now rs →
         kept_refusal (F.names facts.now) result ≡ told_refusal (F.map facts.now) n rs (rule_of sorts rule.now) }
     ensures lacks { LacksBody (F.map facts.now) (F.names facts.now) result }
     ensures live { has_live (length (F.names facts.now)) result ≡ true }

@@ -1,6 +1,7 @@
 //! Lists of equations, which are scanned.
 ghost use Rattle.std.specs.Prelude.{◌≡◌, ◌<◌, ◌↔◌, Some, true, IfOk, IsTrue, IsSome, map, option_map, nat_le, length, slice_get};
 ghost use Rattle.std.specs.Option.{option_copied};
+ghost use Rattle.aw_term.specs.Limits.{most_parts};
 ghost use Rattle.aw_store.specs.Equations.{find, mentions};
 ghost use Rattle.aw_store.specs.EquationView.{body_of, equation_of};
 ghost use Rattle.aw_store.specs.NamedRefs.{all_named, con_parts, as_text};
@@ -28,7 +29,7 @@ pub fn find_body<'e>(equations: &'e [Equation], r: &Ref) -> Option<&'e Body>
 /// The kind of a body whose references are named.
 pub fn kind_of(names: &[Ref], body: &Body) -> Kind
     requires named { all_named names.now (mentions (body_of body.now)) ≡ true }
-    requires few { nat_le (length (mentions (body_of body.now))) 8 ≡ true }
+    requires few { nat_le (length (mentions (body_of body.now))) most_parts ≡ true }
     ensures { IsKindOf names.now (Some (body_of body.now)) result }
 {
     match body {

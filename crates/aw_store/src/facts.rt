@@ -104,7 +104,7 @@ pub trait Facts {
         ensures err { OnErr result (names self.new ≡ names self.old) }
         ensures named { is_named (names self.old) r.now ≡ true → IsOk result };
 
-    /// Takes the memory for adding these equations, and names their references, no others. A constructor has at most 8
+    /// Takes the memory for adding these equations, and names their references, no others. A constructor has few
     /// references. An error leaves the equations as they were, may have named some of these references, and leaves any
     /// equations ready, or none.
     fn reserve(&mut self, es: &Equations) -> Result<(), AllocError>
@@ -115,7 +115,7 @@ pub trait Facts {
         ensures named { OnOk result (has_names (names self.new) (list_map equation_of es.now) ≡ true) }
         ensures ready { OnOk result ((e : PlainEquation) → Contains (list_map equation_of es.now) e → is_ready self.new e) };
 
-    /// Adds an equation where its left side has none; its references are named, no others. A constructor has at most 8
+    /// Adds an equation where its left side has none; its references are named, no others. A constructor has few
     /// references. Where the left side has an equation, nothing changes, neither names nor what is ready, also on an error.
     /// Else an error leaves the equations as they were, and may have named some of these references. There is no error for
     /// an equation that is ready, but where the left side has another one.
@@ -166,6 +166,6 @@ pub trait Facts {
     /// Each left side is named, and each reference in a body.
     ghost all_named: { (x : Self) → has_names (names x) (map x) ≡ true };
 
-    /// Each constructor has at most 8 references.
+    /// Each constructor has few references.
     ghost few: { (x : Self) → all_few (map x) ≡ true };
 }

@@ -2,6 +2,7 @@
 #![tactic(auto)]
 
 pub mod ground;
+pub mod limits;
 pub mod order;
 pub mod term;
 pub mod worked;
