@@ -7,6 +7,7 @@ use Rattle.aw_term.specs.Trees.{Con, Leaf, Made, join}
 use Rattle.aw_term.specs.Rules.{Ground, Grammar}
 use Rattle.aw_term.specs.WellFormed.{head_fits, heads_fit, all_heads_fit, symbols, all_symbols, symbols_of, nesting, all_nesting}
 use Rattle.aw_term.proofs.Joined.{count_join, symbols_join}
+use Rattle.aw_term.specs.Limits.{most_levels, most_symbols, most_arguments}
 use Rattle.aw_base.specs.ChoiceFits.{ground_ok, grounds_ok, args_ok}
 use Rattle.aw_base.specs.Allowance.{spare, fits_levels, left_after, left_after_all}
 
@@ -121,13 +122,13 @@ some_spare true n allowed = either (nat_le n allowed)
     either false = refl
 some_spare false n allowed = sym (and_right (nat_le n allowed) false refl)
 
-pub all_left : (g : Grammar) (ts : List Ground) → is_some (left_after_all g.arities 32 256 ts) ≡ (nat_le (symbols_of ts) 256 && grounds_ok g ts)
+pub all_left : (g : Grammar) (ts : List Ground) → is_some (left_after_all g.arities most_levels most_symbols ts) ≡ (nat_le (symbols_of ts) 256 && grounds_ok g ts)
 all_left g ts =
-    ap is_some (all_spare g.arities 32 256 ts)
+    ap is_some (all_spare g.arities most_levels most_symbols ts)
     ∙ some_spare (fit_levels g.arities 32 ts) (symbols_of ts) 256
     ∙ ap (λ b. nat_le (symbols_of ts) 256 && b) (fit_all g ts)
 
-pub few_left : {G : Type 0} (f : G → Ground) (g : Grammar) (xs : List G) → length xs ≤ 8 → is_some (left_after_all g.arities 32 256 (map f xs)) ≡ args_ok g (map f xs)
+pub few_left : {G : Type 0} (f : G → Ground) (g : Grammar) (xs : List G) → length xs ≤ most_arguments → is_some (left_after_all g.arities most_levels most_symbols (map f xs)) ≡ args_ok g (map f xs)
 few_left f g xs h =
     all_left g (map f xs)
-    ∙ ap (λ b. b && (nat_le (symbols_of (map f xs)) 256 && grounds_ok g (map f xs))) (sym (le-leb (length (map f xs)) 8 (omega (arith, length-map xs f, h))))
+    ∙ ap (λ b. b && (nat_le (symbols_of (map f xs)) most_symbols && grounds_ok g (map f xs))) (sym (le-leb (length (map f xs)) most_arguments (omega (arith, length-map xs f, h))))

@@ -4,6 +4,7 @@ use Rattle.std.specs.Prelude.{slice_get, option_map, nat_lt, nat_le}
 use Rattle.std.proofs.lemmas.Bool.{and_parts, and_from, ltb-true, lt-ltb}
 use Rattle.aw_term.specs.Trees as T
 use Rattle.aw_term.specs.Names.{Ref}
+use Rattle.aw_term.specs.Limits.{most_parts}
 use Rattle.aw_store.specs.Equations as P
 use Rattle.aw_store.specs.Equations.{mentions}
 use Rattle.aw_store.specs.NamedRefs.{is_named, all_named, con_parts, as_text}
@@ -137,19 +138,19 @@ body_from-named ns (Con c parts) b e = let p : P.Is (T.Con c) (refs_of ns parts.
 body_from-named ns (Num x) b e = let p : P.Is (T.Num x) [] ≡ b = cc in ap (λ x. all_named ns (mentions x)) (sym p)
 body_from-named ns (Text t) b e = let p : P.Is (T.Text t) [] ≡ b = cc in ap (λ x. all_named ns (mentions x)) (sym p)
 
-pub body_from-few : (ns : List Ref) (c : Stored) (b : P.Body) → fits (length ns) c ≡ true → body_from ns c ≡ Some b → nat_le (length (mentions b)) 8 ≡ true
+pub body_from-few : (ns : List Ref) (c : Stored) (b : P.Body) → fits (length ns) c ≡ true → body_from ns c ≡ Some b → nat_le (length (mentions b)) most_parts ≡ true
 body_from-few ns Missing b w e = absurd cc
 body_from-few ns (Same s) b w e = by_name (slice_get ns s) e
   where
-    by_name : (o : Option Ref) → option_map P.Same o ≡ Some b → nat_le (length (mentions b)) 8 ≡ true
+    by_name : (o : Option Ref) → option_map P.Same o ≡ Some b → nat_le (length (mentions b)) most_parts ≡ true
     by_name None e = absurd cc
-    by_name (Some r) e = let p : P.Same r ≡ b = cc in ap (λ x. nat_le (length (mentions x)) 8) (sym p)
+    by_name (Some r) e = let p : P.Same r ≡ b = cc in ap (λ x. nat_le (length (mentions x)) most_parts) (sym p)
 body_from-few ns (Con c parts) b w e =
     let p : P.Is (T.Con c) (refs_of ns parts.items) ≡ b = cc in
     let (x, y) = and_parts (all_below (length ns) parts.items) _ w in
-    ap (λ z. nat_le (length (mentions z)) 8) (sym p) ∙ ap (λ n. nat_le n 8) (refs_of-length ns parts.items x) ∙ y
-body_from-few ns (Num x) b w e = let p : P.Is (T.Num x) [] ≡ b = cc in ap (λ x. nat_le (length (mentions x)) 8) (sym p)
-body_from-few ns (Text t) b w e = let p : P.Is (T.Text t) [] ≡ b = cc in ap (λ x. nat_le (length (mentions x)) 8) (sym p)
+    ap (λ z. nat_le (length (mentions z)) most_parts) (sym p) ∙ ap (λ n. nat_le n most_parts) (refs_of-length ns parts.items x) ∙ y
+body_from-few ns (Num x) b w e = let p : P.Is (T.Num x) [] ≡ b = cc in ap (λ x. nat_le (length (mentions x)) most_parts) (sym p)
+body_from-few ns (Text t) b w e = let p : P.Is (T.Text t) [] ≡ b = cc in ap (λ x. nat_le (length (mentions x)) most_parts) (sym p)
 
 -- what is read of a body by slots
 pub kind_is : (ns : List Ref) (c : Stored) → fits (length ns) c ≡ true → IsKindOf ns (body_from ns c) (kind_from c)

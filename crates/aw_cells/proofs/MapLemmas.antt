@@ -10,6 +10,7 @@ use Rattle.aw_store.specs.Equations.{Body, Equation, Map, find, mentions}
 use Rattle.aw_store.specs.NamedRefs.{is_named, all_named, has_names, IsNamedOnce}
 use Rattle.aw_store.specs.StoreView.{all_few}
 use Rattle.aw_term.proofs.RefTests.{ref_eq-true, ref_eq-self}
+use Rattle.aw_term.specs.Limits.{most_parts}
 use Rattle.aw_store.proofs.NameLemmas.{is_named-at}
 use Rattle.aw_cells.specs.declared.stored.Stored.{Stored}
 use Rattle.aw_cells.specs.declared.stored.Stored.TheVariants.{Missing}
@@ -39,7 +40,7 @@ map-named ns cs (s ∷ ss) =
     equation-named ns (slice_get ns s) (body_in ns cs s) (map_in ns cs ss) (λ r e. is_named-at ns s r e)
     (λ b e. let (c, f, g) = cell_of ns (slice_get cs s) b e in body_from-named ns c b g) (map-named ns cs ss)
 
-equation-few : (o : Option Ref) (p : Option Body) (k : Map) → ((b : Body) → p ≡ Some b → nat_le (length (mentions b)) 8 ≡ true) → all_few k ≡ true → all_few (equation_with o p k) ≡ true
+equation-few : (o : Option Ref) (p : Option Body) (k : Map) → ((b : Body) → p ≡ Some b → nat_le (length (mentions b)) most_parts ≡ true) → all_few k ≡ true → all_few (equation_with o p k) ≡ true
 equation-few None p k g w = w
 equation-few (Some r) None k g w = w
 equation-few (Some r) (Some b) k g w = and_from _ _ (g b refl) w

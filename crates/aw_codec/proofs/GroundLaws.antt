@@ -10,6 +10,7 @@ use Rattle.aw_term.specs.Trees.{Never, Head, Con, Num, Text, Leaf, Made, Trees, 
 use Rattle.aw_term.specs.Rules.{Ground}
 use Rattle.aw_term.specs.WellFormed.{Each, symbols, all_symbols, symbols_of, nesting, all_nesting}
 use Rattle.aw_term.proofs.Joined.{count_join, symbols_join}
+use Rattle.aw_term.specs.Limits.{most_parts, most_arguments, most_levels, most_symbols}
 use Rattle.aw_codec.specs.Bytes.{AreBytes}
 use Rattle.aw_codec.specs.Reading.{◌>>=◌, byte, number, such_that, both}
 use Rattle.aw_codec.specs.Names.{is_at_most}
@@ -47,8 +48,8 @@ text_law = restated spelled_text TextSized TextInRange (λ t. ap (λ (u : List �
 abbrev HeadTakes : List ℕ → List ℕ → Head × ℕ → Type 0
 HeadTakes bytes rest x = Takes bytes (spelled_head x.0 x.1) rest × HeadSized x.0 × HeadInRange x.0 x.1
 
-con_law : Law (both (number w16) (such_that (is_at_most 8) byte)) (λ x. to_be_bytes w16 x.0 ++ x.1 ∷ []) (λ x. (x.0 < 2 ^ 16) × (x.1 < 2 ^ 8)) (λ x. Unit {0} × (Unit {0} × (is_at_most 8 x.1 ≡ true)))
-con_law = both_law number16 (such_that_law (is_at_most 8) byte_law)
+con_law : Law (both (number w16) (such_that (is_at_most most_parts) byte)) (λ x. to_be_bytes w16 x.0 ++ x.1 ∷ []) (λ x. (x.0 < 2 ^ 16) × (x.1 < 2 ^ 8)) (λ x. Unit {0} × (Unit {0} × (is_at_most most_parts x.1 ≡ true)))
+con_law = both_law number16 (such_that_law (is_at_most most_parts) byte_law)
 
 head_taken : (bytes : List ℕ) (x : Head × ℕ) (rest : List ℕ) → AreBytes bytes → head bytes ≡ Ok (x, rest) → HeadTakes bytes rest x
 unfolding head
@@ -56,7 +57,7 @@ head_taken [] x rest fits e = absurd cc
 head_taken (zero ∷ bytes) x rest fits e = absurd cc
 head_taken (suc zero ∷ bytes) x rest fits e =
     let t = seen_taken (λ y. (Con y.0, y.1)) con_law bytes x rest (AreBytes-rest 1 bytes fits) e in
-    subst (HeadTakes (1 ∷ bytes) rest) t.1 (Takes-tag 1 bytes (to_be_bytes w16 t.0.0 ++ t.0.1 ∷ []) rest t.2, t.3.0, leb-true t.0.1 8 t.4.1.1)
+    subst (HeadTakes (1 ∷ bytes) rest) t.1 (Takes-tag 1 bytes (to_be_bytes w16 t.0.0 ++ t.0.1 ∷ []) rest t.2, t.3.0, leb-true t.0.1 most_parts t.4.1.1)
 head_taken (suc (suc zero) ∷ bytes) x rest fits e =
     let t = seen_taken (λ n. (Num n, 0)) number64 bytes x rest (AreBytes-rest 2 bytes fits) e in
     subst (HeadTakes (2 ∷ bytes) rest) t.1 (Takes-tag 2 bytes _ rest t.2, t.3, refl)
@@ -67,7 +68,7 @@ head_taken (suc (suc (suc (suc b))) ∷ bytes) x rest fits e = absurd cc
 
 head_again : (h : Head) (n : ℕ) (rest : List ℕ) → HeadSized h → HeadInRange h n → head (spelled_head h n ++ rest) ≡ Ok ((h, n), rest)
 unfolding head
-head_again (Con c) n rest sized range = seen_again (λ y. (Con y.0, y.1)) con_law (c, n) rest (sized, omega arith) (tt, (tt, le-leb n 8 range))
+head_again (Con c) n rest sized range = seen_again (λ y. (Con y.0, y.1)) con_law (c, n) rest (sized, omega arith) (tt, (tt, le-leb n most_parts range))
 head_again (Num m) n rest sized range = seen_again (λ k. (Num k, 0)) number64 m rest sized tt ∙ ap (λ k. Ok ((Num m, k), rest)) (sym range)
 head_again (Text t) n rest sized range = seen_again (λ u. (Text u, 0)) text_law t rest sized range.1 ∙ ap (λ k. Ok ((Text t, k), rest)) (sym range.0)
 
@@ -228,8 +229,8 @@ turn_again (t ∷ ts) levels allowed left rest sized range uses =
 
 -- ---- the arguments of a choice
 
-count_law : Law (such_that (is_at_most 8) byte) (λ n. n ∷ []) (λ n. n < 2 ^ 8) (λ n. Unit {0} × (is_at_most 8 n ≡ true))
-count_law = such_that_law (is_at_most 8) byte_law
+count_law : Law (such_that (is_at_most most_arguments) byte) (λ n. n ∷ []) (λ n. n < 2 ^ 8) (λ n. Unit {0} × (is_at_most most_arguments n ≡ true))
+count_law = such_that_law (is_at_most most_arguments) byte_law
 
 abbrev ArgumentsTake : List ℕ → List Ground → List ℕ → Type 0
 ArgumentsTake bytes ts rest = Takes bytes (spelled_grounds ts) rest × GroundsSized ts × GroundsInRange ts
@@ -237,17 +238,17 @@ ArgumentsTake bytes ts rest = Takes bytes (spelled_grounds ts) rest × GroundsSi
 arguments_taken : (bytes : List ℕ) (ts : List Ground) (rest : List ℕ) → AreBytes bytes → arguments bytes ≡ Ok (ts, rest) → ArgumentsTake bytes ts rest
 unfolding arguments
 arguments_taken bytes ts rest fits e =
-    let a = bind_ok (such_that (is_at_most 8) byte bytes) (λ n. in_turn (ground 32) n.0 256 n.1 >>= λ us. Ok (us.0.0, us.1)) (ts, rest) e in
+    let a = bind_ok (such_that (is_at_most most_arguments) byte bytes) (λ n. in_turn (ground most_levels) n.0 most_symbols n.1 >>= λ us. Ok (us.0.0, us.1)) (ts, rest) e in
     let b = bind_ok (in_turn (ground 32) a.0.0 256 a.0.1) (λ us. Ok (us.0.0, us.1)) (ts, rest) a.2 in
     let front = count_law.taken bytes a.0.0 a.0.1 fits a.1 in
     let turn = turn_taken 32 (ground_taken 32) a.0.0 256 a.0.1 b.0.0 b.0.1 front.0.rest_bytes b.1 in
     subst (λ (y : List Ground × List ℕ). ArgumentsTake bytes y.0 y.1) (ok_is (b.0.0.0, b.0.1) (ts, rest) b.2) (
       subst (λ n. Takes bytes (n ∷ flat_map spelled_ground b.0.0.0) b.0.1) (sym turn.many) (Takes-then bytes (a.0.0 ∷ []) a.0.1 (flat_map spelled_ground b.0.0.0) b.0.1 front.0 turn.text),
       turn.sized,
-      (few (length b.0.0.0) a.0.0 turn.many (leb-true a.0.0 8 front.2.1), within (symbols_of b.0.0.0) b.0.0.1 turn.uses, turn.range),
+      (few (length b.0.0.0) a.0.0 turn.many (leb-true a.0.0 most_arguments front.2.1), within (symbols_of b.0.0.0) b.0.0.1 turn.uses, turn.range),
     )
   where
-    few : (n m : ℕ) → n ≡ m → m ≤ 8 → n ≤ 8
+    few : (n m : ℕ) → n ≡ m → m ≤ most_arguments → n ≤ most_arguments
     few n m e h = omega arith
 
     within : (n left : ℕ) → n + left ≡ 256 → n ≤ 256
@@ -256,7 +257,7 @@ arguments_taken bytes ts rest fits e =
 arguments_again : (ts : List Ground) (rest : List ℕ) → GroundsSized ts → GroundsInRange ts → arguments (spelled_grounds ts ++ rest) ≡ Ok (ts, rest)
 unfolding arguments
 arguments_again ts rest sized range =
-    rw (le-leb (length ts) 8 range.0, turn_again ts 32 256 (256 - symbols_of ts) rest sized range.2 (allowance (symbols_of ts) range.1)) refl
+    rw (le-leb (length ts) most_arguments range.0, turn_again ts most_levels most_symbols (most_symbols - symbols_of ts) rest sized range.2 (allowance (symbols_of ts) range.1)) refl
   where
     allowance : (n : ℕ) → n ≤ 256 → 256 ≡ n + (256 - n)
     allowance n h = omega arith

@@ -12,6 +12,7 @@ use Rattle.aw_term.specs.Views.{ground_of}
 use Rattle.aw_term.specs.declared.ground.Ground as grounds
 use Rattle.aw_term.proofs.Joined.{count_join}
 use Rattle.aw_term.proofs.ViewLemmas.{ground_con}
+use Rattle.aw_term.specs.Limits.{most_parts}
 use Rattle.aw_codec.specs.Grounds.{spelled_head, spelled_ground, spelled_parts}
 use Rattle.aw_codec.specs.Ranges.{HeadsInRange, PartsInRange, GroundSized}
 use Rattle.aw_codec.proofs.GroundLaws.{parts_join, sized_join}
@@ -31,7 +32,7 @@ con_added r g c parts qs n k old t1 t2 t3 new is qs-is n-is few e1 e2 e3 others 
     let view : ground_of g ≡ Made (Con c) (join us) = ap ground_of is ∙ ground_con c parts in
     let known = subst HeadsInRange view range in
     let many : count (join us) ≡ n = count_join us ∙ length-map parts ground_of ∙ sym n-is in
-    let number : k ≡ count (join us) = few (subst (λ m. m ≤ 8) many known.0) ∙ sym many in
+    let number : k ≡ count (join us) = few (subst (λ m. m ≤ most_parts) many known.0) ∙ sym many in
     let front : t3 ≡ old ++ spelled_head (Con c) (count (join us)) =
     two old (1 ∷ []) (to_be_bytes w16 c ++ count (join us) ∷ []) t1 t3 e1 (two t1 (to_be_bytes w16 c) (count (join us) ∷ []) t2 t3 e2 (e3 ∙ ap (λ m. t2 ++ m ∷ []) number)) in
     on_ok_weaker r

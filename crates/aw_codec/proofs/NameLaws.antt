@@ -5,6 +5,7 @@ use Rattle.std.specs.List.{flat_map}
 use Rattle.std.specs.Int.{w16, to_be_bytes}
 use Rattle.aw_term.specs.Names.{Step, Slot, Result, Part}
 use Rattle.aw_term.specs.WellFormed.{Each}
+use Rattle.aw_term.specs.Limits.{most_children, most_results, most_node_parts, most_references}
 use Rattle.aw_codec.specs.Bytes.{AreBytes}
 use Rattle.aw_codec.specs.Reading.{number, such_that}
 use Rattle.aw_codec.specs.Names.{spelled_step, spelled_node, spelled_slot, spelled_ref, spelled_refs, is_from_1_to, is_at_most, step, trail, node, slot, reference, references}
@@ -19,8 +20,8 @@ from_tests most n h = and_from (nat_le 1 n) (nat_le n most) (le-leb 1 n h.0) (le
 
 pub step_law : Law step spelled_step StepSized StepInRange
 unfolding step
-step_law = restated spelled_step StepSized StepInRange (λ s. refl) (λ s sized range. (sized, from_holds 8 s.child range.1.1)) (λ s sized range. (sized, (tt, (tt, from_tests 8 s.child range))))
-    (seen_law (λ s. record { rule = s.0; child = s.1 }) (λ s. (s.rule, s.child)) (λ x. refl) (λ y. refl) (both_law number16 (such_that_law (is_from_1_to 8) byte_law)))
+step_law = restated spelled_step StepSized StepInRange (λ s. refl) (λ s sized range. (sized, from_holds most_children s.child range.1.1)) (λ s sized range. (sized, (tt, (tt, from_tests most_children s.child range))))
+    (seen_law (λ s. record { rule = s.0; child = s.1 }) (λ s. (s.rule, s.child)) (λ x. refl) (λ y. refl) (both_law number16 (such_that_law (is_from_1_to most_children) byte_law)))
 
 abbrev TrailSized : List Step → Type 0
 TrailSized ss = Each StepSized ss
@@ -55,17 +56,17 @@ slot_taken : (bytes : List ℕ) (x : Slot) (rest : List ℕ) → AreBytes bytes 
 unfolding slot
 slot_taken [] x rest fits e = absurd cc
 slot_taken (zero ∷ bytes) x rest fits e =
-    let t = seen_taken Result (slot_number_law 8) bytes x rest (AreBytes-rest 0 bytes fits) e in
+    let t = seen_taken Result (slot_number_law most_results) bytes x rest (AreBytes-rest 0 bytes fits) e in
     subst (SlotTakes (0 ∷ bytes) rest) t.1 (Takes-tag 0 bytes (to_be_bytes w16 t.0) rest t.2, t.3, t.4)
 slot_taken (suc zero ∷ bytes) x rest fits e =
-    let t = seen_taken Part (slot_number_law 512) bytes x rest (AreBytes-rest 1 bytes fits) e in
+    let t = seen_taken Part (slot_number_law most_node_parts) bytes x rest (AreBytes-rest 1 bytes fits) e in
     subst (SlotTakes (1 ∷ bytes) rest) t.1 (Takes-tag 1 bytes (to_be_bytes w16 t.0) rest t.2, t.3, t.4)
 slot_taken (suc (suc b) ∷ bytes) x rest fits e = absurd cc
 
 slot_again : (x : Slot) (rest : List ℕ) → SlotSized x → SlotInRange x → slot (spelled_slot x ++ rest) ≡ Ok (x, rest)
 unfolding slot
-slot_again (Result j) rest sized range = seen_again Result (slot_number_law 8) j rest sized range
-slot_again (Part k) rest sized range = seen_again Part (slot_number_law 512) k rest sized range
+slot_again (Result j) rest sized range = seen_again Result (slot_number_law most_results) j rest sized range
+slot_again (Part k) rest sized range = seen_again Part (slot_number_law most_node_parts) k rest sized range
 
 slot_law : Law slot spelled_slot SlotSized SlotInRange
 slot_law = record { taken = slot_taken; again = slot_again }
@@ -76,6 +77,6 @@ reference_law = seen_law (λ r. record { node = r.0; slot = r.1 }) (λ r. (r.nod
 
 pub references_law : Law references spelled_refs RefsSized RefsInRange
 unfolding references
-references_law = restated spelled_refs RefsSized RefsInRange (λ rs. refl) (λ rs sized range. (sized.1, (leb-true (length rs) 8 range.0.1, range.1)))
-    (λ rs sized range. ((omega (arith, range.0), sized), ((tt, le-leb (length rs) 8 range.0), range.1)))
-    (counted_law (such_that_law (is_at_most 8) byte_law) reference_law)
+references_law = restated spelled_refs RefsSized RefsInRange (λ rs. refl) (λ rs sized range. (sized.1, (leb-true (length rs) most_references range.0.1, range.1)))
+    (λ rs sized range. ((omega (arith, range.0), sized), ((tt, le-leb (length rs) most_references range.0), range.1)))
+    (counted_law (such_that_law (is_at_most most_references) byte_law) reference_law)

@@ -6,6 +6,7 @@ use Rattle.aw_term.specs.Trees.{Head, Con, Num, Text, Made, join}
 use Rattle.aw_term.specs.Names.{Slot, Result as ResultSlot, Part}
 use Rattle.aw_term.specs.Rules.{Ground}
 use Rattle.aw_term.specs.Choices.{Choice, Start, Develop}
+use Rattle.aw_term.specs.Limits.{most_children, most_results, most_node_parts, most_references, most_parts, most_arguments, most_levels, most_symbols}
 use Rattle.aw_codec.specs.Reading.{Reader, byte, number, such_that, both, seen}
 use Rattle.aw_codec.specs.Names.{is_at_most, is_from_1_to, step, trail, node, slot, reference, references}
 use Rattle.aw_codec.specs.Texts.{text}
@@ -20,7 +21,7 @@ at_most_extends most = such_that_extends (is_at_most most) byte_extends
 
 step_extends : Extends step
 unfolding step
-step_extends = seen_extends _ (both_extends (number_extends w16) (such_that_extends (is_from_1_to 8) byte_extends))
+step_extends = seen_extends _ (both_extends (number_extends w16) (such_that_extends (is_from_1_to most_children) byte_extends))
 
 trail_extends : Extends trail
 unfolding trail
@@ -34,7 +35,7 @@ slot_number_extends : (most : ℕ) → Extends (such_that (is_from_1_to most) (n
 slot_number_extends most = such_that_extends (is_from_1_to most) (number_extends w16)
 
 abbrev behind_slot : ℕ → Reader Slot
-behind_slot = by_tag (seen ResultSlot (such_that (is_from_1_to 8) (number w16))) (seen Part (such_that (is_from_1_to 512) (number w16))) nothing nothing
+behind_slot = by_tag (seen ResultSlot (such_that (is_from_1_to most_results) (number w16))) (seen Part (such_that (is_from_1_to most_node_parts) (number w16))) nothing nothing
 
 slot_is : (bytes : List ℕ) → slot bytes ≡ next byte behind_slot bytes
 unfolding slot
@@ -46,7 +47,7 @@ slot_is (suc (suc (suc zero)) ∷ bytes) = refl
 slot_is (suc (suc (suc (suc b))) ∷ bytes) = refl
 
 slot_extends : Extends slot
-slot_extends = via slot_is (by_tag_extends (seen_extends ResultSlot (slot_number_extends 8)) (seen_extends Part (slot_number_extends 512)) nothing_extends nothing_extends)
+slot_extends = via slot_is (by_tag_extends (seen_extends ResultSlot (slot_number_extends most_results)) (seen_extends Part (slot_number_extends most_node_parts)) nothing_extends nothing_extends)
 
 pub reference_extends : Extends reference
 unfolding reference
@@ -54,7 +55,7 @@ reference_extends = seen_extends _ (both_extends node_extends slot_extends)
 
 pub references_extends : Extends references
 unfolding references
-references_extends = counted_extends (at_most_extends 8) reference_extends
+references_extends = counted_extends (at_most_extends most_references) reference_extends
 
 -- ---- texts and arguments
 
@@ -63,7 +64,7 @@ unfolding text
 text_extends = counted_extends (such_that_extends (is_at_most 1024) (number_extends w16)) (such_that_extends is_content_byte byte_extends)
 
 abbrev behind_head : ℕ → Reader (Head × ℕ)
-behind_head = by_tag nothing (seen (λ x. (Con x.0, x.1)) (both (number w16) (such_that (is_at_most 8) byte))) (seen (λ n. (Num n, 0)) (number w64)) (seen (λ t. (Text t, 0)) text)
+behind_head = by_tag nothing (seen (λ x. (Con x.0, x.1)) (both (number w16) (such_that (is_at_most most_parts) byte))) (seen (λ n. (Num n, 0)) (number w64)) (seen (λ t. (Text t, 0)) text)
 
 head_is : (bytes : List ℕ) → head bytes ≡ next byte behind_head bytes
 unfolding head
@@ -75,7 +76,7 @@ head_is (suc (suc (suc zero)) ∷ bytes) = refl
 head_is (suc (suc (suc (suc b))) ∷ bytes) = refl
 
 head_extends : Extends head
-head_extends = via head_is (by_tag_extends nothing_extends (seen_extends _ (both_extends (number_extends w16) (at_most_extends 8))) (seen_extends _ (number_extends w64)) (seen_extends _ text_extends))
+head_extends = via head_is (by_tag_extends nothing_extends (seen_extends _ (both_extends (number_extends w16) (at_most_extends most_parts))) (seen_extends _ (number_extends w64)) (seen_extends _ text_extends))
 
 in_turn_extends : {A : Type 0} {item : ℕ → Reader (A × ℕ)} → ((allowed : ℕ) → Extends (item allowed)) → (n allowed : ℕ) → Extends (in_turn item n allowed)
 in_turn_extends h zero allowed = via (λ bytes. refl) (given_extends ([], allowed))
@@ -99,7 +100,7 @@ ground_extends (suc levels) (suc allowed) = via (λ bytes. refl) (next_extends h
 
 arguments_extends : Extends arguments
 unfolding arguments
-arguments_extends = via (λ bytes. refl) (next_extends (at_most_extends 8) (λ n. seen_extends (λ ts. ts.0) (in_turn_extends (ground_extends 32) n 256)))
+arguments_extends = via (λ bytes. refl) (next_extends (at_most_extends most_arguments) (λ n. seen_extends (λ ts. ts.0) (in_turn_extends (ground_extends most_levels) n most_symbols)))
 
 -- ---- choices
 

@@ -17,6 +17,7 @@ use Rattle.aw_grammar.specs.GrammarOf.{entry}
 use Rattle.aw_grammar.specs.Declarations.{Declarations, sort_declared, with_start_at}
 use Rattle.aw_grammar.specs.Kinds.{role_tests, con_tests, sort_tests, role_kind, con_kind, sort_kind, start_kind, start_kind_of}
 use Rattle.aw_name_index.proofs.FirstTold.{none_holds}
+use Rattle.aw_term.specs.Limits.{most_cons, most_parts, most_inherited, most_results}
 use Rattle.aw_grammar.proofs.Declared.{well_formed_role, well_formed_con, well_formed_sort, well_formed_start, names_of_start}
 
 -- the declarations of these lists
@@ -39,7 +40,7 @@ good_con roles cons sorts [] con new e no_rules named none good =
     let tests = none_holds (con_tests (listed roles cons sorts []) con) none in
     let limits = or_parts _ _ tests.0 in
     ∥∥₁_map good (λ w. subst (λ cs. Good roles cs sorts []) (sym e)
-    (well_formed_con roles cons sorts (record { name = con.name; arity = con.arity }) w named (leb-false 1024 (length cons) limits.0) (ltb-false 8 con.arity limits.1) tests.1.0))
+    (well_formed_con roles cons sorts (record { name = con.name; arity = con.arity }) w named (leb-false most_cons (length cons) limits.0) (ltb-false most_parts con.arity limits.1) tests.1.0))
 good_con roles cons sorts (r ∷ rs) con new e no_rules named none good = cc
 
 pub good_sort : (roles : List (List ℕ)) (cons : List Con) (sorts : List Sort) (rules : List Rule) (sort : RawSort) (new : List Sort) → new ≡ sorts ++ sort_declared (listed roles cons sorts rules) sort ∷ [] → rules ≡ [] → is_name sort.name ≡ true → sort_kind (listed roles cons sorts rules) sort ≡ None → ∥ Good roles cons sorts rules ∥₁ → ∥ Good roles cons new rules ∥₁
@@ -49,8 +50,8 @@ good_sort roles cons sorts [] sort new e no_rules named none good =
     let small = or_parts _ _ few.1 in
     let fits : SortFits (length roles) (sort_of (sort_declared (listed roles cons sorts []) sort)) = record {
       declared = number_within sort.role roles (not-false _ tests.1.1.0);
-      few_takes = ltb-false 8 sort.takes small.0;
-      few_gives = ltb-false 8 sort.gives small.1;
+      few_takes = ltb-false most_inherited sort.takes small.0;
+      few_gives = ltb-false most_results sort.gives small.1;
       start = λ h. absurd (false≢true h);
     } in
     ∥∥₁_map good (λ w. subst (λ ss. Good roles cons ss []) (sym e)

@@ -10,6 +10,7 @@ use Rattle.aw_grammar.specs.declared.rule.Sort.{Sort}
 use Rattle.aw_grammar.specs.GrammarView.{sort_of, sorts_of, plain_grammar, plain_words}
 use Rattle.aw_grammar.specs.Declarations.{with_start_at}
 use Rattle.aw_term.proofs.Eaches.{each_push}
+use Rattle.aw_term.specs.Limits.{most_parts}
 use Rattle.aw_grammar.proofs.Counted.{cons_counted, sorts_counted}
 use Rattle.aw_grammar.proofs.Growth.{differ_push, four_from, four_to}
 
@@ -38,7 +39,7 @@ well_formed_role roles cons name w named few absent =
       rules = tt;
     }
 
-pub well_formed_con : (roles : List (List ℕ)) (cons : List Con) (sorts : List Sort) (con : Con) → IsWellFormed (plain_words roles cons sorts []) (plain_grammar roles cons sorts []) → is_name con.name ≡ true → length cons < 1024 → con.arity ≤ 8 → stands con.name (map (λ (c : Con). c.name) cons) ≡ false → IsWellFormed (plain_words roles (cons ++ con ∷ []) sorts []) (plain_grammar roles (cons ++ con ∷ []) sorts [])
+pub well_formed_con : (roles : List (List ℕ)) (cons : List Con) (sorts : List Sort) (con : Con) → IsWellFormed (plain_words roles cons sorts []) (plain_grammar roles cons sorts []) → is_name con.name ≡ true → length cons < 1024 → con.arity ≤ most_parts → stands con.name (map (λ (c : Con). c.name) cons) ≡ false → IsWellFormed (plain_words roles (cons ++ con ∷ []) sorts []) (plain_grammar roles (cons ++ con ∷ []) sorts [])
 well_formed_con roles cons sorts con w named few small absent =
     let old = map (λ (c : Con). c.name) cons in
     let sort_names = map (λ (s : Sort). s.name) sorts in
@@ -60,7 +61,7 @@ well_formed_con roles cons sorts con w named few small absent =
       cons_differ = subst (λ ns. Differ ns) pushed (differ_push old con.name w.cons_differ absent);
       sorts_differ = w.sorts_differ;
       rules_differ = tt;
-      arities = subst (λ ns. Each (λ n. n ≤ 8) ns) (sym (map-append (λ (c : Con). c.arity) cons (con ∷ []))) (each_push (λ n. n ≤ 8) (map (λ (c : Con). c.arity) cons) con.arity w.arities small);
+      arities = subst (λ ns. Each (λ n. n ≤ most_parts) ns) (sym (map-append (λ (c : Con). c.arity) cons (con ∷ []))) (each_push (λ n. n ≤ most_parts) (map (λ (c : Con). c.arity) cons) con.arity w.arities small);
       sorts = w.sorts;
       rules = tt;
     }

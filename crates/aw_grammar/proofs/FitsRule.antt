@@ -16,6 +16,7 @@ use Rattle.aw_grammar.specs.Terms.{args_of, results_of, uses_of, terms_of, all_h
 use Rattle.aw_grammar.specs.Resolved.{all_resolved, entering, numbered, child_numbered, rule_numbered}
 use Rattle.aw_grammar.specs.Kinds.{sort_called, takes_and_gives, children_fit, all_known, all_have_arities, is_past_counts, is_past_terms, child_sorts, rule_kind, rule_tests}
 use Rattle.aw_name_index.proofs.FirstTold.{none_holds}
+use Rattle.aw_term.specs.Limits.{most_params, most_children, most_rules, most_inherited, most_results}
 use Rattle.aw_grammar.proofs.Added.{listed}
 use Rattle.aw_grammar.proofs.Appends.{and_more, known_append, arities_append, depth_append, symbols_append, variables_append, all_append}
 use Rattle.aw_grammar.proofs.Numbering.{numbers_first, numbers_below}
@@ -128,8 +129,8 @@ variables_are cons sorts w =
 
 -- what the tests of a rule leave
 pub record NoFault (cons : List Con) (sorts : List Sort) (w : WrittenRule) : Type 0 where
-  pub few_params : length w.params ≤ 8
-  pub few_children : length w.children ≤ 8
+  pub few_params : length w.params ≤ most_params
+  pub few_children : length w.children ≤ most_children
   pub few_names : length (entering (con_names cons) w) ≤ 64
   pub few_symbols : symbols_in_all (terms_of w) ≤ 256
   pub own_sort : takes_and_gives (sort_called w.sort sorts) (length w.patterns) (length w.results) ≡ true
@@ -154,7 +155,7 @@ rule_fits roles cons sorts rules w n =
       takes = length-map w.patterns (numbered (con_names cons) names) ∙ has.takes_so;
       gives = length-map w.results (numbered (con_names cons) names) ∙ has.gives_so;
       few_params = n.few_params;
-      few_children = subst (λ m. m ≤ 8) (sym (length-map w.children (child_numbered (con_names cons) (sort_names sorts) names))) n.few_children;
+      few_children = subst (λ m. m ≤ most_children) (sym (length-map w.children (child_numbered (con_names cons) (sort_names sorts) names))) n.few_children;
       few_variables = subst (λ m. m ≤ 64) (sym count) n.few_names;
       few_symbols = all_symbols_few (con_names cons) (sort_names sorts) names w n.few_symbols;
       numbered = listed_leaves ∙ numbers_first first (w.params ++ results_of w.children) n.once ∙ ap (upto 0) (sym (ap length listed_leaves ∙ length-map first number));
@@ -174,18 +175,18 @@ no_fault roles cons sorts rules w none contents =
     let d = listed roles cons sorts rules in
     let tests = none_holds (rule_tests d w) none in
     let past = or_parts (is_past_counts d w) (is_past_terms w) tests.0 in
-    let a = or_parts (nat_le 1024 (length d.rules)) (nat_lt 8 (length w.patterns) || (nat_lt 8 (length w.results) || (nat_lt 8 (length w.params) || nat_lt 8 (length w.children)))) past.0 in
-    let b = or_parts (nat_lt 8 (length w.patterns)) (nat_lt 8 (length w.results) || (nat_lt 8 (length w.params) || nat_lt 8 (length w.children))) a.1 in
-    let c = or_parts (nat_lt 8 (length w.results)) (nat_lt 8 (length w.params) || nat_lt 8 (length w.children)) b.1 in
-    let e = or_parts (nat_lt 8 (length w.params)) (nat_lt 8 (length w.children)) c.1 in
+    let a = or_parts (nat_le most_rules (length d.rules)) (nat_lt most_inherited (length w.patterns) || (nat_lt most_results (length w.results) || (nat_lt most_params (length w.params) || nat_lt most_children (length w.children)))) past.0 in
+    let b = or_parts (nat_lt most_inherited (length w.patterns)) (nat_lt most_results (length w.results) || (nat_lt most_params (length w.params) || nat_lt most_children (length w.children))) a.1 in
+    let c = or_parts (nat_lt most_results (length w.results)) (nat_lt most_params (length w.params) || nat_lt most_children (length w.children)) b.1 in
+    let e = or_parts (nat_lt most_params (length w.params)) (nat_lt most_children (length w.children)) c.1 in
     let sizes = or_parts (nat_lt 32 (depth_of_all (terms_of w))) (nat_lt 256 (symbols_in_all (terms_of w))) past.1 in
     let unknown = or_parts (not (stands w.sort (sort_names sorts))) (not (all_stand (child_sorts w.children) (sort_names sorts)) || not (all_known (con_names cons) (terms_of w))) tests.1.1.1.1.0 in
     let known = or_parts (not (all_stand (child_sorts w.children) (sort_names sorts))) (not (all_known (con_names cons) (terms_of w))) unknown.1 in
     let differs = or_parts (not (takes_and_gives (sort_called w.sort sorts) (length w.patterns) (length w.results))) (not (children_fit sorts w.children) || not (all_have_arities cons (terms_of w))) tests.1.1.1.1.1.0 in
     let arity = or_parts (not (children_fit sorts w.children)) (not (all_have_arities cons (terms_of w))) differs.1 in
     record {
-      few_params = ltb-false 8 (length w.params) e.0;
-      few_children = ltb-false 8 (length w.children) e.1;
+      few_params = ltb-false most_params (length w.params) e.0;
+      few_children = ltb-false most_children (length w.children) e.1;
       few_names = ltb-false 64 (length (entering (con_names cons) w)) tests.1.0;
       few_symbols = ltb-false 256 (symbols_in_all (terms_of w)) sizes.1;
       own_sort = not-false (takes_and_gives (sort_called w.sort sorts) (length w.patterns) (length w.results)) differs.0;

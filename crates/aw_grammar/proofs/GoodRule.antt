@@ -24,6 +24,7 @@ use Rattle.aw_grammar.specs.Declarations.{Entry, Declarations, entry_of, with_ru
 use Rattle.aw_grammar.specs.Kinds.{rule_kind, rule_tests, is_past_counts, is_past_terms}
 use Rattle.aw_name_index.proofs.FirstTold.{none_holds}
 use Rattle.aw_term.proofs.Eaches.{each_push, each_map}
+use Rattle.aw_term.specs.Limits.{most_rules, most_inherited, most_results, most_params, most_children}
 use Rattle.aw_grammar.proofs.Counted.{rules_counted}
 use Rattle.aw_grammar.proofs.Growth.{differ_push, four_from, four_to}
 use Rattle.aw_grammar.proofs.Added.{listed, Good}
@@ -88,8 +89,8 @@ few_rules roles cons sorts rules w none =
     let d = listed roles cons sorts rules in
     let tests = none_holds (rule_tests d w) none in
     let past = or_parts (is_past_counts d w) (is_past_terms w) tests.0 in
-    let a = or_parts (nat_le 1024 (length d.rules)) (nat_lt 8 (length w.patterns) || (nat_lt 8 (length w.results) || (nat_lt 8 (length w.params) || nat_lt 8 (length w.children)))) past.0 in
-    subst (λ n. n < 1024) (length-map rules (entry sorts)) (leb-false 1024 (length d.rules) a.0)
+    let a = or_parts (nat_le most_rules (length d.rules)) (nat_lt most_inherited (length w.patterns) || (nat_lt most_results (length w.results) || (nat_lt most_params (length w.params) || nat_lt most_children (length w.children)))) past.0 in
+    subst (λ n. n < 1024) (length-map rules (entry sorts)) (leb-false most_rules (length d.rules) a.0)
 
 pub good_rule : (roles : List (List ℕ)) (cons : List Con) (sorts : List Sort) (rules : List Rule) (w : WrittenRule) (r : Rule) (new : List Rule) → new ≡ rules ++ r ∷ [] → entry sorts r ≡ entry_of (listed roles cons sorts rules) w → is_name w.name ≡ true → all_have_contents (terms_of w) ≡ true → rule_kind (listed roles cons sorts rules) w ≡ None → ∥ Good roles cons sorts rules ∥₁ → ∥ Good roles cons sorts new ∥₁
 good_rule roles cons sorts rules w r new e made named contents none good =

@@ -10,18 +10,19 @@ use Rattle.aw_term.specs.Choices.{gives_of}
 use Rattle.aw_term.specs.Views.{pattern_of, term_of}
 use Rattle.aw_term.specs.WellFormed.{Each, all_nesting, leaves_of, symbols_of, child_symbols, takes_of, RuleFits, SortFits, IsWellFormed}
 use Rattle.aw_term.proofs.Joined.{shallow_join}
+use Rattle.aw_term.specs.Limits.{most_inherited, most_results, most_children}
 use Rattle.aw_grammar.specs.declared.grammar.Grammar.{Grammar}
 use Rattle.aw_grammar.specs.declared.rule.Rule.{Rule}
 use Rattle.aw_grammar.specs.GrammarView.{rule_of, child_of}
 use Rattle.aw_grammar.specs.GrammarOf.{grammar_of, words_of}
 use Rattle.aw_grammar.proofs.Fits.{each_map_at}
 
-few_taken : (roles : ℕ) (sorts : List P.Sort) (s : ℕ) → Each (SortFits roles) sorts → takes_of (slice_get sorts s) ≤ 8
+few_taken : (roles : ℕ) (sorts : List P.Sort) (s : ℕ) → Each (SortFits roles) sorts → takes_of (slice_get sorts s) ≤ most_inherited
 few_taken roles [] s fits = omega arith
 few_taken roles (x ∷ xs) zero fits = fits.0.few_takes
 few_taken roles (x ∷ xs) (suc s) fits = few_taken roles xs s fits.1
 
-few_given : (roles : ℕ) (sorts : List P.Sort) (s : ℕ) → Each (SortFits roles) sorts → gives_of (slice_get sorts s) ≤ 8
+few_given : (roles : ℕ) (sorts : List P.Sort) (s : ℕ) → Each (SortFits roles) sorts → gives_of (slice_get sorts s) ≤ most_results
 few_given roles [] s fits = omega arith
 few_given roles (x ∷ xs) zero fits = fits.0.few_gives
 few_given roles (x ∷ xs) (suc s) fits = few_given roles xs s fits.1
@@ -33,7 +34,7 @@ module _ (g : Grammar) (number : ℕ) (rule : Rule) (here : slice_get g.rules nu
   pub patterns_shallow : all_nesting (join (map pattern_of rule.patterns)) ≤ 32
   patterns_shallow = ∥∥₁_elim g.well_formed le_prop (λ w. shallow_join (grammar_of g).arities _ (rule_fits_at w).patterns)
 
-  pub patterns_few : length rule.patterns ≤ 8
+  pub patterns_few : length rule.patterns ≤ most_inherited
   patterns_few =
       ∥∥₁_elim g.well_formed le_prop
       (λ w. omega (arith, (rule_fits_at w).takes, length-map rule.patterns pattern_of, few_taken (grammar_of g).roles (grammar_of g).sorts rule.sort w.sorts))
@@ -45,10 +46,10 @@ module _ (g : Grammar) (number : ℕ) (rule : Rule) (here : slice_get g.rules nu
   pub leaves_few : length (leaves_of (map pattern_of rule.patterns)) ≤ 64
   leaves_few = ∥∥₁_elim g.well_formed le_prop (λ w. omega (arith, (rule_fits_at w).few_variables))
 
-  pub children_few : length rule.children ≤ 8
+  pub children_few : length rule.children ≤ most_children
   children_few = ∥∥₁_elim g.well_formed le_prop (λ w. omega (arith, (rule_fits_at w).few_children, length-map rule.children (child_of g.sorts)))
 
-  pub results_few : length rule.results ≤ 8
+  pub results_few : length rule.results ≤ most_results
   results_few =
       ∥∥₁_elim g.well_formed le_prop
       (λ w. omega (arith, (rule_fits_at w).gives, length-map rule.results term_of, few_given (grammar_of g).roles (grammar_of g).sorts rule.sort w.sorts))

@@ -2,6 +2,7 @@
 use Rattle.std.proofs.Common.{◌≡◌, ℕ, ◌≤◌, Bool, true, false, cond, not, ◌||◌, nat_le, nat_lt, List, [], ◌∷◌, ◌++◌, length, Option, Some, None, MatchOption, refl, sym, ap, ◌∙◌}
 use Rattle.std.proofs.lemmas.Bool.{ltb-false, or_parts}
 use Rattle.aw_name_index.specs.Places.{has_double, first_told}
+use Rattle.aw_term.specs.Limits.{most_params, most_rules, most_inherited, most_results, most_children}
 use Rattle.aw_grammar.specs.declared.fault.DeclKind.{DeclKind}
 use Rattle.aw_grammar.specs.declared.fault.DeclKind.TheVariants.{Limit, Twice, Never}
 use Rattle.aw_grammar.specs.declared.variables.Variables.{Variables}
@@ -53,10 +54,10 @@ found_variables names (Some w) v e h =
     let same : w ≡ v = cc in
     (h.0, sym (ap (λ (u : Variables). u.names) same) ∙ h.1)
 
-pub few_params : (d : Declarations) (r : WrittenRule) → is_past_counts d r ≡ false → length r.params ≤ 8
+pub few_params : (d : Declarations) (r : WrittenRule) → is_past_counts d r ≡ false → length r.params ≤ most_params
 few_params d r h =
-    let a = or_parts (nat_le 1024 (length d.rules)) (nat_lt 8 (length r.patterns) || (nat_lt 8 (length r.results) || (nat_lt 8 (length r.params) || nat_lt 8 (length r.children)))) h in
-    let b = or_parts (nat_lt 8 (length r.patterns)) (nat_lt 8 (length r.results) || (nat_lt 8 (length r.params) || nat_lt 8 (length r.children))) a.1 in
-    let c = or_parts (nat_lt 8 (length r.results)) (nat_lt 8 (length r.params) || nat_lt 8 (length r.children)) b.1 in
-    let e = or_parts (nat_lt 8 (length r.params)) (nat_lt 8 (length r.children)) c.1 in
-    ltb-false 8 (length r.params) e.0
+    let a = or_parts (nat_le most_rules (length d.rules)) (nat_lt most_inherited (length r.patterns) || (nat_lt most_results (length r.results) || (nat_lt most_params (length r.params) || nat_lt most_children (length r.children)))) h in
+    let b = or_parts (nat_lt most_inherited (length r.patterns)) (nat_lt most_results (length r.results) || (nat_lt most_params (length r.params) || nat_lt most_children (length r.children))) a.1 in
+    let c = or_parts (nat_lt most_results (length r.results)) (nat_lt most_params (length r.params) || nat_lt most_children (length r.children)) b.1 in
+    let e = or_parts (nat_lt most_params (length r.params)) (nat_lt most_children (length r.children)) c.1 in
+    ltb-false most_params (length r.params) e.0

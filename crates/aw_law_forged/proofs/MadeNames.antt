@@ -11,6 +11,7 @@ use Rattle.aw_term.specs.Held.{Held, held_of}
 use Rattle.aw_term.specs.Names.{Node, Part, Ref, Result, Slot, below, result}
 use Rattle.aw_term.specs.Rules.{Child, Grammar, Ground, Rule, Sort, Term, sort_of}
 use Rattle.aw_term.specs.WellFormed.{ChildFits, IsWellFormed, RuleFits, SortFits, TermFits, child_symbols, heads_fit, symbols_of, takes_of, variables}
+use Rattle.aw_term.specs.Limits.{most_node_parts, most_arguments}
 use Rattle.aw_base.specs.ChoiceFits.{args_ok, choice_ok, ground_ok, grounds_ok, ref_ok, slot_ok}
 use Rattle.aw_base.specs.NodeNames.{is_start}
 use Rattle.aw_iograph.specs.Occurrences.{pattern_entries}
@@ -37,7 +38,7 @@ use Rattle.aw_law_worlds.proofs.Sorts.{sort_below, step_sort}
 
 -- a part up to 512, or a result of the sort
 slot_within : (g : Grammar) (s k a b m : ℕ) (t : Slot) → k ≤ 513 → m ≤ 1 + gives g s → Under k t → Covers a b 1 m t → slot_ok g (Some s) t ≡ true
-slot_within g s k a b m (Part i) l q (x, y) c = and_from (nat_le 1 i) (nat_le i 512) (le-leb 1 i x) (le-leb i 512 (omega (arith, y, l)))
+slot_within g s k a b m (Part i) l q (x, y) c = and_from (nat_le 1 i) (nat_le i most_node_parts) (le-leb 1 i x) (le-leb i most_node_parts (omega (arith, y, l)))
 slot_within g s k a b m (Result j) l q u c = and_from (nat_le 1 j) (nat_le j (gives g s)) (le-leb 1 j c.0) (le-leb j (gives g s) (omega (arith, c.1, q)))
 
 each_ground : (g : Grammar) (ts : List Ground) → grounds_ok g ts ≡ true → (t : Ground) → Member t ts → heads_fit g.arities t ≡ true
@@ -129,7 +130,7 @@ module _ (w : Words) (g : Grammar) (formed : IsWellFormed w g) (x : Joint) (V : 
   args_fit =
       let (a, b) = and_parts (is_some (sort_of g n)) _ given in
       let (c, d) = and_parts (is_some (slice_get g.rules ri)) (args_ok g args) b in
-      let (e, f) = and_parts (nat_le (length args) 8) _ d in
+      let (e, f) = and_parts (nat_le (length args) most_arguments) _ d in
       let (h, i) = and_parts (nat_le (symbols_of args) 256) (grounds_ok g args) f in
       (leb-true (symbols_of args) 256 h, i)
 

@@ -14,6 +14,7 @@ use Rattle.aw_term.specs.Trees.{Head, Con, Num, Text}
 use Rattle.aw_term.specs.WellFormed.{Each, head_fits, takes_of, SortFits, RuleFits, IsWellFormed}
 use Rattle.aw_term.proofs.Eaches.{each_push}
 use Rattle.aw_term.proofs.LastSteps.{followed, mapped, where_true}
+use Rattle.aw_term.specs.Limits.{most_children, most_results, most_inherited, most_node_parts, most_parts}
 use Rattle.aw_accept.proofs.Fitting.{each_member}
 use Rattle.aw_base.specs.ChoiceFits.{slot_ok, ref_ok}
 use Rattle.aw_codec.specs.Ranges.{From1To, StepSized, StepInRange, NodeSized, NodeInRange, SlotSized, SlotInRange, RefSized, RefInRange, RefsSized, RefsInRange, HeadInRange, ChoiceSized}
@@ -48,7 +49,7 @@ use Rattle.aw_law_nodes.proofs.MadeSizes.{IsSmall, HeadFits, Sizes, all_sizes}
 -- ---- names
 
 module _ (w : Words) (g : Grammar) (formed : IsWellFormed w g) where
-  numbered : (cs : List Child) (k : ℕ) (c : Child) → child_at cs k ≡ Some c → length cs ≤ 8 → From1To 8 k
+  numbered : (cs : List Child) (k : ℕ) (c : Child) → child_at cs k ≡ Some c → length cs ≤ most_children → From1To most_children k
   numbered cs zero c e few = absurd cc
   numbered cs (suc k) c e few = let within = slice_get_within cs k c e in (omega arith, omega (arith, within, few))
 
@@ -82,12 +83,12 @@ module _ (w : Words) (g : Grammar) (formed : IsWellFormed w g) where
       let few = formed.few_sorts in
       ((omega (arith, l, all, few), small.0, steps.0), (small.1, steps.1))
 
-  few-given : (sorts : List Sort) (s : ℕ) → Each (SortFits g.roles) sorts → gives_of (slice_get sorts s) ≤ 8
+  few-given : (sorts : List Sort) (s : ℕ) → Each (SortFits g.roles) sorts → gives_of (slice_get sorts s) ≤ most_results
   few-given [] s fits = omega arith
   few-given (x ∷ xs) zero fits = fits.0.few_gives
   few-given (x ∷ xs) (suc s) fits = few-given xs s fits.1
 
-  few-taken : (sorts : List Sort) (s : ℕ) → Each (SortFits g.roles) sorts → takes_of (slice_get sorts s) ≤ 8
+  few-taken : (sorts : List Sort) (s : ℕ) → Each (SortFits g.roles) sorts → takes_of (slice_get sorts s) ≤ most_inherited
   few-taken [] s fits = omega arith
   few-taken (x ∷ xs) zero fits = fits.0.few_takes
   few-taken (x ∷ xs) (suc s) fits = few-taken xs s fits.1
@@ -101,9 +102,9 @@ module _ (w : Words) (g : Grammar) (formed : IsWellFormed w g) where
       let c = few-given g.sorts s formed.sorts in
       (omega (arith, b, c), (a, omega (arith, b, c)))
   slot-fits (Some s) (Part k) e =
-      let p = and_parts (nat_le 1 k) (nat_le k 512) e in
+      let p = and_parts (nat_le 1 k) (nat_le k most_node_parts) e in
       let a = leb-true 1 k p.0 in
-      let b = leb-true k 512 p.1 in
+      let b = leb-true k most_node_parts p.1 in
       (omega (arith, b), (a, b))
 
   has-sort : (s : Option ℕ) (slot : Slot) → slot_ok g s slot ≡ true → is_some s ≡ true
@@ -126,7 +127,7 @@ module _ (w : Words) (g : Grammar) (formed : IsWellFormed w g) where
 
   -- ---- equations
 
-  few-parts : (arities : List ℕ) (c n : ℕ) → Each (λ m. m ≤ 8) arities → head_fits arities (Con c) n ≡ true → n ≤ 8
+  few-parts : (arities : List ℕ) (c n : ℕ) → Each (λ m. m ≤ most_parts) arities → head_fits arities (Con c) n ≡ true → n ≤ most_parts
   few-parts [] c n few e = absurd cc
   few-parts (m ∷ ms) zero n few e = let a = few.0 in let b = eqb-true m n e in omega (arith, a, b)
   few-parts (m ∷ ms) (suc c) n few e = few-parts ms c n few.1 e
@@ -136,7 +137,7 @@ module _ (w : Words) (g : Grammar) (formed : IsWellFormed w g) where
   head-fits (Num m) n e = eqb-true n 0 e
   head-fits (Text t) n e = let p = and_parts _ _ e in (eqb-true n 0 p.0, p.1)
 
-  few-of : (h : Head) (n : ℕ) → HeadInRange h n → n ≤ 8
+  few-of : (h : Head) (n : ℕ) → HeadInRange h n → n ≤ most_parts
   few-of (Con c) n range = range
   few-of (Num m) n range = omega (arith, range)
   few-of (Text t) n range = let z = range.0 in omega (arith, z)

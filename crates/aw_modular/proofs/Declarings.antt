@@ -9,6 +9,7 @@ use Rattle.aw_list.proofs.Members.{below_or_at, member_got, member_place}
 use Rattle.aw_base.specs.declared.declared.Triple.{Triple}
 use Rattle.aw_term.specs.Choices.{gives_of}
 use Rattle.aw_term.specs.WellFormed.{Each, takes_of}
+use Rattle.aw_term.specs.Limits.{most_inherited, most_results}
 use Rattle.aw_grammar.specs.declared.grammar.Grammar.{Grammar}
 use Rattle.aw_grammar.specs.GrammarView.{sort_of}
 use Rattle.aw_grammar.specs.GrammarOf.{grammar_of}
@@ -27,13 +28,13 @@ has_sort g io t made at = let below : t.sort < length g.sorts = subst (λ n. t.s
 pub number_inherited : (g : Grammar) (t : Triple) → IsPosition (grammar_of g).sorts t → IsNumber t.i
 number_inherited g t at = record {
   counted = at.inherited;
-  few = let le : takes_of (slice_get (grammar_of g).sorts t.sort) ≤ 8 = ∥∥₁_elim g.well_formed le_prop (λ w. takes_few (grammar_of g).roles (grammar_of g).sorts w.sorts t.sort) in omega (arith, at.takes, le);
+  few = let le : takes_of (slice_get (grammar_of g).sorts t.sort) ≤ most_inherited = ∥∥₁_elim g.well_formed le_prop (λ w. takes_few (grammar_of g).roles (grammar_of g).sorts w.sorts t.sort) in omega (arith, at.takes, le);
 }
 
 pub number_result : (g : Grammar) (t : Triple) → IsPosition (grammar_of g).sorts t → IsNumber t.j
 number_result g t at = record {
   counted = at.result;
-  few = let le : gives_of (slice_get (grammar_of g).sorts t.sort) ≤ 8 = ∥∥₁_elim g.well_formed le_prop (λ w. gives_few (grammar_of g).roles (grammar_of g).sorts w.sorts t.sort) in omega (arith, at.gives, le);
+  few = let le : gives_of (slice_get (grammar_of g).sorts t.sort) ≤ most_results = ∥∥₁_elim g.well_formed le_prop (λ w. gives_few (grammar_of g).roles (grammar_of g).sorts w.sorts t.sort) in omega (arith, at.gives, le);
 }
 
 -- all of them declare what the list declares

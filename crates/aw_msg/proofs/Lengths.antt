@@ -11,6 +11,8 @@ use Rattle.aw_term.specs.Names.{Step, Node, Slot, Result, Part, Ref}
 use Rattle.aw_term.specs.Rules.{Ground}
 use Rattle.aw_term.specs.Choices as Q
 use Rattle.aw_term.specs.WellFormed.{Each, symbols, all_symbols, symbols_of}
+use Rattle.aw_name.specs.Limits.{most_steps}
+use Rattle.aw_term.specs.Limits.{most_levels, most_references, most_of_load}
 use Rattle.aw_store.specs.Equations.{Body, Same, Is, Equation}
 use Rattle.aw_apply.specs.Messages.{Kind, Calls, Asks, Tells, Message}
 use Rattle.aw_codec.specs.Names.{spelled_step, spelled_node, spelled_slot, spelled_ref, spelled_refs}
@@ -58,13 +60,38 @@ slot_length : (s : Slot) → length (spelled_slot s) ≤ 3
 slot_length (Result j) = omega arith
 slot_length (Part k) = omega arith
 
-ref_short : (r : Ref) → RefInRange r → length (spelled_ref r) ≤ 764
-ref_short r h = adds (spelled_node r.node) (spelled_slot r.slot) 761 3 (node_short r.node h.0) (slot_length r.slot)
+-- the most bytes of what is spelled, by the limits
+abbrev long_node : ℕ
+long_node = 11 + most_steps * 3
 
-refs_short : (rs : List Ref) → RefsInRange rs → length (spelled_refs rs) ≤ 6113
-refs_short rs h = whole (length (flat_map spelled_ref rs)) (length rs) (each_adds spelled_ref RefInRange 764 rs ref_short h.1) h.0
+abbrev long_ref : ℕ
+long_ref = long_node + 3
+
+abbrev long_refs : ℕ
+long_refs = 1 + most_references * long_ref
+
+abbrev long_body : ℕ
+long_body = 3 + long_refs
+
+abbrev long_equation : ℕ
+long_equation = long_ref + long_body
+
+abbrev long_load : ℕ
+long_load = 1 + most_of_load * long_equation
+
+abbrev long_kind : ℕ
+long_kind = 1 + (long_equation + long_load)
+
+abbrev long_message : ℕ
+long_message = 3 + long_kind
+
+ref_short : (r : Ref) → RefInRange r → length (spelled_ref r) ≤ long_ref
+ref_short r h = adds (spelled_node r.node) (spelled_slot r.slot) long_node 3 (node_short r.node h.0) (slot_length r.slot)
+
+refs_short : (rs : List Ref) → RefsInRange rs → length (spelled_refs rs) ≤ long_refs
+refs_short rs h = whole (length (flat_map spelled_ref rs)) (length rs) (each_adds spelled_ref RefInRange long_ref rs ref_short h.1) h.0
   where
-    whole : (n m : ℕ) → n ≤ m * 764 → m ≤ 8 → suc n ≤ 6113
+    whole : (n m : ℕ) → n ≤ m * long_ref → m ≤ most_references → suc n ≤ long_refs
     whole n m e f = omega arith
 
 content_short : (t : List ℕ) → TextInRange t → length t ≤ 1024
@@ -79,37 +106,37 @@ text_short t e = let le = content_short t e in whole (length t) le
 behind_tag : (n m k : ℕ) → n ≤ m → suc m ≤ k → suc n ≤ k
 behind_tag n m k e f = omega arith
 
-body_short : (b : Body) → BodyInRange b → length (spelled_body b) ≤ 6116
+body_short : (b : Body) → BodyInRange b → length (spelled_body b) ≤ long_body
 body_short (Same r) h = behind_tag _ _ _ (ref_short r h) (omega arith)
 body_short (Is (Con c) parts) h = whole (length (spelled_refs parts)) (refs_short parts h.1)
   where
-    whole : (n : ℕ) → n ≤ 6113 → suc (suc (suc n)) ≤ 6116
+    whole : (n : ℕ) → n ≤ long_refs → suc (suc (suc n)) ≤ long_body
     whole n e = omega arith
 body_short (Is (Num n) parts) h = omega arith
 body_short (Is (Text t) parts) h = behind_tag _ _ _ (text_short t h.0.1) (omega arith)
 
-equation_short : (e : Equation) → EquationInRange e → length (spelled_equation e) ≤ 6880
-equation_short e h = adds (spelled_ref e.left) (spelled_body e.body) 764 6116 (ref_short e.left h.0) (body_short e.body h.1)
+equation_short : (e : Equation) → EquationInRange e → length (spelled_equation e) ≤ long_equation
+equation_short e h = adds (spelled_ref e.left) (spelled_body e.body) long_ref long_body (ref_short e.left h.0) (body_short e.body h.1)
 
-load_short : (es : List Equation) → LoadInRange es → length (spelled_load es) ≤ 440321
+load_short : (es : List Equation) → LoadInRange es → length (spelled_load es) ≤ long_load
 load_short [] h = omega arith
-load_short (e ∷ es) h = whole (length (flat_map spelled_equation (e ∷ es))) (length (e ∷ es)) (each_adds spelled_equation EquationInRange 6880 (e ∷ es) equation_short h.1) h.0
+load_short (e ∷ es) h = whole (length (flat_map spelled_equation (e ∷ es))) (length (e ∷ es)) (each_adds spelled_equation EquationInRange long_equation (e ∷ es) equation_short h.1) h.0
   where
-    whole : (n m : ℕ) → n ≤ m * 6880 → m ≤ 64 → suc n ≤ 440321
+    whole : (n m : ℕ) → n ≤ m * long_equation → m ≤ most_of_load → suc n ≤ long_load
     whole n m e f = omega arith
 
-kind_short : (k : Kind) → KindInRange k → length (spelled_kind k) ≤ 447202
+kind_short : (k : Kind) → KindInRange k → length (spelled_kind k) ≤ long_kind
 kind_short (Calls c load) h =
     behind_tag _ _ _
-    (adds (spelled_node c.node) (spelled_refs c.inherited ++ spelled_load load) 761 446434 (node_short c.node h.0)
-    (adds (spelled_refs c.inherited) (spelled_load load) 6113 440321 (refs_short c.inherited h.1.0) (load_short load h.1.1))) (omega arith)
-kind_short (Asks r from) h = behind_tag _ _ _ (adds (spelled_ref r) (to_be_bytes w16 from) 764 2 (ref_short r h) (omega arith)) (omega arith)
-kind_short (Tells e load) h = behind_tag _ _ _ (adds (spelled_equation e) (spelled_load load) 6880 440321 (equation_short e h.0) (load_short load h.1)) (omega arith)
+    (adds (spelled_node c.node) (spelled_refs c.inherited ++ spelled_load load) long_node (long_refs + long_load) (node_short c.node h.0)
+    (adds (spelled_refs c.inherited) (spelled_load load) long_refs long_load (refs_short c.inherited h.1.0) (load_short load h.1.1))) (omega arith)
+kind_short (Asks r from) h = behind_tag _ _ _ (adds (spelled_ref r) (to_be_bytes w16 from) long_ref 2 (ref_short r h) (omega arith)) (omega arith)
+kind_short (Tells e load) h = behind_tag _ _ _ (adds (spelled_equation e) (spelled_load load) long_equation long_load (equation_short e h.0) (load_short load h.1)) (omega arith)
 
-message_short : (m : Message) → MessageInRange m → length (spelled_message m) ≤ 447205
+message_short : (m : Message) → MessageInRange m → length (spelled_message m) ≤ long_message
 message_short m h = whole (length (spelled_kind m.kind)) (kind_short m.kind h)
   where
-    whole : (n : ℕ) → n ≤ 447202 → suc (suc (suc n)) ≤ 447205
+    whole : (n : ℕ) → n ≤ long_kind → suc (suc (suc n)) ≤ long_message
     whole n e = omega arith
 
 -- an argument has at most 1027 bytes for each symbol
@@ -140,7 +167,7 @@ mutual
       subst (λ n. n ≤ (symbols t + all_symbols ts) * 1027) (sym (length-append (spelled_ground t) (spelled_parts ts)))
       (joins (length (spelled_ground t)) (symbols t) (length (spelled_parts ts)) (all_symbols ts) 1027 (ground_short t h.0) (parts_short ts h.1))
 
-each_short : (ts : List Ground) → Each (GroundInRange 32) ts → length (flat_map spelled_ground ts) ≤ symbols_of ts * 1027
+each_short : (ts : List Ground) → Each (GroundInRange most_levels) ts → length (flat_map spelled_ground ts) ≤ symbols_of ts * 1027
 each_short [] h = none_short
 each_short (t ∷ ts) h =
     subst (λ (u : List ℕ). length u ≤ (symbols t + symbols_of ts) * 1027) (sym (flat_map-cons spelled_ground t ts))
@@ -156,13 +183,13 @@ grounds_short ts h = whole (length (flat_map spelled_ground ts)) (symbols_of ts)
 choice_short : (c : Q.Choice) → ChoiceInRange c → length (spelled_choice c) ≤ 1048576
 choice_short (Q.Start sort case) h = omega arith
 choice_short (Q.Develop n rule args) h =
-    behind_tag _ _ _ (adds (spelled_node n) (to_be_bytes w16 rule ++ spelled_grounds args) 761 262915 (node_short n h.0) (more_two (length (spelled_grounds args)) (grounds_short args h.1))) (omega arith)
+    behind_tag _ _ _ (adds (spelled_node n) (to_be_bytes w16 rule ++ spelled_grounds args) long_node 262915 (node_short n h.0) (more_two (length (spelled_grounds args)) (grounds_short args h.1))) (omega arith)
   where
     more_two : (n : ℕ) → n ≤ 262913 → suc (suc n) ≤ 262915
     more_two n e = omega arith
 
 pub payload_short : (f : Frame) → FrameInRange f → length (spelled_payload f) ≤ 1048576
-payload_short (Push m) h = more (length (spelled_message (plain_message m))) 447205 1048576 (omega arith) (message_short (plain_message m) h)
+payload_short (Push m) h = more (length (spelled_message (plain_message m))) long_message 1048576 (omega arith) (message_short (plain_message m) h)
 payload_short (Choose c) h = choice_short c h
 payload_short (Pull place) h = omega arith
 payload_short (Listed place) h = omega arith

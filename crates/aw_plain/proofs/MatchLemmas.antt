@@ -17,6 +17,7 @@ use Rattle.aw_term.proofs.Joined.{count_join}
 use Rattle.std.specs.declared.vec.Vec.{Vec}
 use Rattle.std.specs.declared.rc.Rc.{Rc}
 use Rattle.std.specs.declared.alloc.Global.{Global}
+use Rattle.aw_term.specs.Limits.{most_parts}
 use Rattle.aw_plain_rows.specs.declared.tree.Tree.{Tree}
 use Rattle.aw_plain_rows.specs.declared.tree.Tree as tree
 use Rattle.aw_plain_rows.specs.TreeView.{value_of, value_under, values_of}
@@ -97,16 +98,16 @@ narrow_at [] i p l e w = absurd (omega arith)
 narrow_at (q ∷ ps) zero p l e w = subst (λ z. is_narrow (pattern_of z) ≡ true) (sym e) (and_parts _ _ w).0
 narrow_at (q ∷ ps) (suc i) p l e w = narrow_at ps i p (omega arith) e (and_parts (is_narrow (pattern_of q)) _ w).1
 
-narrow_con : (c : ℕ) (ps : List Pattern) → is_narrow (pattern_of (pattern.Con c ps)) ≡ true → (length ps ≤ 8) × (are_narrow (join (map pattern_of ps)) ≡ true)
+narrow_con : (c : ℕ) (ps : List Pattern) → is_narrow (pattern_of (pattern.Con c ps)) ≡ true → (length ps ≤ most_parts) × (are_narrow (join (map pattern_of ps)) ≡ true)
 narrow_con c ps w =
-    let v : (nat_le (count (join (map pattern_of ps))) 8 && are_narrow (join (map pattern_of ps))) ≡ true = sym (ap is_narrow (pattern_con c ps)) ∙ w in
-    let (l, r) = and_parts (nat_le (count (join (map pattern_of ps))) 8) _ v in
+    let v : (nat_le (count (join (map pattern_of ps))) most_parts && are_narrow (join (map pattern_of ps))) ≡ true = sym (ap is_narrow (pattern_con c ps)) ∙ w in
+    let (l, r) = and_parts (nat_le (count (join (map pattern_of ps))) most_parts) _ v in
     (grind (arith, l, count_join (map pattern_of ps), length-map ps pattern_of), r)
 
 pub narrow_parts : (qs ps : List Pattern) (p : Pattern) (c : ℕ) → qs ≡ ps → p ≡ pattern.Con c ps → is_narrow (pattern_of p) ≡ true → are_narrow (join (map pattern_of qs)) ≡ true
 narrow_parts qs ps p c e i w = subst (λ zs. are_narrow (join (map pattern_of zs)) ≡ true) (sym e) (narrow_con c ps (subst (λ z. is_narrow (pattern_of z) ≡ true) i w)).1
 
-pub few_parts : (qs ps : List Pattern) (p : Pattern) (c : ℕ) → qs ≡ ps → p ≡ pattern.Con c ps → is_narrow (pattern_of p) ≡ true → length qs ≤ 8
+pub few_parts : (qs ps : List Pattern) (p : Pattern) (c : ℕ) → qs ≡ ps → p ≡ pattern.Con c ps → is_narrow (pattern_of p) ≡ true → length qs ≤ most_parts
 few_parts qs ps p c e i w = omega (arith, ap length e, (narrow_con c ps (subst (λ z. is_narrow (pattern_of z) ≡ true) i w)).0)
 
 pub symbols_con : (qs ps : List Pattern) (p : Pattern) (c : ℕ) → qs ≡ ps → p ≡ pattern.Con c ps → symbols (pattern_of p) ≡ 1 + all_symbols (join (map pattern_of qs))

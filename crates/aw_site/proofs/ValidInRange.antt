@@ -19,6 +19,7 @@ use Rattle.aw_grammar.proofs.Fits.{each_at}
 use Rattle.aw_base.specs.ChoiceFits.{slot_ok, ref_ok}
 use Rattle.aw_codec.specs.Ranges.{From1To, StepInRange, NodeInRange, SlotInRange, RefInRange, HeadInRange, RefsInRange}
 use Rattle.aw_term.proofs.Eaches.{each_map}
+use Rattle.aw_term.specs.Limits.{most_children, most_results, most_node_parts, most_parts, most_inherited, most_references}
 use Rattle.aw_store.specs.Equations.{Body, Same, Is, Equation}
 use Rattle.aw_apply.specs.Made.{Call}
 use Rattle.aw_apply.specs.Messages.{Kind, Calls, Asks, Tells, Message}
@@ -31,7 +32,7 @@ is_there : (o : Option ℕ) → is_some o ≡ true → (s : ℕ) × (o ≡ Some 
 is_there None e = absurd cc
 is_there (Some s) e = (s, refl)
 
-numbered : (cs : List Child) (k : ℕ) (c : Child) → child_at cs k ≡ Some c → length cs ≤ 8 → From1To 8 k
+numbered : (cs : List Child) (k : ℕ) (c : Child) → child_at cs k ≡ Some c → length cs ≤ most_children → From1To most_children k
 numbered cs zero c e few = absurd cc
 numbered cs (suc k) c e few = let within = slice_get_within cs k c e in (omega arith, omega arith)
 
@@ -56,7 +57,7 @@ node_in_range w g n formed few valid =
 
 -- ---- a reference
 
-few_given : (roles : ℕ) (sorts : List Sort) (s : ℕ) → Each (SortFits roles) sorts → gives_of (slice_get sorts s) ≤ 8
+few_given : (roles : ℕ) (sorts : List Sort) (s : ℕ) → Each (SortFits roles) sorts → gives_of (slice_get sorts s) ≤ most_results
 few_given roles [] s fits = omega arith
 few_given roles (x ∷ xs) zero fits = fits.0.few_gives
 few_given roles (x ∷ xs) (suc s) fits = few_given roles xs s fits.1
@@ -66,7 +67,7 @@ slot_in_range g None slot fits e = absurd cc
 slot_in_range g (Some s) (Result j) fits e =
     let p = and_parts (nat_le 1 j) (nat_le j (gives_of (slice_get g.sorts s))) e in
     (leb-true 1 j p.0, omega (arith, leb-true j (gives_of (slice_get g.sorts s)) p.1, few_given g.roles g.sorts s fits))
-slot_in_range g (Some s) (Part k) fits e = let p = and_parts (nat_le 1 k) (nat_le k 512) e in (leb-true 1 k p.0, leb-true k 512 p.1)
+slot_in_range g (Some s) (Part k) fits e = let p = and_parts (nat_le 1 k) (nat_le k most_node_parts) e in (leb-true 1 k p.0, leb-true k most_node_parts p.1)
 
 has_sort : (g : Grammar) (s : Option ℕ) (slot : Slot) → slot_ok g s slot ≡ true → is_some s ≡ true
 has_sort g None slot e = absurd cc
@@ -78,12 +79,12 @@ valid_ref_in_range w g r formed few ok =
 
 -- ---- a head with its parts
 
-few_parts : (arities : List ℕ) (c n : ℕ) → Each (λ m. m ≤ 8) arities → head_fits arities (Con c) n ≡ true → n ≤ 8
+few_parts : (arities : List ℕ) (c n : ℕ) → Each (λ m. m ≤ most_parts) arities → head_fits arities (Con c) n ≡ true → n ≤ most_parts
 few_parts [] c n few e = absurd cc
 few_parts (m ∷ ms) zero n few e = omega (arith, few.0, eqb-true m n e)
 few_parts (m ∷ ms) (suc c) n few e = few_parts ms c n few.1 e
 
-head_in_range : (arities : List ℕ) (h : Head) (n : ℕ) → Each (λ m. m ≤ 8) arities → head_fits arities h n ≡ true → HeadInRange h n
+head_in_range : (arities : List ℕ) (h : Head) (n : ℕ) → Each (λ m. m ≤ most_parts) arities → head_fits arities h n ≡ true → HeadInRange h n
 head_in_range arities (Con c) n few e = few_parts arities c n few e
 head_in_range arities (Num m) n few e = eqb-true n 0 e
 head_in_range arities (Text t) n few e = let p = and_parts _ _ e in (eqb-true n 0 p.0, p.1)
@@ -121,13 +122,13 @@ node_is_in_range g n few valid = ∥∥₁_elim g.well_formed (node_prop n) (λ 
 head_is_in_range : (g : program.Grammar) (h : Head) (n : ℕ) → head_fits (grammar_of g).arities h n ≡ true → HeadInRange h n
 head_is_in_range g h n fits = ∥∥₁_elim g.well_formed (head_prop h n) (λ formed. head_in_range (grammar_of g).arities h n formed.arities fits)
 
-few_taken : (roles : ℕ) (sorts : List Sort) (s : ℕ) → Each (SortFits roles) sorts → takes_of (slice_get sorts s) ≤ 8
+few_taken : (roles : ℕ) (sorts : List Sort) (s : ℕ) → Each (SortFits roles) sorts → takes_of (slice_get sorts s) ≤ most_inherited
 few_taken roles [] s fits = omega arith
 few_taken roles (x ∷ xs) zero fits = fits.0.few_takes
 few_taken roles (x ∷ xs) (suc s) fits = few_taken roles xs s fits.1
 
 -- a node of any sort inherits at most 8 references
-few_are_inherited : (g : program.Grammar) (s : ℕ) → takes_of (slice_get (grammar_of g).sorts s) ≤ 8
+few_are_inherited : (g : program.Grammar) (s : ℕ) → takes_of (slice_get (grammar_of g).sorts s) ≤ most_inherited
 few_are_inherited g s = ∥∥₁_elim g.well_formed le_prop (λ formed. few_taken (grammar_of g).roles (grammar_of g).sorts s formed.sorts)
 
 -- ---- a message
@@ -135,10 +136,10 @@ few_are_inherited g s = ∥∥₁_elim g.well_formed le_prop (λ formed. few_tak
 ref_is_in_range : (g : program.Grammar) (r : Ref) → IsValidRef (grammar_of g) r → RefInRange r
 ref_is_in_range g r v = ref_in_range g r v.0 v.1
 
-refs_are_in_range : (g : program.Grammar) (rs : List Ref) → length rs ≤ 8 → Each (IsValidRef (grammar_of g)) rs → RefsInRange rs
+refs_are_in_range : (g : program.Grammar) (rs : List Ref) → length rs ≤ most_references → Each (IsValidRef (grammar_of g)) rs → RefsInRange rs
 refs_are_in_range g rs few v = (few, each_map (IsValidRef (grammar_of g)) RefInRange rs (ref_is_in_range g) v)
 
-few_of_head : (h : Head) (n : ℕ) → HeadInRange h n → n ≤ 8
+few_of_head : (h : Head) (n : ℕ) → HeadInRange h n → n ≤ most_parts
 few_of_head (Con c) n range = range
 few_of_head (Num m) n range = omega (arith, range)
 few_of_head (Text t) n range = omega (arith, range.0)
@@ -158,7 +159,7 @@ load_is_in_range g es v = (v.0, each_map (IsValidEquation (grammar_of g)) Equati
 call_is_in_range : (g : program.Grammar) (c : Call) → IsValidCall (grammar_of g) c → NodeInRange c.node × RefsInRange c.inherited
 call_is_in_range g c v = (
   node_is_in_range g c.node v.short (ap is_some v.has_sort),
-  refs_are_in_range g c.inherited (subst (λ n. n ≤ 8) (sym v.count) (few_are_inherited g v.sort)) v.references,
+  refs_are_in_range g c.inherited (subst (λ n. n ≤ most_inherited) (sym v.count) (few_are_inherited g v.sort)) v.references,
 )
 
 kind_is_in_range : (g : program.Grammar) (k : Kind) → IsValidKind (grammar_of g) k → KindInRange k

@@ -2,6 +2,7 @@
 use Rattle.std.proofs.Common.{◌≡◌, ℕ, zero, suc, ◌+◌, ◌≤◌, sym, ◌∙◌, ap, subst, List, [], ◌∷◌, ◌++◌, map, length, slice_get, arith, Option, Some, None, Ok, length-append}
 use Rattle.std.proofs.lemmas.List.{length-map}
 use Rattle.std.proofs.lemmas.Option.{same_Some}
+use Rattle.aw_term.specs.Limits.{most_children}
 use Rattle.aw_grammar.specs.declared.rule.Sort.{Sort}
 use Rattle.aw_grammar.specs.declared.rule.Rule.{Rule}
 use Rattle.aw_grammar.specs.declared.grammar.Grammar.{Grammar}
@@ -34,7 +35,7 @@ at_last f (a ∷ b ∷ more) (c ∷ cs) y (suc i) x l e g = at_last f (b ∷ mor
     behind : {B : Type 0} (p q : B) (ps qs : List B) → p ∷ ps ≡ q ∷ qs → ps ≡ qs
     behind p q ps qs e = cc
 
-pub few_children : (sorts : List Sort) (r : Rule) → length (rule_of sorts r).children ≤ 8 → length r.children ≤ 8
+pub few_children : (sorts : List Sort) (r : Rule) → length (rule_of sorts r).children ≤ most_children → length r.children ≤ most_children
 few_children sorts r h = omega (arith, h, length-map r.children (child_of sorts))
 
 -- a rule that is declared, and whose children are looked at

@@ -4,6 +4,7 @@ use Rattle.std.specs.Prelude.{slice_get, option_map, option_and_then, nat_le}
 use Rattle.std.proofs.lemmas.Option.{slice_get-get_or, slice_get_within}
 use Rattle.std.proofs.lemmas.Bool.{and_parts, and_from}
 use Rattle.aw_term.specs.Names.{Ref}
+use Rattle.aw_term.specs.Limits.{most_parts}
 use Rattle.aw_store.specs.Refs.{ref_eq}
 use Rattle.aw_store.specs.Equations as P
 use Rattle.aw_store.specs.Equations.{Map, find, mentions}
@@ -38,11 +39,11 @@ find-named names (e ∷ k) r x w f =
     let (a, b) = and_parts (has_names_of names e) _ w in
     found_names (ref_eq r e.left) names e k r x f a (find-named names k r x b)
 
-found_few : (b : Bool) (e : P.Equation) (k : Map) (r : Ref) (x : P.Body) → cond b (Some e.body) (find k r) ≡ Some x → has_few e ≡ true → (find k r ≡ Some x → nat_le (length (mentions x)) 8 ≡ true) → nat_le (length (mentions x)) 8 ≡ true
-found_few true e k r x f w go = let p : e.body ≡ x = cc in ap (λ y. nat_le (length (mentions y)) 8) (sym p) ∙ w
+found_few : (b : Bool) (e : P.Equation) (k : Map) (r : Ref) (x : P.Body) → cond b (Some e.body) (find k r) ≡ Some x → has_few e ≡ true → (find k r ≡ Some x → nat_le (length (mentions x)) most_parts ≡ true) → nat_le (length (mentions x)) most_parts ≡ true
+found_few true e k r x f w go = let p : e.body ≡ x = cc in ap (λ y. nat_le (length (mentions y)) most_parts) (sym p) ∙ w
 found_few false e k r x f w go = go f
 
-pub find-few : (k : Map) (r : Ref) (x : P.Body) → all_few k ≡ true → find k r ≡ Some x → nat_le (length (mentions x)) 8 ≡ true
+pub find-few : (k : Map) (r : Ref) (x : P.Body) → all_few k ≡ true → find k r ≡ Some x → nat_le (length (mentions x)) most_parts ≡ true
 find-few [] r x w f = absurd cc
 find-few (e ∷ k) r x w f =
     let (a, b) = and_parts (has_few e) _ w in
@@ -62,10 +63,10 @@ found_named names k slot x w = by_name (slice_get names slot)
     by_name None f = absurd cc
     by_name (Some r) f = find-named names k r x w f
 
-pub found_small : (names : List Ref) (k : Map) (slot : ℕ) (x : P.Body) → all_few k ≡ true → body_at k names slot ≡ Some x → nat_le (length (mentions x)) 8 ≡ true
+pub found_small : (names : List Ref) (k : Map) (slot : ℕ) (x : P.Body) → all_few k ≡ true → body_at k names slot ≡ Some x → nat_le (length (mentions x)) most_parts ≡ true
 found_small names k slot x w = by_name (slice_get names slot)
   where
-    by_name : (o : Option Ref) → option_and_then (find k) o ≡ Some x → nat_le (length (mentions x)) 8 ≡ true
+    by_name : (o : Option Ref) → option_and_then (find k) o ≡ Some x → nat_le (length (mentions x)) most_parts ≡ true
     by_name None f = absurd cc
     by_name (Some r) f = find-few k r x w f
 

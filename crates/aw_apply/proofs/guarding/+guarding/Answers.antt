@@ -7,6 +7,7 @@ use Rattle.aw_term.specs.Matching.{Yes, and_then}
 use Rattle.aw_term.specs.WellFormed.{symbols, nesting, leaves}
 use Rattle.aw_term.specs.Views.{pattern_of}
 use Rattle.aw_term.proofs.Joined.{count_join, symbols_at, nesting_at}
+use Rattle.aw_term.specs.Limits.{most_parts}
 use Rattle.aw_choice.specs.ChoiceView.{path_of}
 use Rattle.aw_store.specs.NamedRefs.{con_parts, parts_at}
 use Rattle.aw_store.specs.Chase.{chase}
@@ -44,7 +45,7 @@ guard_con-guard_parts-requires g t c κs within =
     let ps = c.args.parts.now in
     let (r, f) = name_at names c.args.slot c.requires.live in
     let w = end_goes k names c.args.slot c.in-Found.end [] [] _ (guard_parts k 1 (join (map pattern_of ps))) (Con c.args.con) (length ps) r (c.in-Found.ensures r f) (sym c.is_con.ensures ∙ c.if-is_con.true) in
-    let few = leb-true _ 8 (found_small names k c.in-Found.end _ (g.met.F.Facts.few c.args.f.now) w.1) in
+    let few = leb-true _ most_parts (found_small names k c.in-Found.end _ (g.met.F.Facts.few c.args.f.now) w.1) in
     (omega (arith, c.decreases), (within, (w.2 ∙ sym (ap (λ o. length (con_parts o)) w.1), (omega (arith, few, w.2), (c.requires.shallow, c.requires.room)))))
 
 pub guard_con-returns-then-is_con-clause-step : goal.guard_con-returns-then-is_con-clause-step
