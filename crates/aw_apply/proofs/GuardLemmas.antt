@@ -138,7 +138,7 @@ behind_parts q n (Waits r) b = refl
 behind_parts q n (Differs p) b = ap Differs (sym (append_assoc q (n ∷ []) p))
 behind_parts q n (Circle r) b = refl
 
-part_at : (rs : List Ref) (i : ℕ) (r : Ref) → slice_get rs i ≡ Some r → drop i rs ≡ r ∷ drop (i + 1) rs
+pub part_at : (rs : List Ref) (i : ℕ) (r : Ref) → slice_get rs i ≡ Some r → drop i rs ≡ r ∷ drop (i + 1) rs
 part_at rs i r e = drop_more rs i r (slice_get_within rs i r e) ∙ ap (λ x. x ∷ drop (i + 1) rs) (get_or_from_slice_get rs i r r e)
 
 from_more : (k : Map) (n i : ℕ) (ps : List Pattern) (rs : List Ref) (p : Pattern) (r : Ref) → i < length ps → p ≡ get_or ps i p → slice_get rs i ≡ Some r → from k n i ps rs ≡ and_then (under n (guard k (pattern_of p) r)) (from k (suc n) (i + 1) ps rs)

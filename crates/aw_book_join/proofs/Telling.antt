@@ -1,8 +1,8 @@
 -- What is told of the line of a node, and of a task.
-use Rattle.std.proofs.Common.{◌≡◌, ℕ, zero, suc, ◌<◌, ◌≤◌, Bool, true, false, List, [], ◌∷◌, ◌++◌, length, Option, Some, Result, Ok, Err, refl, sym, ap, ◌∙◌, subst, inl, inr, append-nil, arith}
+use Rattle.std.proofs.Common.{◌≡◌, ℕ, ◌≤◌, Bool, true, false, List, [], ◌++◌, length, Option, Some, Result, Ok, Err, refl, sym, ap, ◌∙◌, subst, inl, inr, append-nil, arith}
 use Rattle.std.specs.Prelude.{IfErr, slice_get, option_map}
 use Rattle.std.proofs.lemmas.Option.{slice_get-map}
-use Rattle.aw_list.specs.Members.{Member}
+use Rattle.aw_list.proofs.Members.{member_got as member-here}
 use Rattle.aw_grammar.specs.declared.grammar.Grammar.{Grammar}
 use Rattle.aw_grammar.specs.GrammarOf.{grammar_of, words_of}
 use Rattle.aw_law_sites.specs.Sites.{Site}
@@ -52,11 +52,6 @@ no-write held print.NoMemory r e = subst (λ (x : TasksFault). IsNoWrite (Err x)
 
 -- ---- tasks
 
-member-here : {A : Type 0} (xs : List A) (i : ℕ) (x : A) → slice_get xs i ≡ Some x → Member x xs
-member-here [] i x e = absurd cc
-member-here (y ∷ xs) zero x e = let same : y ≡ x = cc in inl (sym same)
-member-here (y ∷ xs) (suc i) x e = inr (member-here xs i x e)
-
 -- a line that is too long is that of a task
 pub tells-task : (d : Grammar) (v : View) (s : Site) (i : ℕ) (h : Held) (fault : TasksFault) → slice_get s.held i ≡ Some h → is_asked v h.node h.state ≡ true → TellsLine d s.equations h fault →
     TellsTask d v s fault
@@ -99,9 +94,3 @@ held-at g hs ps i x h e at there =
     let got : Some h ≡ Some (held_of g x) =
     sym there ∙ (ap (λ (ys : List Held). slice_get ys i) e ∙ (slice_get-map (held_of g) hs i ∙ ap (option_map (held_of g)) at)) in
     cc
-
--- there is one
-pub some-at : {A : Type 0} (xs : List A) (i : ℕ) → i < length xs → (x : A) × (slice_get xs i ≡ Some x)
-some-at [] i l = absurd (omega (arith, l))
-some-at (x ∷ xs) zero l = (x, refl)
-some-at (x ∷ xs) (suc i) l = some-at xs i (omega (arith, l))

@@ -10,15 +10,10 @@ use Rattle.aw_store.specs.Equations.{mentions}
 use Rattle.aw_store.specs.NamedRefs.{is_named, all_named, con_parts, as_text}
 use Rattle.aw_store.specs.StoreView.{IsKindOf}
 use Rattle.aw_store.proofs.NameLemmas.{is_named-at}
+use Rattle.aw_store.proofs.ChaseLemmas.{name_at as here}
 use Rattle.aw_cells.specs.declared.stored.Stored.{Stored}
 use Rattle.aw_cells.specs.declared.stored.Stored.TheVariants.{Missing, Same, Con, Num, Text}
 use Rattle.aw_cells.specs.StoredBodies.{with_ref, refs_of, body_from, all_below, fits, is_written, slots_of, text_from, kind_from}
-
--- an element of a list by its place
-pub here : {A : Type 0} (xs : List A) (i : ℕ) → i < length xs → (x : A) × (slice_get xs i ≡ Some x)
-here [] i l = absurd (omega (arith, l))
-here (x ∷ xs) zero l = (x, refl)
-here (x ∷ xs) (suc i) l = here xs i (omega (arith, l))
 
 pub slice_get-front : {A : Type 0} (xs ys : List A) (i : ℕ) → i < length xs → slice_get (xs ++ ys) i ≡ slice_get xs i
 slice_get-front [] ys i l = absurd (omega (arith, l))

@@ -12,11 +12,12 @@ use Rattle.aw_store.specs.StoreView.{all_few}
 use Rattle.aw_term.proofs.RefTests.{ref_eq-true, ref_eq-self}
 use Rattle.aw_term.specs.Limits.{most_parts}
 use Rattle.aw_store.proofs.NameLemmas.{is_named-at}
+use Rattle.aw_store.proofs.ChaseLemmas.{name_at as here}
 use Rattle.aw_cells.specs.declared.stored.Stored.{Stored}
 use Rattle.aw_cells.specs.declared.stored.Stored.TheVariants.{Missing}
 use Rattle.aw_cells.specs.StoredBodies.{body_from, fits, is_written}
 use Rattle.aw_cells.specs.Cells.{body_in, equation_with, map_in, all_fit, is_full, stands}
-use Rattle.aw_cells.proofs.BodyLemmas.{here, slice_get-front, body_from-grown, body_from-some, body_from-written, body_from-named, body_from-few}
+use Rattle.aw_cells.proofs.BodyLemmas.{slice_get-front, body_from-grown, body_from-some, body_from-written, body_from-named, body_from-few}
 
 pub all_fit-at : (n : ℕ) (cs : List Stored) (s : ℕ) (c : Stored) → all_fit n cs ≡ true → slice_get cs s ≡ Some c → fits n c ≡ true
 all_fit-at n [] s c w e = absurd cc

@@ -12,9 +12,8 @@ use Rattle.aw_store.specs.NamedRefs.{is_named, has_names_of, has_names, Grows}
 use Rattle.aw_name.specs.SameRefs.{ref_same}
 use Rattle.aw_term.proofs.RefTests.{ref_eq-true}
 use Rattle.std.proofs.lemmas.List.{length-append}
-use Rattle.std.proofs.lemmas.Option.{slice_get_within}
 use Rattle.aw_cells.specs.StoredBodies.{refs_of, all_below}
-use Rattle.aw_cells.proofs.BodyLemmas.{slice_get-front, refs_of-grown}
+use Rattle.aw_cells.proofs.BodyLemmas.{refs_of-grown}
 
 abbrev pub key_eq : Ref → Ref → Bool
 key_eq = (reference.ghosts).eq
@@ -58,9 +57,6 @@ refs_of-grows ns ms ss (more, e) w = ap (λ x. refs_of x ss) e ∙ refs_of-grown
 
 pub length-grows : (ns ms : List Ref) → Grows ns ms → length ns ≤ length ms
 length-grows ns ms (more, e) = omega (arith, ap length e, length-append ns more)
-
-pub slice_get-grows : (ns ms : List Ref) (s : ℕ) (r : Ref) → Grows ns ms → slice_get ns s ≡ Some r → slice_get ms s ≡ Some r
-slice_get-grows ns ms s r (more, e) f = ap (λ x. slice_get x s) e ∙ slice_get-front ns more s (slice_get_within ns s r f) ∙ f
 
 pub find-unnamed : (ns : List Ref) (k : Map) (r : Ref) → has_names ns k ≡ true → is_named ns r ≡ false → find k r ≡ None
 find-unnamed ns [] r w f = refl

@@ -12,10 +12,11 @@ use Rattle.aw_store.specs.EquationView.{body_of}
 use Rattle.aw_store.specs.declared.equation.Body.{Body}
 use Rattle.aw_store.specs.declared.equation.Body.TheVariants as body
 use Rattle.aw_name.specs.SameRefs.{ref_Decides}
+use Rattle.aw_store.proofs.ChaseLemmas.{name_at as here}
 use Rattle.aw_cells.specs.declared.stored.Stored.{Stored}
 use Rattle.aw_cells.specs.declared.stored.Stored.TheVariants.{Missing, Same, Con, Num, Text}
 use Rattle.aw_cells.specs.StoredBodies.{with_ref, refs_of, body_from, all_below, fits, is_at, are_at, is_body}
-use Rattle.aw_cells.proofs.BodyLemmas.{here, below}
+use Rattle.aw_cells.proofs.BodyLemmas.{below}
 
 -- the test of a body is exact
 at_Decides : (o : Option Ref) (n r : Ref) → o ≡ Some n → Decides (is_at o r) (n ≡ r)

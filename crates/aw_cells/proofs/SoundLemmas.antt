@@ -9,11 +9,12 @@ use Rattle.aw_term.specs.Names.{Ref}
 use Rattle.aw_store.specs.Equations.{find}
 use Rattle.aw_store.specs.NamedRefs.{is_named, body_at}
 use Rattle.aw_store.proofs.NameLemmas.{once_push}
+use Rattle.aw_store.proofs.ChaseLemmas.{name_at as here}
 use Rattle.aw_cells.specs.declared.stored.Stored.{Stored}
 use Rattle.aw_cells.specs.declared.stored.Stored.TheVariants.{Missing}
 use Rattle.aw_cells.specs.StoredBodies.{body_from, fits, is_written}
 use Rattle.aw_cells.specs.Cells.{body_in, map_in, all_fit, is_full, stands, empty_ones, IsSound}
-use Rattle.aw_cells.proofs.BodyLemmas.{here, fits-grown, body_from-some}
+use Rattle.aw_cells.proofs.BodyLemmas.{fits-grown, body_from-some}
 use Rattle.aw_cells.proofs.MapLemmas.{slice_get-written, slice_get-others, map-named, map-few, find-slot, all_fit-at}
 
 -- One more name

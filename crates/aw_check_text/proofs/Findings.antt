@@ -63,7 +63,7 @@ all_more : (found : List Finding) (f : Finding) → all_yes (found ++ f ∷ []) 
 all_more [] f = sym (and_true (is_yes f) true refl)
 all_more (x ∷ xs) f = ap (λ b. is_yes x && b) (all_more xs f) ∙ and_assoc (is_yes x) (all_yes xs) (is_yes f)
 
-length_more : {A : Type 0} (xs : List A) (x : A) → length (xs ++ x ∷ []) ≡ length xs + 1
+pub length_more : {A : Type 0} (xs : List A) (x : A) → length (xs ++ x ∷ []) ≡ length xs + 1
 length_more [] x = refl
 length_more (y ∷ ys) x = omega (arith, length_more ys x)
 

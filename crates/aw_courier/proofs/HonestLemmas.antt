@@ -32,13 +32,13 @@ use Rattle.aw_msg.proofs.Lengths.{payload_short}
 use Rattle.aw_msg.proofs.MessageLaws.{message_law}
 use Rattle.aw_session.specs.Frames.{joined}
 use Rattle.aw_law_nodes.specs.Couriers as C
-use Rattle.aw_law_nodes.specs.Couriers.{Heard, Gave, NoMore, hear, flat, IsPrefix, IsHonestWire, choice_frames, session_frames, visit_frames, turn_room, new_courier, AreTurns, HasRole, ChoicesOk, IsQuietCall, IsSpentCall, QuietMeansQuiet}
+use Rattle.aw_law_nodes.specs.Couriers.{Heard, Gave, hear, flat, IsPrefix, IsHonestWire, choice_frames, session_frames, visit_frames, turn_room, new_courier, AreTurns, HasRole, ChoicesOk, IsQuietCall, IsSpentCall, QuietMeansQuiet}
 use Rattle.aw_law_nodes.specs.Encodable.{HasBytes, IsHonestInBytes, BytesAreHonest}
 use Rattle.aw_law_nodes.specs.Sizes.{ChoicesSized, GrammarSized}
 use Rattle.aw_law_nodes.specs.Ending.{RoundsAreBounded}
 use Rattle.aw_law_nodes.specs.Nodes.{Frame, Pull as PullFrame, happenings, ReadAs, Response, WasNew, WasHeld, Contradicts, NotForMe, NotValid, Answers, Sends, Shows, Ended, sites_after, all_replies}
 use Rattle.aw_law_nodes.specs.Told.{told}
-use Rattle.aw_law_nodes.proofs.ListParts.{cons-inj}
+use Rattle.aw_law_nodes.proofs.ListParts.{cons-inj, some-inj as some-is}
 use Rattle.aw_law_nodes.proofs.HeardBytes.{cancel}
 use Rattle.aw_law_nodes.proofs.Turns.{round-known, rounds-known}
 use Rattle.aw_out.specs.Wires.{Content}
@@ -118,9 +118,6 @@ payload-few w g (Answers answer) h = never h
 payload-few w g (Sends m) (k, e, fits, range) = subst (λ t. length t < 2 ^ 32) (sym (ap S.spelled_message e ∙ same-spelling g k)) (short-message k range)
 payload-few w g (Shows item) h = never h
 payload-few w g (Ended n) h = omega arith
-
-some-is : {A : Type 0} {x y : A} → Some x ≡ Some y → x ≡ y
-some-is e = cc
 
 gave-is : (g : Grammar) (k : Message) (h : Heard) → gave g (Some k) ≡ Some h → h ≡ Gave (message_of g k)
 gave-is g k h e = go (nat_lt k.to g.roles) e

@@ -6,7 +6,6 @@ use Rattle.aw_term.specs.Rules.{Grammar, get}
 use Rattle.aw_term.specs.Trees.{Never}
 use Rattle.aw_apply.specs.Messages.{Message}
 use Rattle.aw_law_worlds.proofs.Places.{get-set, get-set_other}
-use Rattle.aw_session.specs.Frames.{joined}
 use Rattle.aw_law_nodes.specs.Nodes.{Frame, Push}
 use Rattle.aw_law_nodes.specs.Couriers.{Heard, Courier, for_role, without, note, noted, IsReplyTo, AreReplies, move, moves}
 use Rattle.aw_law_nodes.proofs.ListParts.{cons-inj}
@@ -14,10 +13,6 @@ use Rattle.aw_courier.specs.Frames.{size, spelled_frame, spelled_frames}
 use Rattle.aw_courier.specs.Mails.{pushed_frames}
 use Rattle.aw_courier.specs.Replies.{reply, request_of}
 use Rattle.aw_courier.specs.Turns.{AreHeard}
-
-pub joined-one : (bs : List (List ℕ)) (b : List ℕ) → joined (bs ++ b ∷ []) ≡ joined bs ++ b
-joined-one [] b = append-nil b
-joined-one (a ∷ bs) b = ap (λ (t : List ℕ). a ++ t) (joined-one bs b) ∙ sym (append_assoc a (joined bs) b)
 
 pub spelled-append : (fs hs : List Frame) → spelled_frames (fs ++ hs) ≡ spelled_frames fs ++ spelled_frames hs
 spelled-append [] hs = refl

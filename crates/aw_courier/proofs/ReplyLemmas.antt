@@ -8,11 +8,9 @@ use Rattle.aw_term.specs.Rules.{Grammar}
 use Rattle.aw_codec.specs.Reading.{Fault, Short, Bad, ◌>>=◌, number}
 use Rattle.aw_codec.proofs.Laws.{ok_is}
 use Rattle.aw_law_nodes.specs.Couriers.{Heard}
+use Rattle.aw_law_nodes.proofs.ListParts.{some-inj as some-is}
 use Rattle.aw_courier.specs.Replies.{may_have, fits_length, heard_in, known, payload_at, reply, IsNone, size_with, size_from, IsSized}
 use Rattle.aw_courier.specs.declared.replies.Request.{Request}
-
-some-is : {A : Type 0} {x y : A} → Some x ≡ Some y → x ≡ y
-some-is e = cc
 
 -- ---- the reply by its parts
 

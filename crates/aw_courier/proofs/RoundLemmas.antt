@@ -1,5 +1,5 @@
 -- Rounds, one turn after the other.
-use Rattle.std.proofs.Common.{◌≡◌, ℕ, zero, suc, ◌+◌, ◌<◌, Bool, true, false, ◌||◌, List, [], ◌∷◌, ◌++◌, map, length, Option, None, Some, option_to_list, refl, sym, ap, subst, ◌∙◌, arith, append_assoc, append-nil, length-append}
+use Rattle.std.proofs.Common.{◌≡◌, ℕ, suc, ◌+◌, ◌<◌, Bool, true, false, ◌||◌, List, [], ◌∷◌, ◌++◌, map, length, Option, None, Some, option_to_list, refl, sym, ap, subst, ◌∙◌, arith, append_assoc, append-nil, length-append}
 use Rattle.std.specs.Prelude.{nat_lt}
 use Rattle.std.proofs.lemmas.Bool.{ltb-true, ltb-false}
 use Rattle.aw_out.specs.Wires as W
@@ -8,10 +8,12 @@ use Rattle.aw_out.specs.declared.edge.Dialed.TheVariants.{Opened}
 use Rattle.aw_term.specs.Rules.{Grammar, upto}
 use Rattle.aw_term.specs.WellFormed.{Each}
 use Rattle.aw_term.proofs.Eaches.{each_append, each_push}
+use Rattle.aw_term.proofs.Joined.{upto_end as upto-more}
 use Rattle.aw_session.specs.Sessions.{Follow}
 use Rattle.aw_session.specs.Talking.{Counts, Talks}
 use Rattle.aw_session.proofs.Servings.{follow-none, follow-then}
 use Rattle.aw_law_nodes.specs.Couriers.{Session, Courier, new_courier, requests, after_session, after_all, flat, AreTurns, IsRound, moves, round_moves}
+use Rattle.aw_session.proofs.TalkLemmas.{counts-then as counts-later}
 use Rattle.aw_courier.specs.Asking.{is_net}
 use Rattle.aw_courier.specs.Carrying.{sessions_of, AreMade, IsRoundMade, fault_at, IsRoundBroken, IsQuiet, IsSpent, AreBefore, IsBrokenOff}
 use Rattle.aw_courier.specs.Frames.{size}
@@ -116,10 +118,6 @@ rounds-append : (xss yss : List (List Turn)) → map sessions_of (xss ++ yss) �
 rounds-append [] yss = refl
 rounds-append (xs ∷ xss) yss = ap (λ zs. sessions_of xs ∷ zs) (rounds-append xss yss)
 
-upto-more : (i n : ℕ) → upto i (suc n) ≡ upto i n ++ (i + n) ∷ []
-upto-more i zero = ap (λ k. k ∷ []) (omega arith)
-upto-more i (suc n) = ap (λ ks. i ∷ ks) (upto-more (suc i) n ∙ ap (λ k. upto (suc i) n ++ k ∷ []) (omega arith))
-
 upto-next : (n m : ℕ) → m ≡ n + 1 → upto 0 m ≡ upto 0 n ++ n ∷ []
 upto-next n m e = ap (λ k. upto 0 k) (let s : m ≡ suc n = omega (arith, e) in s) ∙ upto-more 0 n ∙ ap (λ k. upto 0 n ++ k ∷ []) (omega arith)
 
@@ -148,9 +146,6 @@ round-more {W'} g content faults failed_openings c n n' u v w m m' moved some h 
           let s : round_moves ss + moves t.turn.session.asked t.turn.session.heard ≡ round_moves (ss ++ t.turn.session ∷ []) = omega (arith, q, z) in s)
           ∙ ap (λ ks. nat_lt 0 (round_moves ks)) (sym more);
     }
-
-counts-later : (b : Bool) (x y z : ℕ) → y ≡ x → Counts b y z → Counts b x z
-counts-later b x y z e h = subst (λ n. Counts b n z) e h
 
 -- a turn broke off
 pub round-broken : {W' : Type 0} (g : Grammar) (content : W' → Option Content) (faults failed_openings : W' → ℕ) (c : Courier) (n : ℕ) (u v w : W') (m : Mailed) (moved : Bool) (why : Broken) (fault : CarryFault) →

@@ -14,6 +14,7 @@ use Rattle.aw_law_nodes.specs.Nodes.{Frame, Push, Pull}
 use Rattle.aw_law_nodes.specs.Couriers.{Heard, Gave, NoMore, Courier, for_role, turn_room, turn_messages, asks, after_reply, behind, pulls, pushes, requests, note, without, IsReplyTo, move, moves}
 use Rattle.aw_law_nodes.proofs.ListParts.{filter-append}
 use Rattle.aw_law_nodes.proofs.Knowing.{rest-waits}
+use Rattle.aw_session.proofs.Stretches.{joined-one}
 use Rattle.aw_courier.specs.Asking.{is_net, WhyBroken, IsBrokenOff}
 use Rattle.aw_courier.specs.Frames.{size, spelled_frame, spelled_frames, PlaceFits}
 use Rattle.aw_courier.specs.Mails.{Mailed, Shows, pushed_frames, place_at, queue_at, with_queue}
@@ -21,7 +22,7 @@ use Rattle.aw_courier.specs.Replies.{reply, request_of}
 use Rattle.aw_courier.specs.Turns.{IsUnderway, WhyStopped, BreaksOff, pushing, pulling}
 use Rattle.aw_courier.specs.declared.broken.Broken.{Broken}
 use Rattle.aw_courier.specs.declared.broken.Broken.TheVariants as broken
-use Rattle.aw_courier.proofs.Lists.{get-is, index-set, index-set_other, joined-one, spelled-append, spelled-one, heard-one, replies-one, noted-one, moves-one, lt-sum, others-wait}
+use Rattle.aw_courier.proofs.Lists.{get-is, index-set, index-set_other, spelled-append, spelled-one, heard-one, replies-one, noted-one, moves-one, lt-sum, others-wait}
 
 -- one stretch of a session and then another
 abbrev pub TalksThen : {W' : Type 0} → (W' → W' → List ℕ → List ℕ → Bool → Type 0) → Type 0

@@ -1,6 +1,7 @@
 -- Frames that are asked of the desk of a role, one after the other.
 use Rattle.std.proofs.Common.{◌≡◌, ℕ, zero, suc, ◌≤◌, List, [], ◌∷◌, ◌++◌, length, Ok, Option, None, Some, inl, refl, sym, ap, subst, ◌∙◌, append-nil, arith}
 use Rattle.std.specs.Prelude.{slice_get, slice_set}
+use Rattle.aw_law_nodes.proofs.ListParts.{set-get as set-same, set-set as set-twice}
 use Rattle.aw_msg.specs.Frames.{Frame, frame}
 use Rattle.aw_msg.specs.Streams.{Stream}
 use Rattle.aw_msg.proofs.Extensions.{yields_one}
@@ -10,20 +11,8 @@ use Rattle.aw_desk_wire.specs.Asking.{AskedOf, AreAsked, IsAsked, IsStretch, IsS
 
 -- ---- places of a list
 
--- what stands at a place is written there
-set-same : {A : Type 0} (xs : List A) (i : ℕ) (x : A) → slice_get xs i ≡ Some x → slice_set xs i x ≡ xs
-set-same [] i x e = refl
-set-same (y ∷ xs) zero x e = let same : x ≡ y = cc in ap (λ z. z ∷ xs) same
-set-same (y ∷ xs) (suc i) x e = ap (λ zs. y ∷ zs) (set-same xs i x e)
-
--- the second of two that are written at a place stays
-set-twice : {A : Type 0} (xs : List A) (i : ℕ) (x z : A) → slice_set (slice_set xs i x) i z ≡ slice_set xs i z
-set-twice [] i x z = refl
-set-twice (y ∷ xs) zero x z = refl
-set-twice (y ∷ xs) (suc i) x z = ap (λ zs. y ∷ zs) (set-twice xs i x z)
-
 -- what was written at a place stands there
-got-set : {A : Type 0} (xs : List A) (i : ℕ) (x z : A) → slice_get xs i ≡ Some x → slice_get (slice_set xs i z) i ≡ Some z
+pub got-set : {A : Type 0} (xs : List A) (i : ℕ) (x z : A) → slice_get xs i ≡ Some x → slice_get (slice_set xs i z) i ≡ Some z
 got-set [] i x z e = absurd (cc e)
 got-set (y ∷ xs) zero x z e = refl
 got-set (y ∷ xs) (suc i) x z e = got-set xs i x z e

@@ -1,10 +1,11 @@
 -- The requests of a courier, read back as the frames that they are, and what typed sites reply to them.
-use Rattle.std.proofs.Common.{◌≡◌, ℕ, zero, suc, false, List, [], ◌∷◌, ◌++◌, map, length, Option, Some, refl, sym, ap, subst, ◌∙◌}
+use Rattle.std.proofs.Common.{◌≡◌, ℕ, false, List, [], ◌∷◌, ◌++◌, map, length, Option, Some, refl, sym, ap, subst, ◌∙◌}
 use Rattle.std.specs.Prelude.{slice_get, slice_set}
 use Rattle.std.specs.Int.{w32, to_be_bytes}
 use Rattle.aw_list.proofs.Members.{never}
-use Rattle.aw_term.specs.Rules.{Grammar, get}
+use Rattle.aw_term.specs.Rules.{Grammar}
 use Rattle.aw_term.specs.WellFormed.{Each}
+use Rattle.aw_term.proofs.Gets.{get_some as got-at}
 use Rattle.aw_law_sites.specs.Sites.{Site, empty_site}
 use Rattle.aw_law_nodes.specs.Couriers.{IsPrefix, asked_at}
 use Rattle.aw_law_nodes.specs.Nodes as N
@@ -25,6 +26,7 @@ use Rattle.aw_session.specs.Frames.{joined, AreAnswered}
 use Rattle.aw_desk_wire.specs.Asking.{AskedOf, AreAsked}
 use Rattle.aw_desk_wire.specs.Honest.{IsHonest}
 use Rattle.aw_desk_wire.specs.Quiet.{IsReadable}
+use Rattle.aw_desk_wire.proofs.AskLemmas.{got-set as set-at}
 
 -- ---- one request
 
@@ -87,16 +89,6 @@ all-read r (f ∷ fs) k =
         )
 
 -- ---- the site of a role among those of all roles
-
-got-at : {A : Type 0} (d : A) (xs : List A) (i : ℕ) (x : A) → slice_get xs i ≡ Some x → get d xs i ≡ x
-got-at d [] i x e = absurd (cc e)
-got-at d (y ∷ xs) zero x e = let same : x ≡ y = cc in sym same
-got-at d (y ∷ xs) (suc i) x e = got-at d xs i x e
-
-set-at : {A : Type 0} (xs : List A) (i : ℕ) (x z : A) → slice_get xs i ≡ Some x → slice_get (slice_set xs i z) i ≡ Some z
-set-at [] i x z e = absurd (cc e)
-set-at (y ∷ xs) zero x z e = refl
-set-at (y ∷ xs) (suc i) x z e = set-at xs i x z e
 
 at-role : (g : Grammar) (role : ℕ) (fs : List N.Frame) (ss : List Site) (s : Site) → slice_get ss role ≡ Some s →
     (N.all_replies g ss (map (asked_at role) fs) ≡ N.replies g s fs) × (N.sites_after g ss (map (asked_at role) fs) ≡ slice_set ss role (N.site_after g s fs))

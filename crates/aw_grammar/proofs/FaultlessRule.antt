@@ -21,7 +21,7 @@ use Rattle.aw_grammar.proofs.FaultlessTerms.{all_tests_are, all_leaves_free}
 
 -- where a name stands
 
-or_true : (b : Bool) → (b || true) ≡ true
+pub or_true : (b : Bool) → (b || true) ≡ true
 or_true true = refl
 or_true false = refl
 

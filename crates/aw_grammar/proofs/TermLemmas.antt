@@ -13,14 +13,14 @@ use Rattle.aw_grammar.specs.Kinds.{is_known, parts_are_known, all_known, count_p
 use Rattle.aw_grammar.specs.declared.rule.Con as decl
 use Rattle.aw_grammar.proofs.WrittenLemmas.{written_apply}
 
-symbols_side : (ts : List Written) → symbols_in_parts (side_by_side ts) ≡ symbols_in_all ts
+pub symbols_side : (ts : List Written) → symbols_in_parts (side_by_side ts) ≡ symbols_in_all ts
 symbols_side [] = refl
 symbols_side (t ∷ ts) = ap (λ n. symbols_in t + n) (symbols_side ts)
 
 pub symbols_apply : (name : List ℕ) (ts : List RawTerm) → symbols_in (written_of (raw.Apply name ts)) ≡ suc (symbols_in_all (map written_of ts))
 symbols_apply name ts = ap symbols_in (written_apply name ts) ∙ ap (λ n. suc n) (symbols_side (map written_of ts))
 
-depth_side : (ts : List Written) → depth_of_parts (side_by_side ts) ≡ depth_of_all ts
+pub depth_side : (ts : List Written) → depth_of_parts (side_by_side ts) ≡ depth_of_all ts
 depth_side [] = refl
 depth_side (t ∷ ts) = ap (λ n. max (depth_of t) n) (depth_side ts)
 

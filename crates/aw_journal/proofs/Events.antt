@@ -1,13 +1,14 @@
 -- The payload of an event is one, and an event has no other.
 use Rattle.std.specs.Prelude.{◌≡◌, ℕ, zero, suc, List, [], ◌∷◌, ◌++◌, Some, option_map}
 use Rattle.std.proofs.Common.{refl, ap, subst}
+use Rattle.aw_term.proofs.LastSteps.{mapped as mapped_is}
 use Rattle.aw_codec.specs.Bytes.{AreBytes}
 use Rattle.aw_codec.specs.Choices.{choice}
 use Rattle.aw_codec.proofs.Laws.{AreBytes-drop}
 use Rattle.aw_codec.proofs.ChoiceLaws.{choice_law}
 use Rattle.aw_msg.specs.Frames.{whole}
 use Rattle.aw_msg.specs.Messages.{message}
-use Rattle.aw_msg.proofs.FrameLaws.{whole_again, whole_taken, mapped_is}
+use Rattle.aw_msg.proofs.FrameLaws.{whole_again, whole_taken}
 use Rattle.aw_msg.proofs.MessageLaws.{message_law}
 use Rattle.aw_journal.specs.Events.{Event, Took, Got, event_in, payload_of, IsEvent}
 use Rattle.aw_journal.specs.EventView.{event_of, events_seen}

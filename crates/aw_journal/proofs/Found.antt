@@ -9,7 +9,7 @@ use Rattle.aw_journal.proofs.Bytes.{u64_in-take, closed, whole_bad}
 use Rattle.aw_journal.specs.Scan.{Found, FoundEvent, IsPayload}
 use Rattle.aw_journal.proofs.Appends.{records_push}
 
-whole_at : (rest : List ℕ) (n : ℕ) → n ≡ u64_in (take 8 rest) → whole rest ≡ whole_of n (drop 8 rest)
+pub whole_at : (rest : List ℕ) (n : ℕ) → n ≡ u64_in (take 8 rest) → whole rest ≡ whole_of n (drop 8 rest)
 whole_at rest n is = ap (λ (k : ℕ). whole_of k (drop 8 rest)) (sym (is ∙ u64_in-take rest))
 
 pub either : {A : Type 0} (b : Bool) (x : A) → cond b x x ≡ x

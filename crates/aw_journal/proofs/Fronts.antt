@@ -12,12 +12,10 @@ use Rattle.aw_journal.specs.Events.{Event, IsEvent, event_in, payload_of}
 use Rattle.aw_journal.specs.Fronts.{IsFront, IsNoEvent}
 use Rattle.aw_journal.specs.Scan.{FoundEvent}
 use Rattle.aw_journal.specs.Standing.{begins_record}
-use Rattle.aw_journal.proofs.Bytes.{u64_in-take, whole_spelled}
+use Rattle.aw_journal.proofs.Bytes.{whole_spelled}
 use Rattle.aw_journal.proofs.Counts.{event_short}
 use Rattle.aw_journal.proofs.Events.{event_taken}
-
-whole_at : (rest : List ℕ) (n : ℕ) → n ≡ u64_in (take 8 rest) → whole rest ≡ whole_of n (drop 8 rest)
-whole_at rest n is = ap (λ (k : ℕ). whole_of k (drop 8 rest)) (sym (is ∙ u64_in-take rest))
+use Rattle.aw_journal.proofs.Found.{whole_at, none_short}
 
 and_none : (b : Bool) → (b && false) ≡ false
 and_none true = refl
@@ -29,12 +27,6 @@ no_record gate rest none = rw none (and_none (gate == 1))
 
 pub shut_record : (gate : ℕ) (rest : List ℕ) → gate ≢ 1 → begins_record (gate ∷ rest) ≡ false
 shut_record gate rest shut = grind (arith, nat_tests)
-
-of_short : (n : ℕ) (behind : List ℕ) → length behind ≤ n → whole_of n behind ≡ None
-of_short n behind short = grind (arith, nat_tests)
-
-none_short : (rest : List ℕ) (n : ℕ) → n ≡ u64_in (take 8 rest) → length (drop 8 rest) ≤ n → whole rest ≡ None
-none_short rest n is short = whole_at rest n is ∙ of_short n (drop 8 rest) short
 
 -- the payload of this length is no event
 none_there : (n : ℕ) (behind : List ℕ) → (n < length behind → event_in (take n behind) ≡ None) → whole_of n behind ≡ None

@@ -3,33 +3,21 @@ use Rattle.std.specs.Prelude.{nat_eq, ◌&&◌}
 use Rattle.std.proofs.Common.{◌≡◌, zero, suc, Bool, true, false, [], ◌∷◌, map, refl, ap, ◌∙◌}
 use Rattle.aw_base.specs.ChoiceFits.{choice_ok}
 use Rattle.aw_typed.specs.TypeFaults.{arg_ok}
-use Rattle.aw_apply.specs.Messages.{Received, New, Repeat, Conflict, NotMine, BadName}
-use Rattle.aw_law_sites.specs.Choosing.{Chosen, No, Did, choose}
+use Rattle.aw_law_sites.specs.Choosing.{Chosen, choose}
 use Rattle.aw_law_sites.specs.Homes.{home}
 use Rattle.aw_law_sites.specs.Reacting.{receive}
-use Rattle.aw_law_sites.specs.SiteEvents.{after_choice, after_message, site_step, site_run}
-use Rattle.aw_law_sites.specs.Sites.{Site, Reaction}
+use Rattle.aw_law_sites.specs.SiteEvents.{after_choice, site_step, site_run}
+use Rattle.aw_law_sites.specs.Sites.{Site}
 use Rattle.aw_law_sites.specs.Worlds.{node_of}
-use Rattle.aw_law_nodes.specs.Nodes as N
 use Rattle.aw_msg.specs.MessageView.{message_of}
 use Rattle.aw_journal.specs.Events.{Event, Took, Got}
 use Rattle.aw_law_nodes.specs.Told.{told}
 use Rattle.aw_node.specs.TypedNodes.{Rules}
+use Rattle.aw_node.proofs.Lasting.{push-site as got-run, chosen-site as took-run}
 use Rattle.aw_kept_append.specs.News.{is_news}
 use Rattle.aw_kept_node.specs.KeptEvents.{is_kept, after_event}
 use Rattle.aw_kept_node.specs.Laws.{site_event, SitesAreRuns, FirstAreKept}
 use Rattle.aw_kept_node.proofs.KeptSites.{chosen-by}
-
-got-run : (s : Site) (x : Received Reaction) → (N.received s x).site ≡ after_message s x
-got-run s (New x) = refl
-got-run s Repeat = refl
-got-run s (Conflict a b) = refl
-got-run s NotMine = refl
-got-run s BadName = refl
-
-took-run : (s : Site) (x : Chosen) → (N.chosen s x).site ≡ after_choice s x
-took-run s (No a) = refl
-took-run s (Did x) = refl
 
 choice-run : (s : Site) (x : Chosen) (fits ok here : Bool) → is_news (told (chosen-by s x fits ok here).response) ≡ true → (chosen-by s x fits ok here).site ≡ after_choice s x
 choice-run s x false ok here h = absurd (cc h)

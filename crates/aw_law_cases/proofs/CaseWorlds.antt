@@ -14,6 +14,7 @@ use Rattle.aw_law_sites.specs.Sites.{Site, Reaction, empty_site, silently}
 use Rattle.aw_law_sites.specs.Worlds.{World, empty_world, site_at, node_of, with_site, Move, Chooses, Delivers, chosen_at, mark_delivered, received_at, deliver_on, step, run}
 use Rattle.aw_law_worlds.proofs.Places.{get-left, length-set}
 use Rattle.aw_law_worlds.proofs.Settling.{run_both}
+use Rattle.aw_law_worlds.proofs.Runs.{length-both}
 use Rattle.aw_law_nodes.specs.Nodes.{world_replies}
 use Rattle.aw_law_nodes.proofs.ListParts.{filter-append, map-get, map-set, set-same}
 use Rattle.aw_law_cases.specs.Cases.{Cases, of_choice, of_message, keep_site, IsParted, IsOneSided}
@@ -28,13 +29,6 @@ get-cases d (x ∷ xs) zero zero v = inl refl
 get-cases d (x ∷ xs) zero (suc j) v = inr refl
 get-cases d (x ∷ xs) (suc i) zero v = inr refl
 get-cases d (x ∷ xs) (suc i) (suc j) v = get-cases d xs i j v
-
-length-both : {A B : Type 0} (xs : List A) (ys : List B) (f : A → B) (zs : List A) → length ys ≡ length xs → length (ys ++ map f zs) ≡ length (xs ++ zs)
-length-both [] [] f [] e = refl
-length-both [] [] f (z ∷ zs) e = ap suc (length-both [] [] f zs e)
-length-both [] (y ∷ ys) f zs e = absurd (omega arith)
-length-both (x ∷ xs) [] f zs e = absurd (omega arith)
-length-both (x ∷ xs) (y ∷ ys) f zs e = ap suc (length-both xs ys f zs (omega arith))
 
 module _ (C : Cases) where
   -- marks beside messages

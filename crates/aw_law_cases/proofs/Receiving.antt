@@ -25,7 +25,7 @@ use Rattle.aw_law_sites.specs.ValidNames.{message_ok}
 use Rattle.aw_law_sites.specs.Choosing.{Chosen, No, Did, choose}
 use Rattle.aw_law_sites.proofs.AnyOrders.{Member-insert_held}
 use Rattle.aw_law_worlds.proofs.Learning.{add-member}
-use Rattle.aw_law_nodes.proofs.Following.{cond-new, new-of}
+use Rattle.aw_law_worlds.proofs.Growing.{new-of, cond-new}
 use Rattle.aw_law_nodes.proofs.KeptNodes.{events-append}
 use Rattle.aw_law_nodes.proofs.ListParts.{filter-append}
 use Rattle.aw_law_cases.specs.Cases.{Cases, of_node, of_ref, of_equation, of_held, of_choice, of_kind, of_message, of_event, keep_site, AllOn, AreParted, AreOn, IsParted, IsOneSided, IsOneSidedEvent, AreInOrder, SiteKeepsCases}

@@ -35,7 +35,7 @@ use Rattle.aw_law_sites.specs.Worlds.{node_of}
 use Rattle.aw_law_sites.proofs.AnyOrders.{Member-all_held, Member-insert_all, Member-insert_held, marked}
 use Rattle.aw_law_worlds.specs.Invariant.{IsValid, as_call}
 use Rattle.aw_law_worlds.proofs.Answering.{load-own}
-use Rattle.aw_law_worlds.proofs.Delivering.{has-end, mention-ok}
+use Rattle.aw_law_worlds.proofs.Delivering.{has-end, mention-ok, each-ok as ok-all}
 use Rattle.aw_law_worlds.proofs.HeldLookups.{of-inherited}
 use Rattle.aw_law_worlds.proofs.Learning.{add-member, find-member, of-mentions}
 use Rattle.aw_law_worlds.proofs.Lists.{Member-filtered, Member-of_order}
@@ -47,10 +47,6 @@ use Rattle.aw_law_forged.proofs.MadeNames.{equation-is, kid-is, start-takes, val
 use Rattle.aw_law_forged.proofs.Steps.{chosen-case, received-case}
 
 -- ---- tests over lists
-
-ok-all : (g : Grammar) (es : List Equation) → ((e : Equation) → Member e es → equation_ok g e ≡ true) → equations_ok g es ≡ true
-ok-all g [] f = refl
-ok-all g (e ∷ es) f = and_from (equation_ok g e) (equations_ok g es) (f e (inl refl)) (ok-all g es (λ e m. f e (inr m)))
 
 ok-each : (g : Grammar) (es : List Equation) → equations_ok g es ≡ true → (e : Equation) → Member e es → equation_ok g e ≡ true
 ok-each g [] f e m = never m

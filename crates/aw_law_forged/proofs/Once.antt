@@ -38,7 +38,7 @@ use Rattle.aw_law_worlds.proofs.Learning.{add-member, find-member}
 use Rattle.aw_law_worlds.proofs.Lists.{later_both}
 use Rattle.aw_law_worlds.proofs.Parts.{Apart, Kin, KindKin}
 use Rattle.aw_law_worlds.proofs.SentLemmas.{call_case, calls_differ, in_case, out_apart, out_case, tell_case, tells_apart}
-use Rattle.aw_law_nodes.proofs.Following.{new-of}
+use Rattle.aw_law_worlds.proofs.Growing.{new-of}
 use Rattle.aw_law_forged.specs.Forged.{IsAtHome, SameKind, SaysOnce}
 use Rattle.aw_law_forged.proofs.OwnEquations.{made-left}
 use Rattle.aw_law_forged.proofs.Traces.{AllSaid, Good, IsDone, Nodes, Said, asking-good, false-of, none-there, said-on, same-held}

@@ -19,7 +19,7 @@ use Rattle.aw_law_sites.specs.SiteEvents.{SiteEvent, Chose, Got, after_choice, a
 use Rattle.aw_law_sites.specs.Sites.{Site, Reaction, empty_site}
 use Rattle.aw_law_sites.specs.ValidNames.{message_ok}
 use Rattle.aw_law_sites.specs.Worlds.{node_of}
-use Rattle.aw_law_nodes.proofs.Following.{cond-new, new-of}
+use Rattle.aw_law_worlds.proofs.Growing.{new-of, cond-new}
 use Rattle.aw_law_nodes.proofs.ListParts.{filter-append}
 use Rattle.aw_law_forged.specs.Forged.{IsAtHome, own_equations, making_of, makes, all_made, equations_in, OwnEquationsAreMade}
 

@@ -32,7 +32,7 @@ use Rattle.aw_law_worlds.proofs.Answering.{load-own}
 use Rattle.aw_law_worlds.proofs.Learning.{find-member}
 use Rattle.aw_law_worlds.proofs.Lists.{Member-filter}
 use Rattle.aw_law_worlds.proofs.SentLemmas.{out_case, tell_case}
-use Rattle.aw_law_nodes.proofs.Following.{cond-new, new-of}
+use Rattle.aw_law_worlds.proofs.Growing.{new-of, cond-new}
 use Rattle.aw_law_forged.specs.Forged.{IsAtHome, own_equations, making_of, makes, all_made, equations_in, calls_in, AreMade, IsOwnWord, SentIsOwnWord}
 use Rattle.aw_law_forged.proofs.OwnEquations.{equations-append, chosen-own, step-own, step-role}
 

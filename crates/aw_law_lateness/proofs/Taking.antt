@@ -22,7 +22,7 @@ use Rattle.aw_law_sites.specs.Worlds.{World, empty_world, site_at, node_of, chos
 use Rattle.aw_law_worlds.specs.Laws.{HomesAreRoles}
 use Rattle.aw_law_worlds.proofs.Lists.{Member-filter, Member-filtered}
 use Rattle.aw_law_worlds.proofs.Places.{get-set, get-set_other, length-set, same_or_not}
-use Rattle.aw_law_nodes.proofs.Following.{did-inj, new-of, cond-new}
+use Rattle.aw_law_worlds.proofs.Growing.{did-inj, new-of, cond-new}
 use Rattle.aw_law_nodes.proofs.ListParts.{filter-append, set-short}
 
 -- what a reaction does to the choices of a site

@@ -34,7 +34,7 @@ use Rattle.aw_law_worlds.proofs.AskingLemmas.{has_ref-member}
 use Rattle.aw_law_worlds.proofs.Learning.{add-member}
 use Rattle.aw_law_worlds.proofs.Lists.{Member-filtered, Member-of_order, has_ref-true}
 use Rattle.aw_law_worlds.proofs.SentLemmas.{out_case, tell_case}
-use Rattle.aw_law_nodes.proofs.Following.{cond-new, new-of}
+use Rattle.aw_law_worlds.proofs.Growing.{new-of, cond-new}
 use Rattle.aw_law_learning.specs.Learning.{IsLedTo, inherited, own, further}
 
 refs-true : (rs ss : List Ref) → refs_eq rs ss ≡ true → rs ≡ ss

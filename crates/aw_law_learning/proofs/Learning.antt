@@ -23,7 +23,7 @@ use Rattle.aw_law_worlds.specs.Laws.{HomesAreRoles, InvariantHolds}
 use Rattle.aw_law_worlds.proofs.Learning.{find-member}
 use Rattle.aw_law_worlds.proofs.Places.{get-left, get-set, get-set_other, same_or_not, set-here}
 use Rattle.aw_law_worlds.proofs.Settling.{run_both}
-use Rattle.aw_law_nodes.proofs.ListParts.{length-more}
+use Rattle.aw_law_worlds.proofs.Runs.{length-more}
 use Rattle.aw_law_learning.specs.Learning.{IsLedTo, OfficesAskTheirOwn, OfficesLearnTheirOwn}
 use Rattle.aw_law_learning.proofs.Leading.{Chain, ComesFine, IsSentFrom, Learnt, NewWatch, choose-learns, led-grown, led-mentioned, receive-learns}
 

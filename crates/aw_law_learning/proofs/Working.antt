@@ -27,7 +27,7 @@ use Rattle.aw_law_worlds.specs.Invariant.{call_message, calls_at}
 use Rattle.aw_law_worlds.proofs.Delivering.{parent-below}
 use Rattle.aw_law_worlds.proofs.Places.{get-set, get-set_other, same_or_not}
 use Rattle.aw_law_worlds.proofs.SentLemmas.{call_case, in_case}
-use Rattle.aw_law_nodes.proofs.Following.{cond-new, new-of}
+use Rattle.aw_law_worlds.proofs.Growing.{new-of, cond-new}
 use Rattle.aw_law_nodes.proofs.ListParts.{set-short}
 use Rattle.aw_law_learning.specs.Working.{IsItsWork, OfficesWorkByCall}
 

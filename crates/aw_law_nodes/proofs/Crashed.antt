@@ -20,12 +20,12 @@ use Rattle.aw_law_nodes.proofs.ListParts.{nil-left, set-same}
 use Rattle.aw_law_nodes.proofs.GoingBack.{back-all, chosen-back, delivered-back}
 use Rattle.aw_law_nodes.proofs.OwnEvents.{empty-size, plain_run, plain-append, Replays, Own, step-own, start-kept, start-own}
 
-set-member : {A : Type 0} (xs : List A) (k : ℕ) (p v : A) → slice_get xs k ≡ Some p → Member v (slice_set xs k v)
+pub set-member : {A : Type 0} (xs : List A) (k : ℕ) (p v : A) → slice_get xs k ≡ Some p → Member v (slice_set xs k v)
 set-member [] k p v e = absurd cc
 set-member (x ∷ xs) zero p v e = inl refl
 set-member (x ∷ xs) (suc k) p v e = inr (set-member xs k p v e)
 
-set-members : {A : Type 0} (xs : List A) (k : ℕ) (p v q : A) → slice_get xs k ≡ Some p → Member q xs → Member q (slice_set xs k v) ⊎ (q ≡ p)
+pub set-members : {A : Type 0} (xs : List A) (k : ℕ) (p v q : A) → slice_get xs k ≡ Some p → Member q xs → Member q (slice_set xs k v) ⊎ (q ≡ p)
 set-members [] k p v q e m = never m
 set-members (x ∷ xs) zero p v q e (inl m) = inr cc
 set-members (x ∷ xs) zero p v q e (inr m) = inl (inr m)

@@ -1,23 +1,22 @@
 -- The sites after an event, and what a later world has of an earlier one.
 use Rattle.std.specs.Prelude.{slice_get, slice_set, not}
-use Rattle.std.proofs.Common.{◌≡◌, ℕ, Bool, true, false, cond, List, [], ◌∷◌, ◌++◌, map, length, Option, Some, None, refl, sym, subst, inl, inr}
+use Rattle.std.proofs.Common.{◌≡◌, ℕ, true, false, List, [], ◌∷◌, ◌++◌, map, length, Option, Some, None, refl, sym, subst, inl, inr}
 use Rattle.std.proofs.lemmas.Bool.{cases_lt}
 use Rattle.std.proofs.lemmas.List.{append-nil}
-use Rattle.aw_list.proofs.Members.{never}
 use Rattle.aw_term.specs.Choices.{Choice, Start, Develop, Outcome, Refused, Starts, Takes}
 use Rattle.aw_term.specs.Rules.{Grammar, get}
-use Rattle.aw_term.specs.Trees.{Never}
 use Rattle.aw_term.specs.Names.{Ref}
-use Rattle.aw_apply.specs.Messages.{Message, Received, New, Repeat, Conflict, NotMine, BadName, Kind, Calls, Asks, Tells, Clash}
+use Rattle.aw_apply.specs.Messages.{Message, Received, New, Repeat, Conflict, NotMine, BadName, Kind, Calls, Asks, Tells}
 use Rattle.aw_law_sites.specs.Choosing.{Chosen, No, Did, choose, choose_on, outcome}
 use Rattle.aw_law_sites.specs.Homes.{home}
-use Rattle.aw_law_sites.specs.Reacting.{receive, react, received_on}
+use Rattle.aw_law_sites.specs.Reacting.{receive, react}
 use Rattle.aw_law_sites.specs.Sites.{Site, Reaction, empty_site}
 use Rattle.aw_law_sites.specs.Worlds.{node_of, site_at, with_site, chosen_at, mark_delivered, received_at, deliver_on, Move, Chooses, Delivers, run, World, step}
 use Rattle.aw_law_sites.specs.Receiving.{clash, is_repeat, is_mine}
 use Rattle.aw_law_sites.specs.ValidNames.{message_ok}
 use Rattle.aw_law_worlds.specs.Invariant.{IsSent, IsDelivered}
 use Rattle.aw_law_worlds.proofs.Places.{get-set, get-set_other, same_or_not, get-left, set-kept}
+use Rattle.aw_law_worlds.proofs.Growing.{did-inj, new-of, cond-new}
 use Rattle.aw_law_nodes.specs.Nodes.{received, chosen}
 use Rattle.aw_law_nodes.proofs.ListParts.{set-same, set-short}
 
@@ -55,10 +54,6 @@ follows-on u v w p q = record {
   boxes = λ a i m e. q.boxes a i m (p.boxes a i m e);
 }
 
--- what a site sends is put behind what it sent before
-pub did-inj : {x y : Reaction} → Did x ≡ Did y → x ≡ y
-did-inj e = cc
-
 pub choose_on-boxes : (g : Grammar) (s : Site) (c : Choice) (o : Outcome Ref Ref) (x : Reaction) → choose_on g s c o ≡ Did x → x.site.outbox ≡ s.outbox ++ x.sent
 choose_on-boxes g s c (Refused a) x e = absurd cc
 choose_on-boxes g s (Start st k) Starts x e = subst (λ (x : Reaction). x.site.outbox ≡ s.outbox ++ x.sent) (did-inj e) (sym (append-nil s.outbox))
@@ -73,15 +68,6 @@ pub react-boxes : (g : Grammar) (s : Site) (k : Kind) → (react g s k).site.out
 react-boxes g s (Calls c load) = refl
 react-boxes g s (Asks r from) = refl
 react-boxes g s (Tells e load) = refl
-
-pub new-of : (o : Option Clash) (b : Bool) (x y : Reaction) → received_on o b x ≡ New y → x ≡ y
-new-of (Some c) b x y e = absurd cc
-new-of None true x y e = absurd cc
-new-of None false x y e = cc
-
-pub cond-new : (b : Bool) (z o : Received Reaction) (y : Reaction) → (z ≡ New y → Never) → cond b z o ≡ New y → o ≡ New y
-cond-new true z o y f e = never (f e)
-cond-new false z o y f e = e
 
 pub receive-boxes : (g : Grammar) (s : Site) (m : Message) (y : Reaction) → receive g s m ≡ New y → y.site.outbox ≡ s.outbox ++ y.sent
 receive-boxes g s m y e =

@@ -85,10 +85,6 @@ filter-none p (x ∷ xs) f = ap (λ b. cond b (x ∷ filter p xs) (filter p xs))
 pub some-inj : {A : Type 0} {a b : A} → Some a ≡ Some b → a ≡ b
 some-inj e = cc
 
-pub length-more : {A : Type 0} (xs ys : List A) → length xs ≤ length (xs ++ ys)
-length-more [] ys = omega arith
-length-more (x ∷ xs) ys = let i = length-more xs ys in omega (arith, i)
-
 pub get-within : {A : Type 0} (xs : List A) (k : ℕ) → k < length xs → (x : A) × (slice_get xs k ≡ Some x)
 get-within [] k l = absurd (omega arith)
 get-within (x ∷ xs) zero l = (x, refl)

@@ -19,11 +19,12 @@ use Rattle.aw_law_worlds.specs.Invariant.{IsSent, IsDelivered}
 use Rattle.aw_law_worlds.specs.Laws.{MayCome}
 use Rattle.aw_law_worlds.proofs.Places.{set-here}
 use Rattle.aw_law_worlds.proofs.Settling.{run_both}
+use Rattle.aw_law_worlds.proofs.Runs.{length-more}
 use Rattle.aw_law_nodes.specs.Couriers.{Visit, choice_frame, asked_at, choice_frames, ChoicesOk}
 use Rattle.aw_law_nodes.specs.Nodes.{Frame, Choose, Pull, NotForMe, NotValid, Answers, chosen, Asked, ask, sites_after, happening_of, happenings, ReadAs}
 use Rattle.aw_law_nodes.proofs.Mail.{Given}
 use Rattle.aw_law_nodes.proofs.Served.{read-append, IsReached, reached-run, reached-mail, Went, chose}
-use Rattle.aw_law_nodes.proofs.ListParts.{set-same, length-more}
+use Rattle.aw_law_nodes.proofs.ListParts.{set-same}
 
 -- frames one behind the other
 pub sites-append : (g : Grammar) (ss : List Site) (xs ys : List Asked) → sites_after g ss (xs ++ ys) ≡ sites_after g (sites_after g ss xs) ys
@@ -42,7 +43,7 @@ choice-response true false s z p q = absurd cc
 choice-response false b s z p q = absurd cc
 
 -- a delivery leaves its mark
-marked : (w : World) (k to : ℕ) (z : Received Reaction) → k < length w.delivered → IsDelivered (received_at w k to z).world k
+pub marked : (w : World) (k to : ℕ) (z : Received Reaction) → k < length w.delivered → IsDelivered (received_at w k to z).world k
 marked w k to (New x) l = set-here (w.delivered ++ map (λ m. false) x.sent) k (let z = length-more w.delivered (map (λ m. false) x.sent) in omega (arith, z, l))
 marked w k to Repeat l = set-here w.delivered k l
 marked w k to (Conflict a b) l = set-here w.delivered k l

@@ -1,6 +1,6 @@
 -- Fair delivery settles.
 use Rattle.std.specs.Prelude.{slice_get, ◌⊎◌}
-use Rattle.std.proofs.Common.{◌≡◌, ℕ, zero, suc, ◌+◌, ◌-◌, ◌<◌, ◌≤◌, Bool, true, false, List, [], ◌∷◌, ◌++◌, map, length, Option, Some, None, refl, sym, ap, ◌∙◌, subst, inl, inr, arith}
+use Rattle.std.proofs.Common.{◌≡◌, ℕ, zero, suc, ◌+◌, ◌-◌, ◌<◌, ◌≤◌, Bool, true, false, List, [], ◌∷◌, ◌++◌, length, Option, Some, None, refl, sym, ap, ◌∙◌, subst, inl, inr, arith}
 use Rattle.std.proofs.lemmas.Option.{slice_get_within, same_Some}
 use Rattle.aw_term.specs.Choices.{undivided, answer}
 use Rattle.aw_term.specs.Rules.{Grammar}
@@ -16,11 +16,11 @@ use Rattle.aw_law_sites.specs.Worlds.{World, empty_world, node_of, site_at, Move
 use Rattle.aw_law_worlds.specs.Invariant.{IsDelivered, IsSent}
 use Rattle.aw_law_worlds.specs.Laws.{InvariantHolds, Repeats, QuietHolds, QuietAnswers, MessagesAreBounded}
 use Rattle.aw_law_worlds.proofs.Counting.{count_within, first_place}
-use Rattle.aw_law_worlds.proofs.Places.{set-here}
 use Rattle.aw_law_worlds.proofs.Quieting.{all-true}
 use Rattle.aw_law_worlds.proofs.Settling.{deliver_taken, run_both}
 use Rattle.aw_law_nodes.proofs.Following.{Follows, run-follows}
 use Rattle.aw_law_nodes.proofs.ListParts.{get-within, set-get}
+use Rattle.aw_law_nodes.proofs.Runs.{marked}
 use Rattle.aw_law_settling.specs.Fair.{deliveries, front, IsFair, Settles, FairDeliverySettles}
 
 -- what is set stays set
@@ -50,19 +50,6 @@ counts-more (true ∷ ds) (true ∷ es) f (suc k) p q = let i = counts-more ds e
 counts-more (true ∷ ds) (false ∷ es) f (suc k) p q = let z : Some false ≡ Some true = f 0 refl in absurd cc
 counts-more (false ∷ ds) (true ∷ es) f (suc k) p q = let i = counts-more ds es (kept-tail false true ds es f) k p q in omega (arith, i)
 counts-more (false ∷ ds) (false ∷ es) f (suc k) p q = let i = counts-more ds es (kept-tail false false ds es f) k p q in omega (arith, i)
-
--- a message that comes counts as delivered
-marked : (w : World) (k to : ℕ) (z : Received Reaction) → k < length w.delivered → IsDelivered (received_at w k to z).world k
-marked w k to (New x) l = set-here (w.delivered ++ map (λ m. false) x.sent) k (longer w.delivered (map (λ m. false) x.sent) k l)
-  where
-    longer : (xs ys : List Bool) (k : ℕ) → k < length xs → k < length (xs ++ ys)
-    longer [] ys k l = absurd (omega arith)
-    longer (x ∷ xs) ys zero l = omega arith
-    longer (x ∷ xs) ys (suc k) l = let i = longer xs ys k (omega arith) in omega (arith, i)
-marked w k to Repeat l = set-here w.delivered k l
-marked w k to (Conflict a b) l = set-here w.delivered k l
-marked w k to NotMine l = set-here w.delivered k l
-marked w k to BadName l = set-here w.delivered k l
 
 comes : (g : Grammar) (w : World) (k : ℕ) (m : Message) (o : Option Message) → o ≡ Some m → k < length w.delivered → IsDelivered (deliver_on g w k o).world k
 comes g w k m None e l = absurd cc

@@ -20,9 +20,9 @@ use Rattle.aw_law_sites.specs.ValidNames.{message_ok}
 use Rattle.aw_law_sites.specs.Worklists.{site_worklist}
 use Rattle.aw_law_sites.specs.Worlds.{node_of}
 use Rattle.aw_law_worlds.specs.Laws.{RefusalsAreNotTaken}
+use Rattle.aw_law_worlds.proofs.Growing.{cond-new}
 use Rattle.aw_law_nodes.specs.Crashes.{kept_choice, kept_message, kept_frame}
 use Rattle.aw_law_nodes.specs.Nodes.{Frame, Push, Choose, Pull, Listed, Response, Answers, NotValid, NotForMe, Sends, Shows, received, chosen, at_place, handle}
-use Rattle.aw_law_nodes.proofs.Following.{cond-new}
 use Rattle.aw_law_system.specs.Systems.{message_in}
 
 -- what a site makes of a frame

@@ -1,5 +1,5 @@
 -- A system has the nodes of a world with crashes in which no site that goes back loses an event that sent a delivered message.
-use Rattle.std.specs.Prelude.{slice_get, slice_set, nat_eq, nat_le, ◌&&◌, not, filter, ◌⊎◌}
+use Rattle.std.specs.Prelude.{slice_set, nat_eq, nat_le, ◌&&◌, not, filter, ◌⊎◌}
 use Rattle.std.proofs.Common.{◌≡◌, ℕ, zero, suc, ◌<◌, ◌≤◌, Bool, true, false, List, [], ◌∷◌, ◌++◌, length, Some, refl, sym, ap, ◌∙◌, subst, inl, inr, arith, length-append, eqb-true}
 use Rattle.std.proofs.lemmas.Bool.{leb-true, cases_lt}
 use Rattle.std.proofs.lemmas.List.{append-nil, length-take-le}
@@ -25,24 +25,13 @@ use Rattle.aw_law_nodes.proofs.Dropped.{drop-other, drop-early, drop-late}
 use Rattle.aw_law_nodes.proofs.Following.{choose-boxes, receive-boxes}
 use Rattle.aw_law_nodes.proofs.ListParts.{map-get, set-same}
 use Rattle.aw_law_nodes.proofs.Mail.{Mail, Given}
+use Rattle.aw_law_nodes.proofs.Crashed.{set-member, set-members}
 use Rattle.aw_law_system.specs.Systems.{Extent, Unwritten, Written, Heard, System, node_at, safe_at, first_system, Act, Asks, Crashes, after_frame, hands_after, message_in, act, IsCarried, IsAllowed, IsWritten}
 use Rattle.aw_law_system.proofs.Acting.{IsSound, asked-safe, written-all, asked-more, safe-either}
 use Rattle.aw_law_system.proofs.Framing.{Makes, nothing, choosing, getting, makes, hands-over, new-here}
 use Rattle.aw_law_system.proofs.Pasts.{IsTidy, role_of, tidy-start, tidy-happen, tidy-back}
 
 -- ---- lists
-
-set-member : {A : Type 0} (xs : List A) (k : ℕ) (p v : A) → slice_get xs k ≡ Some p → Member v (slice_set xs k v)
-set-member [] k p v e = absurd cc
-set-member (x ∷ xs) zero p v e = inl refl
-set-member (x ∷ xs) (suc k) p v e = inr (set-member xs k p v e)
-
-set-members : {A : Type 0} (xs : List A) (k : ℕ) (p v q : A) → slice_get xs k ≡ Some p → Member q xs → Member q (slice_set xs k v) ⊎ (q ≡ p)
-set-members [] k p v q e m = never m
-set-members (x ∷ xs) zero p v q e (inl m) = inr cc
-set-members (x ∷ xs) zero p v q e (inr m) = inl (inr m)
-set-members (x ∷ xs) (suc k) p v q e (inl m) = inl (inl m)
-set-members (x ∷ xs) (suc k) p v q e (inr m) = elim (set-members xs k p v q e m) [ inl i ↦ inl (inr i) | inr i ↦ inr i ]
 
 set-from : {A : Type 0} (xs : List A) (k : ℕ) (v q : A) → Member q (slice_set xs k v) → (q ≡ v) ⊎ Member q xs
 set-from [] k v q m = never m

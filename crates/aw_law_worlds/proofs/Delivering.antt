@@ -7,11 +7,12 @@ use Rattle.aw_list.specs.Members.{Member}
 use Rattle.aw_list.proofs.Members.{member_got, member_left, member_right, member_split, never}
 use Rattle.aw_term.specs.Names.{Node, Ref, Step, below, node_eq, ref_eq}
 use Rattle.aw_term.specs.Rules.{Grammar}
-use Rattle.aw_term.specs.Trees.{Con, Head, Never, Num, Text, head_eq, nats_eq}
+use Rattle.aw_term.specs.Trees.{Never, head_eq, nats_eq}
 use Rattle.aw_term.specs.WellFormed.{Each}
 use Rattle.aw_term.specs.Held.{Held, held_of, insert_held}
 use Rattle.aw_name.specs.SameNodes.{node_self}
 use Rattle.aw_term.proofs.RefTests.{ref_eq-self}
+use Rattle.aw_term.proofs.HeadTests.{head_eq-self as head-refl}
 use Rattle.aw_base.specs.ChoiceFits.{ref_ok}
 use Rattle.aw_accept.proofs.Fitting.{each_member}
 use Rattle.aw_store.specs.Equations.{Body, Equation, Is, Map, Same, find, mentions}
@@ -38,12 +39,7 @@ nats-refl : (xs : List ℕ) → nats_eq xs xs ≡ true
 nats-refl [] = refl
 nats-refl (x ∷ xs) = and_from (nat_eq x x) (nats_eq xs xs) (eq-eqb x x refl) (nats-refl xs)
 
-head-refl : (h : Head) → head_eq h h ≡ true
-head-refl (Con c) = eq-eqb c c refl
-head-refl (Num n) = eq-eqb n n refl
-head-refl (Text t) = nats-refl t
-
-refs-refl : (rs : List Ref) → refs_eq rs rs ≡ true
+pub refs-refl : (rs : List Ref) → refs_eq rs rs ≡ true
 refs-refl [] = refl
 refs-refl (r ∷ rs) = and_from (ref_eq r r) (refs_eq rs rs) (ref_eq-self r) (refs-refl rs)
 
@@ -114,7 +110,7 @@ not-eq a b n = go (nat_eq a b) refl
     go true e = never (n (eqb-true a b e))
     go false e = refl
 
-each-ok : (g : Grammar) (es : List Equation) → ((e : Equation) → Member e es → equation_ok g e ≡ true) → equations_ok g es ≡ true
+pub each-ok : (g : Grammar) (es : List Equation) → ((e : Equation) → Member e es → equation_ok g e ≡ true) → equations_ok g es ≡ true
 each-ok g [] f = refl
 each-ok g (e ∷ es) f = and_from (equation_ok g e) (equations_ok g es) (f e (inl refl)) (each-ok g es (λ e m. f e (inr m)))
 

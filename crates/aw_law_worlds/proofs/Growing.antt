@@ -35,7 +35,7 @@ Keeps s t = (r : Ref) (b : Body) → find s.equations r ≡ Some b → find t.eq
 abbrev pub Holds_on : Site → Site → Type 0
 Holds_on s t = (h : Held) → Member h s.held → Member h t.held ⊎ ((r : ℕ) × (args : List Ground) × Member (record h { state = Done r args }) t.held)
 
-new-of : (o : Option Clash) (b : Bool) (x y : Reaction) → received_on o b x ≡ New y → x ≡ y
+pub new-of : (o : Option Clash) (b : Bool) (x y : Reaction) → received_on o b x ≡ New y → x ≡ y
 new-of (Some c) b x y e = absurd cc
 new-of None true x y e = absurd cc
 new-of None false x y e = cc
@@ -49,7 +49,7 @@ react-keeps g s (Calls c load) = (add-kept s.equations load, λ h m. inl (add_he
 react-keeps g s (Asks r from) = (λ r b f. f, λ h m. inl m)
 react-keeps g s (Tells e load) = (add-kept s.equations (e ∷ load), λ h m. inl m)
 
-cond-new : (b : Bool) (z o : Received Reaction) (y : Reaction) → (z ≡ New y → Never) → cond b z o ≡ New y → o ≡ New y
+pub cond-new : (b : Bool) (z o : Received Reaction) (y : Reaction) → (z ≡ New y → Never) → cond b z o ≡ New y → o ≡ New y
 cond-new true z o y f e = never (f e)
 cond-new false z o y f e = e
 
@@ -60,7 +60,7 @@ receive-keeps g s m y e =
     let b = cond-new (not (is_mine g s.role m)) NotMine _ y (λ z. absurd cc) a in
     subst (λ (y : Reaction). Keeps s y.site × Holds_on s y.site) (new-of (clash s m.kind) (is_repeat s m.kind) (react g s m.kind) y b) (react-keeps g s m.kind)
 
-did-inj : {x y : Reaction} → Did x ≡ Did y → x ≡ y
+pub did-inj : {x y : Reaction} → Did x ≡ Did y → x ≡ y
 did-inj e = cc
 
 mark-on : (t : Bool) (n : Node) (ri : ℕ) (args : List Ground) (h : Held) (hs : List Held) → node_eq n h.node ≡ t → Member (mark n (Done ri args) h) hs → Member h hs ⊎ ((r : ℕ) × (xs : List Ground) × Member (record h { state = Done r xs }) hs)

@@ -39,11 +39,11 @@ use Rattle.aw_law_worlds.proofs.Rooted.{T, bound_mentioned, is_given, is_many}
 use Rattle.aw_law_worlds.proofs.Sorts.{sort_below, sort_of_root, step_sort}
 
 -- a part up to 512, or a result of the sort
-slot_within : (g : Grammar) (s k a b m : ℕ) (t : Slot) → k ≤ 513 → m ≤ 1 + gives g s → Under k t → Covers a b 1 m t → slot_ok g (Some s) t ≡ true
+pub slot_within : (g : Grammar) (s k a b m : ℕ) (t : Slot) → k ≤ 513 → m ≤ 1 + gives g s → Under k t → Covers a b 1 m t → slot_ok g (Some s) t ≡ true
 slot_within g s k a b m (Part i) l q (x, y) c = and_from (nat_le 1 i) (nat_le i most_node_parts) (le-leb 1 i x) (le-leb i most_node_parts (omega (arith, y, l)))
 slot_within g s k a b m (Result j) l q u c = and_from (nat_le 1 j) (nat_le j (gives g s)) (le-leb 1 j c.0) (le-leb j (gives g s) (omega (arith, c.1, q)))
 
-each_ground : (g : Grammar) (ts : List Ground) → grounds_ok g ts ≡ true → (t : Ground) → Member t ts → heads_fit g.arities t ≡ true
+pub each_ground : (g : Grammar) (ts : List Ground) → grounds_ok g ts ≡ true → (t : Ground) → Member t ts → heads_fit g.arities t ≡ true
 each_ground g [] e t m = never m
 each_ground g (u ∷ ts) e t (inl p) = subst (λ t. heads_fit g.arities t ≡ true) (sym p) (and_parts _ _ (and_parts (ground_ok g u) (grounds_ok g ts) e).0).0
 each_ground g (u ∷ ts) e t (inr m) = each_ground g ts (and_parts (ground_ok g u) (grounds_ok g ts) e).1 t m

@@ -40,14 +40,14 @@ use Rattle.aw_law_worlds.proofs.Starting.{IsHomed, start_in, starting}
 use Rattle.aw_law_worlds.proofs.Taking.{developing, in_outcome, keyed_next}
 use Rattle.aw_law_worlds.proofs.Places.{get-left, get-set, get-set_other, length-set, set-from, set-here, set-kept}
 
-length-both : {A B : Type 0} (xs : List A) (ys : List B) (f : A → B) (zs : List A) → length ys ≡ length xs → length (ys ++ map f zs) ≡ length (xs ++ zs)
+pub length-both : {A B : Type 0} (xs : List A) (ys : List B) (f : A → B) (zs : List A) → length ys ≡ length xs → length (ys ++ map f zs) ≡ length (xs ++ zs)
 length-both [] [] f [] e = refl
 length-both [] [] f (z ∷ zs) e = ap suc (length-both [] [] f zs e)
 length-both [] (y ∷ ys) f zs e = absurd (omega arith)
 length-both (x ∷ xs) [] f zs e = absurd (omega arith)
 length-both (x ∷ xs) (y ∷ ys) f zs e = ap suc (length-both xs ys f zs (omega arith))
 
-length-more : {A : Type 0} (xs ys : List A) → length xs ≤ length (xs ++ ys)
+pub length-more : {A : Type 0} (xs ys : List A) → length xs ≤ length (xs ++ ys)
 length-more [] ys = omega arith
 length-more (x ∷ xs) ys = let i = length-more xs ys in omega (arith, i)
 

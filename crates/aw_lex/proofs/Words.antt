@@ -16,7 +16,7 @@ word_prefix (b ∷ bs) =
     let one_more : suc (word_len bs) ≡ 1 + prefix_len is_word_byte bs = omega (arith, word_prefix bs) in
     ap (λ n. cond (is_word_byte b) n 0) one_more
 
-name_in_word : (b : ℕ) → is_name_byte b ≡ true → is_word_byte b ≡ true
+pub name_in_word : (b : ℕ) → is_name_byte b ≡ true → is_word_byte b ≡ true
 name_in_word b h = ap (λ t. ((t || b == 35) || b == 47) || b == 46) h
 
 past_one : (b : ℕ) (bs : List ℕ) (t : Bool) → is_name_byte b ≡ t

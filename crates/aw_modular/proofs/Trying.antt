@@ -1,6 +1,6 @@
 -- A list that decides the rules of a role, with what is declared of others, shows that the role says yes.
-use Rattle.std.proofs.Common.{◌≡◌, ℕ, zero, suc, Bool, true, false, List, None, refl, sym, subst, inl, inr, eq-eqb}
-use Rattle.std.specs.Prelude.{◌⊎◌, ◌&&◌, ◌||◌, not, nat_eq}
+use Rattle.std.proofs.Common.{◌≡◌, ℕ, zero, suc, Bool, true, false, List, None, sym, subst, inl, inr, eq-eqb}
+use Rattle.std.specs.Prelude.{◌&&◌, ◌||◌, not, nat_eq}
 use Rattle.std.proofs.lemmas.Bool.{eqb-true, and_parts}
 use Rattle.aw_list.specs.Members.{Member}
 use Rattle.aw_list.proofs.Members.{never}
@@ -9,7 +9,7 @@ use Rattle.aw_base.specs.declared.declared.Triple.{Triple}
 use Rattle.aw_iograph.proofs.Relations.{plus_map, follows_least}
 use Rattle.aw_face.specs.Faces.{role_of, is_offered, face_fault}
 use Rattle.aw_iograph.specs.Decided.{Pair, Holds, all, any, pair_eq, decides}
-use Rattle.aw_iograph.proofs.Deciding.{all_member, any_member, listed_member, decided_closed, decided_none}
+use Rattle.aw_iograph.proofs.Deciding.{all_member, any_member, listed_member, decided_closed, decided_none, or_true as or_second, implied as implies}
 use Rattle.aw_modular.specs.Roles.{Declares, IsOf, Mixed, RoleRelation, HasOwnRules, DeclaredElsewhere, Part, SaysYes}
 use Rattle.aw_modular.proofs.RoleRelations.{mixed-follows}
 
@@ -24,14 +24,6 @@ triple_is p t = nat_eq p.sort t.sort && (nat_eq p.i t.i && nat_eq p.j t.j)
 
 abbrev pub declares_offered : ℕ → Grammar → List ℕ → List Triple → List Pair → Bool
 declares_offered role g offers declared pairs = all (λ (p : Pair). not (nat_eq (role_of g.sorts p.sort) role && is_offered p.sort offers) || any (triple_is p) declared) pairs
-
-or_second : (a b : Bool) → (a || b) ≡ true → (a ≡ true) ⊎ (b ≡ true)
-or_second true b e = inl refl
-or_second false b e = inr e
-
-implies : (a b : Bool) → (not a || b) ≡ true → a ≡ true → b ≡ true
-implies true b e f = e
-implies false b e f = absurd cc
 
 both : (a b : Bool) → a ≡ true → b ≡ true → (a && b) ≡ true
 both true b e f = f

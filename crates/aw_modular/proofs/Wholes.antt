@@ -6,6 +6,7 @@ use Rattle.aw_list.proofs.Members.{never, member_got}
 use Rattle.aw_term.specs.Trees.{Never}
 use Rattle.aw_term.specs.Rules as P
 use Rattle.aw_term.specs.WellFormed.{Each}
+use Rattle.aw_term.proofs.Eaches.{each_append as each_both}
 use Rattle.aw_grammar.specs.declared.rule.Con.{Con}
 use Rattle.aw_grammar.specs.declared.rule.Sort.{Sort}
 use Rattle.aw_grammar.specs.declared.rule.Rule.{Rule}
@@ -42,11 +43,6 @@ rules_go rules more y rest left next same =
 -- where it does not
 pub other_here : (kept came : Shared) (y : RoleYes) (rest left : List RoleYes) → left ≡ y ∷ rest → came ≡ shared_of y → (came ≡ kept → Never) → FirstOther kept came left
 other_here kept came y rest left next same differs = subst (FirstOther kept came) (sym next) (inl (sym same, differs))
-
--- the variables of all rules fit
-each_both : {A : Type 0} (P : A → Type 0) (xs ys : List A) → Each P xs → Each P ys → Each P (xs ++ ys)
-each_both P [] ys a b = b
-each_both P (x ∷ xs) ys a b = (a.0, each_both P xs ys a.1 b)
 
 pub variables_of_all : (s : Shared) (ys : List RoleYes) → AllHave s ys → ∥ AllVariablesFit s.cons s.sorts (all_rules ys) ∥₁
 variables_of_all s [] have = ∣ tt ∣₁

@@ -2,8 +2,9 @@
 use Rattle.std.proofs.Common.{◌≡◌, ℕ, zero, suc, ◌<◌, ◌≤◌, ◌^◌, true, false, ltb, ◌==◌, List, [], ◌∷◌, ◌++◌, length, take, drop, Option, None, Some, option_map, Result, Ok, Err, refl, sym, ap, subst, ◌∙◌, append_assoc, arith}
 use Rattle.std.proofs.lemmas.Bool.{ltb-false, le-ltb, le-leb, eqb-true}
 use Rattle.std.proofs.lemmas.List.{take_at, drop_at, take-append-drop, length-append, length-take, append-nil, nil_from_length}
-use Rattle.std.proofs.lemmas.Option.{same_Some, cond_some}
+use Rattle.std.proofs.lemmas.Option.{cond_some}
 use Rattle.std.specs.Int.{w32, w64, to_be_bytes}
+use Rattle.aw_term.proofs.LastSteps.{mapped as mapped_is}
 use Rattle.aw_codec.specs.Bytes.{AreBytes}
 use Rattle.aw_codec.specs.Reading.{Fault, Short, Reader, ◌>>=◌, byte, number, such_that}
 use Rattle.aw_codec.specs.Names.{is_from_1_to}
@@ -32,10 +33,6 @@ pub whole_again : {A : Type 0} {r : Reader A} {s : A → List ℕ} {S R : A → 
 whole_again {A} {r} {s} law x sized range = ap all_of (ap r (sym (append-nil (s x))) ∙ law.again x [] sized range)
 
 -- ---- payloads
-
-pub mapped_is : {A B : Type 0} (f : A → B) (o : Option A) (y : B) → option_map f o ≡ Some y → (x : A) × (o ≡ Some x) × (f x ≡ y)
-mapped_is f None y e = absurd cc
-mapped_is f (Some x) y e = (x, refl, same_Some (f x) y e)
 
 abbrev PayloadTakes : ℕ → List ℕ → Frame → Type 0
 PayloadTakes kind bytes f = (bytes ≡ spelled_payload f) × (frame_kind f ≡ kind) × FrameSized f × FrameInRange f

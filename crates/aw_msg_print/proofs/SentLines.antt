@@ -1,7 +1,6 @@
 -- The lines of messages, and of the equations that they carry.
-use Rattle.std.proofs.Common.{◌≡◌, ℕ, zero, suc, ◌+◌, ◌-◌, ◌≤◌, arith, List, [], ◌∷◌, ◌++◌, length, map, take, drop, get_or, codes, flat_map, ap, sym, ◌∙◌, refl, Some, slice_get, append_assoc, append-nil}
+use Rattle.std.proofs.Common.{◌≡◌, ℕ, zero, suc, ◌+◌, ◌-◌, ◌≤◌, arith, List, [], ◌∷◌, ◌++◌, length, map, drop, get_or, codes, flat_map, ap, sym, ◌∙◌, Some, slice_get, append_assoc, append-nil}
 use Rattle.std.specs.Prelude.{Result, Ok, Err, OnOk}
-use Rattle.std.proofs.lemmas.List.{take_all}
 use Rattle.aw_term.specs.Artifacts.{Words, joined}
 use Rattle.aw_apply.specs.Messages.{Message}
 use Rattle.aw_store.specs.declared.equation.Equation.{Equation}
@@ -23,10 +22,6 @@ load_split w (y ∷ ys) x rest l e d =
     ap (λ t. codes " with " ++ (equation_text w (equation_of x) ++ flat_map (λ e. codes "; " ++ equation_text w (equation_of e)) t)) d
     ∙ ap (λ t. codes " with " ++ (equation_text w (equation_of t) ++ flat_map (λ e. codes "; " ++ equation_text w (equation_of e)) ys)) e
     ∙ ap (λ t. codes " with " ++ t) (sym (joined_first w y ys))
-
-pub all_behind : {A : Type 0} (xs : List A) → take (length xs - 1) (drop 1 xs) ≡ drop 1 xs
-all_behind [] = refl
-all_behind (x ∷ xs) = take_all (length (x ∷ xs) - 1) xs (omega arith)
 
 -- a text to which three texts were added
 pub added_thrice : {T E : Type 0} (r : Result T E) (old a b rest one two new whole : List ℕ) → one ≡ old ++ a → two ≡ one ++ b → a ++ (b ++ rest) ≡ whole → OnOk r (new ≡ two ++ rest) → OnOk r (new ≡ old ++ whole)

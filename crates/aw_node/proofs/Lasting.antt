@@ -26,7 +26,7 @@ either P true x y p q = p
 either P false x y p q = q
 
 -- a message changes the site as its event does
-push-site : (s : Site) (o : Received Reaction) → (N.received s o).site ≡ after_message s o
+pub push-site : (s : Site) (o : Received Reaction) → (N.received s o).site ≡ after_message s o
 push-site s (New x) = refl
 push-site s Repeat = refl
 push-site s (Conflict a b) = refl
@@ -34,7 +34,7 @@ push-site s NotMine = refl
 push-site s BadName = refl
 
 -- and so does a choice that is answered
-chosen-site : (s : Site) (o : Chosen) → (N.chosen s o).site ≡ after_choice s o
+pub chosen-site : (s : Site) (o : Chosen) → (N.chosen s o).site ≡ after_choice s o
 chosen-site s (No a) = refl
 chosen-site s (Did x) = refl
 

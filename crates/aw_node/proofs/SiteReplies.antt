@@ -1,6 +1,6 @@
 -- The replies of a site of the program are those of each plain site that it shows.
 use Rattle.std.proofs.Common.{◌≡◌, ℕ, ◌≤◌, true, List, length, map, slice_get, Some, refl, ap, sym, ◌∙◌, subst, arith}
-use Rattle.std.specs.Prelude.{option_map, Result, Ok, Err, OnErr}
+use Rattle.std.specs.Prelude.{option_map}
 use Rattle.std.specs.Coded.{le_prop}
 use Rattle.std.proofs.lemmas.List.{length-map}
 use Rattle.std.proofs.lemmas.Option.{slice_get-map, slice_get_past}
@@ -50,11 +50,6 @@ at_none f say xs place count c l =
 -- a node of the role of each plain site that is shown is at home here
 pub here_at : {F : Type 0} (f : Ghosts F) (site : program.Site F f) (g : Grammar) (n : Node) → ((s : Site) → IsShown f site s → home g n ≡ s.role) → is_home g (role_in f site) n ≡ true
 here_at f site g n h = ∥∥₁_elim site.shown (Bool-set _ _) (λ w. eq-eqb _ _ (h w.0 w.1 ∙ w.1.holds.role))
-
--- what holds anyway holds where a call failed
-pub err_any : {A E T : Type 0} (r : Result A E) → T → OnErr r T
-err_any (Ok x) t = tt
-err_any (Err e) t = t
 
 -- a grammar has 64 roles at most
 pub few_roles : (g : declared.Grammar) → (grammar_of g).roles ≤ 64

@@ -66,7 +66,7 @@ unmarked g n s (h ∷ hs) each =
     ap (λ b. cond b (record (held_of g h) { state = s }) (held_of g h) ∷ map (mark n s) (all_of g hs)) (other_after n h.node each.0)
     ∙ ap (λ z. held_of g h ∷ z) (unmarked g n s hs each.1)
 
-each_here : (P : Held → Type 0) (hs : List Held) (i : ℕ) (h : Held) → Each P hs → slice_get hs i ≡ Some h → P h
+pub each_here : (P : Held → Type 0) (hs : List Held) (i : ℕ) (h : Held) → Each P hs → slice_get hs i ≡ Some h → P h
 each_here P [] i h each e = absurd cc
 each_here P (k ∷ ks) zero h each e = let s : k ≡ h = cc in subst P s each.0
 each_here P (k ∷ ks) (suc i) h each e = each_here P ks i h each.1 e

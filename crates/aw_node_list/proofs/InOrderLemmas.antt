@@ -11,7 +11,7 @@ use Rattle.aw_term.proofs.Eaches.{each_map}
 use Rattle.aw_name.specs.SameNodes.{node_self, node_is}
 use Rattle.std.proofs.lemmas.Option.{slice_get_within, get_or_from_slice_get}
 use Rattle.aw_term.proofs.NodeOrder.{node_order, node_tied, node-trans, node-no}
-use Rattle.aw_term.proofs.ByNodeLemmas.{other_before, other_after}
+use Rattle.aw_term.proofs.ByNodeLemmas.{other_before, other_after, strict_cases as is_before}
 use Rattle.aw_term.proofs.ByNodeLemmas as by
 use Rattle.aw_node_list.specs.declared.held.Held.{Held}
 use Rattle.aw_node_list.specs.InOrder.{IsInOrder, place_in, insert_in, Lacks}
@@ -95,10 +95,6 @@ before_all n m hs l each = each_map _ _ hs (λ h e. node-trans n m h.node l e) e
 tied : (n m : Node) → node_lt n m ≡ false → node_lt m n ≡ false → node_eq n m ≡ true
 tied n m e f = subst (λ k. node_eq n k ≡ true) (node_tied n m e f) (node_self n)
 
-is_before : (n m : Node) (x : Bool) → node_lt n m ≡ x → node_lt m n ≡ false → node_eq n m ≡ false → x ≡ true
-is_before n m true e f differ = refl
-is_before n m false e f differ = let t = tied n m e f in absurd cc
-
 is_after : (n m : Node) (x : Bool) → node_lt m n ≡ x → node_lt n m ≡ false → node_eq n m ≡ false → x ≡ true
 is_after n m true e f differ = refl
 is_after n m false e f differ = let t = tied n m f e in absurd cc
@@ -125,7 +121,7 @@ insert_cases : (P : Held → Type 0) (b : Bool) (h k : Held) (ks zs : List Held)
 insert_cases P true h k ks zs here each later = (here, each)
 insert_cases P false h k ks zs here each later = (each.0, later)
 
-each_inserted : (P : Held → Type 0) (h : Held) (hs : List Held) → P h → Each P hs → Each P (insert_in h hs)
+pub each_inserted : (P : Held → Type 0) (h : Held) (hs : List Held) → P h → Each P hs → Each P (insert_in h hs)
 each_inserted P h [] here each = (here, tt)
 each_inserted P h (k ∷ ks) here each = insert_cases P (node_lt h.node k.node) h k ks (insert_in h ks) here each (each_inserted P h ks here each.1)
 

@@ -1,6 +1,6 @@
 -- What the node of a role leads to.
 use Rattle.std.proofs.Common.{◌≡◌, ◌⊎◌, ℕ, ◌≤◌, ◌<◌, List, length, true, refl, sym, ap, ◌∙◌, subst, inl, inr, Option, None, Some}
-use Rattle.std.specs.Prelude.{codes, IfErr, Result, Err}
+use Rattle.std.specs.Prelude.{codes}
 use Rattle.aw_sched.proofs.LookedUp.{named_within}
 use Rattle.aw_term.specs.Artifacts.{Words}
 use Rattle.aw_term.specs.Rules as R
@@ -140,10 +140,6 @@ pub lines-lost : (x : Devices) (s : Spec) (g : Grammar) (t : Typed) (role sessio
 lines-lost x s g t role sessions spelled logs same typed spells is most all =
     let said = keeps-role x s g t role sessions spelled logs (session_lines 1 logs) same typed spells is most all refl in
     inr (said.0, said.1)
-
--- an error that is passed on
-pub err-passed : {T E : Type 0} (P : E → Type 0) (r : Result T E) (e : E) → r ≡ Err e → P e → IfErr r P
-err-passed P r e is holds = rw is holds
 
 -- what is done is no refusal
 pub done-no-refusal : {A : Type 0} (said : Reply) → said.status ≡ Done → IsRefusal said.status → A

@@ -12,7 +12,8 @@ use Rattle.aw_term.proofs.ViewLemmas.{ground_con}
 use Rattle.aw_term.specs.declared.ground.Ground as grounds
 use Rattle.aw_grammar.specs.Written.{Written, Word, Apply, side_by_side}
 use Rattle.aw_grammar.specs.Named.{number_named}
-use Rattle.aw_grammar.specs.Terms.{symbols_in, symbols_in_parts, symbols_in_all, depth_of_all}
+use Rattle.aw_grammar.specs.Terms.{symbols_in, symbols_in_all, depth_of_all}
+use Rattle.aw_grammar.proofs.TermLemmas.{symbols_side}
 use Rattle.aw_sched.specs.Events.{args_are_past}
 use Rattle.aw_sched.specs.ArgumentRoots.{FindsRoot, HasParts}
 use Rattle.aw_sched.specs.Grounds.{known_ground, known_parts, known_grounds, Finds}
@@ -46,10 +47,6 @@ pub apply_known : (cons : List (List ℕ)) (x : List ℕ) (c : ℕ) (ts : List W
     → known_ground cons (Apply x (side_by_side ts)) ≡ Some (ground_of (grounds.Con c parts))
 apply_known cons x c ts parts e f =
     apply_is cons x c ts e ∙ ap (λ o. option_map (λ ps. Made (P.Con c) ps) (option_map join o)) f ∙ ap Some (sym (ground_con c parts))
-
-pub symbols_side : (ts : List Written) → symbols_in_parts (side_by_side ts) ≡ symbols_in_all ts
-symbols_side [] = refl
-symbols_side (t ∷ ts) = ap (λ n. symbols_in t + n) (symbols_side ts)
 
 -- what holds of a term by its root and its parts
 module _ (cons : List (List ℕ)) (t : Written) (c : ℕ) (ts : List Written) (root : HasParts cons t c ts) where

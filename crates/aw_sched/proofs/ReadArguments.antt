@@ -1,6 +1,6 @@
 -- Arguments that are read from lexemes at once, part by part.
 use Rattle.std.proofs.Common.{◌≡◌, ℕ, suc, ◌+◌, ◌≤◌, ◌<◌, refl, sym, ap, ◌∙◌, true, false, ◌&&◌, ◌||◌, List, [], ◌∷◌, ◌++◌, Some, subst, append_assoc, append-nil, arith}
-use Rattle.std.specs.Prelude.{map, length, max, option_map, option_and_then, nat_lt, Result, Ok, Err, IfOk}
+use Rattle.std.specs.Prelude.{map, length, option_map, option_and_then, nat_lt, Result, Ok, Err, IfOk}
 use Rattle.std.specs.List.{AllZip}
 use Rattle.std.proofs.lemmas.Bool.{and_from}
 use Rattle.std.proofs.lemmas.Bool.Decides.{nat_tests}
@@ -10,9 +10,10 @@ use Rattle.aw_term.specs.declared.ground.Ground.{Ground}
 use Rattle.aw_term.specs.declared.ground.Ground as grounds
 use Rattle.aw_grammar.specs.declared.rule.Con.{Con}
 use Rattle.aw_grammar.specs.Written.{Written, Word, Apply, Literal, side_by_side}
-use Rattle.aw_grammar.specs.Terms.{symbols_in, symbols_in_all, depth_of, depth_of_parts, depth_of_all}
+use Rattle.aw_grammar.specs.Terms.{symbols_in, symbols_in_all, depth_of_all}
 use Rattle.aw_grammar.specs.Kinds.{has_arity, con_called, has_arities, parts_have_arities, all_have_arities}
-use Rattle.aw_grammar.proofs.TermLemmas.{count_side}
+use Rattle.aw_grammar.proofs.TermLemmas.{count_side, symbols_side, depth_side}
+use Rattle.aw_grammar.proofs.Emptying.{some_symbols}
 use Rattle.aw_term_reader.specs.Lexemes.{Lexeme, Name, Number, Quoted, Mark}
 use Rattle.aw_term_reader.specs.Laws.{AreWritten}
 use Rattle.aw_term_reader.specs.Terms.{spelling, spellings, spellings_behind}
@@ -24,12 +25,7 @@ use Rattle.aw_sched.specs.Grounds.{known_grounds}
 use Rattle.aw_sched.specs.LineSpelling.{args_spelling}
 use Rattle.aw_sched.specs.declared.known.ArgumentFront.{ArgumentFront}
 use Rattle.aw_sched.specs.declared.known.ArgumentFront.TheVariants.{Whole, Parts}
-use Rattle.aw_sched.proofs.KnownGrounds.{word_known, apply_known, symbols_side}
-
--- terms side by side are as deep and have the arities that they have one by one
-depth_side : (ts : List Written) → depth_of_parts (side_by_side ts) ≡ depth_of_all ts
-depth_side [] = refl
-depth_side (t ∷ ts) = ap (λ n. max (depth_of t) n) (depth_side ts)
+use Rattle.aw_sched.proofs.KnownGrounds.{word_known, apply_known}
 
 arities_side : (cons : List Con) (ts : List Written) → parts_have_arities cons (side_by_side ts) ≡ all_have_arities cons ts
 arities_side cons [] = refl
@@ -75,11 +71,6 @@ means_last cons depth (u ∷ us) (y ∷ ys) t x h m = (h.0, means_last cons dept
 symbols_last : (ts : List Written) (t : Written) → symbols_in_all (ts ++ t ∷ []) ≡ symbols_in_all ts + symbols_in t
 symbols_last [] t = omega arith
 symbols_last (u ∷ us) t = omega (arith, symbols_last us t)
-
-pub some_symbols : (t : Written) → 0 < symbols_in t
-some_symbols (Word x) = omega arith
-some_symbols (Apply x ts) = omega arith
-some_symbols (Literal h) = omega arith
 
 -- terms, with a comma behind each
 abbrev pub with_commas : List Written → List Lexeme
@@ -226,7 +217,7 @@ spelled_some : (ts : List Written) → 0 < symbols_in_all ts → Mark 123 ∷ (s
 spelled_some [] some = absurd (omega (arith, some))
 spelled_some (t ∷ ts) some = refl
 
-few_is : (number symbols depth : ℕ) → number ≤ 8 → symbols ≤ 256 → depth ≤ 32 → (nat_lt 8 number || (nat_lt 256 symbols || nat_lt 32 depth)) ≡ false
+pub few_is : (number symbols depth : ℕ) → number ≤ 8 → symbols ≤ 256 → depth ≤ 32 → (nat_lt 8 number || (nat_lt 256 symbols || nat_lt 32 depth)) ≡ false
 few_is number symbols depth a b c = grind (arith, nat_tests)
 
 pub some_read : (cons : List Con) (bytes first : List ℕ) (xs : List Ground) → SaysBefore bytes (Mark 123 ∷ []) first → AreInBraces cons first xs → TakesAll cons bytes xs

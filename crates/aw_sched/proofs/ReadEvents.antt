@@ -2,6 +2,7 @@
 use Rattle.std.proofs.Common.{◌≡◌, ℕ, refl, ap, sym, subst, ◌∙◌, List, [], ◌∷◌, ◌++◌, map}
 use Rattle.std.specs.Prelude.{Err, IfSome, None, Ok, Option, Result, Some}
 use Rattle.aw_term.specs.WellFormed.{Each}
+use Rattle.aw_term.proofs.Eaches.{each_append as each_more}
 use Rattle.aw_grammar.specs.declared.grammar.Grammar.{Grammar}
 use Rattle.aw_grammar.specs.GrammarOf.{grammar_of}
 use Rattle.aw_typed.specs.Typing.{types_of}
@@ -48,10 +49,6 @@ next_is before middle after (Ok None) same told h = absurd (told refl)
 next_is before middle after (Ok (Some e)) same told h = sym same ∙ h
 next_is before middle after (Err (Told line kind)) same told h = sym same ∙ h
 next_is before middle after (Err Unread) same told h = tt
-
-each_more : {A : Type 0} (P : A → Type 0) (as' bs : List A) → Each P as' → Each P bs → Each P (as' ++ bs)
-each_more P [] bs front back = back
-each_more P (a ∷ as') bs front back = (front.0, each_more P as' bs front.1 back)
 
 -- to begin with no event was read
 pub none_read : (r : ScheduleReader) → AreRead r [] (left r)

@@ -1,5 +1,5 @@
 -- The line that is written for an event asks for this event, and nothing is wrong with it.
-use Rattle.std.proofs.Common.{◌≡◌, ℕ, zero, suc, ◌<◌, ◌≤◌, ◌^◌, refl, ap, ◌∙◌, Bool, true, false, cond, not, ◌&&◌, ◌||◌, nat_lt, nat_le, List, [], ◌∷◌, map, length, Option, Some, None, is_some, slice_get, arith}
+use Rattle.std.proofs.Common.{◌≡◌, ℕ, zero, suc, ◌<◌, ◌^◌, refl, ap, ◌∙◌, Bool, true, false, cond, not, ◌&&◌, ◌||◌, nat_lt, nat_le, List, [], ◌∷◌, map, length, Option, Some, None, is_some, slice_get, arith}
 use Rattle.std.specs.Prelude.{is_none}
 use Rattle.std.proofs.lemmas.Bool.{and_parts}
 use Rattle.std.proofs.lemmas.Bool.Decides.{nat_tests}
@@ -25,6 +25,7 @@ use Rattle.aw_sched.specs.Schedules.{event_fits}
 use Rattle.aw_sched.specs.declared.fault.SchedKind.TheVariants.{Limit, Unknown, Arity, NotStart, Name}
 use Rattle.aw_spec_writer.proofs.Placed.{number_again, stands_at}
 use Rattle.aw_spec_writer.proofs.SaysTerms.{IsName}
+use Rattle.aw_sched.proofs.ReadArguments.{few_is as is_past}
 use Rattle.aw_sched_writer.specs.Laws.{CanBeWritten, IsSmallChoice}
 use Rattle.aw_sched_writer.proofs.Terms.{written_args, args_same, args_spelled, ArgsWell, args_well}
 use Rattle.aw_sched_writer.proofs.Nodes.{node_lacks, node_is_read}
@@ -80,9 +81,6 @@ four_none a b c e ha hb hc he =
     ∙ ap (λ x. first_told ((x, Unknown) ∷ (c, Arity) ∷ (e, Name) ∷ [])) hb
     ∙ ap (λ x. first_told ((x, Arity) ∷ (e, Name) ∷ [])) hc
     ∙ ap (λ x. first_told ((x, Name) ∷ [])) he
-
-is_past : (n s k : ℕ) → n ≤ 8 → s ≤ 256 → k ≤ 32 → (nat_lt 8 n || (nat_lt 256 s || nat_lt 32 k)) ≡ false
-is_past n s k h i j = grind (arith, nat_tests)
 
 neither : (a b : Bool) → a ≡ false → b ≡ false → (a || b) ≡ false
 neither a b h k = ap (λ x. x || b) h ∙ k

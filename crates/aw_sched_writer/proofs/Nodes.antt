@@ -1,6 +1,5 @@
 -- The printed name of a valid node, in a line of a schedule.
-use Rattle.std.proofs.Common.{◌≡◌, ℕ, zero, suc, ◌<◌, ◌^◌, refl, ap, ◌∙◌, Bool, true, false, cond, not, ◌&&◌, ◌==◌, nat_lt, List, [], ◌∷◌, ◌++◌, length, Option, Some, None, is_some}
-use Rattle.std.proofs.lemmas.List.Folds.{list_all-append}
+use Rattle.std.proofs.Common.{◌≡◌, ℕ, zero, suc, ◌<◌, ◌^◌, refl, ap, Bool, true, false, cond, nat_lt, List, [], ◌∷◌, ◌++◌, length, Option, Some, None, is_some}
 use Rattle.std.specs.Fmt.{decimal}
 use Rattle.aw_spelling.specs.Spelling.{parts_of_name, node_name}
 use Rattle.aw_spelling.proofs.NodeNames.{lacks}
@@ -11,14 +10,11 @@ use Rattle.aw_term.specs.WellFormed.{Each, IsWellFormed}
 use Rattle.aw_term_reader.proofs.Lexing.{name_unbroken, number_unbroken}
 use Rattle.aw_grammar.specs.Named.{number_named}
 use Rattle.aw_base.specs.NodeNames.{Named, TooLong, with_start, with_parts, node_in, node_named}
+use Rattle.aw_term_reader.proofs.SaysTokens.{all_unbroken as both_lack}
 use Rattle.aw_sched.specs.Events.{has_many, is_long}
 use Rattle.aw_sched.specs.Printed.{IsHeld}
 use Rattle.aw_sched.proofs.Reading.{node_again}
 use Rattle.aw_spec_writer.proofs.SaysTerms.{IsName}
-
--- no line feed stands in it
-pub both_lack : (a b : List ℕ) → lacks 10 a ≡ true → lacks 10 b ≡ true → lacks 10 (a ++ b) ≡ true
-both_lack a b h k = list_all-append (λ x. not (x == 10)) a b ∙ ap (λ t. t && lacks 10 b) h ∙ k
 
 name_lacks : (names : List (List ℕ)) (i : ℕ) → Each IsName names → lacks 10 (get [] names i) ≡ true
 name_lacks [] i each = refl

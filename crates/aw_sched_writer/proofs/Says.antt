@@ -13,7 +13,7 @@ use Rattle.aw_grammar.specs.Written.{Written, Word, Apply, Literal, Writtens, Em
 use Rattle.aw_term_reader.specs.Lexemes.{Lexeme, Name, Number, Node, Mark}
 use Rattle.aw_term_reader.specs.Laws.{IsWritten, AreWritten}
 use Rattle.aw_term_reader.specs.Terms.{spellings}
-use Rattle.aw_term_reader.proofs.SaysTokens.{Says, moved, says_blank, says_name, says_mark, says_nothing, says_last_name, says_last_number, lexes_node}
+use Rattle.aw_term_reader.proofs.SaysTokens.{Says, moved, says_blank, says_name, says_mark, says_nothing, says_last_name, says_last_number, lexes_node, all_unbroken as both_lack}
 use Rattle.aw_sched.specs.LineSpelling.{args_spelling, line_spelling}
 use Rattle.aw_sched.specs.Laws.{IsWrittenLine}
 use Rattle.aw_sched.specs.Lines.{Line, StartLine, ChooseLine, DeliverLine, SettleLine, ListLine}
@@ -21,7 +21,6 @@ use Rattle.aw_spec_writer.specs.LineTexts.{terms_text}
 use Rattle.aw_spec_writer.proofs.SaysTerms.{IsName, IsSpelledTerm, AreSpelledParts, AreSpelled, parts_say}
 use Rattle.aw_sched_writer.specs.EventTexts.{args_text, event_text}
 use Rattle.aw_sched_writer.proofs.Terms.{written_args}
-use Rattle.aw_sched_writer.proofs.Nodes.{both_lack}
 
 -- the line that is written for an event
 abbrev pub line_for : Words → Event → Line

@@ -1,6 +1,6 @@
 -- Arguments as written terms: they are laid out alike, can be spelled, are within the limits, and mean the arguments again.
 use Rattle.std.proofs.Common.{◌≡◌, ℕ, suc, ◌+◌, ◌<◌, ◌≤◌, max, nat_eq, nat_le, refl, sym, ap, ◌∙◌, subst, true, ◌&&◌, List, [], ◌∷◌, ◌++◌, map, codes, arith, append-nil}
-use Rattle.std.proofs.lemmas.Bool.{and_parts, eqb-true}
+use Rattle.std.proofs.lemmas.Bool.{and_parts}
 use Rattle.std.proofs.lemmas.Bool.Decides.{nat_tests}
 use Rattle.aw_spelling.specs.Spelling.{is_content}
 use Rattle.aw_name_index.specs.Places.{number_of}
@@ -18,7 +18,7 @@ use Rattle.aw_sched.specs.Events.{ground_named}
 use Rattle.aw_spec_writer.specs.LineTexts.{term_text, parts_behind, terms_text}
 use Rattle.aw_spec_writer.specs.SpecLines.{named, named_parts}
 use Rattle.aw_spec_writer.specs.Writable.{IsSmall, NumbersFit, PartsFit}
-use Rattle.aw_spec_writer.proofs.NamedTerms.{names_in, arities_in, found, AllWell, all_well}
+use Rattle.aw_spec_writer.proofs.NamedTerms.{names_in, arities_in, found, AllWell, all_well, never_zero}
 use Rattle.aw_spec_writer.proofs.SaysTerms.{IsName, IsSpelledTerm, AreSpelledParts, AreSpelled}
 
 -- ---- an argument as a term without variables
@@ -34,9 +34,6 @@ abbrev mutual
 -- arguments with their constructors by name
 abbrev pub written_args : List (List ℕ) → List Ground → List Written
 written_args cons args = map (named cons []) (map as_term args)
-
-never_zero : (k : ℕ) → nat_eq (suc k) 0 ≡ true → ⊥
-never_zero k h = absurd (omega (arith, eqb-true (suc k) 0 h))
 
 -- ---- the bytes are the same
 mutual

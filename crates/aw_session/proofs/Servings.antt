@@ -57,11 +57,11 @@ counts-both true false x y z a b = (omega (arith, a.0, b), omega (arith, a.1, b)
 counts-both false true x y z a b = (omega (arith, a, b.0), omega (arith, a, b.1))
 counts-both false false x y z a b = b ∙ a
 
-or-assoc : (a b c : Bool) → ((a || b) || c) ≡ (a || (b || c))
+pub or-assoc : (a b c : Bool) → ((a || b) || c) ≡ (a || (b || c))
 or-assoc true b c = refl
 or-assoc false b c = refl
 
-or-false : (b : Bool) → (b || false) ≡ b
+pub or-false : (b : Bool) → (b || false) ≡ b
 or-false true = refl
 or-false false = refl
 

@@ -5,6 +5,7 @@ use Rattle.aw_out.specs.Wires.{Session, Content, Both, with_last, last_left, aft
 use Rattle.aw_out.specs.declared.edge.Got.TheVariants.{Read, End, Failed}
 use Rattle.aw_out.specs.declared.edge.Put.TheVariants.{Took, Failed as NotTaken}
 use Rattle.aw_session.specs.Talking.{grown, Grows, Counts, Talks}
+use Rattle.aw_session.proofs.Servings.{or-assoc, or-false}
 
 -- two changes that are one
 with_last-same : (f g : Session → Session) (xs : List Session) → ((s : Session) → f s ≡ g s) → with_last f xs ≡ with_last g xs
@@ -24,14 +25,6 @@ with_last-twice f g [] = refl
 with_last-twice f g (s ∷ []) = refl
 with_last-twice f g (s ∷ t ∷ []) = refl
 with_last-twice f g (s ∷ t ∷ u ∷ us) = ap (λ (vs : List Session). s ∷ vs) (with_last-twice f g (t ∷ u ∷ us))
-
-or-false : (b : Bool) → (b || false) ≡ b
-or-false true = refl
-or-false false = refl
-
-or-assoc : (a b c : Bool) → ((a || b) || c) ≡ (a || (b || c))
-or-assoc true b c = refl
-or-assoc false b c = refl
 
 -- nothing was read or written
 grown-none : (s : Session) → grown [] [] false s.left s ≡ s
@@ -129,7 +122,7 @@ grows-end buf (Some x) (Some y) h = let none = grows-none (Some x) in (none.0, a
 pub talks-none : {W : Type 0} (content : W → Option Content) (is_open : W → Bool) (faults failed_openings : W → ℕ) (a : W) → is_open a ≡ true → Talks content is_open faults failed_openings a a [] [] false
 talks-none content is_open faults failed_openings a e = record { stays = e; told = grows-none (content a); counts = refl; openings = refl }
 
-counts-then : (b : Bool) (x y z : ℕ) → y ≡ x → Counts b y z → Counts b x z
+pub counts-then : (b : Bool) (x y z : ℕ) → y ≡ x → Counts b y z → Counts b x z
 counts-then true x y z e h = rw (← e) h
 counts-then false x y z e h = h ∙ e
 

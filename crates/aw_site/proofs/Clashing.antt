@@ -1,11 +1,7 @@
 -- Contradictions, one equation after the other.
-use Rattle.std.proofs.Common.{◌≡◌, Bool, true, false, cond, List, [], ◌∷◌, ◌++◌, Option, Some, None, refl, ap, sym, ◌∙◌, append_assoc}
-use Rattle.std.specs.Prelude.{◌&&◌}
+use Rattle.std.proofs.Common.{◌≡◌, Bool, true, false, cond, [], ◌∷◌, ◌++◌, Option, Some, None, refl, ap, sym, ◌∙◌, append_assoc}
 use Rattle.std.proofs.lemmas.Bool.{and_parts, and_from}
-use Rattle.std.specs.Cmp.Lexicographic.{pointwise}
-use Rattle.aw_name.specs.contracts.node.RefPartialEq.TheImpl as reference
 use Rattle.aw_term.specs.Names.{Ref, ref_eq}
-use Rattle.aw_name.specs.SameRefs.{ref_same}
 use Rattle.aw_term.proofs.RefTests.{ref_eq-true, ref_eq-self}
 use Rattle.aw_term.proofs.HeadTests as heads
 use Rattle.aw_store.specs.Equations as P
@@ -15,7 +11,9 @@ use Rattle.aw_store.specs.declared.equation.Body.{Body}
 use Rattle.aw_store.specs.declared.equation.Body.TheVariants.{Same, Con, Num, Text}
 use Rattle.aw_store.proofs.MoreEquations.{find-left_more, find-right_more}
 use Rattle.aw_apply.specs.Messages.{Clash, OfReference}
-use Rattle.aw_law_sites.specs.Receiving.{refs_eq, body_eq, add_on, add_all, clash_on, first_clash}
+use Rattle.aw_law_sites.specs.Receiving.{body_eq, add_on, add_all, clash_on, first_clash}
+use Rattle.aw_law_worlds.proofs.Delivering.{refs-refl as refs_eq-self}
+use Rattle.aw_space.proofs.Clashes.{refs_eq-true}
 
 -- ---- added equations
 
@@ -77,27 +75,6 @@ pub clash_here : (k pre rest : Map) (e : Equation) (c : Clash) → clash_on (fin
 clash_here k pre rest e c s = clash_some (find (add_all k pre) e.left) e.body _ c (ap (λ o. clash_on o e.body None) (find_added k pre e.left) ∙ s)
 
 -- ---- the tests of references and bodies
-
-refs_eq-self : (rs : List Ref) → refs_eq rs rs ≡ true
-refs_eq-self [] = refl
-refs_eq-self (r ∷ rs) = and_from _ _ (ref_eq-self r) (refs_eq-self rs)
-
-refs_eq-true : (rs ss : List Ref) → refs_eq rs ss ≡ true → rs ≡ ss
-refs_eq-true [] [] e = refl
-refs_eq-true (r ∷ rs) (s ∷ ss) e =
-    let (x, y) = and_parts _ _ e in
-    let p = ref_eq-true r s x in
-    let q = refs_eq-true rs ss y in
-    λ i. p i ∷ q i
-refs_eq-true [] (s ∷ ss) e = absurd cc
-refs_eq-true (r ∷ rs) [] e = absurd cc
-
--- the equality that is derived in the program
-pub refs_derived : (rs ss : List Ref) → pointwise (reference.ghosts).eq rs ss ≡ refs_eq rs ss
-refs_derived [] [] = refl
-refs_derived (r ∷ rs) (s ∷ ss) = (λ i. ref_same r s i && refs_derived rs ss i)
-refs_derived [] (s ∷ ss) = refl
-refs_derived (r ∷ rs) [] = refl
 
 body_eq-self : (b : P.Body) → body_eq b b ≡ true
 body_eq-self (P.Same r) = ref_eq-self r

@@ -1,5 +1,5 @@
 -- What a choice makes at a space of the program is valid: its equations, and the calls of its children.
-use Rattle.std.proofs.Common.{◌≡◌, ℕ, true, List, [], ◌∷◌, length, Some, slice_get, is_some, ap, refl, sym, ◌∙◌, subst, inl, inr}
+use Rattle.std.proofs.Common.{◌≡◌, ℕ, true, List, length, Some, slice_get, is_some, ap, refl, sym, ◌∙◌, subst}
 use Rattle.std.proofs.Math.Logic.{∥∥₁_elim}
 use Rattle.std.proofs.Math.Bool.{Bool-set}
 use Rattle.std.proofs.lemmas.Bool.{and_parts, and_from}
@@ -23,6 +23,7 @@ use Rattle.aw_law_worlds.proofs.GuardBinds.{all_bound, all_many}
 use Rattle.aw_law_worlds.proofs.Sorts.{some_sort}
 use Rattle.aw_law_sites.specs.ValidNames.{refs_ok, equations_ok, call_ok}
 use Rattle.aw_law_sites.specs.Worlds.{node_of}
+use Rattle.aw_law_sites.proofs.Lists.{each_of}
 use Rattle.aw_space.specs.Sound.{IsSound}
 use Rattle.aw_space.specs.Spaces.{is_home, making}
 use Rattle.aw_space.specs.Valid.{IsValid}
@@ -31,10 +32,6 @@ use Rattle.aw_space.proofs.KeptValid.{refs_here}
 use Rattle.aw_space.proofs.MadeNames.{each_ref, kid_valid}
 use Rattle.aw_space.proofs.TakenOn.{Took, took}
 use Rattle.aw_site.proofs.SentNames.{found_ok}
-
-each_of : {A : Type 0} (P : A → Type 0) (xs : List A) → ((x : A) → Member x xs → P x) → Each P xs
-each_of P [] f = tt
-each_of P (y ∷ ys) f = (f y (inl refl), each_of P ys (λ x m. f x (inr m)))
 
 -- valid equations and valid calls
 abbrev pub MakesValid : P.Grammar → Choice → Outcome Ref Ref → Type 0

@@ -10,7 +10,7 @@ use Rattle.aw_store.specs.Equations as P
 use Rattle.aw_law_sites.specs.ValidNames.{body_ok, equation_ok, equations_ok}
 
 -- a part or a result is one of a sort
-sort_where_slot : (g : Grammar) (o : Option ℕ) (slot : Slot) → slot_ok g o slot ≡ true → is_some o ≡ true
+pub sort_where_slot : (g : Grammar) (o : Option ℕ) (slot : Slot) → slot_ok g o slot ≡ true → is_some o ≡ true
 sort_where_slot g None slot e = absurd cc
 sort_where_slot g (Some s) slot e = refl
 

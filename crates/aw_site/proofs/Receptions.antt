@@ -20,6 +20,7 @@ use Rattle.aw_law_sites.specs.Reacting.{received_on, receive, react}
 use Rattle.aw_law_sites.specs.Sites.{Site}
 use Rattle.aw_law_sites.specs.ValidNames.{message_ok, names_ok, origin_ok}
 use Rattle.aw_space.specs.Placings.{MayBeCalled, MayBeLearnt}
+use Rattle.aw_space.proofs.Told.{is_false as not_true}
 use Rattle.aw_site_repeat.specs.Holders.{holder, IsOfRole}
 use Rattle.aw_site_repeat.specs.Views.{kind_of}
 use Rattle.aw_site.specs.Judged.{IsFresh}
@@ -71,10 +72,6 @@ asks_of_role g (msg.Ask r from) ok =
 asks_of_role g (msg.Tell e load) ok = tt
 
 -- ---- what may come
-
-not_true : (b : Bool) → not b ≡ true → b ≡ false
-not_true true e = absurd cc
-not_true false e = refl
 
 -- a valid call of a node of this role
 pub call_may_come : (g : Grammar) (role : ℕ) (m : Message) (c : Call) (load : List Equation) → m.kind ≡ Calls c load → message_ok g role m ≡ true → is_mine g role m ≡ true → MayBeCalled g role c × MayBeLearnt g role load

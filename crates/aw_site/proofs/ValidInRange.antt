@@ -23,6 +23,8 @@ use Rattle.aw_term.specs.Limits.{most_children, most_results, most_node_parts, m
 use Rattle.aw_store.specs.Equations.{Body, Same, Is, Equation}
 use Rattle.aw_apply.specs.Made.{Call}
 use Rattle.aw_apply.specs.Messages.{Kind, Calls, Asks, Tells, Message}
+use Rattle.aw_space.proofs.FewParts.{few_parts}
+use Rattle.aw_site.proofs.NamedHomes.{sort_where_slot as has_sort}
 use Rattle.aw_msg.specs.MessageRanges.{BodyInRange, EquationInRange, LoadInRange, KindInRange, MessageInRange}
 use Rattle.aw_msg.proofs.ValidMessages.{IsValidRef, IsValidBody, IsValidEquation, IsValidLoad, IsValidCall, IsValidKind}
 
@@ -69,20 +71,11 @@ slot_in_range g (Some s) (Result j) fits e =
     (leb-true 1 j p.0, omega (arith, leb-true j (gives_of (slice_get g.sorts s)) p.1, few_given g.roles g.sorts s fits))
 slot_in_range g (Some s) (Part k) fits e = let p = and_parts (nat_le 1 k) (nat_le k most_node_parts) e in (leb-true 1 k p.0, leb-true k most_node_parts p.1)
 
-has_sort : (g : Grammar) (s : Option ℕ) (slot : Slot) → slot_ok g s slot ≡ true → is_some s ≡ true
-has_sort g None slot e = absurd cc
-has_sort g (Some s) slot e = refl
-
 valid_ref_in_range : (w : Words) (g : Grammar) (r : Ref) → IsWellFormed w g → length r.node.steps ≤ 250 → ref_ok g r ≡ true → RefInRange r
 valid_ref_in_range w g r formed few ok =
     (node_in_range w g r.node formed few (has_sort g (sort_of g r.node) r.slot ok), slot_in_range g (sort_of g r.node) r.slot formed.sorts ok)
 
 -- ---- a head with its parts
-
-few_parts : (arities : List ℕ) (c n : ℕ) → Each (λ m. m ≤ most_parts) arities → head_fits arities (Con c) n ≡ true → n ≤ most_parts
-few_parts [] c n few e = absurd cc
-few_parts (m ∷ ms) zero n few e = omega (arith, few.0, eqb-true m n e)
-few_parts (m ∷ ms) (suc c) n few e = few_parts ms c n few.1 e
 
 head_in_range : (arities : List ℕ) (h : Head) (n : ℕ) → Each (λ m. m ≤ most_parts) arities → head_fits arities h n ≡ true → HeadInRange h n
 head_in_range arities (Con c) n few e = few_parts arities c n few e

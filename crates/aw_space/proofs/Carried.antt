@@ -1,12 +1,12 @@
 -- What carrying a choice out asks, and what it keeps.
-use Rattle.std.proofs.Common.{◌≡◌, ℕ, zero, suc, ◌+◌, Bool, true, false, cond, List, [], ◌∷◌, ◌++◌, map, length, Option, Some, None, slice_get, is_some, refl, ap, sym, ◌∙◌, subst, inl, inr, eq-eqb}
+use Rattle.std.proofs.Common.{◌≡◌, ℕ, zero, suc, ◌+◌, Bool, true, false, cond, List, [], ◌∷◌, ◌++◌, map, length, Option, Some, None, slice_get, is_some, refl, ap, sym, ◌∙◌, subst, eq-eqb}
 use Rattle.std.specs.Prelude.{not, ◌&&◌, ◌||◌, option_map}
 use Rattle.std.proofs.Math.Logic.{∥∥₁_elim}
 use Rattle.std.proofs.Math.Bool.{Bool-set}
 use Rattle.std.proofs.lemmas.Bool.{and_parts, and_from}
 use Rattle.aw_list.specs.Members.{Member}
 use Rattle.aw_term.specs.Trees.{Head}
-use Rattle.aw_term.specs.Names.{Step, Node, Ref, node_eq, node_lt, below}
+use Rattle.aw_term.specs.Names.{Node, Ref, node_eq, node_lt, below}
 use Rattle.aw_term.specs.Rules as P
 use Rattle.aw_term.specs.Rules.{Ground, sort_of}
 use Rattle.aw_term.specs.Choices as Q
@@ -32,10 +32,11 @@ use Rattle.aw_node_list.specs.declared.held.Held.{Held}
 use Rattle.aw_node_list.specs.HeldView.{sort_or}
 use Rattle.aw_node_list.specs.InOrder.{place_in, insert_all_in, done_at, Lacks, LackEach}
 use Rattle.aw_node_list.proofs.InOrderLemmas.{Up, up_of}
-use Rattle.aw_node_list.proofs.HeldViews.{held_here}
+use Rattle.aw_node_list.proofs.HeldViews.{held_here, each_here}
 use Rattle.aw_law_sites.specs.Homes.{has_steps, parent}
 use Rattle.aw_law_sites.specs.ValidNames.{refs_ok, takes_as, equations_ok}
-use Rattle.aw_law_worlds.proofs.Delivering.{parent-below}
+use Rattle.aw_law_sites.proofs.Lists.{each_of}
+use Rattle.aw_law_worlds.proofs.Delivering.{parent-below, has-end as has_end}
 use Rattle.aw_law_worlds.proofs.GuardBinds.{all_bound, all_many}
 use Rattle.aw_law_worlds.proofs.Learning.{find-member}
 use Rattle.aw_law_worlds.proofs.Sorts.{some_sort}
@@ -53,19 +54,10 @@ use Rattle.aw_space.proofs.OwnChildren.{named_each, own_each, own_differ, lack_e
 use Rattle.aw_space.proofs.Taken.{developed}
 use Rattle.aw_space.proofs.TakenOn.{Took}
 
-has_end : (steps : List Step) (s : Step) → has_steps (steps ++ s ∷ []) ≡ true
-has_end [] s = refl
-has_end (x ∷ steps) s = refl
-
 -- an open node is not done, since no other is of its name
 idle_after : (n : Node) (hs : List Held) → Each (λ (h : Held). node_lt n h.node ≡ true) hs → is_done n hs ≡ false
 idle_after n [] high = refl
 idle_after n (h ∷ hs) high = ap (λ b. (b && is_some h.done) || is_done n hs) (other_after n h.node high.0) ∙ idle_after n hs high.1
-
-each_here : (P : Held → Type 0) (hs : List Held) (i : ℕ) (h : Held) → Each P hs → slice_get hs i ≡ Some h → P h
-each_here P [] i h each e = absurd cc
-each_here P (k ∷ ks) zero h each e = let s : k ≡ h = cc in subst P s each.0
-each_here P (k ∷ ks) (suc i) h each e = each_here P ks i h each.1 e
 
 and_false : (b : Bool) → (b && false) ≡ false
 and_false true = refl
@@ -108,10 +100,6 @@ lacks_done : (n : Node) (c : Choice) (i : ℕ) (hs : List Held) → place_in n (
 lacks_done n c i [] = refl
 lacks_done n c zero (h ∷ hs) = refl
 lacks_done n c (suc i) (h ∷ hs) = ap (λ o. cond (node_eq n h.node) (Some 0) (option_map suc o)) (lacks_done n c i hs)
-
-each_of : {A : Type 0} (P : A → Type 0) (xs : List A) → ((x : A) → Member x xs → P x) → Each P xs
-each_of P [] f = tt
-each_of P (y ∷ ys) f = (f y (inl refl), each_of P ys (λ x m. f x (inr m)))
 
 -- a rule that is taken on a node of this role
 module _ (gr : Grammar) (role : ℕ) (hs : List Held) (k : Map) (names : List Ref) (sound : IsSound (grammar_of gr) role hs k names) (valid : IsValid (grammar_of gr) hs k)

@@ -15,7 +15,7 @@ use Rattle.aw_store.specs.Equations.{Body, Same, Is, Equation, mentions}
 use Rattle.aw_store.specs.StoreView.{has_few, all_few}
 use Rattle.aw_law_sites.specs.ValidNames.{refs_ok, body_ok, equation_ok, equations_ok}
 
-few_parts : (arities : List ℕ) (c n : ℕ) → Each (λ m. m ≤ most_parts) arities → head_fits arities (Con c) n ≡ true → n ≤ most_parts
+pub few_parts : (arities : List ℕ) (c n : ℕ) → Each (λ m. m ≤ most_parts) arities → head_fits arities (Con c) n ≡ true → n ≤ most_parts
 few_parts [] c n few e = absurd cc
 few_parts (m ∷ ms) zero n few e = omega (arith, few.0, eqb-true m n e)
 few_parts (m ∷ ms) (suc c) n few e = few_parts ms c n few.1 e

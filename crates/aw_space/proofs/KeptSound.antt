@@ -7,6 +7,7 @@ use Rattle.aw_term.specs.Rules.{Grammar}
 use Rattle.aw_term.specs.WellFormed.{Each}
 use Rattle.aw_name.specs.SameNodes.{node_self}
 use Rattle.aw_choice.specs.declared.choice.Choice.{Choice}
+use Rattle.aw_iograph.proofs.Deciding.{or_right as or_late}
 use Rattle.aw_store.specs.Equations.{Equation, Map}
 use Rattle.aw_store.specs.NamedRefs.{all_named}
 use Rattle.aw_node_list.specs.declared.held.Held.{Held}
@@ -61,10 +62,6 @@ own_done g role c (suc i) (h ∷ hs) all = let (a, b) = and_parts (is_own g role
 or_later : (a b c : Bool) → (b ≡ true → c ≡ true) → (a || b) ≡ true → (a || c) ≡ true
 or_later true b c f e = refl
 or_later false b c f e = f e
-
-or_late : (a b : Bool) → b ≡ true → (a || b) ≡ true
-or_late true b e = refl
-or_late false b e = e
 
 done_cases : (n : Node) (b : Bool) (h k : Held) (ks zs : List Held) → (is_done n ks ≡ true → is_done n zs ≡ true) → is_done n (k ∷ ks) ≡ true → is_done n (cond b (h ∷ k ∷ ks) (k ∷ zs)) ≡ true
 done_cases n true h k ks zs later all = or_late (node_eq n h.node && is_some h.done) _ all

@@ -5,39 +5,26 @@ use Rattle.std.proofs.lemmas.Bool.{and_from, and_parts, eq-eqb, le-leb, leb-true
 use Rattle.aw_list.specs.Members.{Member}
 use Rattle.aw_list.proofs.Members.{member_got, never}
 use Rattle.aw_term.specs.Artifacts.{Words}
-use Rattle.aw_term.specs.Names.{Node, Part, Ref, Result, Slot, below, result}
+use Rattle.aw_term.specs.Names.{Node, Ref, Result, below, result}
 use Rattle.aw_term.specs.Rules.{Child, Grammar, Ground, Rule, Sort, Term, sort_of}
 use Rattle.aw_term.specs.WellFormed.{ChildFits, IsWellFormed, RuleFits, SortFits, TermFits, child_symbols, heads_fit, symbols_of, takes_of, variables}
-use Rattle.aw_term.specs.Limits.{most_node_parts, most_arguments}
-use Rattle.aw_base.specs.ChoiceFits.{args_ok, ground_ok, grounds_ok, ref_ok, slot_ok}
+use Rattle.aw_term.specs.Limits.{most_arguments}
+use Rattle.aw_base.specs.ChoiceFits.{args_ok, grounds_ok, ref_ok, slot_ok}
 use Rattle.aw_base.specs.NodeNames.{is_start}
 use Rattle.aw_iograph.specs.Occurrences.{pattern_entries}
 use Rattle.aw_accept.specs.Acyclic.{IsGivenGrammar, gives}
 use Rattle.aw_accept.proofs.Fitting.{each_member, given_of}
 use Rattle.aw_store.specs.Equations.{Equation}
 use Rattle.aw_apply.specs.Made.{Call, Making, made}
-use Rattle.aw_apply.proofs.Numbering.{Covers, Lies, made-apart}
+use Rattle.aw_apply.proofs.Numbering.{Lies, made-apart}
 use Rattle.aw_law_sites.proofs.Entering.{IsTermOf, variables_enter}
 use Rattle.aw_law_sites.specs.ValidNames.{body_ok, equation_ok, equations_ok, refs_ok, takes_as}
 use Rattle.aw_law_worlds.proofs.MadeHeads.{all-refs-ok, body-of, kid-many, made-heads}
 use Rattle.aw_law_worlds.proofs.MadeMentions.{MentionsIn, made-in}
-use Rattle.aw_law_worlds.proofs.PartNumbers.{Under, made-under}
+use Rattle.aw_law_worlds.proofs.PartNumbers.{made-under}
 use Rattle.aw_law_worlds.proofs.Sorts.{sort_below, step_sort}
-
--- a part up to 512, or a result of the sort
-slot_within : (g : Grammar) (s k a b m : ℕ) (t : Slot) → k ≤ 513 → m ≤ 1 + gives g s → Under k t → Covers a b 1 m t → slot_ok g (Some s) t ≡ true
-slot_within g s k a b m (Part i) l q (x, y) c = and_from (nat_le 1 i) (nat_le i most_node_parts) (le-leb 1 i x) (le-leb i most_node_parts (omega (arith, y, l)))
-slot_within g s k a b m (Result j) l q u c = and_from (nat_le 1 j) (nat_le j (gives g s)) (le-leb 1 j c.0) (le-leb j (gives g s) (omega (arith, c.1, q)))
-
-each_ground : (g : Grammar) (ts : List Ground) → grounds_ok g ts ≡ true → (t : Ground) → Member t ts → heads_fit g.arities t ≡ true
-each_ground g [] e t m = never m
-each_ground g (u ∷ ts) e t (inl p) = subst (λ t. heads_fit g.arities t ≡ true) (sym p) (and_parts _ _ (and_parts (ground_ok g u) (grounds_ok g ts) e).0).0
-each_ground g (u ∷ ts) e t (inr m) = each_ground g ts (and_parts (ground_ok g u) (grounds_ok g ts) e).1 t m
-
--- equations that are each valid
-pub all_valid : (g : Grammar) (es : List Equation) → ((e : Equation) → Member e es → equation_ok g e ≡ true) → equations_ok g es ≡ true
-all_valid g [] f = refl
-all_valid g (e ∷ es) f = and_from (equation_ok g e) (equations_ok g es) (f e (inl refl)) (all_valid g es (λ x m. f x (inr m)))
+use Rattle.aw_law_worlds.proofs.Naming.{slot_within, each_ground}
+use Rattle.aw_law_worlds.proofs.Delivering.{each-ok as all_valid}
 
 pub each_valid : (g : Grammar) (es : List Equation) → equations_ok g es ≡ true → (e : Equation) → Member e es → equation_ok g e ≡ true
 each_valid g [] v e m = never m

@@ -1,17 +1,18 @@
 -- What is known of the node at a place, and of a rule that is weighed there.
-use Rattle.std.proofs.Common.{◌≡◌, ℕ, zero, suc, ◌≤◌, true, false, List, [], ◌∷◌, ◌++◌, length, map, Option, Some, None, Bor, slice_get, is_some, refl, ap, sym, ◌∙◌, subst}
+use Rattle.std.proofs.Common.{◌≡◌, ℕ, zero, suc, ◌≤◌, true, false, List, [], ◌∷◌, length, map, Option, Some, None, Bor, slice_get, is_some, refl, ap, sym, ◌∙◌, subst}
 use Rattle.std.specs.Prelude.{option_map}
 use Rattle.std.specs.Option.{option_copied}
 use Rattle.std.proofs.lemmas.Bool.{and_parts, eqb-true}
 use Rattle.std.proofs.lemmas.Option.{slice_get-map, same_Some}
-use Rattle.aw_term.specs.Trees.{Tree, join}
+use Rattle.aw_term.specs.Trees.{join}
 use Rattle.aw_term.specs.Names.{Node, Ref}
 use Rattle.aw_term.specs.Rules as P
 use Rattle.aw_term.specs.Rules.{Ground, sort_of, sort_at}
 use Rattle.aw_term.specs.Views.{pattern_of}
-use Rattle.aw_term.specs.WellFormed.{takes_of, leaves, leaves_of, all_leaves}
+use Rattle.aw_term.specs.WellFormed.{takes_of, all_leaves}
 use Rattle.aw_term.specs.Held as H
 use Rattle.aw_term.proofs.LastSteps.{sort_by_last}
+use Rattle.aw_term.proofs.Joined.{leaves_join}
 use Rattle.aw_choice.specs.declared.choice.Choice.{Choice}
 use Rattle.aw_choice.specs.declared.choice.Choice.TheVariants as choice
 use Rattle.aw_grammar.specs.declared.grammar.Grammar.{Grammar}
@@ -50,10 +51,6 @@ node_here g n hs i h e f = let w = held_here g n hs i e in ap (λ (x : Held). x.
 -- the rule behind a look-up's reference
 pub found_rule : (rules : List Rule) (number : ℕ) (found : Option (Bor Rule)) (rule : Bor Rule) → option_copied found ≡ slice_get rules number → found ≡ Some rule → slice_get rules number ≡ Some rule.now
 found_rule rules number found rule e f = sym e ∙ ap option_copied f
-
-leaves_join : {A : Type 0} (ts : List (Tree A)) → all_leaves (join ts) ≡ leaves_of ts
-leaves_join [] = refl
-leaves_join (t ∷ ts) = ap (λ x. leaves t ++ x) (leaves_join ts)
 
 -- at most 64 variables enter in the patterns of a rule
 pub patterns_room : (g : Grammar) (number : ℕ) (rule : Rule) → slice_get g.rules number ≡ Some rule → length (all_leaves (join (map pattern_of rule.patterns))) ≤ 64

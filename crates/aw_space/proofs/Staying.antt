@@ -20,6 +20,7 @@ use Rattle.aw_law_sites.specs.Receiving.{add_on, add_all}
 use Rattle.aw_law_sites.specs.Reacting.{add_held}
 use Rattle.aw_law_sites.specs.Telling.{calls_in}
 use Rattle.aw_law_sites.specs.Worlds.{node_of}
+use Rattle.aw_law_worlds.proofs.Learning.{add-kept as each_more}
 use Rattle.aw_space.specs.Keeping.{KeepsFacts, KeepsNodes, KeepsNodesBut}
 use Rattle.aw_space.specs.Spaces.{Space, outcome, space_on, space_after, with_call}
 
@@ -42,10 +43,6 @@ facts_more k l es e = facts_on k l (λ r b f. subst (λ m. find m r ≡ Some b) 
 one_more : (k : Map) (e : Equation) (o : Option Body) (r : Ref) (b : Body) → find k r ≡ Some b → find (add_on o k e) r ≡ Some b
 one_more k e None r b f = find-left_more k (e ∷ []) r b f
 one_more k e (Some a) r b f = f
-
-each_more : (k : Map) (es : List Equation) (r : Ref) (b : Body) → find k r ≡ Some b → find (add_all k es) r ≡ Some b
-each_more k [] r b f = f
-each_more k (e ∷ es) r b f = each_more (add_on (find k e.left) k e) es r b (one_more k e (find k e.left) r b f)
 
 pub facts_told : (k l : Map) (es : List Equation) → l ≡ add_all k es → KeepsFacts k l
 facts_told k l es e = facts_on k l (λ r b f. subst (λ m. find m r ≡ Some b) (sym e) (each_more k es r b f))

@@ -15,7 +15,7 @@ use Rattle.aw_space.specs.Spaces.{Space, is_home, clash_with}
 use Rattle.aw_space.proofs.Keeping.{done-push}
 use Rattle.aw_space.proofs.KeptValid.{valid_append}
 
-is_false : (b : Bool) → not b ≡ true → b ≡ false
+pub is_false : (b : Bool) → not b ≡ true → b ≡ false
 is_false true e = absurd cc
 is_false false e = refl
 

@@ -85,9 +85,6 @@ dropped [] i r here = absurd cc
 dropped (x ∷ xs) zero r here = let same : x ≡ r = cc in ap (λ y. y ∷ xs) same
 dropped (x ∷ xs) (suc i) r here = dropped xs i r here
 
-pub one_dropped : (rs : List Ref) (i : ℕ) (r : Ref) → slice_get rs i ≡ Some r → drop i rs ≡ r ∷ drop (i + 1) rs
-one_dropped rs i r here = let one : suc i ≡ i + 1 = omega arith in dropped rs i r here ∙ ap (λ n. r ∷ drop n rs) one
-
 sum_taken : (most : Ref → ℕ) (rs : List Ref) (i : ℕ) (r : Ref) → slice_get rs i ≡ Some r → sum_by most (take (suc i) rs) ≡ sum_by most (take i rs) + most r
 sum_taken most [] i r here = absurd cc
 sum_taken most (x ∷ xs) zero r here = let same : x ≡ r = cc in ap (λ (y : Ref). 0 + most y) same

@@ -3,6 +3,7 @@ use Rattle.std.proofs.Common.{codes, ◌≡◌, ◌≢◌, ℕ, zero, suc, ◌+�
 use Rattle.std.proofs.lemmas.List.{map-append, length-map}
 use Rattle.std.proofs.lemmas.Bool.{and_parts, and_from, both_ways, eq-eqb, eqb-true, leb-true, leb-false}
 use Rattle.std.specs.List.{list_any}
+use Rattle.aw_list.proofs.Members.{got_map as get_map}
 use Rattle.aw_spelling.specs.Spelling.{is_name}
 use Rattle.aw_name_index.specs.Places.{number_of, place_of}
 use Rattle.aw_name_index.proofs.FirstTold.{NoneHolds}
@@ -16,6 +17,7 @@ use Rattle.aw_grammar.specs.declared.raw.RawSort.{RawSort}
 use Rattle.aw_grammar.specs.declared.fault.DeclKind.{DeclKind}
 use Rattle.aw_grammar.specs.Declarations.{Declarations, con_names, sort_names, sort_declared, with_con, with_sort, with_start_at, with_rule}
 use Rattle.aw_grammar.specs.Written.{WrittenRule}
+use Rattle.aw_grammar.proofs.FaultlessRule.{or_true}
 use Rattle.aw_face.specs.declared.faces.FaceKind.{FaceKind}
 use Rattle.aw_base.specs.declared.declared.Triple.{Triple}
 use Rattle.aw_typed.specs.declared.data.Shape.{Shape}
@@ -32,14 +34,10 @@ use Rattle.aw_spec.specs.Reading.{Spec, Draft, On, declaring, if_kept, keeping, 
 use Rattle.aw_spec.specs.Views.{spec_seen}
 use Rattle.aw_spec.proofs.KeptLines.{reading_keeps}
 use Rattle.aw_spec.proofs.Tested.{tested_on}
-use Rattle.aw_spec.proofs.TypeSteps.{alongside_push, alongside_map, alongside_set, alongside_length, get_map, get_front, get_within, any_set, any_none, later_push, each_untested, others_apart, numbers_within}
+use Rattle.aw_spec.proofs.TypeSteps.{alongside_push, alongside_map, alongside_set, alongside_length, get_front, get_within, any_set, any_none, later_push, each_untested, others_apart, numbers_within}
 
-on_is : (x y : Spec) → On x ≡ On y → x ≡ y
+pub on_is : (x y : Spec) → On x ≡ On y → x ≡ y
 on_is x y e = cc
-
-or_true : (b : Bool) → (b || true) ≡ true
-or_true true = refl
-or_true false = refl
 
 abbrev counts : Sort → ℕ × ℕ
 counts s = (s.takes, s.gives)
@@ -96,7 +94,7 @@ counts_start (s ∷ sorts) (suc i) = ap (λ cs. counts s ∷ cs) (counts_start s
 
 -- types
 
-not_empty : (ns : List (List ℕ)) (n : List ℕ) → is_empty (ns ++ n ∷ []) ≡ false
+pub not_empty : (ns : List (List ℕ)) (n : List ℕ) → is_empty (ns ++ n ∷ []) ≡ false
 not_empty [] n = refl
 not_empty (m ∷ ns) n = refl
 

@@ -1,6 +1,7 @@
 -- Types that fit a specification are for its grammar, as the checker of types asks.
 use Rattle.std.proofs.Common.{◌≡◌, ℕ, Result, Ok, Err, IfOk, ◌+◌, sym, ap, ◌∙◌, List, [], ◌∷◌, map, length, Option, Some, None, option_map, slice_get, option_and_then}
 use Rattle.std.proofs.lemmas.List.{length-map}
+use Rattle.aw_list.proofs.Members.{got_map as get_map}
 use Rattle.aw_term.specs.Rules as P
 use Rattle.aw_term.specs.WellFormed.{Each}
 use Rattle.aw_grammar.specs.declared.rule.Sort.{Sort}
@@ -14,7 +15,7 @@ use Rattle.aw_spec.specs.declared.fault.SpecFault.{SpecFault}
 use Rattle.aw_spec.specs.declared.spec_text.SpecText.{SpecText}
 use Rattle.aw_spec.specs.TypesFit.{ShapeFits, CarryFits, arities_in, counts_in, TypesFit}
 use Rattle.aw_spec.specs.Views.{spec_seen}
-use Rattle.aw_spec.proofs.TypeSteps.{alongside_at, alongside_length, alongside_each, get_map, mapped_at}
+use Rattle.aw_spec.proofs.TypeSteps.{alongside_at, alongside_length, alongside_each, mapped_at}
 
 -- what stands at a place of a mapped list
 at_mapped : {A B : Type 0} (f : A → B) (xs : List (Option A)) (i : ℕ) (o : Option A) → slice_get xs i ≡ Some o → option_and_then T.same (slice_get (map (λ (x : Option A). option_map f x) xs) i) ≡ option_map f o

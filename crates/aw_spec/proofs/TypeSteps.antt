@@ -52,11 +52,6 @@ alongside_each R P (a ∷ xs) (b ∷ ys) f all = (f a b all.0, alongside_each R 
 
 -- what stands at a place of a list
 
-pub get_map : {A B : Type 0} (f : A → B) (xs : List A) (i : ℕ) (x : A) → slice_get xs i ≡ Some x → slice_get (map f xs) i ≡ Some (f x)
-get_map f [] i x e = cc
-get_map f (a ∷ xs) zero x e = let same : a ≡ x = cc in ap (λ v. Some (f v)) same
-get_map f (a ∷ xs) (suc i) x e = get_map f xs i x e
-
 pub get_front : {A : Type 0} (xs ys : List A) (i : ℕ) (x : A) → slice_get xs i ≡ Some x → slice_get (xs ++ ys) i ≡ Some x
 get_front [] ys i x e = cc
 get_front (a ∷ xs) ys zero x e = e

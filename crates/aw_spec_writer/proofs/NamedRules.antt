@@ -21,7 +21,8 @@ use Rattle.aw_grammar.proofs.Appends.{known_append, arities_append, depth_append
 use Rattle.aw_grammar.proofs.PlacedNames.{place_again}
 use Rattle.aw_spec_writer.specs.SpecLines.{named, named_children, later_variables, named_rule}
 use Rattle.aw_grammar.specs.Variables.{VariablesFit}
-use Rattle.aw_spec_writer.proofs.Placed.{number_again, stands_at, no_double, none_stands, each_take, each_drop, all_stand_at, gets_in_turn, each_upto}
+use Rattle.aw_grammar.proofs.NamedOnce.{named_once as no_double}
+use Rattle.aw_spec_writer.proofs.Placed.{number_again, stands_at, none_stands, each_take, each_drop, all_stand_at, gets_in_turn, each_upto}
 use Rattle.aw_spec_writer.proofs.NamedTerms.{names_in, arities_in, AllWell, all_well}
 
 -- sorts

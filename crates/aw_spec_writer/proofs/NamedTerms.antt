@@ -71,7 +71,7 @@ variable_well cons vars v free =
       symbols = refl;
     }
 
-never_zero : (k : ℕ) → nat_eq (suc k) 0 ≡ true → ⊥
+pub never_zero : (k : ℕ) → nat_eq (suc k) 0 ≡ true → ⊥
 never_zero k h = absurd (omega (arith, eqb-true (suc k) 0 h))
 
 made_well : (cons : List decl.Con) (vars : List (List ℕ)) → Differ (names_in cons) → (h : Head) (ts : Trees ℕ) → head_fits (arities_in cons) h (count ts) ≡ true → WellParts cons vars ts → Well cons vars (Made h ts)

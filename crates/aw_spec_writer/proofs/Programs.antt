@@ -1,5 +1,5 @@
 -- Specifications of the program, written and read.
-use Rattle.std.proofs.Common.{◌≡◌, ℕ, Bool, false, List, [], ◌∷◌, ◌++◌, map, length, append_assoc, refl, sym, ap, ◌∙◌, subst}
+use Rattle.std.proofs.Common.{◌≡◌, ℕ, Bool, false, List, [], ◌∷◌, ◌++◌, map, length, refl, sym, ap, ◌∙◌, subst}
 use Rattle.std.specs.Prelude.{Result, Ok, Err, IfOk, IfErr}
 use Rattle.std.proofs.Math.Logic.{∥∥₁_elim}
 use Rattle.aw_lex.specs.Lines.{lines_of}
@@ -26,7 +26,7 @@ use Rattle.aw_spec_writer.specs.SpecLines.{spec_lines, written}
 use Rattle.aw_spec_writer.specs.Writable.{SmallNumbers, VariablesNamed, FacesFit}
 use Rattle.aw_spec_writer.proofs.Formed.{law}
 use Rattle.aw_spec_writer.proofs.Props.{formed_prop, named_prop}
-use Rattle.aw_spec_writer.proofs.Pushing.{lines_both}
+use Rattle.aw_spec_writer.proofs.Pushing.{two_added as joined}
 
 -- the grammar's declarations are well formed
 formed_of : (g : Grammar) → IsWellFormed (words_in (declarations_of g)) (grammar_in (declarations_of g))
@@ -46,11 +46,6 @@ variables_of g =
 pub again : (s : SpecText) → Each (λ (e : Entry). SmallNumbers e.rule) (declarations_of s.grammar).rules → FacesFit (spec_seen s) → TypesFit (spec_seen s) →
     specification (lines_of (written (spec_seen s))) ≡ Good (spec_seen s) (length (spec_lines (spec_seen s))) false
 again s numbers faces types = law (spec_seen s) (record { formed = formed_of s.grammar; numbers = numbers; variables = variables_of s.grammar; faces = faces; types = types })
-
--- what is added last joins what was added before it
-joined : (xs ys : List Line) (t u v : List ℕ) → u ≡ t ++ text_of_lines xs → v ≡ u ++ text_of_lines ys → v ≡ t ++ text_of_lines (xs ++ ys)
-joined xs ys t u v e f =
-    f ∙ ap (λ w. w ++ text_of_lines ys) e ∙ append_assoc t (text_of_lines xs) (text_of_lines ys) ∙ ap (λ w. t ++ w) (sym (lines_both xs ys))
 
 pub whole_text : (declared faces typing wish rules : List Line) (t0 t1 t2 t3 t4 t5 : List ℕ) → t0 ≡ [] → t1 ≡ t0 ++ text_of_lines declared → t2 ≡ t1 ++ text_of_lines faces → t3 ≡ t2 ++ text_of_lines typing → t4 ≡ t3 ++ text_of_lines wish → t5 ≡ t4 ++ text_of_lines rules →
     t5 ≡ text_of_lines (declared ++ (faces ++ (typing ++ (wish ++ rules))))

@@ -1,8 +1,7 @@
 -- The faces of a specification that was read name what is declared, and each offer and each use once.
 use Rattle.std.proofs.Common.{◌≡◌, ℕ, zero, suc, ◌<◌, ◌≤◌, nat_eq, refl, sym, ap, ◌∙◌, subst, Bool, true, false, cond, ◌&&◌, List, [], ◌∷◌, ◌++◌, length, Option, Some, None, arith, length-append}
 use Rattle.std.proofs.lemmas.List.{length-map}
-use Rattle.std.proofs.lemmas.Bool.{or_parts, and_from, both_ways, eq-eqb, eqb-false}
-use Rattle.std.specs.List.{list_any}
+use Rattle.std.proofs.lemmas.Bool.{and_from, both_ways, eq-eqb, eqb-false}
 use Rattle.aw_name_index.specs.Places.{number_of}
 use Rattle.aw_name_index.proofs.Lookups.{place_within}
 use Rattle.aw_term.specs.WellFormed.{Each, Later}
@@ -21,9 +20,10 @@ use Rattle.aw_spec.proofs.Tested.{offer_by, use_by, tested_on}
 use Rattle.aw_spec.specs.Placed.{offering, using_by}
 use Rattle.aw_spec.specs.TypeLines.{type_names, shape_named, carry_named}
 use Rattle.aw_spec.specs.TypesFit.{TypesFit}
-use Rattle.aw_spec.proofs.KeptTypes.{reading_fits}
+use Rattle.aw_spec.proofs.KeptTypes.{reading_fits, on_is}
 use Rattle.aw_spec.specs.Reading.{Spec, Draft, On, Wrong, told_or, with_free, with_no_shape, with_no_carry, type_tests, with_type, con_place, sort_place, shape_tests, with_shape, carry_tests, with_carry, depends_tests, with_depends, declaring, if_kept, keeping, says, Good, no_draft, specification}
 use Rattle.aw_spec.proofs.KeptLines.{reading_keeps}
+use Rattle.aw_spec.proofs.TypeSteps.{later_push, each_untested as none_holds}
 use Rattle.aw_spec_writer.specs.Writable.{AreApart, FacesFit}
 
 abbrev AreOther : ℕ → ℕ → Type 0
@@ -48,17 +48,6 @@ more r1 s1 r2 s2 offers uses h k s = record {
   used_once = s.used_once;
 }
 
-later_push : {A : Type 0} (R : A → A → Type 0) (xs : List A) (x : A) → Later R xs → Each (λ a. R a x) xs → Later R (xs ++ x ∷ [])
-later_push R [] x later each = (tt, tt)
-later_push R (y ∷ xs) x later each = (each_push (R y) xs x later.0 each.0, later_push R xs x later.1 each.1)
-
--- a test that holds of none
-none_holds : {A : Type 0} (p : A → Bool) (P : A → Type 0) → ((a : A) → p a ≡ false → P a) → (xs : List A) → list_any p xs ≡ false → Each P xs
-none_holds p P f [] h = tt
-none_holds p P f (x ∷ xs) h =
-    let parts = or_parts (p x) (list_any p xs) h in
-    (f x parts.0, none_holds p P f xs parts.1)
-
 is_apart : (u v : Using) → (nat_eq u.role v.role && nat_eq u.sort v.sort) ≡ false → AreApart u v
 is_apart u v h er es = both_ways _ h (and_from _ _ (eq-eqb u.role v.role er) (eq-eqb u.sort v.sort es))
 
@@ -69,9 +58,6 @@ length_start (s ∷ sorts) (suc i) = ap (λ n. suc n) (length_start sorts i)
 
 longer : {A : Type 0} (xs : List A) (x : A) → length xs ≤ length (xs ++ x ∷ [])
 longer xs x = omega (arith, length-append xs (x ∷ []))
-
-on_is : (x y : Spec) → On x ≡ On y → x ≡ y
-on_is x y e = cc
 
 declared_sound : (s after : Spec) (kind : Option DeclKind) (d : Declarations) → declaring s kind d ≡ On after → length s.declared.roles ≤ length d.roles → length s.declared.sorts ≤ length d.sorts → IsSound s → IsSound after
 declared_sound s after None d e h k sound =

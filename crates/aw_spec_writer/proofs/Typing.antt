@@ -11,9 +11,9 @@ use Rattle.aw_grammar.specs.declared.rule.Con as decl
 use Rattle.aw_grammar.specs.declared.rule.Sort.{Sort}
 use Rattle.aw_grammar.specs.Declarations.{Declarations, con_names, sort_names}
 use Rattle.aw_grammar.proofs.PlacedNames.{place_again}
+use Rattle.aw_grammar.proofs.FaultlessRule.{or_true}
 use Rattle.aw_face.specs.declared.faces.Using.{Using}
 use Rattle.aw_base.specs.declared.declared.Triple.{Triple}
-use Rattle.aw_term_reader.specs.Forms.{◌>>=◌}
 use Rattle.aw_typed.specs.declared.data.Shape.{Shape}
 use Rattle.aw_typed.specs.declared.data.Carry.{Carry}
 use Rattle.aw_typed.specs.declared.data.Types.{Types}
@@ -25,6 +25,7 @@ use Rattle.aw_spec.specs.Reading.{Spec, On, says, shaping, carrying, depending, 
 use Rattle.aw_spec.proofs.ReadLines.{then}
 use Rattle.aw_spec.proofs.Tested.{tested_none}
 use Rattle.aw_spec.proofs.TypeSteps.{mapped_at, some_within}
+use Rattle.aw_spec.proofs.KeptTypes.{not_empty}
 use Rattle.aw_spec_writer.specs.SpecLines.{shape_line, shape_lines, carry_line, carry_lines, depends_line, type_lines, typing_lines}
 use Rattle.aw_spec_writer.proofs.Placed.{each_mid, new_name, place_mid}
 use Rattle.aw_spec_writer.proofs.Declaring.{no_shape, no_carry, untyped, with_typing, named_below, none_any, before_mid}
@@ -39,14 +40,6 @@ any_carry os = list_any (λ (o : Option Carry). is_some o) os
 
 abbrev typed_by : List (List ℕ) → List (Option Shape) → List (Option Carry) → Types
 typed_by names shapes carries = record { typed = not (is_empty names) || (any_shape shapes || any_carry carries); names = names; shapes = shapes; carries = carries }
-
-not_empty : (ns : List (List ℕ)) (n : List ℕ) → is_empty (ns ++ n ∷ []) ≡ false
-not_empty [] n = refl
-not_empty (m ∷ ns) n = refl
-
-or_true : (b : Bool) → (b || true) ≡ true
-or_true true = refl
-or_true false = refl
 
 no_shapes : (cons : List decl.Con) → any_shape (map no_shape cons) ≡ false
 no_shapes [] = refl

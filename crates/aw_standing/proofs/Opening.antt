@@ -13,6 +13,7 @@ use Rattle.aw_node_list.specs.HeldView.{state_of}
 use Rattle.aw_node_list.specs.InOrder.{done_at}
 use Rattle.aw_work.specs.declared.block.Triple.{Triple}
 use Rattle.aw_work.specs.Triples.{others_than}
+use Rattle.aw_store.proofs.NameLemmas.{slice_get-last as get-last}
 use Rattle.aw_standing.specs.declared.record.Mark.{Mark}
 use Rattle.aw_standing.specs.declared.record.Record.{Record}
 use Rattle.aw_standing.specs.Records.{AreRising, IsFit, IsOf, AreTold, WaitsAtEnd, open_rules, mark_rule}
@@ -20,7 +21,7 @@ use Rattle.aw_standing.specs.Due.{due_marks, due_record}
 use Rattle.aw_standing.specs.Tested.{AreTested}
 use Rattle.aw_standing.specs.KeptStates.{AreFit, AreKept}
 use Rattle.aw_node_list.proofs.Numbers.{inserted_one, apart_inserted}
-use Rattle.aw_standing.proofs.Places.{IsSetAt, StoodBefore, get-push, get-last, inserted_both}
+use Rattle.aw_standing.proofs.Places.{IsSetAt, StoodBefore, get-push, inserted_both}
 use Rattle.aw_standing.proofs.DueLemmas.{due_more, due_inserted, same_others}
 use Rattle.aw_standing.proofs.WaitEnds.{told_ends}
 use Rattle.aw_standing.proofs.KeptLemmas.{WasWritten, written}

@@ -34,10 +34,6 @@ get-push [] x n l = absurd (omega (arith, l))
 get-push (y ∷ ys) x zero l = refl
 get-push (y ∷ ys) x (suc n) l = get-push ys x n (omega (arith, l))
 
-pub get-last : {A : Type 0} (xs : List A) (x : A) → slice_get (xs ++ x ∷ []) (length xs) ≡ Some x
-get-last [] x = refl
-get-last (y ∷ ys) x = get-last ys x
-
 -- in two lists into which something was put at one place, what stands at a place was put in, or stood at one place in both before
 abbrev pub StoodBefore : {A B : Type 0} → List A → List B → A → B → A → B → Type 0
 StoodBefore xs ys x y a b = ((a ≡ x) × (b ≡ y)) ⊎ ((j : ℕ) × (slice_get xs j ≡ Some a) × (slice_get ys j ≡ Some b))

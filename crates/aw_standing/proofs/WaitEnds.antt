@@ -73,12 +73,6 @@ led_told g k names h rule slot at r end here on there ends it declared = ap (λ 
 pub led_lacks : (k : Map) (names : List Ref) (at : ℕ) (r end : Ref) → chase k r ≡ Missing end → slice_get names at ≡ Some end → body_at k names at ≡ None
 led_lacks k names at r end on there = ap (option_and_then (find k)) there ∙ missing_in k end (length k) r on
 
--- what the program's chase answers
-pub led_to : (k : Map) (names : List Ref) (slot at : ℕ) (c : Chased) → IsChasedTo k names slot c (answer.Missing at) → (end : Ref) × (c ≡ Missing end) × (slice_get names at ≡ Some end)
-led_to k names slot at (Missing end) w = (end, refl, w)
-led_to k names slot at (Found head parts) w = elim w [ ]
-led_to k names slot at Round w = elim w [ ]
-
 pub led_nowhere : (k : Map) (names : List Ref) (slot : ℕ) (a : Chase) (end : Ref) → ((at : ℕ) → a ≡ answer.Missing at → ⊥) → IsChasedTo k names slot (Missing end) a → ⊥
 led_nowhere k names slot (answer.Missing at) end not w = not at refl
 led_nowhere k names slot (answer.Found at) end not w = elim w [ ]

@@ -111,11 +111,11 @@ other_before n m l = differs n m _ refl (λ e. subst (λ k. node_lt m k ≡ true
 pub other_after : (n m : Node) → node_lt n m ≡ true → node_eq n m ≡ false
 other_after n m l = differs n m _ refl (λ e. subst (λ k. node_lt k m ≡ true) e l)
 
-after_cases : (n a b : Node) (x : Bool) → node_lt n b ≡ x → node_lt n a ≡ true → node_lt b a ≡ false → x ≡ true
+pub after_cases : (n a b : Node) (x : Bool) → node_lt n b ≡ x → node_lt n a ≡ true → node_lt b a ≡ false → x ≡ true
 after_cases n a b true e l up = refl
 after_cases n a b false e l up = let z = node_order.chain n b a e up in absurd cc
 
-strict_cases : (n a : Node) (x : Bool) → node_lt n a ≡ x → node_lt a n ≡ false → node_eq n a ≡ false → x ≡ true
+pub strict_cases : (n a : Node) (x : Bool) → node_lt n a ≡ x → node_lt a n ≡ false → node_eq n a ≡ false → x ≡ true
 strict_cases n a true e low differ = refl
 strict_cases n a false e low differ = let same = node_tied n a e low in let z = (node_Decides n a).1 same in absurd cc
 

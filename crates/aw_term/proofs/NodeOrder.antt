@@ -7,9 +7,10 @@ use Rattle.std.specs.Ordering.{nat_cmp, is_lt, is_eq}
 use Rattle.std.proofs.lemmas.Cmp.{nat_cmp_total, on_total, then_total, lists_total}
 use Rattle.std.proofs.lemmas.List.MinMax.{ranks_by}
 use Rattle.aw_name.specs.Order.{step_cmp, node_cmp}
+use Rattle.aw_name.proofs.Leads.{then_then as grouped}
 use Rattle.aw_term.specs.Trees.{Never}
 use Rattle.aw_term.specs.Names.{Step, Node, steps_eq, node_eq, steps_lt, node_lt}
-use Rattle.aw_term.proofs.NumbersFirst.{less, equal, grouped, tied_then}
+use Rattle.aw_term.proofs.NumbersFirst.{less, equal, tied_then}
 use Rattle.aw_term.proofs.StrictOrders.{not_self, through, either}
 
 steps_before : (a b : List Step) → is_lt (slice_cmp step_cmp a b) ≡ steps_lt a b

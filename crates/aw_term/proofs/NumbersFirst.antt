@@ -30,11 +30,6 @@ equal m n o b e = cases (nat_lt m n) (nat_eq m n) refl refl
     cases false true p q = e
     cases false false p q = refl
 
-pub grouped : (a b c : Ordering) → ordering_then (ordering_then a b) c ≡ ordering_then a (ordering_then b c)
-grouped Less b c = refl
-grouped Equal b c = refl
-grouped Greater b c = refl
-
 -- an order by two orders in turn
 pub in_turn : (a b : Ordering) → is_lt (ordering_then a b) ≡ (is_lt a || (is_eq a && is_lt b))
 in_turn Less b = refl

@@ -1,5 +1,5 @@
 -- Tokens at the front of bytes: names, numbers, texts and marks.
-use Rattle.std.proofs.Common.{◌≡◌, ℕ, suc, ◌+◌, ◌-◌, ◌<◌, ◌^◌, refl, sym, ◌∙◌, ap, Bool, true, false, cond, ◌==◌, ◌&&◌, ◌||◌, not, List, [], ◌∷◌, ◌++◌, take, length, arith, Option, Some, None, is_some, option_map, append_assoc, length-append, nat_le, flat_map, subst, inl, inr}
+use Rattle.std.proofs.Common.{◌≡◌, ℕ, suc, ◌+◌, ◌-◌, ◌<◌, ◌^◌, refl, sym, ◌∙◌, ap, Bool, true, false, cond, ◌==◌, ◌&&◌, not, List, [], ◌∷◌, ◌++◌, take, length, arith, Option, Some, None, is_some, option_map, append_assoc, length-append, nat_le, flat_map, subst, inl, inr}
 use Rattle.std.proofs.Math.Seq.{take-append_seam}
 use Rattle.std.proofs.lemmas.Bool.{and_parts}
 use Rattle.std.proofs.lemmas.Bool.Decides.{nat_tests, eqb_tells}
@@ -14,6 +14,7 @@ use Rattle.aw_lex.specs.declared.token.TokenKind.{TokenKind}
 use Rattle.aw_lex.specs.declared.token.TokenKind.TheVariants as kinds
 use Rattle.aw_lex.specs.declared.front.Front.TheVariants as front
 use Rattle.aw_lex.specs.Tokens.{is_blank, is_mark, is_word_byte, word_len, kind_of_word, front_of_word, front_of_text, front_of}
+use Rattle.aw_lex.proofs.Words.{name_in_word as name_is_word}
 
 -- bytes that do not go on with a word
 abbrev pub Ends : List ℕ → Type 0
@@ -61,9 +62,6 @@ all_pass p q f [] h = refl
 all_pass p q f (b ∷ bs) h =
     let each = and_parts (p b) (list_all p bs) h in
     ap (λ t. t && list_all q bs) (f b each.0) ∙ all_pass p q f bs each.1
-
-pub name_is_word : (b : ℕ) → is_name_byte b ≡ true → is_word_byte b ≡ true
-name_is_word b h = ap (λ t. ((t || b == 35) || b == 47) || b == 46) h
 
 name_is_kept : (b : ℕ) → is_name_byte b ≡ true → not (b == 10) ≡ true
 name_is_kept b h = grind (arith, nat_tests)

@@ -10,8 +10,8 @@ use Rattle.aw_spelling.proofs.NodeNames.{plain_is_no_node}
 use Rattle.aw_lex.specs.declared.token.TokenKind.TheVariants as kinds
 use Rattle.aw_lex.specs.declared.front.Front.TheVariants as front
 use Rattle.aw_lex.specs.Tokens.{is_word_byte, kind_of_word, front_of}
-use Rattle.aw_lex.proofs.Words.{joined_kind}
-use Rattle.aw_term_reader.proofs.Lexing.{Ends, all_pass, digit_is_word, if_true, letter_begins, name_is_word, number_digits, word_front}
+use Rattle.aw_lex.proofs.Words.{joined_kind, name_in_word as name_is_word}
+use Rattle.aw_term_reader.proofs.Lexing.{Ends, all_pass, digit_is_word, if_true, letter_begins, number_digits, word_front}
 
 -- what holds, where an option that came of others is there
 both_some : {A B C : Type 0} (f : A → B → C) (o : Option A) (q : Option B) → is_some (option_and_then (λ x. option_map (f x) q) o) ≡ true → (is_some o ≡ true) × (is_some q ≡ true)

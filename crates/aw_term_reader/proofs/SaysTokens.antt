@@ -64,7 +64,7 @@ lexes_token w bs kind l ls some found says s before =
           ∙ ap (λ ks. l ∷ ks) (ap (λ line. lexemes line more.0) (sym (append_assoc before w bs)) ∙ more.2),
     )
 
-all_unbroken : (w bs : List ℕ) → lacks 10 w ≡ true → lacks 10 bs ≡ true → lacks 10 (w ++ bs) ≡ true
+pub all_unbroken : (w bs : List ℕ) → lacks 10 w ≡ true → lacks 10 bs ≡ true → lacks 10 (w ++ bs) ≡ true
 all_unbroken w bs h k = list_all-append (λ x. not (x == 10)) w bs ∙ ap (λ t. t && lacks 10 bs) h ∙ k
 
 says_token : (w bs : List ℕ) (kind : TokenKind) (l : Lexeme) (ls : List Lexeme) → 0 < length w → front_of (w ++ bs) ≡ front.Token kind (length w) → said kind w ≡ l → lacks 10 w ≡ true → Says bs ls → Says (w ++ bs) (l ∷ ls)

@@ -4,6 +4,7 @@ use Rattle.std.specs.Prelude.{slice_get, Option, is_some, nat_eq, nat_le}
 use Rattle.aw_term.specs.Names.{Node}
 use Rattle.aw_term.specs.Rules.{Ground, Rule, Grammar, get, sort_of}
 use Rattle.aw_term.specs.Choices as P
+use Rattle.aw_term.proofs.Gets.{get_some as got_site}
 use Rattle.aw_accept.specs.declared.accepted.Accepted.{Accepted}
 use Rattle.aw_grammar.specs.GrammarOf.{grammar_of}
 use Rattle.aw_choice.specs.Events.{Event}
@@ -13,7 +14,6 @@ use Rattle.aw_law_sites.specs.Worlds as V
 use Rattle.aw_world.specs.declared.workspace.Workspace.{Ghosts}
 use Rattle.aw_world.specs.declared.world.World.{World}
 use Rattle.aw_world.specs.WorldView.{plain_of}
-use Rattle.aw_world.proofs.WorldFacts.{got_site}
 use Rattle.aw_trial.specs.declared.tally.Tally.{Tally}
 use Rattle.aw_trial.specs.Draws.{next_below, drew}
 use Rattle.aw_trial.specs.Comes.{Comes, Does, AreUpTo, AddsOne}

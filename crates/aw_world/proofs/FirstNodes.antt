@@ -7,7 +7,7 @@ use Rattle.aw_term.specs.WellFormed.{Each}
 use Rattle.aw_term.proofs.NodeOrder.{node_order, node-trans}
 use Rattle.aw_node_list.specs.declared.held.Held.{Held}
 use Rattle.aw_node_list.specs.InOrder.{insert_in, insert_all_in}
-use Rattle.aw_node_list.proofs.InOrderLemmas.{Up}
+use Rattle.aw_node_list.proofs.InOrderLemmas.{Up, each_inserted as each_in}
 use Rattle.aw_world.specs.Merged.{merged}
 use Rattle.aw_world.specs.Firsts.{IsFirst}
 
@@ -19,17 +19,13 @@ After h ks = Each (λ k. node_lt h.node k.node ≡ true) ks
 abbrev NotBefore : Held → List Held → Type 0
 NotBefore h ks = Each (λ k. node_lt k.node h.node ≡ false) ks
 
-each_weaker : (P Q : Held → Type 0) → ((k : Held) → P k → Q k) → (ks : List Held) → Each P ks → Each Q ks
+pub each_weaker : (P Q : Held → Type 0) → ((k : Held) → P k → Q k) → (ks : List Held) → Each P ks → Each Q ks
 each_weaker P Q f [] a = tt
 each_weaker P Q f (k ∷ ks) a = (f k a.0, each_weaker P Q f ks a.1)
 
-each_cases : (P : Held → Type 0) (b : Bool) (h k : Held) (ks zs : List Held) → P h → P k → Each P ks → Each P zs → Each P (cond b (h ∷ k ∷ ks) (k ∷ zs))
+pub each_cases : (P : Held → Type 0) (b : Bool) (h k : Held) (ks zs : List Held) → P h → P k → Each P ks → Each P zs → Each P (cond b (h ∷ k ∷ ks) (k ∷ zs))
 each_cases P true h k ks zs p q a b = (p, (q, a))
 each_cases P false h k ks zs p q a b = (q, b)
-
-each_in : (P : Held → Type 0) (h : Held) (ks : List Held) → P h → Each P ks → Each P (insert_in h ks)
-each_in P h [] p a = (p, tt)
-each_in P h (k ∷ ks) p a = each_cases P (node_lt h.node k.node) h k ks (insert_in h ks) p a.0 a.1 (each_in P h ks p a.1)
 
 each_all_in : (P : Held → Type 0) (hs ks : List Held) → Each P hs → Each P ks → Each P (insert_all_in hs ks)
 each_all_in P [] ks a b = b

@@ -2,6 +2,7 @@
 use Rattle.std.proofs.Common.{◌≡◌, ℕ, zero, suc, ◌+◌, ◌<◌, ◌≤◌, arith, Bool, true, false, List, [], ◌∷◌, ◌++◌, length, drop, map, get_or, ap, ◌∙◌, refl, Some, None}
 use Rattle.std.specs.Prelude.{slice_set}
 use Rattle.aw_law_sites.specs.Worlds.{count_open, count_set, first_false}
+use Rattle.aw_law_worlds.proofs.Counting.{count_within}
 use Rattle.aw_world.specs.Marks.{marks, leading, is_marked}
 
 pub marked_at : (bs : List Bool) (i : ℕ) (b : Bool) → i < length bs → b ≡ get_or bs i b → b ≡ is_marked bs i
@@ -65,11 +66,6 @@ count_below (false ∷ bs) zero l e = let h = count_within bs in omega (arith, h
     count_within (false ∷ bs) = let h = count_within bs in omega (arith, h)
 count_below (true ∷ bs) (suc k) l e = let h = count_below bs k (omega arith) e in omega (arith, h)
 count_below (false ∷ bs) (suc k) l e = let h = count_below bs k (omega arith) e in omega (arith, h)
-
-pub count_within : (bs : List Bool) → count_set bs ≤ length bs
-count_within [] = omega arith
-count_within (true ∷ bs) = let h = count_within bs in omega (arith, h)
-count_within (false ∷ bs) = let h = count_within bs in omega (arith, h)
 
 -- one place more that is not marked
 pub marks_padded : {A : Type 0} (ms : List A) (bs : List Bool) → marks ms (bs ++ false ∷ []) ≡ marks ms bs

@@ -6,16 +6,18 @@ use Rattle.aw_term.specs.Configs.{State, Pending, Done}
 use Rattle.aw_term.specs.Rules.{Grammar}
 use Rattle.aw_term.specs.WellFormed.{Each, Later}
 use Rattle.aw_term.proofs.NodeOrder.{node_order}
+use Rattle.aw_term.proofs.ByNodeLemmas.{after_cases}
 use Rattle.aw_choice.specs.declared.choice.Choice.{Choice}
 use Rattle.aw_choice.specs.declared.choice.Choice.TheVariants.{Start, Develop}
 use Rattle.aw_node_list.specs.declared.held.Held.{Held}
 use Rattle.aw_node_list.specs.HeldView.{all_of, state_of}
 use Rattle.aw_node_list.specs.InOrder.{insert_in, insert_all_in}
-use Rattle.aw_node_list.proofs.InOrderLemmas.{Up}
+use Rattle.aw_node_list.proofs.InOrderLemmas.{Up, each_inserted as each_in}
 use Rattle.aw_world.specs.Merged.{merged, nodes_of}
 use Rattle.aw_world.specs.NodeLists.{AreOrdered, put_among, is_first_next}
 use Rattle.aw_world.specs.Opened.{open_on, open_nodes}
 use Rattle.aw_world.specs.declared.workspace.Workspace.{Ghosts}
+use Rattle.aw_world.proofs.FirstNodes.{each_weaker}
 
 -- a node before the first that is after it
 abbrev put_in : Node → List Node → List Node
@@ -85,11 +87,6 @@ in_front : (m : Node) (ns : List Node) → AllAfter m ns → put_in m ns ≡ m �
 in_front m [] a = refl
 in_front m (n ∷ ns) a = ap (λ b. cond b (m ∷ n ∷ ns) (n ∷ put_in m ns)) a.0
 
--- a node is after another, where it is not before one that is
-after_cases : (m n x : Node) (b : Bool) → node_lt m x ≡ b → node_lt m n ≡ true → node_lt x n ≡ false → b ≡ true
-after_cases m n x true e l k = refl
-after_cases m n x false e l k = let z = node_order.chain m x n e k in absurd cc
-
 after_one : (m n x : Node) → node_lt m n ≡ true → node_lt x n ≡ false → node_lt m x ≡ true
 after_one m n x l k = let z = after_cases m n x (node_lt m x) refl l k in z
 
@@ -141,15 +138,6 @@ done_put : (g : Grammar) (h : Held) (ks : List Held) (c : Choice) → h.done ≡
 done_put g h [] c is = ap (λ d. open_on (state_of d) h.node []) is ∙ done_state c h.node []
 done_put g h (k ∷ ks) c is = done_cases g h k ks c (node_lt h.node k.node) is (done_put g h ks c is)
 
--- what is put in stays sorted
-each_cases : (P : Held → Type 0) (b : Bool) (h k : Held) (ks zs : List Held) → P h → P k → Each P ks → Each P zs → Each P (cond b (h ∷ k ∷ ks) (k ∷ zs))
-each_cases P true h k ks zs p q a b = (p, (q, a))
-each_cases P false h k ks zs p q a b = (q, b)
-
-each_in : (P : Held → Type 0) (h : Held) (ks : List Held) → P h → Each P ks → Each P (insert_in h ks)
-each_in P h [] p a = (p, tt)
-each_in P h (k ∷ ks) p a = each_cases P (node_lt h.node k.node) h k ks (insert_in h ks) p a.0 a.1 (each_in P h ks p a.1)
-
 not_before : (h k : Held) (ks : List Held) → node_lt h.node k.node ≡ true → Each (λ x. node_lt x.node k.node ≡ false) ks → Each (λ x. node_lt x.node h.node ≡ false) ks
 not_before h k [] l a = tt
 not_before h k (x ∷ ks) l a = (node_order.one_way h.node x.node (after_one h.node k.node x.node l a.0), not_before h k ks l a.1)
@@ -177,10 +165,6 @@ put_cases g h hs ks (Some c) e o =
 pub opens_put : (g : Grammar) (hs ks : List Held) → Sorted ks → open_nodes (all_of g (insert_all_in hs ks)) ≡ put_among (open_nodes (all_of g hs)) (open_nodes (all_of g ks))
 opens_put g [] ks o = refl
 opens_put g (h ∷ hs) ks o = opens_put g hs (insert_in h ks) (sorted_in h ks o) ∙ put_cases g h hs ks h.done refl o
-
-each_weaker : (P Q : Held → Type 0) → ((k : Held) → P k → Q k) → (ks : List Held) → Each P ks → Each Q ks
-each_weaker P Q f [] a = tt
-each_weaker P Q f (k ∷ ks) a = (f k a.0, each_weaker P Q f ks a.1)
 
 ordered_on : (s : State) (n : Node) (ns : List Node) → NoneBefore n ns → AreOrdered ns → AreOrdered (open_on s n ns)
 ordered_on Pending n ns a o = (a, o)

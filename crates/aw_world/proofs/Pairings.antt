@@ -1,6 +1,6 @@
 -- Two lists whose members belong together, place by place.
 use Rattle.std.proofs.Common.{◌≡◌, ℕ, zero, suc, ◌<◌, arith, List, [], ◌∷◌, length, get_or, ap, sym, ◌∙◌, refl, subst, inl, inr}
-use Rattle.std.specs.Prelude.{slice_set, slice_get, Some, Result, Ok, Err, OnErr, ◌⊎◌}
+use Rattle.std.specs.Prelude.{slice_set, slice_get, Some, ◌⊎◌}
 use Rattle.std.proofs.lemmas.Option.{same_Some, slice_get_read}
 use Rattle.aw_term.specs.Rules.{get}
 use Rattle.aw_accept.specs.Acyclic.{Pairs}
@@ -8,11 +8,8 @@ use Rattle.aw_grammar.specs.declared.grammar.Grammar.{Grammar}
 use Rattle.aw_grammar.specs.GrammarOf.{grammar_of}
 use Rattle.aw_world.specs.declared.workspace.Workspace.{Ghosts}
 use Rattle.aw_term.specs.SameGrammar.{same_grammar}
+use Rattle.aw_law_worlds.proofs.Places.{length-set as length_set}
 use Rattle.aw_world.specs.Seen.{ArePlaced}
-
-pub on_err : {T E P : Type 0} (r : Result T E) → P → OnErr r P
-on_err (Ok x) p = tt
-on_err (Err e) p = p
 
 module _ {A B : Type 0} (R : A → B → Type 0) where
   pub pairs_at : (d : B) (xs : List A) (ys : List B) (i : ℕ) (x : A) → Pairs R xs ys → i < length xs → x ≡ get_or xs i x → R x (get d ys i)
@@ -42,11 +39,6 @@ set_same d (y ∷ ys) (suc i) = ap (λ z. y ∷ z) (set_same d ys i)
 -- a workspace that changed beside those that stay
 pub pairs_keep : {A B : Type 0} (R : A → B → Type 0) (d : B) (xs : List A) (ys : List B) (i : ℕ) (x : A) → Pairs R xs ys → R x (get d ys i) → Pairs R (slice_set xs i x) ys
 pairs_keep R d xs ys i x p r = subst (Pairs R (slice_set xs i x)) (set_same d ys i) (pairs_put R xs ys i x (get d ys i) p r)
-
-pub length_set : {A : Type 0} (xs : List A) (i : ℕ) (x : A) → length (slice_set xs i x) ≡ length xs
-length_set [] i x = refl
-length_set (y ∷ xs) zero x = refl
-length_set (y ∷ xs) (suc i) x = ap suc (length_set xs i x)
 
 get_set_cases : {A : Type 0} (xs : List A) (i j : ℕ) (x y : A) → slice_get (slice_set xs i x) j ≡ Some y → ((j ≡ i) × (x ≡ y)) ⊎ (slice_get xs j ≡ Some y)
 get_set_cases [] i j x y e = inr e

@@ -13,6 +13,7 @@ use Rattle.aw_node_list.specs.declared.held.Held.{Held}
 use Rattle.aw_node_list.specs.HeldView.{held_of, all_of}
 use Rattle.aw_out.specs.declared.error.PrintFault.{PrintFault}
 use Rattle.aw_out.specs.Report.{Bounded, Prints}
+use Rattle.aw_term.proofs.Gets.{get_some as got_site}
 use Rattle.aw_law_sites.specs.Homes.{home}
 use Rattle.aw_law_sites.specs.Sites.{Site, empty_site}
 use Rattle.aw_law_sites.specs.Worlds.{World, gather, site_at}
@@ -25,7 +26,7 @@ use Rattle.aw_world.specs.PrintedRows.{PrintsRow}
 use Rattle.aw_world.specs.Seen.{ArePlaced, ShowEach}
 use Rattle.aw_world.proofs.Gathered.{gathered}
 use Rattle.aw_world.proofs.Lines.{told_here, told_length, row_here}
-use Rattle.aw_world.proofs.WorldFacts.{site_there, got_site}
+use Rattle.aw_world.proofs.WorldFacts.{site_there}
 
 stood_cases : {W : Type 0} (f : Ghosts W) (ws : List W) (s : Spot) (h : Held) (o : Option W) → slice_get ws s.site ≡ o → option_and_then (λ w. slice_get (f.its_nodes w) s.place) o ≡ Some h
     → (w : W) × (slice_get ws s.site ≡ Some w) × (slice_get (f.its_nodes w) s.place ≡ Some h)

@@ -9,12 +9,12 @@ use Rattle.std.proofs.lemmas.List.{length-map}
 use Rattle.std.proofs.lemmas.Option.{slice_get-map, same_Some}
 use Rattle.aw_list.specs.Members.{Member}
 use Rattle.aw_list.proofs.Members.{member_got}
-use Rattle.aw_term.specs.Rules.{get}
 use Rattle.aw_term.specs.Rules as R
 use Rattle.aw_term.specs.Artifacts.{Words}
 use Rattle.aw_term.specs.WellFormed.{Each}
 use Rattle.aw_term.specs.Held as P
 use Rattle.aw_term.proofs.GrammarTests.{grammars_are_one}
+use Rattle.aw_term.proofs.Gets.{get_some as got_site}
 use Rattle.aw_accept.specs.Acyclic.{Pairs}
 use Rattle.aw_accept.specs.declared.accepted.Accepted.{Accepted}
 use Rattle.aw_grammar.specs.declared.grammar.Grammar.{Grammar}
@@ -49,11 +49,6 @@ module _ (words : Words) (g : R.Grammar) (accepted : IsAccepted words g) (loads 
   configured_law = let (c, e, i, f) = headline words g accepted loads es may in (c, e, i)
 
 -- ---- the same of the program's world
-
-pub got_site : {A : Type 0} (d : A) (xs : List A) (i : ℕ) (x : A) → slice_get xs i ≡ Some x → get d xs i ≡ x
-got_site d [] i x e = absurd cc
-got_site d (y ∷ xs) zero x e = same_Some y x e
-got_site d (y ∷ xs) (suc i) x e = got_site d xs i x e
 
 -- the site at a workspace's place
 pub site_there : {A B : Type 0} (R : A → B → Type 0) (xs : List A) (ys : List B) (i : ℕ) (x : A) → Pairs R xs ys → slice_get xs i ≡ Some x → (y : B) × (slice_get ys i ≡ Some y) × R x y

@@ -24,6 +24,7 @@ use Rattle.aw_law_worlds.proofs.Places.{get-set}
 use Rattle.aw_law_worlds.proofs.Runs.{IsWorld, empty-world, node-stays, step-kept}
 use Rattle.aw_law_worlds.proofs.Settling.{deliver_taken}
 use Rattle.aw_law_worlds.proofs.WorldLaws.{homes_law}
+use Rattle.aw_law_worlds.proofs.Growing.{did-inj}
 
 -- held at this site, and developed so
 abbrev pub IsDoneAt : Site → Node → ℕ → List Ground → Type 0
@@ -32,9 +33,6 @@ IsDoneAt s n r args = (h : Held) × Member h s.held × (h.node ≡ n) × (h.stat
 held_there : (o : Option Held) (g : Grammar) (k : Map) (n : Node) (r : ℕ) (args : List Ground) (rule : Rule) (bound : List Ref) → by_held o g k n r args ≡ Takes rule bound → (h : Held) × (o ≡ Some h)
 held_there None g k n r args rule bound e = absurd cc
 held_there (Some h) g k n r args rule bound e = (h, refl)
-
-did-inj : {x y : Reaction} → Did x ≡ Did y → x ≡ y
-did-inj e = cc
 
 marked : (h : Held) (n : Node) (st : State) → h.node ≡ n → mark n st h ≡ record h { state = st }
 marked h n st e = ap (λ b. cond b (record h { state = st }) h) (subst (λ m. node_eq n m ≡ true) (sym e) (node_self n))

@@ -17,16 +17,12 @@ use Rattle.aw_node_list.proofs.InOrderLemmas.{Up, up_of}
 use Rattle.aw_accept.proofs.Fitting.{each_member}
 use Rattle.aw_store.specs.Equations.{Map}
 use Rattle.aw_law_sites.specs.Worklists.{open_items, site_worklist}
+use Rattle.aw_world.proofs.Walking.{up_drop}
 use Rattle.aw_world_waits.specs.declared.waiter.Waiter.{Waiter}
 use Rattle.aw_world_waits.specs.Waiters.{waited_in}
 use Rattle.aw_world_waits.specs.Blocks.{waiter_at}
 use Rattle.aw_world_waits.proofs.Groups.{front, split}
 use Rattle.aw_world_waits.proofs.Pairing.{own_node, of_worklist}
-
-up_drop : (p : ℕ) (hs : List Held) → Up hs → Up (drop p hs)
-up_drop zero hs up = up
-up_drop (suc p) [] up = tt
-up_drop (suc p) (h ∷ hs) up = up_drop p hs up.1
 
 -- those from a place on
 pub drop_here : (hs : List Held) (i : ℕ) (h : Held) → slice_get hs i ≡ Some h → drop i hs ≡ h ∷ drop (i + 1) hs

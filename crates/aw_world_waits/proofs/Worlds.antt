@@ -15,7 +15,7 @@ use Rattle.aw_term.specs.Rules.{Grammar, upto}
 use Rattle.aw_term.specs.Trees.{Never}
 use Rattle.aw_term.specs.WellFormed.{Each}
 use Rattle.aw_term.proofs.GrammarTests.{grammars_are_one}
-use Rattle.aw_term.proofs.Gets.{get_none}
+use Rattle.aw_term.proofs.Gets.{get_none, get_some as got_site}
 use Rattle.aw_iograph.specs.Graphs.{Plus}
 use Rattle.aw_grammar.specs.GrammarOf.{grammar_of, words_of}
 use Rattle.aw_choice.specs.ChoiceView.{choice_of}
@@ -38,7 +38,7 @@ use Rattle.aw_world.proofs.Gathered.{gathered}
 use Rattle.aw_world.proofs.Lines.{told_here}
 use Rattle.aw_world.proofs.Pairings.{pairs_length}
 use Rattle.aw_world.proofs.RowsAt.{order_length, stood}
-use Rattle.aw_world.proofs.WorldFacts.{got_site, reached_homes, site_there}
+use Rattle.aw_world.proofs.WorldFacts.{reached_homes, site_there}
 use Rattle.aw_world_waits.specs.declared.pair.Pair.{Pair}
 use Rattle.aw_world_waits.specs.declared.waiter.Waiter.{Waiter}
 use Rattle.aw_world_waits.specs.Waiters.{waited_in, holds_done, is_developed}

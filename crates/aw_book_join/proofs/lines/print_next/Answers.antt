@@ -3,12 +3,13 @@ use Rattle.std.proofs.lemmas.List.{length-map}
 use Rattle.aw_node_list.specs.HeldView.{held_of}
 use Rattle.aw_out.specs.Report.{Bounded}
 use Rattle.aw_term.specs.Held.{Held}
+use Rattle.aw_store.proofs.ChaseLemmas.{name_at as some-at}
 use Rattle.aw_book_join.specs.Handing.{Hands}
 use Rattle.aw_book_join.specs.Lines.{TellsTask}
 use Rattle.aw_book_join.specs.Views.{is_asked}
 use Rattle.aw_book_join.proofs.Handing.{no-prefix}
 use Rattle.aw_book_join.proofs.Results.{hands-passed, tells-passed}
-use Rattle.aw_book_join.proofs.Telling.{held-at, some-at, hands-none, told-none, told-some, tells-task, no-task}
+use Rattle.aw_book_join.proofs.Telling.{held-at, hands-none, told-none, told-some, tells-task, no-task}
 use Rattle.aw_book_join.proofs.lines.print_next.Goals as goal
 
 pub returns-then-not-is_asked-clause-hands : goal.returns-then-not-is_asked-clause-hands

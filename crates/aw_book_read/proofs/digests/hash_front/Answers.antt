@@ -1,6 +1,6 @@
 use Rattle.std.proofs.Common.{◌≡◌, ◌≤◌, ◌+◌, length, subst, ◌∙◌, arith}
 use Rattle.sha2.specs.Hashers.{Holds256}
-use Rattle.aw_book_read.proofs.Digesting.{taken_past}
+use Rattle.aw_journal.proofs.Reading.{taken_all as taken_past}
 use Rattle.aw_book_read.proofs.digests.hash_front.Goals as goal
 
 pub returns-then-n-eq0-clause-hashed : goal.returns-then-n-eq0-clause-hashed

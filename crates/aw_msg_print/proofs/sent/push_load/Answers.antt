@@ -1,9 +1,10 @@
 use Rattle.std.proofs.Common.{◌∙◌, ◌≡◌, ◌++◌, ◌-◌, codes, drop, flat_map, length, map, subst, take}
 use Rattle.std.specs.Prelude.{OnOk}
 use Rattle.aw_grammar.specs.GrammarOf.{words_of}
+use Rattle.aw_base.proofs.TextLemmas.{all_behind}
 use Rattle.aw_store.specs.EquationView.{equation_of}
 use Rattle.aw_law_sites.specs.Transcripts.{equation_text, load_text}
-use Rattle.aw_msg_print.proofs.SentLines.{load_split, all_behind, added_thrice}
+use Rattle.aw_msg_print.proofs.SentLines.{load_split, added_thrice}
 use Rattle.aw_msg_print.proofs.sent.push_load.Goals as goal
 
 pub returns-in_ok-push_equation-in-len1-up : goal.returns-in_ok-push_equation-in-len1-up

@@ -1,4 +1,5 @@
 use Rattle.std.proofs.Common.{rules, map, ap, sym, ◌∙◌, refl, subst}
+use Rattle.aw_list.proofs.Fronts.{on_err_held as on_err}
 use Rattle.aw_accept.specs.declared.accepted.Accepted.{Accepted}
 use Rattle.aw_grammar.specs.GrammarOf.{grammar_of, words_of}
 use Rattle.aw_out.specs.Report.{Prints}
@@ -8,7 +9,6 @@ use Rattle.aw_sched.specs.Answers.{event_seen}
 use Rattle.aw_law_sites.specs.Outputs.{after_events, all_moves, ending}
 use Rattle.aw_law_worlds.proofs.Headlining.{events_run}
 use Rattle.aw_world.specs.Shown.{Shows}
-use Rattle.aw_world.proofs.Pairings.{on_err}
 use Rattle.aw_world.proofs.Lines.{stops}
 use Rattle.aw_replay.specs.Telling.{DoesFirst}
 use Rattle.aw_replay.proofs.Events.{all_taken}

@@ -1,9 +1,9 @@
 use Rattle.std.proofs.Common.{ℕ, take, ap, sym, ◌∙◌, subst}
+use Rattle.aw_list.proofs.Fronts.{on_err_held as on_err}
 use Rattle.aw_grammar.specs.GrammarOf.{grammar_of}
 use Rattle.aw_law_sites.specs.Worlds as V
 use Rattle.aw_sched.specs.Answers.{event_seen}
 use Rattle.aw_world.specs.Shown.{Shows}
-use Rattle.aw_world.proofs.Pairings.{on_err}
 use Rattle.aw_law_sites.specs.Outputs.{moves_of}
 use Rattle.aw_replay.proofs.Events.{all_taken}
 use Rattle.aw_law_worlds.proofs.Headlining.{event_runs}

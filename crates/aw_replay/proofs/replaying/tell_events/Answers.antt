@@ -1,5 +1,6 @@
 use Rattle.std.proofs.Common.{rules, ℕ, ◌+◌, List, map, take, drop, ap, sym, ◌∙◌, refl, subst, Ok}
 use Rattle.std.proofs.lemmas.List.{drop_all, take_all}
+use Rattle.aw_list.proofs.Fronts.{on_err_held as on_err}
 use Rattle.aw_accept.specs.declared.accepted.Accepted.{Accepted}
 use Rattle.aw_grammar.specs.GrammarOf.{grammar_of, words_of}
 use Rattle.aw_out.specs.Report.{Prints}
@@ -11,7 +12,6 @@ use Rattle.aw_world.specs.Shown.{Shows}
 use Rattle.aw_law_sites.specs.Outputs.{after_event, after_events, event_lines, all_lines, moves_of, all_moves}
 use Rattle.aw_replay.proofs.Events.{each_here, events_more, lines_drop, some_before}
 use Rattle.aw_world.proofs.Lines.{stops}
-use Rattle.aw_world.proofs.Pairings.{on_err}
 use Rattle.aw_replay.proofs.replaying.tell_events.Goals as goal
 
 pub tell_event-requires-clause-named : goal.tell_event-requires-clause-named

@@ -1,6 +1,6 @@
 use Rattle.std.proofs.Common.{sym, subst}
+use Rattle.aw_list.proofs.Fronts.{on_err_held as on_err}
 use Rattle.aw_replay.specs.Replays.{Replays}
-use Rattle.aw_world.proofs.Pairings.{on_err}
 use Rattle.aw_replay.proofs.WhileRead.{all_made, some_made, stopped, whole_told}
 use Rattle.aw_replay.proofs.scheduled.replay_schedule.Goals as goal
 

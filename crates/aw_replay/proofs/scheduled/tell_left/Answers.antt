@@ -1,11 +1,11 @@
 use Rattle.std.proofs.Common.{rules, ◌≡◌, ◌∙◌, refl, sym, subst, ap, Err}
 use Rattle.std.specs.Prelude.{IfSome}
+use Rattle.aw_list.proofs.Fronts.{on_err_held as on_err}
 use Rattle.aw_accept.specs.declared.accepted.Accepted.{Accepted}
 use Rattle.aw_grammar.specs.declared.grammar.Grammar.{Grammar}
 use Rattle.aw_grammar.specs.GrammarOf.{grammar_of}
 use Rattle.aw_sched.specs.Answers.{MayCome}
 use Rattle.aw_sched.specs.Readers.{left}
-use Rattle.aw_world.proofs.Pairings.{on_err}
 use Rattle.aw_replay.specs.Faults.{of_printing, of_schedule}
 use Rattle.aw_replay.specs.Replays.{TellsLeft}
 use Rattle.aw_replay.proofs.WhileRead.{all_told, none_told, one_some, one_told, print_fault, read_fault, some_told}

@@ -1,10 +1,10 @@
 use Rattle.std.proofs.Common.{◌++◌, ap, ◌∙◌}
+use Rattle.aw_list.proofs.Fronts.{on_err_held as on_err}
 use Rattle.aw_choice.specs.ChoiceView.{choice_of}
 use Rattle.aw_choice.specs.Events as E
 use Rattle.aw_law_sites.specs.Outputs.{event_lines}
 use Rattle.aw_law_sites.specs.Worlds as V
 use Rattle.aw_world.specs.WorldView.{plain_of, named_by}
-use Rattle.aw_world.proofs.Pairings.{on_err}
 use Rattle.aw_replay.specs.Telling.{DoesSome}
 use Rattle.aw_replay.proofs.Arms.{some_step}
 use Rattle.aw_replay.proofs.telling.choice_lines.Goals as goal

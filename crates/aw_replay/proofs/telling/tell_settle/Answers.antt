@@ -1,6 +1,7 @@
 use Rattle.std.proofs.Common.{◌≡◌, suc, ◌-◌, ◌<◌, ◌++◌, ap, sym, ◌∙◌, arith, subst, map, append_assoc, inl, inr, codes}
 use Rattle.std.specs.Fmt.{decimal}
 use Rattle.std.proofs.lemmas.Result.{on_ok_weaker}
+use Rattle.aw_list.proofs.Fronts.{on_err_held as on_err}
 use Rattle.aw_choice.specs.ChoiceView.{choice_of}
 use Rattle.aw_grammar.specs.GrammarOf.{grammar_of, words_of}
 use Rattle.aw_accept.specs.declared.accepted.Accepted.{Accepted}
@@ -9,7 +10,6 @@ use Rattle.aw_law_sites.specs.Transcripts.{move_lines, settle_lines}
 use Rattle.aw_law_sites.specs.Worlds.{count_set}
 use Rattle.aw_law_sites.specs.Bounds.{bound_of}
 use Rattle.aw_world.specs.Shown.{Shows}
-use Rattle.aw_world.proofs.Pairings.{on_err}
 use Rattle.aw_law_worlds.proofs.Settling.{settle_more, settle_taken}
 use Rattle.aw_world.proofs.Settles.{room_left, fewer_left, one_more, settled_on, settled_whole, bounded}
 use Rattle.aw_replay.specs.Telling.{SettlesSome}

@@ -1,7 +1,7 @@
 use Rattle.std.proofs.Common.{inl, rules}
 use Rattle.aw_courier.specs.declared.carrying.CarryFault.TheVariants as fault
+use Rattle.aw_kept_node.proofs.CutOffs.{err-passed}
 use Rattle.aw_run.specs.declared.reply.Stop.TheVariants as stop
-use Rattle.aw_run.proofs.ServedOutputs.{err-passed}
 use Rattle.aw_run.proofs.CarriedOutputs.{breaks-off, broken-kept, carried-kept, carried-told, carry-rose, line-lost, name-lost, unheard-told}
 use Rattle.aw_run.proofs.carrying.carry_accepted.Goals as goal
 

@@ -1,8 +1,9 @@
 use Rattle.std.proofs.Common.{◌∙◌, sym, ap, rules}
+use Rattle.aw_kept_node.proofs.CutOffs.{err-passed}
 use Rattle.aw_run.specs.Devices.{around}
 use Rattle.aw_run.specs.Serving.{session_lines}
 use Rattle.aw_run.specs.declared.reply.Stop.TheVariants as stop
-use Rattle.aw_run.proofs.ServedOutputs.{disk-rose, ends-by, err-passed, keeps-role, lines-lost, net-rose, stops-role}
+use Rattle.aw_run.proofs.ServedOutputs.{disk-rose, ends-by, keeps-role, lines-lost, net-rose, stops-role}
 use Rattle.aw_run.proofs.keeping.keep_role.Goals as goal
 
 pub returns-in_ok-session_lines-in-Ok-clause-reply : goal.returns-in_ok-session_lines-in-Ok-clause-reply

@@ -1,9 +1,10 @@
 use Rattle.std.proofs.Common.{◌∙◌, ap, inl, rules}
 use Rattle.aw_node.specs.declared.serving.ServeFault.TheVariants as fault
+use Rattle.aw_kept_node.proofs.CutOffs.{err-passed}
 use Rattle.aw_run.specs.Devices.{wired}
 use Rattle.aw_run.specs.Serving.{session_lines}
 use Rattle.aw_run.specs.declared.reply.Stop.TheVariants as stop
-use Rattle.aw_run.proofs.ServedOutputs.{err-passed, node-lines-lost, served-until, serves-role}
+use Rattle.aw_run.proofs.ServedOutputs.{node-lines-lost, served-until, serves-role}
 use Rattle.aw_run.proofs.serving.serve_role.Goals as goal
 
 pub returns-in_ok-session_lines-in-Ok-clause-reply : goal.returns-in_ok-session_lines-in-Ok-clause-reply

@@ -1,5 +1,5 @@
 use Rattle.std.proofs.Common.{◌∙◌}
-use Rattle.aw_site.proofs.Clashing.{refs_derived}
+use Rattle.aw_space.proofs.CalledAlone.{refs_derived}
 use Rattle.aw_site.proofs.clashes.is_same_refs.Goals as goal
 
 pub returns : goal.returns

@@ -2,8 +2,9 @@ use Rattle.std.proofs.Common.{◌≡◌, ◌+◌, length, drop, refl, subst, ari
 use Rattle.std.specs.Prelude.{slice_get, Some}
 use Rattle.std.proofs.lemmas.Option.{slice_get_read}
 use Rattle.aw_grammar.specs.GrammarOf.{grammar_of}
+use Rattle.aw_apply.proofs.GuardLemmas.{part_at as one_dropped}
 use Rattle.aw_standing.specs.KeptStates.{IsKeptBut}
-use Rattle.aw_space.proofs.Waking.{one_dropped, one_taken, all_dropped, all_here}
+use Rattle.aw_space.proofs.Waking.{one_taken, all_dropped, all_here}
 use Rattle.aw_space.proofs.learning.wake_all.Goals as goal
 
 pub wake-requires-clause-known : goal.wake-requires-clause-known

@@ -5,8 +5,9 @@ use Rattle.aw_grammar.specs.GrammarOf.{grammar_of}
 use Rattle.aw_store.specs.Chase.{chase}
 use Rattle.aw_store.specs.ChaseView.{IsChasedTo}
 use Rattle.aw_store.proofs.ChaseLemmas.{name_at}
+use Rattle.aw_apply.proofs.GuardLemmas.{chased_missing as led_to}
 use Rattle.aw_standing.specs.Due.{waiting_mark}
-use Rattle.aw_standing.proofs.WaitEnds.{led_to, led_lacks, led_nowhere, led_told}
+use Rattle.aw_standing.proofs.WaitEnds.{led_lacks, led_nowhere, led_told}
 use Rattle.aw_standing.proofs.testing.look_again.Goals as goal
 
 pub returns-in-Missing-clause-told : goal.returns-in-Missing-clause-told

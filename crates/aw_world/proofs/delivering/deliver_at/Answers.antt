@@ -4,11 +4,11 @@ use Rattle.std.proofs.lemmas.Option.{slice_get-map}
 use Rattle.aw_grammar.specs.GrammarOf.{grammar_of}
 use Rattle.aw_law_sites.specs.Worlds as V
 use Rattle.aw_law_sites.specs.Reacting.{receive}
+use Rattle.aw_law_worlds.proofs.Places.{length-set as length_set}
 use Rattle.aw_world.specs.declared.moves.Reply.TheVariants as replies
 use Rattle.aw_msg.specs.MessageView.{message_of}
 use Rattle.aw_world.specs.Seen.{Steps}
 use Rattle.aw_world.proofs.Stepping.{got}
-use Rattle.aw_world.proofs.Pairings.{length_set}
 use Rattle.aw_world.proofs.delivering.deliver_at.Goals as goal
 
 pub returns-clause-steps : goal.returns-clause-steps

@@ -6,7 +6,7 @@ use Rattle.aw_world.specs.declared.moves.Reply.TheVariants as replies
 use Rattle.aw_world.specs.MoveView.{move_of}
 use Rattle.aw_world.specs.Seen.{Seen, Steps}
 use Rattle.std.proofs.lemmas.Result.{IfOk-weaker}
-use Rattle.aw_world.proofs.Pairings.{on_err}
+use Rattle.aw_list.proofs.Fronts.{on_err_held as on_err}
 use Rattle.aw_world.proofs.world.step.Goals as goal
 
 pub returns-in_err-answer-in-Choose-clause-err : goal.returns-in_err-answer-in-Choose-clause-err

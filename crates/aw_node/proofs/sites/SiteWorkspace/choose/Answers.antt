@@ -1,7 +1,8 @@
+use Rattle.aw_list.proofs.Fronts.{on_err_held as err_any}
 use Rattle.aw_choice.specs.ChoiceView.{choice_of}
 use Rattle.aw_grammar.specs.GrammarOf.{grammar_of}
 use Rattle.aw_law_sites.specs.Worlds.{node_of}
-use Rattle.aw_node.proofs.SiteReplies.{here_at, err_any}
+use Rattle.aw_node.proofs.SiteReplies.{here_at}
 use Rattle.aw_node.proofs.sites.SiteWorkspace.choose.Goals as goal
 
 pub choose-requires-clause-here : goal.choose-requires-clause-here

@@ -1,9 +1,10 @@
 use Rattle.std.proofs.Common.{subst}
+use Rattle.aw_list.proofs.Fronts.{on_err_held as err_any}
 use Rattle.aw_grammar.specs.GrammarOf.{grammar_of}
 use Rattle.aw_msg.specs.MessageView.{message_of}
 use Rattle.aw_law_sites.specs.Reacting.{receive}
 use Rattle.aw_site.specs.Seen.{IsShown}
-use Rattle.aw_node.proofs.SiteReplies.{received_site, err_any}
+use Rattle.aw_node.proofs.SiteReplies.{received_site}
 use Rattle.aw_node.proofs.sites.SiteWorkspace.receive.Goals as goal
 
 pub returns-in_err-received-clause-err : goal.returns-in_err-received-clause-err

@@ -1,8 +1,9 @@
 use Rattle.std.proofs.Common.{◌-◌, ◌∙◌, refl, subst, arith}
 use Rattle.aw_grammar.specs.declared.grammar.Grammar.{Grammar}
+use Rattle.aw_grammar.proofs.Emptying.{some_symbols}
 use Rattle.aw_sched.specs.ArgumentFronts.{IsFront}
 use Rattle.aw_sched.specs.ByteArguments.{TakesArgument, TakesArguments}
-use Rattle.aw_sched.proofs.ReadArguments.{at_close, none_yet, one_more, some_symbols, with_parts_read}
+use Rattle.aw_sched.proofs.ReadArguments.{at_close, none_yet, one_more, with_parts_read}
 use Rattle.aw_sched.proofs.known.ArgumentReader.+argument.Goals as goal
 
 pub argument-returns-in-Whole-clause-reads : goal.argument-returns-in-Whole-clause-reads

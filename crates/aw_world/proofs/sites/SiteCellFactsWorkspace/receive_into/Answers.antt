@@ -1,4 +1,5 @@
 use Rattle.std.proofs.Common.{◌≡◌, ◌++◌, map, ap, subst, ◌∙◌}
+use Rattle.aw_list.proofs.Fronts.{on_err_held as on_err}
 use Rattle.aw_cells.specs.contracts.cells.CellFactsFacts.TheImpl as cells
 use Rattle.aw_grammar.specs.GrammarOf.{grammar_of}
 use Rattle.aw_msg.specs.MessageView.{message_of}
@@ -9,7 +10,6 @@ use Rattle.aw_site.specs.Seen.{IsShown}
 use Rattle.aw_site.specs.Answers.{sent_for}
 use Rattle.aw_world.specs.SiteAnswers.{is_new}
 use Rattle.aw_world.proofs.OwnGrammars.{own_grammar, grows_either}
-use Rattle.aw_world.proofs.Pairings.{on_err}
 use Rattle.aw_world.proofs.sites.SiteCellFactsWorkspace.receive_into.Goals as goal
 
 pub returns-in_err-received-clause-err : goal.returns-in_err-received-clause-err
