@@ -3,7 +3,7 @@ use Rattle.std.proofs.Common.{◌≡◌, ℕ, suc, ◌+◌, ◌-◌, ◌≤◌, 
 use Rattle.std.specs.Fmt.{decimal}
 use Rattle.std.proofs.lemmas.List.{take-append-drop, take-take, length-append, length-take-le}
 use Rattle.std.proofs.lemmas.Option.{slice_get_within}
-use Rattle.std.proofs.Math.Seq.{take-append_seam, take-length, take-suc}
+use Rattle.std.proofs.Math.Seq.{take-append_seam, take-suc}
 use Rattle.aw_term.specs.Names.{Node, Step}
 use Rattle.aw_term.specs.Rules.{get}
 use Rattle.aw_term.specs.Artifacts.{Words, step_text, steps_text, node_text}
@@ -83,7 +83,3 @@ fronts_more w n text ends at d longer more f l within t e =
       each = λ j end g. elim (pushed ends (length longer) j end (ap (λ x. slice_get x j) (sym e) ∙ g))
           [ inl p ↦ f.each j end p | inr p ↦ p.1 ∙ ap length whole ∙ ap (λ x. length (node_text w (front x n))) (sym l' ∙ sym p.0) ];
     }
-
--- the front with all steps is the node
-pub front_all : (n : Node) → front (length n.steps) n ≡ n
-front_all n = ap (with_steps n) (take-length n.steps)

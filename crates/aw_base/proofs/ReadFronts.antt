@@ -237,9 +237,6 @@ first_front w g text case f h = record {
     by zero e p = let same : f ≡ e = cc in subst (λ (x : Front). IsNamed w g (take x.end text) f.sort case [] x.sort) same h
     by (suc k) e p = absurd cc
 
-pub no_fronts : (w : Words) (g : Grammar) (text : List ℕ) (start case : ℕ) → AreReadFronts w g text start case [] []
-no_fronts w g text start case = record { each = λ k f e. absurd cc; few = omega arith; paired = omega arith }
-
 -- a list up to a later place, cut at an earlier one
 cut_there : (text : List ℕ) (i j n : ℕ) → i < length text → j ≡ i + suc n → take j text ≡ take i text ++ get_or text i 0 ∷ take n (drop (suc i) text)
 cut_there [] i j n h e = absurd (omega (arith, h))

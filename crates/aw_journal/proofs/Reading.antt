@@ -2,10 +2,10 @@
 use Rattle.std.specs.Prelude.{◌≡◌, ℕ, ◌+◌, ◌-◌, ◌≤◌, ◌<◌, List, [], ◌∷◌, ◌++◌, length, take, drop, get_or, Result, Ok, Err, IfErr, OnOk}
 use Rattle.std.proofs.Common.{refl, sym, ◌∙◌, ap, subst, arith, append_assoc, take-append-drop}
 use Rattle.std.proofs.Math.Seq.{take-add}
-use Rattle.std.proofs.lemmas.List.{drop-drop, drop-take, drop_more, length-take, take-take, take_all}
+use Rattle.std.proofs.lemmas.List.{drop-drop, drop-take, drop_more, take-take, take_all}
 use Rattle.aw_disk.specs.declared.edge.Disk.{Ghosts}
 use Rattle.aw_journal.specs.Format.{has_head, head}
-use Rattle.aw_journal.specs.Opens.{BeginsClosed, HasThisHead}
+use Rattle.aw_journal.specs.Opens.{HasThisHead}
 use Rattle.aw_journal.specs.Journal.{Quiet}
 use Rattle.aw_journal.specs.Openings.{IsReadFault}
 use Rattle.aw_journal.specs.Reading.{OnlyReads}
@@ -40,13 +40,6 @@ pub headed_by_two : (file : List ℕ) → has_head (take 2 file) ≡ has_head fi
 headed_by_two [] = refl
 headed_by_two (gate ∷ []) = refl
 headed_by_two (gate ∷ byte ∷ rest) = refl
-
-pub closed_by_two : (file : List ℕ) → BeginsClosed (take 2 file) → BeginsClosed file
-closed_by_two [] closed = cc
-closed_by_two (gate ∷ rest) closed = (closed.0, rest, closed.2, grind arith)
-
-pub short_by_two : (file : List ℕ) → length (take 2 file) ≤ 1 → length file ≤ 1
-short_by_two file short = omega (arith, length-take 2 file)
 
 -- a head and the gate behind it
 pub head_by_front : (role : ℕ) (text file front : List ℕ) → front ≡ take (length (1 ∷ head role text) + 1) file → (byte : ℕ) × (rest : List ℕ) × (front ≡ (1 ∷ head role text) ++ byte ∷ rest) → HasThisHead role text file

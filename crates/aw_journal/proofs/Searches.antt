@@ -21,11 +21,6 @@ passed_over zero l shut = refl
 passed_over (suc k) [] shut = refl
 passed_over (suc k) (byte ∷ rest) shut = passed byte rest (shut 0 (omega arith)) ∙ passed_over k rest (λ i lt. shut (suc i) (omega (arith, lt)))
 
--- a record that begins here is one
-pub begun_here : (l : List ℕ) → begins_record l ≡ true → has_record l ≡ true
-begun_here [] is = absurd (cc is)
-begun_here (byte ∷ rest) is = rw is refl
-
 -- and where none begins it is further on
 pub begun_later : (file : List ℕ) (place : ℕ) → begins_record (drop place file) ≡ false → has_record (drop place file) ≡ has_record (drop (place + 1) file)
 begun_later file place none = later (drop place file) none ∙ ap has_record (drop-drop 1 place file)

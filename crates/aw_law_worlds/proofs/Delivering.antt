@@ -7,7 +7,7 @@ use Rattle.aw_list.specs.Members.{Member}
 use Rattle.aw_list.proofs.Members.{member_got, member_left, member_right, member_split, never}
 use Rattle.aw_term.specs.Names.{Node, Ref, Step, below, node_eq, ref_eq}
 use Rattle.aw_term.specs.Rules.{Grammar}
-use Rattle.aw_term.specs.Trees.{Never, head_eq, nats_eq}
+use Rattle.aw_term.specs.Trees.{Never, head_eq}
 use Rattle.aw_term.specs.WellFormed.{Each}
 use Rattle.aw_term.specs.Held.{Held, held_of, insert_held}
 use Rattle.aw_name.specs.SameNodes.{node_self}
@@ -34,10 +34,6 @@ use Rattle.aw_law_worlds.proofs.HeldOrdering.{insert-ordered}
 use Rattle.aw_law_worlds.proofs.Learning.{Keyed, add-holds, add-kept, add-member, find-member, learned, member-found, mentions-of, of-mentions}
 use Rattle.aw_law_worlds.proofs.Lists.{each_by}
 use Rattle.aw_law_worlds.proofs.Parts.{Carries, Effect, HoldsAll, Inv, IsLight, Is_held, KindKin, Mark, Sound}
-
-nats-refl : (xs : List ℕ) → nats_eq xs xs ≡ true
-nats-refl [] = refl
-nats-refl (x ∷ xs) = and_from (nat_eq x x) (nats_eq xs xs) (eq-eqb x x refl) (nats-refl xs)
 
 pub refs-refl : (rs : List Ref) → refs_eq rs rs ≡ true
 refs-refl [] = refl

@@ -7,11 +7,6 @@ use Rattle.aw_list.specs.Members.{Member, Never}
 pub never : {A : Type 0} → Never → A
 never x = elim x [ ]
 
-pub member_at : {A : Type 0} (xs : List A) (i : ℕ) (d : A) → i < length xs → Member (get_or xs i d) xs
-member_at [] i d lt = absurd (omega arith)
-member_at (x ∷ xs) zero d lt = inl refl
-member_at (x ∷ xs) (suc i) d lt = let below : i < length xs = omega arith in inr (member_at xs i d below)
-
 pub member_got : {A : Type 0} (xs : List A) (i : ℕ) (x : A) → slice_get xs i ≡ Some x → Member x xs
 member_got [] i x e = absurd cc
 member_got (y ∷ ys) zero x e = let same : x ≡ y = cc in inl same

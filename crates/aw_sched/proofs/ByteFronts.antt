@@ -118,9 +118,3 @@ pub mark_passed : (bytes rest : List ℕ) (d m : ℕ) → SaysBefore bytes [] re
 mark_passed bytes rest d m so_far some is mark ls s =
     let cut : rest ≡ m ∷ others rest = behind_first rest d some ∙ ap (λ b. b ∷ others rest) is in
     so_far (Mark m ∷ ls) (subst (λ bs. Says bs (Mark m ∷ ls)) (sym cut) (mark_says m (others rest) mark ls s))
-
-pub quote_passed : (bytes rest behind content : List ℕ) (d : ℕ) → SaysBefore bytes [] rest → 1 ≤ length rest → get_or rest 0 d ≡ 34
-    → SaysBefore (34 ∷ others rest) (Quoted content ∷ []) behind → SaysBefore bytes (Quoted content ∷ []) behind
-quote_passed bytes rest behind content d so_far some is text ls s =
-    let cut : rest ≡ 34 ∷ others rest = behind_first rest d some ∙ ap (λ b. b ∷ others rest) is in
-    so_far (Quoted content ∷ ls) (subst (λ bs. Says bs (Quoted content ∷ ls)) (sym cut) (text ls s))

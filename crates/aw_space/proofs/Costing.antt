@@ -23,11 +23,11 @@ use Rattle.aw_space.specs.Placings.{MayBeCalled, MayBeCalledIf, placed_call}
 use Rattle.aw_space.specs.Sound.{is_own, all_own}
 use Rattle.aw_space.specs.Spaces.{Space, is_home, with_call}
 use Rattle.aw_term.specs.Names.{Ref}
-use Rattle.aw_store.specs.NamedRefs.{Grows, all_named}
+use Rattle.aw_store.specs.NamedRefs.{all_named}
 use Rattle.aw_standing.specs.declared.kept.Kept.{Kept}
 use Rattle.aw_space.specs.declared.opening.Opening.{Opening}
 use Rattle.aw_space.specs.TakenIn.{IsOpenableIf, IsReadyIf, tests_if, rules_if, taken_cost}
-use Rattle.aw_space.proofs.Openings.{ready_grows, ready_named, tests_are}
+use Rattle.aw_space.proofs.Openings.{ready_named, tests_are}
 use Rattle.aw_space.specs.Waking.{turns_cost}
 use Rattle.aw_space.specs.declared.placing.Placing.{Placing}
 use Rattle.aw_space.proofs.Called.{sort_or-zero, view_missing}
@@ -78,10 +78,6 @@ pub own_openable : (g : Grammar) (role : ℕ) (cs : List MadeChild) → all_own 
 own_openable g role cs own = open_children g role (filter (λ (c : MadeChild). is_home g role c.node) cs) own
 
 -- ---- the node of a call, if there is one
-
-pub ready_if_grows : (g : Grammar) (names more : List Ref) (held : Row) (kept : Kept) (o : Option Opening) → Grows names more → IsReadyIf g names held kept o → IsReadyIf g more held kept o
-ready_if_grows g names more held kept None grows r = tt
-ready_if_grows g names more held kept (Some o) grows r = (ready_grows g names more grows o r.0, r.1, r.2)
 
 pub ready_if_named : (g : Grammar) (names : List Ref) (held : Row) (kept : Kept) (o : Option Opening) → IsReadyIf g names held kept o → all_named names (inherited_by (option_map held_in o)) ≡ true
 ready_if_named g names held kept None r = refl

@@ -1,5 +1,5 @@
 -- What stays over the calls of a space.
-use Rattle.std.proofs.Common.{◌≡◌, ℕ, Bool, true, false, cond, List, [], ◌∷◌, ◌++◌, map, Option, Some, None, refl, sym, ◌∙◌, subst, inl, inr}
+use Rattle.std.proofs.Common.{◌≡◌, ℕ, Bool, true, false, cond, List, ◌++◌, map, Option, Some, None, refl, sym, ◌∙◌, subst, inl, inr}
 use Rattle.std.specs.Prelude.{◌⊎◌}
 use Rattle.aw_list.specs.Members.{Member}
 use Rattle.aw_list.proofs.Members.{member_map}
@@ -9,14 +9,14 @@ use Rattle.aw_term.specs.Configs.{Done}
 use Rattle.aw_term.specs.Choices.{Choice, Start, Develop, Outcome, Refused, Starts, Takes}
 use Rattle.aw_term.specs.Held.{Held, held_of, mark, insert_held}
 use Rattle.aw_name.specs.SameNodes.{node_is}
-use Rattle.aw_store.specs.Equations.{Body, Equation, Map, find}
+use Rattle.aw_store.specs.Equations.{Equation, Map, find}
 use Rattle.aw_store.proofs.MoreEquations.{find-left_more}
 use Rattle.aw_apply.specs.Made.{Call, made}
 use Rattle.aw_law_sites.specs.Joint.{root_held, called_held}
 use Rattle.aw_law_sites.specs.Laws.{IsSubmap}
 use Rattle.aw_law_sites.proofs.AnyOrders.{Member-inserted_held, Member-all_held}
 use Rattle.aw_law_sites.proofs.Guarding.{Final, guard_all-keeps}
-use Rattle.aw_law_sites.specs.Receiving.{add_on, add_all}
+use Rattle.aw_law_sites.specs.Receiving.{add_all}
 use Rattle.aw_law_sites.specs.Reacting.{add_held}
 use Rattle.aw_law_sites.specs.Telling.{calls_in}
 use Rattle.aw_law_sites.specs.Worlds.{node_of}
@@ -39,10 +39,6 @@ facts_same k l e = facts_on k l (λ r b f. subst (λ m. find m r ≡ Some b) (sy
 
 pub facts_more : (k l es : Map) → l ≡ k ++ es → KeepsFacts k l
 facts_more k l es e = facts_on k l (λ r b f. subst (λ m. find m r ≡ Some b) (sym e) (find-left_more k es r b f))
-
-one_more : (k : Map) (e : Equation) (o : Option Body) (r : Ref) (b : Body) → find k r ≡ Some b → find (add_on o k e) r ≡ Some b
-one_more k e None r b f = find-left_more k (e ∷ []) r b f
-one_more k e (Some a) r b f = f
 
 pub facts_told : (k l : Map) (es : List Equation) → l ≡ add_all k es → KeepsFacts k l
 facts_told k l es e = facts_on k l (λ r b f. subst (λ m. find m r ≡ Some b) (sym e) (each_more k es r b f))

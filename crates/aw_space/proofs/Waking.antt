@@ -80,11 +80,6 @@ all_here k [] i r here known = absurd cc
 all_here k (x ∷ xs) zero r here known = let same : x ≡ r = cc in ap (λ (y : Ref). is_some (find k y)) (sym same) ∙ All-head (IsKnown k) x xs known
 all_here k (x ∷ xs) (suc i) r here known = all_here k xs i r here (All-tail (IsKnown k) x xs known)
 
-dropped : (rs : List Ref) (i : ℕ) (r : Ref) → slice_get rs i ≡ Some r → drop i rs ≡ r ∷ drop (suc i) rs
-dropped [] i r here = absurd cc
-dropped (x ∷ xs) zero r here = let same : x ≡ r = cc in ap (λ y. y ∷ xs) same
-dropped (x ∷ xs) (suc i) r here = dropped xs i r here
-
 sum_taken : (most : Ref → ℕ) (rs : List Ref) (i : ℕ) (r : Ref) → slice_get rs i ≡ Some r → sum_by most (take (suc i) rs) ≡ sum_by most (take i rs) + most r
 sum_taken most [] i r here = absurd cc
 sum_taken most (x ∷ xs) zero r here = let same : x ≡ r = cc in ap (λ (y : Ref). 0 + most y) same

@@ -1,7 +1,7 @@
 -- The places of names among names that differ.
-use Rattle.std.proofs.Common.{◌≡◌, ◌≢◌, ℕ, zero, suc, ◌+◌, ◌<◌, ◌≤◌, refl, sym, ap, ◌∙◌, subst, true, false, cond, ◌||◌, ◌&&◌, List, [], ◌∷◌, ◌++◌, length, map, take, drop, Some, is_some, option_map, arith, append_assoc}
+use Rattle.std.proofs.Common.{◌≡◌, ◌≢◌, ℕ, zero, suc, ◌+◌, ◌<◌, ◌≤◌, refl, sym, ap, ◌∙◌, true, false, cond, ◌||◌, ◌&&◌, List, [], ◌∷◌, ◌++◌, length, map, take, drop, Some, is_some, option_map, arith}
 use Rattle.std.proofs.lemmas.Bool.{or_parts}
-use Rattle.aw_name_index.specs.Places.{is_same, place_of, or_else, number_of, stands, stands_again, any_stands, all_stand}
+use Rattle.aw_name_index.specs.Places.{is_same, place_of, or_else, number_of, stands, any_stands, all_stand}
 use Rattle.aw_name_index.proofs.Same.{same_self}
 use Rattle.aw_name_index.proofs.Lookups.{stands_is_placed}
 use Rattle.aw_term.specs.Rules.{get, upto}
@@ -32,12 +32,6 @@ place_mid (y ∷ pre) x post h =
     let parts = or_parts (is_same x y) (stands x pre) h in
     ap (λ b. cond b (Some 0) (option_map (λ k. suc k) (place_of x (pre ++ x ∷ post)))) parts.0
     ∙ ap (λ o. option_map (λ k. suc k) o) (place_mid pre x post parts.1)
-
-none_again : (seen xs : List (List ℕ)) → Differ (seen ++ xs) → stands_again seen xs ≡ false
-none_again seen [] differ = refl
-none_again seen (x ∷ xs) differ =
-    ap (λ b. b || stands_again (seen ++ x ∷ []) xs) (new_name seen x xs differ)
-    ∙ none_again (seen ++ x ∷ []) xs (subst Differ (sym (append_assoc seen (x ∷ []) xs)) differ)
 
 pub none_stands : (xs names : List (List ℕ)) → Each (λ v. stands v names ≡ false) xs → any_stands xs names ≡ false
 none_stands [] names each = refl

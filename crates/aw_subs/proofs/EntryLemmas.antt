@@ -26,10 +26,6 @@ pub writes_derived : {S : Type 0} (m n : HashMap Ref Sub S) (k : Ref) (w : Sub) 
 writes_derived m n k w writes q =
     sym (entry_derived n q) ∙ writes q ∙ (λ i. cond (ref_same k q i) (Some w) (entry_derived m q i))
 
--- the same where the entry stays that was there
-pub written_or : {S : Type 0} (m n : HashMap Ref Sub S) (k : Ref) → WritesDerived m n k (entry_or (get (reference.ghosts).eq m k)) → Writes m n k (entry_or (entry_of m k))
-written_or m n k writes = writes_derived m n k (entry_or (entry_of m k)) (subst (λ (o : Option Sub). WritesDerived m n k (entry_or o)) (entry_derived m k) writes)
-
 -- an entry to which no watchers are added has the same, and one that is not asked for now stands as it did
 pub same_watchers : (s : Sub) (asked : Bool) → watchers_in (Some s) ≡ watchers_in (Some (amended s asked 0))
 same_watchers s asked = sym (or_zero_r s.watchers)

@@ -1,7 +1,6 @@
 -- Links in less room lead where those of the kit lead.
-use Rattle.std.proofs.Common.{◌≡◌, ℕ, zero, suc, ◌+◌, ◌<◌, List, [], ◌∷◌, ◌++◌, length, get_or, replicate, Option, None, cond, refl, sym, ap, ◌∙◌, inl, inr, arith}
-use Rattle.std.proofs.lemmas.Bool.{cases_eq}
-use Rattle.std.proofs.lemmas.List.{get_or_push, get_or_append_left, length-replicate}
+use Rattle.std.proofs.Common.{◌≡◌, ℕ, zero, suc, ◌+◌, ◌<◌, List, [], ◌∷◌, length, get_or, replicate, Option, None, cond, refl, sym, ap, ◌∙◌, arith}
+use Rattle.std.proofs.lemmas.List.{length-replicate}
 use Rattle.std.proofs.lemmas.List.Folds.{sum_by-replicate}
 use Rattle.std.proofs.lemmas.Option.{none-some}
 use Rattle.futures.specs.declared.util.linked_list.Link.{Link as Wide}
@@ -58,19 +57,6 @@ wide_splices old new at next s =
 -- each of so many places leads to itself
 abbrev pub AreClosed : List Link → ℕ → Type 0
 AreClosed links n = (at : ℕ) → at < n → (after links at ≡ at) × (before links at ≡ at)
-
-pub closed_more : (links : List Link) (n : ℕ) → length links ≡ n → AreClosed links n → AreClosed (links ++ record { prev = n; next = n } ∷ []) (n + 1)
-closed_more links n sized closed at below =
-    let link : Link = record { prev = n; next = n } in
-    elim (cases_eq at n) [
-      | inl same ↦
-          let read = ap (λ i. get_or (links ++ link ∷ []) i no_link) same ∙ get_or_push links link no_link n sized in
-          (ap (λ (l : Link). l.next) read ∙ sym same, ap (λ (l : Link). l.prev) read ∙ sym same)
-      | inr older ↦
-          let read = get_or_append_left links (link ∷ []) no_link at (omega arith) in
-          let was = closed at (omega arith) in
-          (ap (λ (l : Link). l.next) read ∙ was.0, ap (λ (l : Link). l.prev) read ∙ was.1)
-    ]
 
 abbrev pub nobody : Option ℕ
 nobody = None

@@ -58,17 +58,6 @@ none_next (m ∷ ms) e = absurd cc
 
 -- ---- the first node of what is left
 
-pub left_none : (ns : List Node) (i : ℕ) → slice_get ns i ≡ None → drop i ns ≡ []
-left_none [] zero e = refl
-left_none [] (suc i) e = refl
-left_none (n ∷ ns) zero e = absurd cc
-left_none (n ∷ ns) (suc i) e = left_none ns i e
-
-pub left_some : (ns : List Node) (i : ℕ) (n : Node) → slice_get ns i ≡ Some n → drop i ns ≡ n ∷ drop (i + 1) ns
-left_some [] i n e = absurd cc
-left_some (x ∷ ns) zero n e = let same : x ≡ n = cc in ap (λ y. y ∷ ns) same
-left_some (x ∷ ns) (suc i) n e = let z : suc i + 1 ≡ suc (i + 1) = omega arith in left_some ns i n e ∙ ap (λ j. n ∷ drop j (x ∷ ns)) (sym z)
-
 pub ordered_left : (ns : List Node) (i : ℕ) → AreOrdered ns → AreOrdered (drop i ns)
 ordered_left ns zero o = o
 ordered_left [] (suc i) o = tt
